@@ -59,29 +59,39 @@ or_then : (a b : Bool) → (not a || b) ≡ true → a ≡ true → b ≡ true
 or_then true b e f = e
 or_then false b e f = absurd (cc)
 
-pub unspent_nwk : (s : NodeState) (send : Option Sending) → may_seal s send ≡ true → seals_at Nwk send ≡ true → next_counter Nwk s < greatest_counter
+pub unspent_nwk : (s : NodeState) (send : Option Sending) → may_seal s send ≡ true → seals_at Nwk send ≡ true
+    → next_counter Nwk s < greatest_counter
 unfolding may_seal spent
 unspent_nwk s send may seals =
-    let parts = both (not (seals_at Nwk send) || (is_some (active_row s) && not (nat_le greatest_counter (next_counter Nwk s)))) _ may in
-    let here = both (is_some (active_row s)) (not (nat_le greatest_counter (next_counter Nwk s))) (or_then (seals_at Nwk send) _ parts.0 seals) in
+    let parts =
+    both (not (seals_at Nwk send)
+    || (is_some (active_row s) && not (nat_le greatest_counter (next_counter Nwk s)))) _ may in
+    let here = both (is_some (active_row s)) (not (nat_le greatest_counter (next_counter Nwk s)))
+    (or_then (seals_at Nwk send) _ parts.0 seals) in
     leb-false greatest_counter (next_counter Nwk s) (not-true _ here.1)
 
-pub unspent_aps : (s : NodeState) (send : Option Sending) → may_seal s send ≡ true → seals_at Aps send ≡ true → next_counter Aps s < greatest_counter
+pub unspent_aps : (s : NodeState) (send : Option Sending) → may_seal s send ≡ true → seals_at Aps send ≡ true
+    → next_counter Aps s < greatest_counter
 unfolding may_seal spent
 unspent_aps s send may seals =
-    let parts = both (not (seals_at Nwk send) || (is_some (active_row s) && not (nat_le greatest_counter (next_counter Nwk s)))) _ may in
+    let parts =
+    both (not (seals_at Nwk send)
+    || (is_some (active_row s) && not (nat_le greatest_counter (next_counter Nwk s)))) _ may in
     leb-false greatest_counter (next_counter Aps s) (not-true _ (or_then (seals_at Aps send) _ parts.1 seals))
 
 -- the claim, of every APS term, and of every NWK term under a row, in a state with the same rows
 
 abbrev pub OfAps : (NodeState → Term → Type 0) → Setting → ℕ → NodeState → Type 0
-OfAps P c aps s = (front : Bytes) (label : Label) (key content : Bytes) → P s (aps_term front label key c.me.eui aps content)
+OfAps P c aps s = (front : Bytes) (label : Label) (key content : Bytes)
+    → P s (aps_term front label key c.me.eui aps content)
 
 abbrev pub OfNwk : (NodeState → Term → Type 0) → Setting → ℕ → NodeState → NetKey → Type 0
-OfNwk P c nwk s r = (u : NodeState) → u.nets ≡ s.nets → (control to : ℕ) (bytes : Bytes) → P u (nwk_term control to c.me.short c.me.eui r.key r.sequence nwk bytes)
+OfNwk P c nwk s r = (u : NodeState) → u.nets ≡ s.nets → (control to : ℕ) (bytes : Bytes)
+    → P u (nwk_term control to c.me.short c.me.eui r.key r.sequence nwk bytes)
 
 module _ (P : NodeState → Term → Type 0) (tools : Tools) (c : Setting) (to nwk aps : ℕ) (s : NodeState) where
-  part_along : (body : Body) → (has_aps_seal body ≡ true → OfAps P c aps s) → SealsAlong P s (part_of tools c.me.eui to nwk aps body).seals
+  part_along : (body : Body) → (has_aps_seal body ≡ true → OfAps P c aps s)
+      → SealsAlong P s (part_of tools c.me.eui to nwk aps body).seals
   unfolding part_of
   part_along (Saying bytes) g = tt
   part_along (Clear control command) g = tt
@@ -91,37 +101,58 @@ module _ (P : NodeState → Term → Type 0) (tools : Tools) (c : Setting) (to n
   part_along Leaving g = tt
   part_along (Relayed bytes) g = tt
 
-  both_along : (body : Body) → (has_aps_seal body ≡ true → OfAps P c aps s) → (r : NetKey) → OfNwk P c nwk s r → (control : ℕ) (bytes : Bytes)
-      → SealsAlong P s ((part_of tools c.me.eui to nwk aps body).seals ++ nwk_term control to c.me.short c.me.eui r.key r.sequence nwk bytes ∷ [])
+  both_along : (body : Body) → (has_aps_seal body ≡ true → OfAps P c aps s) → (r : NetKey) → OfNwk P c nwk s r
+      → (control : ℕ) (bytes : Bytes)
+      → SealsAlong P s
+      ((part_of tools c.me.eui to nwk aps body).seals ++ nwk_term control to c.me.short c.me.eui r.key r.sequence
+      nwk bytes ∷ [])
   unfolding part_of after_sealing
   both_along (Saying _) g r k control bytes = (k s refl control to bytes, tt)
   both_along (Clear _ command) g r k control bytes = (k s refl control to bytes, tt)
-  both_along (Secret label key command) g r k control bytes = (g refl sealed_command label key (tools.spelled command), (k (record s { aps_next = aps + 1 }) refl control to bytes, tt))
-  both_along (Tunnelled device key command) g r k control bytes = (g refl sealed_command ForTransport key (tools.spelled command), (k (record s { aps_next = aps + 1 }) refl control to bytes, tt))
-  both_along (Telling key said) g r k control bytes = (g refl (data_front sealed_data) ForData key said, (k (record s { aps_next = aps + 1 }) refl control to bytes, tt))
+  both_along (Secret label key command) g r k control bytes = (
+    g refl sealed_command label key (tools.spelled command),
+    (k (record s { aps_next = aps + 1 }) refl control to bytes, tt),
+  )
+  both_along (Tunnelled device key command) g r k control bytes = (
+    g refl sealed_command ForTransport key (tools.spelled command),
+    (k (record s { aps_next = aps + 1 }) refl control to bytes, tt),
+  )
+  both_along (Telling key said) g r k control bytes = (
+    g refl (data_front sealed_data) ForData key said,
+    (k (record s { aps_next = aps + 1 }) refl control to bytes, tt),
+  )
   both_along Leaving g r k control bytes = (k s refl control to bytes, tt)
   both_along (Relayed _) g r k control bytes = (k s refl control to bytes, tt)
 
-  framed_along : (secured : Bool) (row : Option NetKey) (body : Body) → (has_aps_seal body ≡ true → OfAps P c aps s) → (secured ≡ true → (r : NetKey) → row ≡ Some r → OfNwk P c nwk s r)
+  framed_along : (secured : Bool) (row : Option NetKey) (body : Body) → (has_aps_seal body ≡ true → OfAps P c aps s)
+      → (secured ≡ true → (r : NetKey) → row ≡ Some r → OfNwk P c nwk s r)
       → SealsAlong P s (framed tools c to nwk secured row (part_of tools c.me.eui to nwk aps body)).seals
   framed_along false row body g k = part_along body g
   framed_along true None body g k = tt
-  framed_along true (Some r) body g k = both_along body g r (k refl r refl) (part_of tools c.me.eui to nwk aps body).control (part_of tools c.me.eui to nwk aps body).bytes
+  framed_along true (Some r) body g k =
+      both_along body g r (k refl r refl) (part_of tools c.me.eui to nwk aps body).control
+      (part_of tools c.me.eui to nwk aps body).bytes
 
-sent_along : (P : NodeState → Term → Type 0) (tools : Tools) (c : Setting) (s0 : NodeState) (k : Counting) (s : NodeState) (send : Option Sending)
-    → (seals_at Aps send ≡ true → OfAps P c (k.counter Aps) s) → (seals_at Nwk send ≡ true → (r : NetKey) → active_row s0 ≡ Some r → OfNwk P c (k.counter Nwk) s r)
+sent_along : (P : NodeState → Term → Type 0) (tools : Tools) (c : Setting) (s0 : NodeState) (k : Counting)
+    (s : NodeState) (send : Option Sending)
+    → (seals_at Aps send ≡ true → OfAps P c (k.counter Aps) s)
+    → (seals_at Nwk send ≡ true → (r : NetKey) → active_row s0 ≡ Some r → OfNwk P c (k.counter Nwk) s r)
     → SealsAlong P s (sent tools c s0 k send).seals
 sent_along P tools c s0 k s None g h = tt
-sent_along P tools c s0 k s (Some send) g h = framed_along P tools c send.to (k.counter Nwk) (k.counter Aps) s send.secured (active_row s0) send.body g h
+sent_along P tools c s0 k s (Some send) g h = framed_along P tools c send.to (k.counter Nwk) (k.counter Aps) s
+    send.secured (active_row s0) send.body g h
 
 -- what an event sends
 abbrev pub sending_at : Tools → Setting → NodeState → Task → Option Sending
 sending_at tools c s task = sending_of (plan_of tools c s task).outcome
 
 -- the seals of the answer in s0, in the state s
-pub answer_along : (P : NodeState → Term → Type 0) (tools : Tools) (c : Setting) (s0 : NodeState) (task : Task) (s : NodeState)
-    → (may_seal s0 (sending_at tools c s0 task) ≡ true → seals_at Aps (sending_at tools c s0 task) ≡ true → OfAps P c (next_counter Aps s0) s)
-    → (may_seal s0 (sending_at tools c s0 task) ≡ true → seals_at Nwk (sending_at tools c s0 task) ≡ true → (r : NetKey) → active_row s0 ≡ Some r → OfNwk P c (next_counter Nwk s0) s r)
+pub answer_along : (P : NodeState → Term → Type 0) (tools : Tools) (c : Setting) (s0 : NodeState) (task : Task)
+    (s : NodeState)
+    → (may_seal s0 (sending_at tools c s0 task) ≡ true → seals_at Aps (sending_at tools c s0 task) ≡ true
+    → OfAps P c (next_counter Aps s0) s)
+    → (may_seal s0 (sending_at tools c s0 task) ≡ true → seals_at Nwk (sending_at tools c s0 task) ≡ true
+    → (r : NetKey) → active_row s0 ≡ Some r → OfNwk P c (next_counter Nwk s0) s r)
     → SealsAlong P s (answer tools c s0 task).seals
 unfolding answer answer_by out_of counting_of
 answer_along P tools c s0 task s g h = by_test (may_seal s0 send) refl
@@ -132,6 +163,7 @@ answer_along P tools c s0 task s g h = by_test (may_seal s0 send) refl
     k : Counting
     k = counting_of c s0 (plan_of tools c s0 task)
 
-    by_test : (b : Bool) → may_seal s0 send ≡ b → SealsAlong P s (if b then sent tools c s0 k send else nothing_out).seals
+    by_test : (b : Bool) → may_seal s0 send ≡ b → SealsAlong P s (if b then sent tools c s0 k send
+        else nothing_out).seals
     by_test true may = sent_along P tools c s0 k s send (g may) (h may)
     by_test false may = tt

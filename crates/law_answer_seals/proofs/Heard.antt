@@ -18,17 +18,20 @@ abbrev OnGood : {A : Type 0} → (A → Type 0) → Verdict A → Type 0
 OnGood P (Not place reason) = Unit {0}
 OnGood P (Good it) = P it
 
-reject_good : {A : Type 0} (P : A → Type 0) (bad : Bool) (place : Place) (reason : Reason) (rest : Verdict A) → (bad ≡ false → OnGood P rest) → OnGood P (reject bad place reason rest)
+reject_good : {A : Type 0} (P : A → Type 0) (bad : Bool) (place : Place) (reason : Reason) (rest : Verdict A)
+    → (bad ≡ false → OnGood P rest) → OnGood P (reject bad place reason rest)
 unfolding reject
 reject_good P true place reason rest k = tt
 reject_good P false place reason rest k = k refl
 
-need_good : {A B : Type 0} (P : B → Type 0) (o : Option A) (place : Place) (reason : Reason) (rest : A → Verdict B) → ((a : A) → o ≡ Some a → OnGood P (rest a)) → OnGood P (need o place reason rest)
+need_good : {A B : Type 0} (P : B → Type 0) (o : Option A) (place : Place) (reason : Reason) (rest : A → Verdict B)
+    → ((a : A) → o ≡ Some a → OnGood P (rest a)) → OnGood P (need o place reason rest)
 unfolding need
 need_good P None place reason rest k = tt
 need_good P (Some a) place reason rest k = k a refl
 
-net_heard : (tools : Tools) → OpensAsJudged tools → (c : Setting) (s : NodeState) (bytes : Bytes) (f : NwkShown) (aux : NwkAuxiliary) → tools.read_nwk bytes ≡ Some f → f.auxiliary ≡ Some aux
+net_heard : (tools : Tools) → OpensAsJudged tools → (c : Setting) (s : NodeState) (bytes : Bytes) (f : NwkShown)
+    (aux : NwkAuxiliary) → tools.read_nwk bytes ≡ Some f → f.auxiliary ≡ Some aux
     → OnGood (IsHeard Nwk) (judge_net tools c s bytes aux)
 unfolding judge_net
 net_heard tools opens c s bytes f aux read shown =
@@ -53,20 +56,26 @@ carried : (f : NwkShown) (v : Verdict Term) → OnGood (IsHeard Nwk) v → OnGoo
 carried f (Not place reason) good = tt
 carried f (Good t) good = good
 
-security_heard : (tools : Tools) → OpensAsJudged tools → (c : Setting) (s : NodeState) (bytes : Bytes) (f : NwkShown) (o : Option NwkAuxiliary) → tools.read_nwk bytes ≡ Some f → f.auxiliary ≡ o
+security_heard : (tools : Tools) → OpensAsJudged tools → (c : Setting) (s : NodeState) (bytes : Bytes) (f : NwkShown)
+    (o : Option NwkAuxiliary) → tools.read_nwk bytes ≡ Some f → f.auxiliary ≡ o
     → OnGood CarrierHeard (judge_security tools c s bytes f o)
 security_heard tools opens c s bytes f None read shown = reject_good CarrierHeard _ _ _ _ (λ e. tt)
-security_heard tools opens c s bytes f (Some aux) read shown = carried f (judge_net tools c s bytes aux) (net_heard tools opens c s bytes f aux read shown)
+security_heard tools opens c s bytes f (Some aux) read shown = carried f (judge_net tools c s bytes aux)
+    (net_heard tools opens c s bytes f aux read shown)
 
-nwk_heard : (tools : Tools) → OpensAsJudged tools → (c : Setting) (s : NodeState) (bytes : Bytes) → OnGood CarrierHeard (judge_nwk tools c s bytes)
+nwk_heard : (tools : Tools) → OpensAsJudged tools → (c : Setting) (s : NodeState) (bytes : Bytes)
+    → OnGood CarrierHeard (judge_nwk tools c s bytes)
 unfolding judge_nwk
 nwk_heard tools opens c s bytes =
-    need_good CarrierHeard (tools.read_nwk bytes) _ _ _ (λ f read. reject_good CarrierHeard _ _ _ _ (λ e. security_heard tools opens c s bytes f f.auxiliary read refl))
+    need_good CarrierHeard (tools.read_nwk bytes) _ _ _
+    (λ f read. reject_good CarrierHeard _ _ _ _
+    (λ e. security_heard tools opens c s bytes f f.auxiliary read refl))
 
 abbrev ApsHeard : Unsealed → Type 0
 ApsHeard u = IsHeard Aps u.term
 
-aps_heard : (tools : Tools) → OpensAsJudged tools → (c : Setting) (s : NodeState) (f : NwkShown) (bytes : Bytes) (a : ApsShown) (aux : ApsAuxiliary) → tools.read_aps bytes ≡ Some a → a.auxiliary ≡ Some aux
+aps_heard : (tools : Tools) → OpensAsJudged tools → (c : Setting) (s : NodeState) (f : NwkShown) (bytes : Bytes)
+    (a : ApsShown) (aux : ApsAuxiliary) → tools.read_aps bytes ≡ Some a → a.auxiliary ≡ Some aux
     → OnGood ApsHeard (judge_aps tools c s f bytes aux)
 unfolding judge_aps
 aps_heard tools opens c s f bytes a aux read shown =
@@ -97,47 +106,62 @@ leave_heard c t is (Leave options) = inl is
 leave_heard c t is Other = inl is
 leave_heard c t is NoCommand = inl is
 
-command_heard : (tools : Tools) (c : Setting) (s : NodeState) (draw : Option Bytes) (ts : List Term) (m : Heard) (o : CommandShown) → AreHeard ts → AreHeard (aps_command tools c s draw ts m o).accepts
+command_heard : (tools : Tools) (c : Setting) (s : NodeState) (draw : Option Bytes) (ts : List Term) (m : Heard)
+    (o : CommandShown) → AreHeard ts → AreHeard (aps_command tools c s draw ts m o).accepts
 command_heard tools c s draw ts m (Known command) is = is
 command_heard tools c s draw ts m Unknown is = is
 command_heard tools c s draw ts m Broken is = is
 
-clear_heard : (tools : Tools) (c : Setting) (s : NodeState) (draw : Option Bytes) (nwk : Option Term) (a : ApsShown) → MayBeHeard nwk → AreHeard (clear_part tools c s draw nwk a).accepts
+clear_heard : (tools : Tools) (c : Setting) (s : NodeState) (draw : Option Bytes) (nwk : Option Term) (a : ApsShown)
+    → MayBeHeard nwk → AreHeard (clear_part tools c s draw nwk a).accepts
 clear_heard tools c s draw nwk a is =
-    either a.is_command _ _ (command_heard tools c s draw (option_to_list nwk) (heard_clear nwk) (tools.read_command a.body) (alone nwk is)) (alone nwk is)
+    either a.is_command _ _
+    (command_heard tools c s draw (option_to_list nwk) (heard_clear nwk) (tools.read_command a.body)
+    (alone nwk is)) (alone nwk is)
 
-sealed_heard : (tools : Tools) (c : Setting) (s : NodeState) (draw : Option Bytes) (nwk : Option Term) (a : ApsShown) (aux : ApsAuxiliary) (v : Verdict Unsealed) → MayBeHeard nwk → OnGood ApsHeard v
+sealed_heard : (tools : Tools) (c : Setting) (s : NodeState) (draw : Option Bytes) (nwk : Option Term) (a : ApsShown)
+    (aux : ApsAuxiliary) (v : Verdict Unsealed) → MayBeHeard nwk → OnGood ApsHeard v
     → AreHeard (sealed_part tools c s draw nwk a aux v).accepts
 sealed_heard tools c s draw nwk a aux (Not place reason) is good = alone nwk is
 sealed_heard tools c s draw nwk a aux (Good u) is good =
-    either a.is_command _ _ (command_heard tools c s draw (option_to_list nwk ++ u.term ∷ []) (heard_sealed nwk aux u) (tools.read_command u.term.content) (with_aps nwk u.term is good)) (with_aps nwk u.term is good)
+    either a.is_command _ _
+    (command_heard tools c s draw (option_to_list nwk ++ u.term ∷ []) (heard_sealed nwk aux u)
+    (tools.read_command u.term.content) (with_aps nwk u.term is good)) (with_aps nwk u.term is good)
 
 module _ (tools : Tools) (opens : OpensAsJudged tools) (c : Setting) (s : NodeState) (draw : Option Bytes) where
-  by_security_heard : (f : NwkShown) (nwk : Option Term) (a : ApsShown) (o : Option ApsAuxiliary) → tools.read_aps (payload_of f nwk) ≡ Some a → a.auxiliary ≡ o → MayBeHeard nwk
+  by_security_heard : (f : NwkShown) (nwk : Option Term) (a : ApsShown) (o : Option ApsAuxiliary)
+      → tools.read_aps (payload_of f nwk) ≡ Some a → a.auxiliary ≡ o → MayBeHeard nwk
       → AreHeard (by_security tools c s draw f nwk a o).accepts
   by_security_heard f nwk a None read shown is = clear_heard tools c s draw nwk a is
   by_security_heard f nwk a (Some aux) read shown is =
-      sealed_heard tools c s draw nwk a aux (judge_aps tools c s f (payload_of f nwk) aux) is (aps_heard tools opens c s f (payload_of f nwk) a aux read shown)
+      sealed_heard tools c s draw nwk a aux (judge_aps tools c s f (payload_of f nwk) aux) is
+      (aps_heard tools opens c s f (payload_of f nwk) a aux read shown)
 
-  aps_part_heard : (f : NwkShown) (nwk : Option Term) (o : Option ApsShown) → tools.read_aps (payload_of f nwk) ≡ o → MayBeHeard nwk → AreHeard (aps_part tools c s draw f nwk o).accepts
+  aps_part_heard : (f : NwkShown) (nwk : Option Term) (o : Option ApsShown) → tools.read_aps (payload_of f nwk) ≡ o
+      → MayBeHeard nwk → AreHeard (aps_part tools c s draw f nwk o).accepts
   aps_part_heard f nwk None read is = alone nwk is
   aps_part_heard f nwk (Some a) read is = by_security_heard f nwk a a.auxiliary read refl is
 
-  net_part_heard : (f : NwkShown) (nwk : Option Term) → MayBeHeard nwk → AreHeard (net_part tools c s draw f nwk).accepts
+  net_part_heard : (f : NwkShown) (nwk : Option Term) → MayBeHeard nwk
+      → AreHeard (net_part tools c s draw f nwk).accepts
   net_part_heard f None is = aps_part_heard f None (tools.read_aps f.body) refl tt
   net_part_heard f (Some t) is =
-      either f.is_command _ _ (leave_heard c t is (tools.read_leave t.content)) (aps_part_heard f (Some t) (tools.read_aps t.content) refl is)
+      either f.is_command _ _ (leave_heard c t is (tools.read_leave t.content))
+      (aps_part_heard f (Some t) (tools.read_aps t.content) refl is)
 
   received_heard : (v : Verdict Carrier) → OnGood CarrierHeard v → AreHeard (received_as tools c s draw v).accepts
   received_heard (Not place reason) good = tt
   received_heard (Good k) good = net_part_heard k.frame k.term good
 
-plan_hears : (tools : Tools) → OpensAsJudged tools → (c : Setting) (s : NodeState) (task : Task) → AreHeard (plan_of tools c s task).accepts
+plan_hears : (tools : Tools) → OpensAsJudged tools → (c : Setting) (s : NodeState) (task : Task)
+    → AreHeard (plan_of tools c s task).accepts
 unfolding plan_of
-plan_hears tools opens c s (Received bytes draw) = received_heard tools opens c s draw (judge_nwk tools c s bytes) (nwk_heard tools opens c s bytes)
+plan_hears tools opens c s (Received bytes draw) = received_heard tools opens c s draw (judge_nwk tools c s bytes)
+    (nwk_heard tools opens c s bytes)
 plan_hears tools opens c s _ = tt
 
-pub answer_hears : (tools : Tools) → OpensAsJudged tools → (c : Setting) (s : NodeState) (task : Task) → AreHeard (answer tools c s task).accepts
+pub answer_hears : (tools : Tools) → OpensAsJudged tools → (c : Setting) (s : NodeState) (task : Task)
+    → AreHeard (answer tools c s task).accepts
 unfolding answer answer_by
 answer_hears tools opens c s task = plan_hears tools opens c s task
 
@@ -148,5 +172,6 @@ below_last (t ∷ []) (inr is) = (is.below_last, tt)
 below_last (t ∷ u ∷ []) is = (is.0.below_last, (is.1.below_last, tt))
 below_last (t ∷ u ∷ v ∷ ts) is = absurd is
 
-pub answer_below_last : (tools : Tools) → OpensAsJudged tools → (c : Setting) (s : NodeState) (task : Task) → AllByRecursion (λ (t : Term). t.counter < greatest_counter) (answer tools c s task).accepts
+pub answer_below_last : (tools : Tools) → OpensAsJudged tools → (c : Setting) (s : NodeState) (task : Task)
+    → AllByRecursion (λ (t : Term). t.counter < greatest_counter) (answer tools c s task).accepts
 answer_below_last tools opens c s task = below_last (answer tools c s task).accepts (answer_hears tools opens c s task)

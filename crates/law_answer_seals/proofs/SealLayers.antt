@@ -20,7 +20,8 @@ module _ (tools : Tools) (c : Setting) (to nwk aps : ℕ) (s : NodeState) where
   part_kinds Leaving = tt
   part_kinds (Relayed bytes) = tt
 
-  both_kinds : (body : Body) → (t : Term) → IsNwkSeal c s t → AreSeals c s ((part_of tools c.me.eui to nwk aps body).seals ++ t ∷ [])
+  both_kinds : (body : Body) → (t : Term) → IsNwkSeal c s t
+      → AreSeals c s ((part_of tools c.me.eui to nwk aps body).seals ++ t ∷ [])
   unfolding part_of
   both_kinds (Saying bytes) t is = inr is
   both_kinds (Clear control command) t is = inr is
@@ -30,18 +31,24 @@ module _ (tools : Tools) (c : Setting) (to nwk aps : ℕ) (s : NodeState) where
   both_kinds Leaving t is = inr is
   both_kinds (Relayed bytes) t is = inr is
 
-  framed_kinds : (secured : Bool) (row : Option NetKey) (body : Body) → ((r : NetKey) → row ≡ Some r → s.active ≡ Some r.key) → AreSeals c s (framed tools c to nwk secured row (part_of tools c.me.eui to nwk aps body)).seals
+  framed_kinds : (secured : Bool) (row : Option NetKey) (body : Body)
+      → ((r : NetKey) → row ≡ Some r → s.active ≡ Some r.key)
+      → AreSeals c s (framed tools c to nwk secured row (part_of tools c.me.eui to nwk aps body)).seals
   framed_kinds false row body k = part_kinds body
   framed_kinds true None body k = tt
   framed_kinds true (Some r) body k =
       let part = part_of tools c.me.eui to nwk aps body in
-      both_kinds body (nwk_term part.control to c.me.short c.me.eui r.key r.sequence nwk part.bytes) (record { layer_is = refl; base_is = k r refl; source_is = refl })
+      both_kinds body (nwk_term part.control to c.me.short c.me.eui r.key r.sequence nwk part.bytes)
+      (record { layer_is = refl; base_is = k r refl; source_is = refl })
 
-sent_kinds : (tools : Tools) (c : Setting) (s : NodeState) (k : Counting) (send : Option Sending) → AreSeals c s (sent tools c s k send).seals
+sent_kinds : (tools : Tools) (c : Setting) (s : NodeState) (k : Counting) (send : Option Sending)
+    → AreSeals c s (sent tools c s k send).seals
 sent_kinds tools c s k None = tt
-sent_kinds tools c s k (Some send) = framed_kinds tools c send.to (k.counter Nwk) (k.counter Aps) s send.secured (active_row s) send.body (active_is s)
+sent_kinds tools c s k (Some send) = framed_kinds tools c send.to (k.counter Nwk) (k.counter Aps) s send.secured
+    (active_row s) send.body (active_is s)
 
-pub answer_seals : (tools : Tools) (c : Setting) (s : NodeState) (task : Task) → AreSeals c s (answer tools c s task).seals
+pub answer_seals : (tools : Tools) (c : Setting) (s : NodeState) (task : Task)
+    → AreSeals c s (answer tools c s task).seals
 unfolding answer answer_by out_of
 answer_seals tools c s task = by_test (may_seal s (sending_at tools c s task))
   where

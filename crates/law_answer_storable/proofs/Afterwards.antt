@@ -18,17 +18,21 @@ use Rattle.law_answer_storable.proofs.Bare.{bare_link}
 abbrev in_memory : ℕ → ℕ → SenderFloor → SenderFloor
 in_memory sender kept f = if nat_eq f.sender sender then record f { kept = kept } else f
 
-stored_left : (sender kept : ℕ) (f : SenderFloor) → nat_lt 0 f.stored ≡ true → nat_lt 0 (in_memory sender kept f).stored ≡ true
+stored_left : (sender kept : ℕ) (f : SenderFloor) → nat_lt 0 f.stored ≡ true
+    → nat_lt 0 (in_memory sender kept f).stored ≡ true
 stored_left sender kept f e = by_test (nat_eq f.sender sender) e
   where
-    by_test : (b : Bool) → nat_lt 0 f.stored ≡ true → nat_lt 0 (if b then record f { kept = kept } else f).stored ≡ true
+    by_test : (b : Bool) → nat_lt 0 f.stored ≡ true → nat_lt 0 (if b then record f { kept = kept } else f).stored
+        ≡ true
     by_test true e = e
     by_test false e = e
 
-above_left : (low : ℕ) (sender kept : ℕ) (f : SenderFloor) → nat_lt low f.sender ≡ true → nat_lt low (in_memory sender kept f).sender ≡ true
+above_left : (low : ℕ) (sender kept : ℕ) (f : SenderFloor) → nat_lt low f.sender ≡ true
+    → nat_lt low (in_memory sender kept f).sender ≡ true
 above_left low sender kept f e = by_test (nat_eq f.sender sender) e
   where
-    by_test : (b : Bool) → nat_lt low f.sender ≡ true → nat_lt low (if b then record f { kept = kept } else f).sender ≡ true
+    by_test : (b : Bool) → nat_lt low f.sender ≡ true → nat_lt low (if b then record f { kept = kept } else f).sender
+        ≡ true
     by_test true e = e
     by_test false e = e
 
@@ -39,41 +43,60 @@ sender_left sender kept f = by_test (nat_eq f.sender sender)
     by_test true = refl
     by_test false = refl
 
-ascend_left : (sender kept : ℕ) (fs : List SenderFloor) → senders_ascend fs ≡ true → senders_ascend (floor_kept sender kept fs) ≡ true
+ascend_left : (sender kept : ℕ) (fs : List SenderFloor) → senders_ascend fs ≡ true
+    → senders_ascend (floor_kept sender kept fs) ≡ true
 ascend_left sender kept [] e = refl
 ascend_left sender kept (f ∷ fs) e =
     let parts = both (list_all (λ (g : SenderFloor). nat_lt f.sender g.sender) fs) (senders_ascend fs) e in
-    let first : list_all (λ (g : SenderFloor). nat_lt (in_memory sender kept f).sender g.sender) (floor_kept sender kept fs) ≡ true =
+    let first : list_all (λ (g : SenderFloor). nat_lt (in_memory sender kept f).sender g.sender)
+    (floor_kept sender kept fs) ≡ true =
     ap (λ n. list_all (λ (g : SenderFloor). nat_lt n g.sender) (floor_kept sender kept fs)) (sender_left sender kept f)
-    ∙ all_map (λ (g : SenderFloor). nat_lt f.sender g.sender) (λ (g : SenderFloor). nat_lt f.sender g.sender) (in_memory sender kept) (above_left f.sender sender kept) fs parts.0 in
+    ∙ all_map (λ (g : SenderFloor). nat_lt f.sender g.sender) (λ (g : SenderFloor). nat_lt f.sender g.sender)
+    (in_memory sender kept) (above_left f.sender sender kept) fs parts.0 in
     rw first (ascend_left sender kept fs parts.1)
 
 floors_left : (sender kept : ℕ) (r : NetKey) → floors_rule r ≡ true → floors_rule (net_kept sender kept r) ≡ true
 floors_left sender kept r e =
     let parts = both (nat_le (length r.floors) most_senders) _ e in
     let more = both (list_all (λ (f : SenderFloor). nat_lt 0 f.stored) r.floors) (senders_ascend r.floors) parts.1 in
-    let room : nat_le (length (floor_kept sender kept r.floors)) most_senders ≡ true = ap (λ n. nat_le n most_senders) (length-map r.floors (in_memory sender kept)) ∙ parts.0 in
+    let room : nat_le (length (floor_kept sender kept r.floors)) most_senders ≡ true =
+    ap (λ n. nat_le n most_senders) (length-map r.floors (in_memory sender kept)) ∙ parts.0 in
     let stored : list_all (λ (f : SenderFloor). nat_lt 0 f.stored) (floor_kept sender kept r.floors) ≡ true =
-    all_map (λ (f : SenderFloor). nat_lt 0 f.stored) (λ (f : SenderFloor). nat_lt 0 f.stored) (in_memory sender kept) (stored_left sender kept) r.floors more.0 in
+    all_map (λ (f : SenderFloor). nat_lt 0 f.stored) (λ (f : SenderFloor). nat_lt 0 f.stored) (in_memory sender kept)
+    (stored_left sender kept) r.floors more.0 in
     rw (room, stored) (ascend_left sender kept r.floors more.1)
 
-at_floors : (key : Bytes) (f : NetKey → NetKey) → ((r : NetKey) → floors_rule r ≡ true → floors_rule (f r) ≡ true) → (nets : List NetKey) → list_all floors_rule nets ≡ true → list_all floors_rule (at_net key f nets) ≡ true
-at_floors key f each nets all = all_map floors_rule floors_rule (λ (r : NetKey). if same_key r.key key then f r else r) (λ r e. by_test (same_key r.key key) r e) nets all
+at_floors : (key : Bytes) (f : NetKey → NetKey) → ((r : NetKey) → floors_rule r ≡ true → floors_rule (f r) ≡ true)
+    → (nets : List NetKey) → list_all floors_rule nets ≡ true → list_all floors_rule (at_net key f nets) ≡ true
+at_floors key f each nets all = all_map floors_rule floors_rule (λ (r : NetKey). if same_key r.key key then f r
+    else r) (λ r e. by_test (same_key r.key key) r e) nets all
   where
     by_test : (b : Bool) (r : NetKey) → floors_rule r ≡ true → floors_rule (if b then f r else r) ≡ true
     by_test true r e = each r e
     by_test false r e = e
 
-nets_left : (key : Bytes) (f : NetKey → NetKey) → Mild f → ((r : NetKey) → floors_rule r ≡ true → floors_rule (f r) ≡ true) → (s : NodeState) → Rules s → keeps_rules (record s { nets = at_net key f s.nets }) ≡ true
-nets_left key f mild each s r = mild_kept (λ (x : NetKey). if same_key x.key key then f x else x) (mild_at key f mild) s r (at_floors key f each s.nets r.floors)
+nets_left : (key : Bytes) (f : NetKey → NetKey) → Mild f
+    → ((r : NetKey) → floors_rule r ≡ true → floors_rule (f r) ≡ true) → (s : NodeState) → Rules s
+    → keeps_rules (record s { nets = at_net key f s.nets }) ≡ true
+nets_left key f mild each s r = mild_kept (λ (x : NetKey). if same_key x.key key then f x else x) (mild_at key f mild)
+    s r (at_floors key f each s.nets r.floors)
 
-heard_links : (partner : ℕ) (key : Bytes) (kept : ℕ) (role : Role) (links : List LinkKey) → LinkRules role links → LinkRules role (at_link partner key (link_kept kept) links)
+heard_links : (partner : ℕ) (key : Bytes) (kept : ℕ) (role : Role) (links : List LinkKey) → LinkRules role links
+    → LinkRules role (at_link partner key (link_kept kept) links)
 heard_links partner key kept role links l = record {
   room = omega (arith, l.room, length-map links at);
-  keys = apart_map links_alike links_alike at (λ a b e. ap (λ (x : LinkKey). links_alike x (at b)) (each a) ∙ ap (λ (x : LinkKey). links_alike a x) (each b) ∙ e) links l.keys;
-  kinds = apart_map kinds_alike kinds_alike at (λ a b e. ap (λ (x : LinkKey). kinds_alike x (at b)) (each a) ∙ ap (λ (x : LinkKey). kinds_alike a x) (each b) ∙ e) links l.kinds;
-  told = apart_map told_apart told_apart at (λ a b e. ap (λ (x : LinkKey). told_apart x (at b)) (each a) ∙ ap (λ (x : LinkKey). told_apart a x) (each b) ∙ e) links l.told;
-  marks = all_map (link_rule role) (link_rule role) at (λ r e. ap (λ (x : LinkKey). link_rule role x) (each r) ∙ e) links l.marks;
+  keys = apart_map links_alike links_alike at
+      (λ a b e. ap (λ (x : LinkKey). links_alike x (at b)) (each a) ∙ ap (λ (x : LinkKey). links_alike a x) (each b) ∙
+      e) links l.keys;
+  kinds =
+      apart_map kinds_alike kinds_alike at
+      (λ a b e. ap (λ (x : LinkKey). kinds_alike x (at b)) (each a) ∙ ap (λ (x : LinkKey). kinds_alike a x) (each b) ∙
+      e) links l.kinds;
+  told = apart_map told_apart told_apart at
+      (λ a b e. ap (λ (x : LinkKey). told_apart x (at b)) (each a) ∙ ap (λ (x : LinkKey). told_apart a x) (each b) ∙
+      e) links l.told;
+  marks = all_map (link_rule role) (link_rule role) at (λ r e. ap (λ (x : LinkKey). link_rule role x) (each r) ∙ e)
+      links l.marks;
 }
   where
     at : LinkKey → LinkKey
@@ -88,20 +111,25 @@ heard_links partner key kept role links l = record {
 
 -- an accepted term, and a sealed one
 
-heard : (layer : Layer) (key : Bytes) (sender counter : ℕ) (s : NodeState) → keeps_rules s ≡ true → keeps_rules (after_hearing layer key sender counter s) ≡ true
+heard : (layer : Layer) (key : Bytes) (sender counter : ℕ) (s : NodeState) → keeps_rules s ≡ true
+    → keeps_rules (after_hearing layer key sender counter s) ≡ true
 unfolding after_hearing
 heard Nwk key sender counter s kept =
-    nets_left key (net_kept sender (counter + 1)) (record { key = λ r. refl; live = λ r. refl; limit = λ r e. e }) (floors_left sender (counter + 1)) s (rules_of s kept)
+    nets_left key (net_kept sender (counter + 1)) (record { key = λ r. refl; live = λ r. refl; limit = λ r e. e })
+    (floors_left sender (counter + 1)) s (rules_of s kept)
 heard Aps key sender counter s kept =
-    links_kept s (at_link sender key (link_kept (counter + 1)) s.links) (rules_of s kept) (heard_links sender key (counter + 1) s.role s.links (link_rules s (rules_of s kept)))
+    links_kept s (at_link sender key (link_kept (counter + 1)) s.links) (rules_of s kept)
+    (heard_links sender key (counter + 1) s.role s.links (link_rules s (rules_of s kept)))
 
 accepted : (t : Term) (s : NodeState) → keeps_rules s ≡ true → keeps_rules (after_accepting t s) ≡ true
 unfolding after_accepting
 accepted t s kept = heard t.layer t.base t.source t.counter s kept
 
-sealed_in : (layer : Layer) (t : Term) (s : NodeState) → keeps_rules s ≡ true → keeps_rules (sealed_at layer t s) ≡ true
+sealed_in : (layer : Layer) (t : Term) (s : NodeState) → keeps_rules s ≡ true → keeps_rules (sealed_at layer t s)
+    ≡ true
 unfolding role_is_kept active_is_live
-sealed_in Nwk t s kept = nets_left t.base (next_at (t.counter + 1)) (record { key = λ r. refl; live = λ r. refl; limit = λ r e. e }) (λ r e. e) s (rules_of s kept)
+sealed_in Nwk t s kept = nets_left t.base (next_at (t.counter + 1))
+    (record { key = λ r. refl; live = λ r. refl; limit = λ r e. e }) (λ r e. e) s (rules_of s kept)
 sealed_in Aps t s kept =
     let r = rules_of s kept in
     rules_back (record s { aps_next = t.counter + 1 }) (record {

@@ -21,28 +21,34 @@ bare s = record s { aps_limit = 0; aps_next = 0; nets = map bare_net s.nets; lin
 
 -- changes of rows that leave the bare rows, or that are the same of these
 
-blind : {X : Type 0} (test : X → Bool) (f g : X → X) → ((x : X) → g (f x) ≡ g x) → (xs : List X) → map g (map (λ x. if test x then f x else x) xs) ≡ map g xs
+blind : {X : Type 0} (test : X → Bool) (f g : X → X) → ((x : X) → g (f x) ≡ g x) → (xs : List X)
+    → map g (map (λ x. if test x then f x else x) xs) ≡ map g xs
 blind test f g each [] = refl
-blind {X} test f g each (x ∷ xs) = ap (λ y. y ∷ map g (map (λ x. if test x then f x else x) xs)) (by_test (test x)) ∙ ap (λ l. g x ∷ l) (blind test f g each xs)
+blind {X} test f g each (x ∷ xs) = ap (λ y. y ∷ map g (map (λ x. if test x then f x else x) xs)) (by_test (test x)) ∙
+    ap (λ l. g x ∷ l) (blind test f g each xs)
   where
     by_test : (b : Bool) → g (if b then f x else x) ≡ g x
     by_test true = each x
     by_test false = refl
 
-swapped : {X : Type 0} (test : X → Bool) (f g : X → X) → ((x : X) → test (g x) ≡ test x) → ((x : X) → g (f x) ≡ f (g x)) → (xs : List X)
+swapped : {X : Type 0} (test : X → Bool) (f g : X → X) → ((x : X) → test (g x) ≡ test x)
+    → ((x : X) → g (f x) ≡ f (g x)) → (xs : List X)
     → map g (map (λ x. if test x then f x else x) xs) ≡ map (λ x. if test x then f x else x) (map g xs)
 swapped test f g same each [] = refl
 swapped {X} test f g same each (x ∷ xs) =
-    ap (λ y. y ∷ map g (map (λ x. if test x then f x else x) xs)) (by_test (test x) ∙ ap (λ b. if b then f (g x) else g x) (sym (same x)))
+    ap (λ y. y ∷ map g (map (λ x. if test x then f x else x) xs))
+    (by_test (test x) ∙ ap (λ b. if b then f (g x) else g x) (sym (same x)))
     ∙ ap (λ l. (if test (g x) then f (g x) else g x) ∷ l) (swapped test f g same each xs)
   where
     by_test : (b : Bool) → g (if b then f x else x) ≡ (if b then f (g x) else g x)
     by_test true = each x
     by_test false = refl
 
-all_swapped : {X : Type 0} (f g : X → X) → ((x : X) → g (f x) ≡ f (g x)) → (xs : List X) → map g (map f xs) ≡ map f (map g xs)
+all_swapped : {X : Type 0} (f g : X → X) → ((x : X) → g (f x) ≡ f (g x)) → (xs : List X) → map g (map f xs)
+    ≡ map f (map g xs)
 all_swapped f g each [] = refl
-all_swapped f g each (x ∷ xs) = ap (λ y. y ∷ map g (map f xs)) (each x) ∙ ap (λ l. f (g x) ∷ l) (all_swapped f g each xs)
+all_swapped f g each (x ∷ xs) = ap (λ y. y ∷ map g (map f xs)) (each x) ∙ ap (λ l. f (g x) ∷ l)
+    (all_swapped f g each xs)
 
 with_nets : (s : NodeState) (a b : List NetKey) → a ≡ b → record s { nets = a } ≡ record s { nets = b }
 with_nets s a b e = ap (λ (x : List NetKey). record s { nets = x }) e
@@ -52,7 +58,8 @@ with_links s a b e = ap (λ (x : List LinkKey). record s { links = x }) e
 
 -- reserves, floors and first counters
 
-active_blind : (limit : ℕ) (active : Option Bytes) (rs : List NetKey) → map bare_net (of_active (reserved limit) active rs) ≡ map bare_net rs
+active_blind : (limit : ℕ) (active : Option Bytes) (rs : List NetKey)
+    → map bare_net (of_active (reserved limit) active rs) ≡ map bare_net rs
 active_blind limit None rs = refl
 active_blind limit (Some key) rs = blind (λ (r : NetKey). same_key r.key key) (reserved limit) bare_net (λ r. refl) rs
 
@@ -61,14 +68,19 @@ unfolding bare applied
 reserve_bare Nwk limit s = with_nets (bare s) _ _ (active_blind limit s.active s.nets)
 reserve_bare Aps limit s = refl
 
-pub floor_bare : (layer : Layer) (key : Bytes) (sender value : ℕ) (s : NodeState) → bare (applied (Floor layer key sender value) s) ≡ bare s
+pub floor_bare : (layer : Layer) (key : Bytes) (sender value : ℕ) (s : NodeState)
+    → bare (applied (Floor layer key sender value) s) ≡ bare s
 unfolding bare applied
-floor_bare Nwk key sender value s = with_nets (bare s) _ _ (blind (λ (r : NetKey). same_key r.key key) (net_floor sender value) bare_net (λ r. refl) s.nets)
-floor_bare Aps key sender value s = with_links (bare s) _ _ (blind (is_link sender key) (link_floor value) bare_link (λ r. refl) s.links)
+floor_bare Nwk key sender value s =
+    with_nets (bare s) _ _
+    (blind (λ (r : NetKey). same_key r.key key) (net_floor sender value) bare_net (λ r. refl) s.nets)
+floor_bare Aps key sender value s =
+    with_links (bare s) _ _ (blind (is_link sender key) (link_floor value) bare_link (λ r. refl) s.links)
 
 pub start_bare : (key : Bytes) (value : ℕ) (s : NodeState) → bare (applied (Start key value) s) ≡ bare s
 unfolding bare applied
-start_bare key value s = with_nets (bare s) _ _ (blind (λ (r : NetKey). same_key r.key key) (started_at value) bare_net (λ r. refl) s.nets)
+start_bare key value s =
+    with_nets (bare s) _ _ (blind (λ (r : NetKey). same_key r.key key) (started_at value) bare_net (λ r. refl) s.nets)
 
 -- moves
 
@@ -80,42 +92,57 @@ live_bare : (s : NodeState) (partner : ℕ) → is_live (bare s) partner ≡ is_
 unfolding bare is_live
 live_bare s partner = any_map (is_live_of partner) bare_link s.links
 
-installed_bare : (key : Bytes) (sequence : ℕ) (rs : List NetKey) → map bare_net (if has_net key rs then rs else rs ++ new_net key sequence ∷ [])
+installed_bare : (key : Bytes) (sequence : ℕ) (rs : List NetKey) → map bare_net (if has_net key rs then rs
+    else rs ++ new_net key sequence ∷ [])
     ≡ (if has_net key (map bare_net rs) then map bare_net rs else map bare_net rs ++ new_net key sequence ∷ [])
 installed_bare key sequence rs =
-    by_test (has_net key rs) ∙ ap (λ b. if b then map bare_net rs else map bare_net rs ++ new_net key sequence ∷ []) (sym (any_map (λ (r : NetKey). same_key r.key key) bare_net rs))
+    by_test (has_net key rs) ∙ ap (λ b. if b then map bare_net rs else map bare_net rs ++ new_net key sequence ∷ [])
+    (sym (any_map (λ (r : NetKey). same_key r.key key) bare_net rs))
   where
-    by_test : (b : Bool) → map bare_net (if b then rs else rs ++ new_net key sequence ∷ []) ≡ (if b then map bare_net rs else map bare_net rs ++ new_net key sequence ∷ [])
+    by_test : (b : Bool) → map bare_net (if b then rs else rs ++ new_net key sequence ∷ [])
+        ≡ (if b then map bare_net rs else map bare_net rs ++ new_net key sequence ∷ [])
     by_test true = refl
     by_test false = map-append bare_net rs (new_net key sequence ∷ [])
 
-linked_bare : (partner : ℕ) (key : Bytes) (attribute : Attribute) (told : Bool) (rs : List LinkKey) → map bare_link (with_link partner key attribute told rs) ≡ with_link partner key attribute told (map bare_link rs)
+linked_bare : (partner : ℕ) (key : Bytes) (attribute : Attribute) (told : Bool) (rs : List LinkKey)
+    → map bare_link (with_link partner key attribute told rs) ≡ with_link partner key attribute told (map bare_link rs)
 linked_bare partner key attribute told rs =
     by_test (has_link partner key rs)
-    ∙ ap (λ b. if b then at_link partner key (revived attribute told) (map bare_link rs) else map bare_link rs ++ new_link partner key attribute told ∷ []) (sym (any_map (is_link partner key) bare_link rs))
+    ∙ ap (λ b. if b then at_link partner key (revived attribute told) (map bare_link rs)
+    else map bare_link rs ++ new_link partner key attribute told ∷ [])
+    (sym (any_map (is_link partner key) bare_link rs))
   where
-    by_test : (b : Bool) → map bare_link (if b then at_link partner key (revived attribute told) rs else rs ++ new_link partner key attribute told ∷ [])
-        ≡ (if b then at_link partner key (revived attribute told) (map bare_link rs) else map bare_link rs ++ new_link partner key attribute told ∷ [])
+    by_test : (b : Bool) → map bare_link (if b then at_link partner key (revived attribute told) rs
+        else rs ++ new_link partner key attribute told ∷ [])
+        ≡ (if b then at_link partner key (revived attribute told) (map bare_link rs)
+        else map bare_link rs ++ new_link partner key attribute told ∷ [])
     by_test true = swapped (is_link partner key) (revived attribute told) bare_link (λ r. refl) (λ r. refl) rs
     by_test false = map-append bare_link rs (new_link partner key attribute told ∷ [])
 
-marked_bare : (partner : ℕ) (told : Bool) (rs : List LinkKey) → map bare_link (with_told partner told rs) ≡ with_told partner told (map bare_link rs)
+marked_bare : (partner : ℕ) (told : Bool) (rs : List LinkKey) → map bare_link (with_told partner told rs)
+    ≡ with_told partner told (map bare_link rs)
 marked_bare partner told rs = swapped (is_live_of partner) (told_as told) bare_link (λ r. refl) (λ r. refl) rs
 
 pub moved_bare : (m : Move) (s : NodeState) → bare (moved m s) ≡ moved m (bare s)
 unfolding bare
 moved_bare (Draw key) s = refl
-moved_bare (DropNet key) s = with_nets (bare s) _ _ (swapped (λ (r : NetKey). same_key r.key key) dropped_net bare_net (λ r. refl) (λ r. refl) s.nets)
-moved_bare (DropLink partner key) s = with_links (bare s) _ _ (swapped (is_link partner key) dropped_link bare_link (λ r. refl) (λ r. refl) s.links)
+moved_bare (DropNet key) s =
+    with_nets (bare s) _ _
+    (swapped (λ (r : NetKey). same_key r.key key) dropped_net bare_net (λ r. refl) (λ r. refl) s.nets)
+moved_bare (DropLink partner key) s =
+    with_links (bare s) _ _ (swapped (is_link partner key) dropped_link bare_link (λ r. refl) (λ r. refl) s.links)
 moved_bare (Install key sequence) s = with_nets (bare s) _ _ (installed_bare key sequence s.nets)
 moved_bare (Active key) s = refl
 moved_bare (Row partner key attribute) s =
-    with_links (bare s) _ _ (linked_bare partner key attribute (is_told s partner) s.links ∙ ap (λ b. with_link partner key attribute b (map bare_link s.links)) (sym (told_bare s partner)))
+    with_links (bare s) _ _
+    (linked_bare partner key attribute (is_told s partner) s.links ∙ ap
+    (λ b. with_link partner key attribute b (map bare_link s.links)) (sym (told_bare s partner)))
 moved_bare (Pair first second key) s = refl
 moved_bare (Became state) s = refl
 moved_bare (Live device) s = with_links (bare s) _ _ (marked_bare device false s.links)
 moved_bare (Removed device) s = refl
-moved_bare (Roll true) s = with_links (bare (record s { sending = true })) _ _ (all_swapped (told_as false) bare_link (λ r. refl) s.links)
+moved_bare (Roll true) s = with_links (bare (record s { sending = true })) _ _
+    (all_swapped (told_as false) bare_link (λ r. refl) s.links)
 moved_bare (Roll false) s = refl
 moved_bare (Told device) s = with_links (bare s) _ _ (marked_bare device true s.links)
 moved_bare (Untold device) s = with_links (bare s) _ _ (marked_bare device false s.links)
@@ -128,14 +155,19 @@ row_live (Some r) = refl
 
 net_bare : (key : Bytes) (s : NodeState) → live_net key (bare s) ≡ live_net key s
 unfolding bare
-net_bare key s = ap row_is_live (found_map (λ (r : NetKey). same_key r.key key) bare_net (λ r. refl) s.nets) ∙ row_live (net_of key s)
+net_bare key s = ap row_is_live (found_map (λ (r : NetKey). same_key r.key key) bare_net (λ r. refl) s.nets) ∙
+    row_live (net_of key s)
 
-so_many : (rs : List NetKey) → length (filter (λ (r : NetKey). r.live) (map bare_net rs)) ≡ length (filter (λ (r : NetKey). r.live) rs)
+so_many : (rs : List NetKey) → length (filter (λ (r : NetKey). r.live) (map bare_net rs))
+    ≡ length (filter (λ (r : NetKey). r.live) rs)
 so_many [] = refl
 so_many (r ∷ rs) = by_test r.live (so_many rs)
   where
-    by_test : (b : Bool) → length (filter (λ (x : NetKey). x.live) (map bare_net rs)) ≡ length (filter (λ (x : NetKey). x.live) rs)
-        → length (if b then bare_net r ∷ filter (λ (x : NetKey). x.live) (map bare_net rs) else filter (λ (x : NetKey). x.live) (map bare_net rs)) ≡ length (if b then r ∷ filter (λ (x : NetKey). x.live) rs else filter (λ (x : NetKey). x.live) rs)
+    by_test : (b : Bool) → length (filter (λ (x : NetKey). x.live) (map bare_net rs))
+        ≡ length (filter (λ (x : NetKey). x.live) rs)
+        → length (if b then bare_net r ∷ filter (λ (x : NetKey). x.live) (map bare_net rs)
+        else filter (λ (x : NetKey). x.live) (map bare_net rs))
+        ≡ length (if b then r ∷ filter (λ (x : NetKey). x.live) rs else filter (λ (x : NetKey). x.live) rs)
     by_test true e = ap suc e
     by_test false e = e
 
@@ -155,10 +187,17 @@ may_bare (Roll sending) s = refl
 may_bare (Told device) s = ap (λ b. is_centre s.role && b) (live_bare s device)
 may_bare (Untold device) s = ap (λ b. is_centre s.role && b) (live_bare s device)
 
-row_leaves_bare : (partner : ℕ) (key : Bytes) (attribute : Attribute) (s : NodeState) → move_leaves (Row partner key attribute) (bare s) ≡ move_leaves (Row partner key attribute) s
+row_leaves_bare : (partner : ℕ) (key : Bytes) (attribute : Attribute) (s : NodeState)
+    → move_leaves (Row partner key attribute) (bare s) ≡ move_leaves (Row partner key attribute) s
 unfolding bare
 row_leaves_bare partner key attribute s =
-    rw (any_map (is_link partner key) bare_link s.links, length-map s.links bare_link, any_map (λ (r : LinkKey). same_key r.key key) bare_link s.links, any_map (is_rival partner key attribute) bare_link s.links) refl
+    rw (
+      any_map (is_link partner key) bare_link s.links,
+      length-map s.links bare_link,
+      any_map (λ (r : LinkKey). same_key r.key key) bare_link s.links,
+      any_map (is_rival partner key attribute)
+          bare_link s.links,
+    ) refl
 
 pub leaves_bare : (m : Move) (s : NodeState) → move_leaves m (bare s) ≡ move_leaves m s
 unfolding bare

@@ -24,10 +24,27 @@ setting role block = record { me = node role 2 block; stations = node Centre 1 0
 
 -- Tools of one frame: data from the centre under the network key of sequence 1, with counter 0.
 abbrev shown : NwkShown
-shown = record { is_command = false; destination = 2; source = 1; auxiliary = Some (record { counter = 0; source = 1; sequence = 1 }); body = [] }
+shown =
+    record {
+      is_command = false;
+      destination = 2;
+      source = 1;
+      auxiliary = Some (record { counter = 0; source = 1; sequence = 1 });
+      body = [];
+    }
 
 abbrev opened : Bytes → Term
-opened base = record { layer = Nwk; base = base; label = ForNetwork; source = 1; counter = 0; control = 0; header = []; content = [] }
+opened base =
+    record {
+      layer = Nwk;
+      base = base;
+      label = ForNetwork;
+      source = 1;
+      counter = 0;
+      control = 0;
+      header = [];
+      content = [];
+    }
 
 abbrev one_frame : Tools
 one_frame = record {
@@ -44,7 +61,8 @@ one_frame = record {
 
 one_frame_opens : OpensAsJudged one_frame
 one_frame_opens = record {
-  nwk = λ bytes base f aux t read with_aux is_open. of_frame base f aux t (found shown f read) with_aux (found (opened base) t is_open);
+  nwk = λ bytes base f aux t read with_aux is_open. of_frame base f aux t (found shown f read) with_aux
+      (found (opened base) t is_open);
   aps = λ bytes base given a aux t read with_aux is_open. absurd (none a read);
 }
   where
@@ -54,38 +72,77 @@ one_frame_opens = record {
     none : {A : Type 0} (a : A) → None ≡ Some a → ⊥
     none a e = absurd (cc)
 
-    of_frame : (base : Bytes) (f : NwkShown) (aux : NwkAuxiliary) (t : Term) → shown ≡ f → f.auxiliary ≡ Some aux → opened base ≡ t → (t.layer ≡ Nwk) × (t.base ≡ base) × (t.source ≡ aux.source) × (t.counter ≡ aux.counter)
+    of_frame : (base : Bytes) (f : NwkShown) (aux : NwkAuxiliary) (t : Term) → shown ≡ f → f.auxiliary ≡ Some aux
+        → opened base ≡ t → (t.layer ≡ Nwk) × (t.base ≡ base) × (t.source ≡ aux.source) × (t.counter ≡ aux.counter)
     of_frame base f aux t e with_aux is =
-        let same : record { counter = 0; source = 1; sequence = 1 } ≡ aux = found (record { counter = 0; source = 1; sequence = 1 }) aux (ap (λ (g : NwkShown). g.auxiliary) e ∙ with_aux) in
-        (sym (ap (λ (u : Term). u.layer) is), sym (ap (λ (u : Term). u.base) is), sym (ap (λ (u : Term). u.source) is) ∙ ap (λ (x : NwkAuxiliary). x.source) same, sym (ap (λ (u : Term). u.counter) is) ∙ ap (λ (x : NwkAuxiliary). x.counter) same)
+        let same : record { counter = 0; source = 1; sequence = 1 }
+        ≡ aux = found (record { counter = 0; source = 1; sequence = 1 }) aux
+        (ap (λ (g : NwkShown). g.auxiliary) e ∙ with_aux) in (
+          sym (ap (λ (u : Term). u.layer) is),
+          sym (ap (λ (u : Term). u.base) is),
+          sym (ap (λ (u : Term). u.source) is)
+              ∙ ap (λ (x : NwkAuxiliary). x.source) same,
+          sym (ap (λ (u : Term). u.counter) is) ∙ ap
+              (λ (x : NwkAuxiliary). x.counter) same,
+        )
 
 -- a device with one network key
 abbrev joined : NodeState
-joined = record (new_node Device) { state = Joined; nets = record { key = key 7; sequence = 1; live = true; started = true; limit = 0; next = 0; floors = [] } ∷ []; active = Some (key 7) }
+joined =
+    record (new_node Device) {
+      state = Joined;
+      nets = record { key = key 7; sequence = 1; live = true; started = true; limit = 0; next = 0; floors = [] }
+          ∷ [];
+      active = Some (key 7);
+    }
 
 joined_keeps_the_rules : keeps_rules joined ≡ true
-unfolding keeps_rules rows_have_room keys_differ at_most_two_live active_is_live partners_agree links_are_marked floors_are_kept limits_are_started role_is_kept pairs_are_kept
+unfolding keeps_rules rows_have_room keys_differ at_most_two_live active_is_live partners_agree links_are_marked
+    floors_are_kept limits_are_started role_is_kept pairs_are_kept
 joined_keeps_the_rules = refl
 
 -- a floor of 0 isn't kept, and so doesn't fit; a floor of 1 does
 floor_of_0 : all_fit (answer one_frame (setting Device 0) joined (Received [] None)).edits joined ≡ false
-unfolding answer answer_by plan_of counting_of edits_of reserve_of floor_of stored_floor need reject judge_nwk judge_net usable_of usable_nets sender_floor station_of is_live is_known may_seal out_of next_counter stored_limit active_row all_fit fits applied keeps_rules rows_have_room keys_differ at_most_two_live active_is_live partners_agree links_are_marked floors_are_kept limits_are_started role_is_kept pairs_are_kept
+unfolding answer answer_by plan_of counting_of edits_of reserve_of floor_of stored_floor need reject judge_nwk
+    judge_net usable_of usable_nets sender_floor station_of is_live is_known may_seal out_of next_counter stored_limit
+    active_row all_fit fits applied keeps_rules rows_have_room keys_differ at_most_two_live active_is_live
+    partners_agree links_are_marked floors_are_kept limits_are_started role_is_kept pairs_are_kept
 floor_of_0 = refl
 
-floor_of_1 : (all_fit (answer one_frame (setting Device 1) joined (Received [] None)).edits joined ≡ true) × (length (answer one_frame (setting Device 1) joined (Received [] None)).edits ≡ 1)
-unfolding answer answer_by plan_of counting_of edits_of reserve_of floor_of stored_floor need reject judge_nwk judge_net usable_of usable_nets sender_floor station_of is_live is_known may_seal out_of next_counter stored_limit active_row all_fit fits applied keeps_rules rows_have_room keys_differ at_most_two_live active_is_live partners_agree links_are_marked floors_are_kept limits_are_started role_is_kept pairs_are_kept
+floor_of_1 : (all_fit (answer one_frame (setting Device 1) joined (Received [] None)).edits joined ≡ true)
+    × (length (answer one_frame (setting Device 1) joined (Received [] None)).edits ≡ 1)
+unfolding answer answer_by plan_of counting_of edits_of reserve_of floor_of stored_floor need reject judge_nwk
+    judge_net usable_of usable_nets sender_floor station_of is_live is_known may_seal out_of next_counter stored_limit
+    active_row all_fit fits applied keeps_rules rows_have_room keys_differ at_most_two_live active_is_live
+    partners_agree links_are_marked floors_are_kept limits_are_started role_is_kept pairs_are_kept
 floor_of_1 = (refl, refl)
 
 -- a centre that is asked to knock, as a device's setting has it: its state isn't to change
 abbrev centre : NodeState
-centre = record (new_node Centre) { links = record { partner = 1; key = key 5; attribute = Provisional; live = true; code = true; told = false; kept = 0; stored = 0 } ∷ [] }
+centre =
+    record (new_node Centre) {
+      links = record {
+        partner = 1;
+        key = key 5;
+        attribute = Provisional;
+        live = true;
+        code = true;
+        told = false;
+        kept = 0;
+        stored = 0;
+      } ∷ [];
+    }
 
 centre_keeps_the_rules : keeps_rules centre ≡ true
-unfolding keeps_rules rows_have_room keys_differ at_most_two_live active_is_live partners_agree links_are_marked floors_are_kept limits_are_started role_is_kept pairs_are_kept
+unfolding keeps_rules rows_have_room keys_differ at_most_two_live active_is_live partners_agree links_are_marked
+    floors_are_kept limits_are_started role_is_kept pairs_are_kept
 centre_keeps_the_rules = refl
 
 role_of_another : all_fit (answer one_frame (setting Device 1) centre DoKnock).edits centre ≡ false
-unfolding answer answer_by plan_of own knock found_or unless code_row centre_of drop_others counting_of edits_of reserve_of floor_of may_seal out_of next_counter stored_limit active_row all_fit fits applied keeps_rules rows_have_room keys_differ at_most_two_live active_is_live partners_agree links_are_marked floors_are_kept limits_are_started role_is_kept pairs_are_kept
+unfolding answer answer_by plan_of own knock found_or unless code_row centre_of drop_others counting_of edits_of
+    reserve_of floor_of may_seal out_of next_counter stored_limit active_row all_fit fits applied keeps_rules
+    rows_have_room keys_differ at_most_two_live active_is_live partners_agree links_are_marked floors_are_kept
+    limits_are_started role_is_kept pairs_are_kept
 role_of_another = refl
 
 -- the longest change, fourteen times, has room in an entry; fifteen times it has none

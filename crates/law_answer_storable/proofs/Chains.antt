@@ -8,7 +8,8 @@ use Rattle.law_change_fits.proofs.Tests.{both}
 use Rattle.law_change_fits.proofs.FitLaws.{fits_is}
 
 -- a change that may be made and leaves the rules fits
-pub change_fits : (e : Edit) (s : NodeState) → keeps_rules s ≡ true → may_change e s ≡ true → leaves_rules e s ≡ true → fits e s ≡ true
+pub change_fits : (e : Edit) (s : NodeState) → keeps_rules s ≡ true → may_change e s ≡ true → leaves_rules e s ≡ true
+    → fits e s ≡ true
 change_fits e s kept may leaves = fits_is e s kept ∙ rw (may, leaves) refl
 
 -- and the rules stand after it
@@ -20,7 +21,8 @@ kept_after (Start key value) s kept fit = (both (may_change (Start key value) s)
 kept_after (Moved (Draw key)) s kept fit = kept
 kept_after (Moved m) s kept fit = (both (may_change (Moved m) s) _ fit).1
 
-pub fit_then : (e : Edit) (es : List Edit) (s : NodeState) → fits e s ≡ true → all_fit es (applied e s) ≡ true → all_fit (e ∷ es) s ≡ true
+pub fit_then : (e : Edit) (es : List Edit) (s : NodeState) → fits e s ≡ true → all_fit es (applied e s) ≡ true
+    → all_fit (e ∷ es) s ≡ true
 unfolding all_fit
 fit_then e es s one more = rw (one, more) refl
 
@@ -28,7 +30,8 @@ pub fit_none : (s : NodeState) → all_fit [] s ≡ true
 unfolding all_fit
 fit_none s = refl
 
-pub fit_append : (a b : List Edit) (s : NodeState) → all_fit a s ≡ true → all_fit b (applied_all a s) ≡ true → all_fit (a ++ b) s ≡ true
+pub fit_append : (a b : List Edit) (s : NodeState) → all_fit a s ≡ true → all_fit b (applied_all a s) ≡ true
+    → all_fit (a ++ b) s ≡ true
 unfolding all_fit applied_all
 fit_append [] b s one two = two
 fit_append (e ∷ es) b s one two =
@@ -36,7 +39,8 @@ fit_append (e ∷ es) b s one two =
     rw parts.0 (fit_append es b (applied e s) parts.1 two)
 
 -- the rules stand after all changes that fit
-pub kept_all : (es : List Edit) (s : NodeState) → keeps_rules s ≡ true → all_fit es s ≡ true → keeps_rules (applied_all es s) ≡ true
+pub kept_all : (es : List Edit) (s : NodeState) → keeps_rules s ≡ true → all_fit es s ≡ true
+    → keeps_rules (applied_all es s) ≡ true
 unfolding all_fit applied_all
 kept_all [] s kept fit = kept
 kept_all (e ∷ es) s kept fit =

@@ -21,15 +21,18 @@ dropped_each (x ∷ xs) links = dropped_each xs (at_link x.partner x.key dropped
 -- What stands after all rows were dropped that pass a test: nothing else changed, and none passes it any more.
 pub record Dropped (q : LinkKey → Bool) (links left : List LinkKey) : Type 0 where
   pub same : (u : LinkKey → Bool) → ((r : LinkKey) → u (dropped_link r) ≡ u r) → list_any u left ≡ list_any u links
-  pub gone : (t : LinkKey → Bool) → ((r : LinkKey) → t (dropped_link r) ≡ false) → ((r : LinkKey) → q r ≡ false → t r ≡ false) → list_any t left ≡ false
+  pub gone : (t : LinkKey → Bool) → ((r : LinkKey) → t (dropped_link r) ≡ false)
+      → ((r : LinkKey) → q r ≡ false → t r ≡ false) → list_any t left ≡ false
   pub room : length left ≡ length links
 
-same_each : (u : LinkKey → Bool) → ((r : LinkKey) → u (dropped_link r) ≡ u r) → (xs links : List LinkKey) → list_any u (dropped_each xs links) ≡ list_any u links
+same_each : (u : LinkKey → Bool) → ((r : LinkKey) → u (dropped_link r) ≡ u r) → (xs links : List LinkKey)
+    → list_any u (dropped_each xs links) ≡ list_any u links
 same_each u same [] links = refl
 same_each u same (x ∷ xs) links =
     same_each u same xs (at_link x.partner x.key dropped_link links)
     ∙ any_map u (λ (r : LinkKey). if is_link x.partner x.key r then dropped_link r else r) links
-    ∙ any_same (λ (r : LinkKey). u (if is_link x.partner x.key r then dropped_link r else r)) u (λ r. by_test (is_link x.partner x.key r) r) links
+    ∙ any_same (λ (r : LinkKey). u (if is_link x.partner x.key r then dropped_link r else r)) u
+    (λ r. by_test (is_link x.partner x.key r) r) links
   where
     by_test : (b : Bool) (r : LinkKey) → u (if b then dropped_link r else r) ≡ u r
     by_test true r = same r
@@ -37,13 +40,15 @@ same_each u same (x ∷ xs) links =
 
 room_each : (xs links : List LinkKey) → length (dropped_each xs links) ≡ length links
 room_each [] links = refl
-room_each (x ∷ xs) links = room_each xs (at_link x.partner x.key dropped_link links) ∙ length-map links (λ (r : LinkKey). if is_link x.partner x.key r then dropped_link r else r)
+room_each (x ∷ xs) links = room_each xs (at_link x.partner x.key dropped_link links) ∙ length-map links
+    (λ (r : LinkKey). if is_link x.partner x.key r then dropped_link r else r)
 
 -- each row that passes is still to be dropped
 abbrev marks : List LinkKey → LinkKey → Bool
 marks xs r = list_any (λ (x : LinkKey). is_link x.partner x.key r) xs
 
-none_unmarked : (t : LinkKey → Bool) (links : List LinkKey) → list_all (λ (r : LinkKey). not (t r) || false) links ≡ true → list_any t links ≡ false
+none_unmarked : (t : LinkKey → Bool) (links : List LinkKey) → list_all (λ (r : LinkKey). not (t r) || false) links
+    ≡ true → list_any t links ≡ false
 none_unmarked t [] e = refl
 none_unmarked t (r ∷ rs) e =
     let parts = both (not (t r) || false) (list_all (λ (x : LinkKey). not (t x) || false) rs) e in
@@ -53,14 +58,18 @@ none_unmarked t (r ∷ rs) e =
     clear true e = absurd (cc)
     clear false e = refl
 
-gone_each : (t : LinkKey → Bool) → ((r : LinkKey) → t (dropped_link r) ≡ false) → (xs links : List LinkKey) → list_all (λ (r : LinkKey). not (t r) || marks xs r) links ≡ true → list_any t (dropped_each xs links) ≡ false
+gone_each : (t : LinkKey → Bool) → ((r : LinkKey) → t (dropped_link r) ≡ false) → (xs links : List LinkKey)
+    → list_all (λ (r : LinkKey). not (t r) || marks xs r) links ≡ true → list_any t (dropped_each xs links) ≡ false
 gone_each t off [] links e = none_unmarked t links e
 gone_each t off (x ∷ xs) links e =
     gone_each t off xs (at_link x.partner x.key dropped_link links)
-    (all_map (λ (r : LinkKey). not (t r) || (is_link x.partner x.key r || marks xs r)) (λ (r : LinkKey). not (t r) || marks xs r) (λ (r : LinkKey). if is_link x.partner x.key r then dropped_link r else r)
+    (all_map (λ (r : LinkKey). not (t r) || (is_link x.partner x.key r || marks xs r))
+    (λ (r : LinkKey). not (t r) || marks xs r) (λ (r : LinkKey). if is_link x.partner x.key r then dropped_link r
+    else r)
     (λ r k. by_test (is_link x.partner x.key r) r k) links e)
   where
-    by_test : (b : Bool) (r : LinkKey) → (not (t r) || (b || marks xs r)) ≡ true → (not (t (if b then dropped_link r else r)) || marks xs (if b then dropped_link r else r)) ≡ true
+    by_test : (b : Bool) (r : LinkKey) → (not (t r) || (b || marks xs r)) ≡ true
+        → (not (t (if b then dropped_link r else r)) || marks xs (if b then dropped_link r else r)) ≡ true
     by_test true r k = rw (off r) refl
     by_test false r k = k
 
@@ -68,13 +77,17 @@ pub itself : (r : LinkKey) → is_link r.partner r.key r ≡ true
 itself r = rw (eq-eqb r.partner r.partner refl, same_key_of r.key r.key refl) refl
 
 -- the rows that pass are marked by those that the filter leaves
-all_marked : (q t : LinkKey → Bool) → ((r : LinkKey) → q r ≡ false → t r ≡ false) → (xs zs : List LinkKey) → ((f : LinkKey → Bool) → list_any f (filter q xs) ≡ true → list_any f zs ≡ true)
+all_marked : (q t : LinkKey → Bool) → ((r : LinkKey) → q r ≡ false → t r ≡ false) → (xs zs : List LinkKey)
+    → ((f : LinkKey → Bool) → list_any f (filter q xs) ≡ true → list_any f zs ≡ true)
     → list_all (λ (r : LinkKey). not (t r) || marks zs r) xs ≡ true
 all_marked q t off [] zs within = refl
 all_marked q t off (x ∷ xs) zs within = by_test (q x) refl within (λ w. all_marked q t off xs zs w)
   where
-    by_test : (b : Bool) → q x ≡ b → ((f : LinkKey → Bool) → list_any f (if b then x ∷ filter q xs else filter q xs) ≡ true → list_any f zs ≡ true)
-        → (((f : LinkKey → Bool) → list_any f (filter q xs) ≡ true → list_any f zs ≡ true) → list_all (λ (r : LinkKey). not (t r) || marks zs r) xs ≡ true)
+    by_test : (b : Bool) → q x ≡ b
+        → ((f : LinkKey → Bool) → list_any f (if b then x ∷ filter q xs else filter q xs) ≡ true → list_any f zs
+        ≡ true)
+        → (((f : LinkKey → Bool) → list_any f (filter q xs) ≡ true → list_any f zs ≡ true)
+        → list_all (λ (r : LinkKey). not (t r) || marks zs r) xs ≡ true)
         → ((not (t x) || marks zs x) && list_all (λ (r : LinkKey). not (t r) || marks zs r) xs) ≡ true
     by_test true e w later =
         let here : marks zs x ≡ true = w (λ (y : LinkKey). is_link y.partner y.key x) (rw (itself x) refl) in
@@ -88,7 +101,8 @@ all_marked q t off (x ∷ xs) zs within = by_test (q x) refl within (λ w. all_m
 pub dropped_all : (q : LinkKey → Bool) (links : List LinkKey) → Dropped q links (dropped_each (filter q links) links)
 dropped_all q links = record {
   same = λ u same. same_each u same (filter q links) links;
-  gone = λ t off within. gone_each t off (filter q links) links (all_marked q t within links (filter q links) (λ f e. e));
+  gone = λ t off within. gone_each t off (filter q links) links
+      (all_marked q t within links (filter q links) (λ f e. e));
   room = room_each (filter q links) links;
 }
 
@@ -105,54 +119,73 @@ dropped_none q links none = record {
 abbrev lives : List LinkKey → LinkKey → Bool
 lives links x = list_any (λ (r : LinkKey). is_link x.partner x.key r && r.live) links
 
-all_live : (q : LinkKey → Bool) → ((r : LinkKey) → q r ≡ true → r.live ≡ true) → (xs links : List LinkKey) → ((f : LinkKey → Bool) → list_any f xs ≡ true → list_any f links ≡ true) → list_all (lives links) (filter q xs) ≡ true
+all_live : (q : LinkKey → Bool) → ((r : LinkKey) → q r ≡ true → r.live ≡ true) → (xs links : List LinkKey)
+    → ((f : LinkKey → Bool) → list_any f xs ≡ true → list_any f links ≡ true) → list_all (lives links) (filter q xs)
+    ≡ true
 all_live q live [] links within = refl
 all_live q live (x ∷ xs) links within = by_test (q x) refl within (λ w. all_live q live xs links w)
   where
     by_test : (b : Bool) → q x ≡ b → ((f : LinkKey → Bool) → list_any f (x ∷ xs) ≡ true → list_any f links ≡ true)
-        → (((f : LinkKey → Bool) → list_any f xs ≡ true → list_any f links ≡ true) → list_all (lives links) (filter q xs) ≡ true)
+        → (((f : LinkKey → Bool) → list_any f xs ≡ true → list_any f links ≡ true)
+        → list_all (lives links) (filter q xs) ≡ true)
         → list_all (lives links) (if b then x ∷ filter q xs else filter q xs) ≡ true
     by_test true e w later =
-        let here : lives links x ≡ true = w (λ (r : LinkKey). is_link x.partner x.key r && r.live) (rw (itself x, live x e) refl) in
+        let here : lives links x ≡ true = w (λ (r : LinkKey). is_link x.partner x.key r && r.live)
+        (rw (itself x, live x e) refl) in
         rw here (later (λ f k. w f (or_true (f x) (list_any f xs) k)))
     by_test false e w later = later (λ f k. w f (or_true (f x) (list_any f xs) k))
 
-still_live : (x : LinkKey) (links xs : List LinkKey) → list_any (links_alike x) xs ≡ false → list_all (lives links) xs ≡ true → list_all (lives (at_link x.partner x.key dropped_link links)) xs ≡ true
+still_live : (x : LinkKey) (links xs : List LinkKey) → list_any (links_alike x) xs ≡ false → list_all (lives links) xs
+    ≡ true → list_all (lives (at_link x.partner x.key dropped_link links)) xs ≡ true
 still_live x links [] apart e = refl
 still_live x links (y ∷ ys) apart e =
     let other = neither (links_alike x y) (list_any (links_alike x) ys) apart in
     let parts = both (lives links y) (list_all (lives links) ys) e in
-    rw (any_map (λ (r : LinkKey). is_link y.partner y.key r && r.live) (λ (r : LinkKey). if is_link x.partner x.key r then dropped_link r else r) links
-    ∙ any_from (λ (r : LinkKey). is_link y.partner y.key r && r.live) (λ (r : LinkKey). is_link y.partner y.key (if is_link x.partner x.key r then dropped_link r else r) && (if is_link x.partner x.key r then dropped_link r else r).live)
+    rw (any_map (λ (r : LinkKey). is_link y.partner y.key r && r.live) (λ (r : LinkKey). if is_link x.partner x.key r
+    then dropped_link r else r) links
+    ∙ any_from (λ (r : LinkKey). is_link y.partner y.key r && r.live)
+    (λ (r : LinkKey). is_link y.partner y.key (if is_link x.partner x.key r then dropped_link r else r)
+    && (if is_link x.partner x.key r then dropped_link r else r).live)
     (λ r k. by_test (is_link x.partner x.key r) r refl other.0 k) links parts.0)
     (still_live x links ys other.1 parts.1)
   where
-    by_test : (b : Bool) (r : LinkKey) → is_link x.partner x.key r ≡ b → links_alike x y ≡ false → (is_link y.partner y.key r && r.live) ≡ true
+    by_test : (b : Bool) (r : LinkKey) → is_link x.partner x.key r ≡ b → links_alike x y ≡ false
+        → (is_link y.partner y.key r && r.live) ≡ true
         → (is_link y.partner y.key (if b then dropped_link r else r) && (if b then dropped_link r else r).live) ≡ true
     by_test true r is other k =
         let one = both (nat_eq r.partner x.partner) (same_key r.key x.key) is in
         let two = both (is_link y.partner y.key r) r.live k in
         let three = both (nat_eq r.partner y.partner) (same_key r.key y.key) two.0 in
-        never (same_key x.key y.key) (same_key_of x.key y.key (sym (same_key_is r.key x.key one.1) ∙ same_key_is r.key y.key three.1)) other
+        never (same_key x.key y.key)
+        (same_key_of x.key y.key (sym (same_key_is r.key x.key one.1) ∙ same_key_is r.key y.key three.1)) other
     by_test false r is other k = k
 
-drops_then : (start s : NodeState) (xs : List LinkKey) (rest : List Move) → list_all (lives s.links) xs ≡ true → all_apart links_alike xs ≡ true
-    → moves_fit start rest (record s { links = dropped_each xs s.links }) ≡ true → moves_fit start (map drop_link xs ++ rest) s ≡ true
+drops_then : (start s : NodeState) (xs : List LinkKey) (rest : List Move) → list_all (lives s.links) xs ≡ true
+    → all_apart links_alike xs ≡ true
+    → moves_fit start rest (record s { links = dropped_each xs s.links }) ≡ true
+    → moves_fit start (map drop_link xs ++ rest) s ≡ true
 drops_then start s [] rest live apart fit = fit
 drops_then start s (x ∷ xs) rest live apart fit =
     let parts = both (lives s.links x) (list_all (lives s.links) xs) live in
     let alone = both (not (list_any (links_alike x) xs)) (all_apart links_alike xs) apart in
-    rw parts.0 (drops_then start (moved (drop_link x) s) xs rest (still_live x s.links xs (not-true _ alone.0) parts.1) alone.1 fit)
+    rw parts.0
+    (drops_then start (moved (drop_link x) s) xs rest (still_live x s.links xs (not-true _ alone.0) parts.1)
+    alone.1 fit)
 
 -- all rows that pass a test, of live rows alone, are dropped before the rest
-pub dropped_then : (start s : NodeState) (q : LinkKey → Bool) → all_apart links_alike s.links ≡ true → ((r : LinkKey) → q r ≡ true → r.live ≡ true) → (rest : List Move)
-    → ((left : List LinkKey) → Dropped q s.links left → moves_fit start rest (record s { links = left }) ≡ true) → moves_fit start (map drop_link (filter q s.links) ++ rest) s ≡ true
+pub dropped_then : (start s : NodeState) (q : LinkKey → Bool) → all_apart links_alike s.links ≡ true
+    → ((r : LinkKey) → q r ≡ true → r.live ≡ true) → (rest : List Move)
+    → ((left : List LinkKey) → Dropped q s.links left → moves_fit start rest (record s { links = left }) ≡ true)
+    → moves_fit start (map drop_link (filter q s.links) ++ rest) s ≡ true
 dropped_then start s q keys live rest fit =
-    drops_then start s (filter q s.links) rest (all_live q live s.links s.links (λ f e. e)) (apart_filter links_alike q s.links keys)
+    drops_then start s (filter q s.links) rest (all_live q live s.links s.links (λ f e. e))
+    (apart_filter links_alike q s.links keys)
     (fit (dropped_each (filter q s.links) s.links) (dropped_all q s.links))
 
 -- A partner's current row, or its offered one, is its only one of that kind.
-pub kind_alike : (partner : ℕ) (kind : Bool) (x y : LinkKey) → (is_live_of partner x && same_bool (is_unverified x.attribute) kind) ≡ true → (is_live_of partner y && same_bool (is_unverified y.attribute) kind) ≡ true → kinds_alike x y ≡ true
+pub kind_alike : (partner : ℕ) (kind : Bool) (x y : LinkKey)
+    → (is_live_of partner x && same_bool (is_unverified x.attribute) kind) ≡ true
+    → (is_live_of partner y && same_bool (is_unverified y.attribute) kind) ≡ true → kinds_alike x y ≡ true
 kind_alike partner kind x y e f =
     let one = both (is_live_of partner x) (same_bool (is_unverified x.attribute) kind) e in
     let two = both (is_live_of partner y) (same_bool (is_unverified y.attribute) kind) f in
@@ -174,9 +207,17 @@ row_list None = refl
 row_list (Some r) = refl
 
 -- the found row of a kind is dropped before the rest
-pub row_then : (start s : NodeState) (partner : ℕ) (q : LinkKey → Bool) (kind : Bool) → ((r : LinkKey) → q r ≡ true → (is_live_of partner r && same_bool (is_unverified r.attribute) kind) ≡ true)
+pub row_then : (start s : NodeState) (partner : ℕ) (q : LinkKey → Bool) (kind : Bool)
+    → ((r : LinkKey) → q r ≡ true → (is_live_of partner r && same_bool (is_unverified r.attribute) kind) ≡ true)
     → all_apart links_alike s.links ≡ true → all_apart kinds_alike s.links ≡ true → (rest : List Move)
-    → ((left : List LinkKey) → Dropped q s.links left → moves_fit start rest (record s { links = left }) ≡ true) → moves_fit start (drop_row (find q s.links) ++ rest) s ≡ true
+    → ((left : List LinkKey) → Dropped q s.links left → moves_fit start rest (record s { links = left }) ≡ true)
+    → moves_fit start (drop_row (find q s.links) ++ rest) s ≡ true
 row_then start s partner q kind of_kind keys kinds rest fit =
-    ap (λ l. moves_fit start (l ++ rest) s) (row_list (find q s.links) ∙ ap (map drop_link) (sym (one_left kinds_alike q (λ x y e f. kind_alike partner kind x y (of_kind x e) (of_kind y f)) s.links kinds)))
-    ∙ dropped_then start s q keys (λ r e. (both r.live (nat_eq r.partner partner) (both (is_live_of partner r) (same_bool (is_unverified r.attribute) kind) (of_kind r e)).0).0) rest fit
+    ap (λ l. moves_fit start (l ++ rest) s)
+    (row_list (find q s.links) ∙ ap (map drop_link)
+    (sym (one_left kinds_alike q (λ x y e f. kind_alike partner kind x y (of_kind x e) (of_kind y f)) s.links
+    kinds)))
+    ∙ dropped_then start s q keys
+    (λ r e.
+    (both r.live (nat_eq r.partner partner)
+    (both (is_live_of partner r) (same_bool (is_unverified r.attribute) kind) (of_kind r e)).0).0) rest fit

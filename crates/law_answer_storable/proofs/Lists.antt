@@ -43,31 +43,37 @@ stands_found {X} q f (x ∷ xs) = by_test (q x) (stands_later f x xs (find q xs)
     by_test true h = λ e. or_first (f x) (list_any f xs) e
     by_test false h = h
 
-pub found_any : {X : Type 0} (q f : X → Bool) (xs : List X) (x : X) → find q xs ≡ Some x → f x ≡ true → list_any f xs ≡ true
+pub found_any : {X : Type 0} (q f : X → Bool) (xs : List X) (x : X) → find q xs ≡ Some x → f x ≡ true → list_any f xs
+    ≡ true
 found_any q f xs x e = subst (λ o. Stands f xs o) e (stands_found q f xs)
 
 pub found_is : {X : Type 0} (q : X → Bool) (xs : List X) → is_some (find q xs) ≡ list_any q xs
 found_is q [] = refl
 found_is {X} q (x ∷ xs) = by_test (q x) (found_is q xs)
   where
-    by_test : (b : Bool) → is_some (find q xs) ≡ list_any q xs → is_some (if b then Some x else find q xs) ≡ (b || list_any q xs)
+    by_test : (b : Bool) → is_some (find q xs) ≡ list_any q xs → is_some (if b then Some x else find q xs)
+        ≡ (b || list_any q xs)
     by_test true e = refl
     by_test false e = e
 
 pub found_none : {X : Type 0} (q : X → Bool) (xs : List X) → find q xs ≡ None → list_any q xs ≡ false
 found_none q xs e = sym (found_is q xs) ∙ ap is_some e
 
-pub found_map : {X : Type 0} (test : X → Bool) (f : X → X) → ((x : X) → test (f x) ≡ test x) → (xs : List X) → find test (map f xs) ≡ option_map f (find test xs)
+pub found_map : {X : Type 0} (test : X → Bool) (f : X → X) → ((x : X) → test (f x) ≡ test x) → (xs : List X)
+    → find test (map f xs) ≡ option_map f (find test xs)
 found_map test f same [] = refl
-found_map {X} test f same (x ∷ xs) = ap (λ b. if b then Some (f x) else find test (map f xs)) (same x) ∙ by_test (test x) (found_map test f same xs)
+found_map {X} test f same (x ∷ xs) = ap (λ b. if b then Some (f x) else find test (map f xs)) (same x) ∙ by_test
+    (test x) (found_map test f same xs)
   where
-    by_test : (b : Bool) → find test (map f xs) ≡ option_map f (find test xs) → (if b then Some (f x) else find test (map f xs)) ≡ option_map f (if b then Some x else find test xs)
+    by_test : (b : Bool) → find test (map f xs) ≡ option_map f (find test xs)
+        → (if b then Some (f x) else find test (map f xs)) ≡ option_map f (if b then Some x else find test xs)
     by_test true e = refl
     by_test false e = e
 
 -- lists turned round, and filtered
 
-any_turned : {X : Type 0} (f : X → Bool) (xs ys : List X) → list_any f (reverse_aux xs ys) ≡ true → (list_any f xs || list_any f ys) ≡ true
+any_turned : {X : Type 0} (f : X → Bool) (xs ys : List X) → list_any f (reverse_aux xs ys) ≡ true
+    → (list_any f xs || list_any f ys) ≡ true
 any_turned f [] ys e = e
 any_turned f (x ∷ xs) ys e = shuffle (f x) (list_any f xs) (list_any f ys) (any_turned f xs (x ∷ ys) e)
   where
@@ -83,15 +89,19 @@ any_reverse f xs e = drop_end (list_any f xs) (any_turned f xs [] e)
     drop_end true e = refl
     drop_end false e = e
 
-pub any_filter : {X : Type 0} (f q : X → Bool) (xs : List X) → list_any f (filter q xs) ≡ true → list_any (λ x. q x && f x) xs ≡ true
+pub any_filter : {X : Type 0} (f q : X → Bool) (xs : List X) → list_any f (filter q xs) ≡ true
+    → list_any (λ x. q x && f x) xs ≡ true
 any_filter f q [] e = e
 any_filter {X} f q (x ∷ xs) e = by_test (q x) e (any_filter f q xs)
   where
-    by_test : (b : Bool) → list_any f (if b then x ∷ filter q xs else filter q xs) ≡ true → (list_any f (filter q xs) ≡ true → list_any (λ x. q x && f x) xs ≡ true)
+    by_test : (b : Bool) → list_any f (if b then x ∷ filter q xs else filter q xs) ≡ true
+        → (list_any f (filter q xs) ≡ true → list_any (λ x. q x && f x) xs ≡ true)
         → ((b && f x) || list_any (λ x. q x && f x) xs) ≡ true
     by_test true e later = first (f x) e later
       where
-        first : (c : Bool) → (c || list_any f (filter q xs)) ≡ true → (list_any f (filter q xs) ≡ true → list_any (λ x. q x && f x) xs ≡ true) → (c || list_any (λ x. q x && f x) xs) ≡ true
+        first : (c : Bool) → (c || list_any f (filter q xs)) ≡ true
+            → (list_any f (filter q xs) ≡ true → list_any (λ x. q x && f x) xs ≡ true)
+            → (c || list_any (λ x. q x && f x) xs) ≡ true
         first true e later = refl
         first false e later = later e
     by_test false e later = later e
@@ -109,7 +119,8 @@ pub heads_of : {X : Type 0} (q : X → Bool) (xs : List X) → Heads q xs (filte
 heads_of q [] = tt
 heads_of {X} q (x ∷ xs) = by_test (q x) refl (heads_later q x xs (filter q xs) (heads_of q xs))
   where
-    by_test : (b : Bool) → q x ≡ b → Heads q (x ∷ xs) (filter q xs) → Heads q (x ∷ xs) (if b then x ∷ filter q xs else filter q xs)
+    by_test : (b : Bool) → q x ≡ b → Heads q (x ∷ xs) (filter q xs) → Heads q (x ∷ xs) (if b then x ∷ filter q xs
+        else filter q xs)
     by_test true e h = (e, λ f k. or_first (f x) (list_any f xs) k)
     by_test false e h = h
 
@@ -121,7 +132,8 @@ none_left q (x ∷ xs) e =
     rw parts.0 (none_left q xs parts.1)
 
 -- where any two that pass are alike and no two items are, one passes at most, and is found
-pub one_left : {X : Type 0} (alike : X → X → Bool) (q : X → Bool) → ((x y : X) → q x ≡ true → q y ≡ true → alike x y ≡ true)
+pub one_left : {X : Type 0} (alike : X → X → Bool) (q : X → Bool)
+    → ((x y : X) → q x ≡ true → q y ≡ true → alike x y ≡ true)
     → (xs : List X) → all_apart alike xs ≡ true → filter q xs ≡ option_to_list (find q xs)
 one_left alike q each [] apart = refl
 one_left {X} alike q each (x ∷ xs) apart =
@@ -134,5 +146,6 @@ one_left {X} alike q each (x ∷ xs) apart =
 
     by_test : (b : Bool) → q x ≡ b → list_any (alike x) xs ≡ false → filter q xs ≡ option_to_list (find q xs)
         → (if b then x ∷ filter q xs else filter q xs) ≡ option_to_list (if b then Some x else find q xs)
-    by_test true e alone later = ap (λ l. x ∷ l) (none_left q xs (none_where (alike x) q (λ y other. turned y e other (q y) refl) xs alone))
+    by_test true e alone later =
+        ap (λ l. x ∷ l) (none_left q xs (none_where (alike x) q (λ y other. turned y e other (q y) refl) xs alone))
     by_test false e alone later = later

@@ -17,17 +17,20 @@ stopped s reason = record { fit = refl; few = omega arith }
 pub no_moves : (s : NodeState) (send : Option Sending) → Fitting s (Does [] send)
 no_moves s send = record { fit = refl; few = omega arith }
 
-pub after_unless : (s : NodeState) (bad : Bool) (reason : Reason) (rest : Outcome) → (bad ≡ false → Fitting s rest) → Fitting s (unless bad reason rest)
+pub after_unless : (s : NodeState) (bad : Bool) (reason : Reason) (rest : Outcome) → (bad ≡ false → Fitting s rest)
+    → Fitting s (unless bad reason rest)
 unfolding unless
 after_unless s true reason rest k = stopped s reason
 after_unless s false reason rest k = k refl
 
-pub after_found : {A : Type 0} (s : NodeState) (o : Option A) (reason : Reason) (rest : A → Outcome) → ((a : A) → o ≡ Some a → Fitting s (rest a)) → Fitting s (found_or o reason rest)
+pub after_found : {A : Type 0} (s : NodeState) (o : Option A) (reason : Reason) (rest : A → Outcome)
+    → ((a : A) → o ≡ Some a → Fitting s (rest a)) → Fitting s (found_or o reason rest)
 unfolding found_or
 after_found s None reason rest k = stopped s reason
 after_found s (Some a) reason rest k = k a refl
 
-pub after_choice : (s : NodeState) (test : Bool) (a b : Outcome) → (test ≡ true → Fitting s a) → (test ≡ false → Fitting s b) → Fitting s (choose test a b)
+pub after_choice : (s : NodeState) (test : Bool) (a b : Outcome) → (test ≡ true → Fitting s a)
+    → (test ≡ false → Fitting s b) → Fitting s (choose test a b)
 unfolding choose
 after_choice s true a b k l = k refl
 after_choice s false a b k l = l refl

@@ -14,15 +14,29 @@ sixteen key e = eqb-true (length key) 16 e
 one_short : (e : Edit) → has_whole_keys e ≡ true → length (edit_bytes e) ≤ 33
 unfolding edit_bytes
 one_short (Reserve layer limit) w = omega arith
-one_short (Floor layer key sender value) w = omega (arith, length-append key (eight_bytes sender ++ four_bytes value), sixteen key w)
+one_short (Floor layer key sender value) w =
+    omega (arith, length-append key (eight_bytes sender ++ four_bytes value), sixteen key w)
 one_short (Start key value) w = omega (arith, length-append key (four_bytes value), sixteen key w)
 one_short (Moved (Draw key)) w = omega arith
 one_short (Moved (DropNet key)) w = omega (arith, sixteen key w)
 one_short (Moved (DropLink partner key)) w = omega (arith, length-append (eight_bytes partner) key, sixteen key w)
 one_short (Moved (Install key sequence)) w = omega (arith, length-append key (sequence ∷ []), sixteen key w)
 one_short (Moved (Active key)) w = omega (arith, sixteen key w)
-one_short (Moved (Row partner key attribute)) w = omega (arith, length-append (eight_bytes partner) (key ++ attribute_byte attribute ∷ []), length-append key (attribute_byte attribute ∷ []), sixteen key w)
-one_short (Moved (Pair first second key)) w = omega (arith, length-append (eight_bytes first) (eight_bytes second ++ key), length-append (eight_bytes second) key, sixteen key w)
+one_short (Moved (Row partner key attribute)) w =
+    omega (
+      arith,
+      length-append (eight_bytes partner) (key ++ attribute_byte attribute ∷ []),
+      length-append key (attribute_byte attribute ∷ []),
+      sixteen key w,
+    )
+one_short (Moved (Pair first second key)) w =
+    omega (
+      arith,
+      length-append (eight_bytes first) (eight_bytes second ++ key),
+      length-append (eight_bytes second)
+          key,
+      sixteen key w,
+    )
 one_short (Moved (Became state)) w = omega arith
 one_short (Moved (Live device)) w = omega arith
 one_short (Moved (Removed device)) w = omega arith

@@ -12,9 +12,11 @@ source_or given (Some source) = source
 -- and counter of the auxiliary header, by which the frame was judged. Without it the floor that is stored would be
 -- another row's.
 pub record OpensAsJudged (tools : Tools) : Type 0 where
-  pub nwk : (bytes key : Bytes) (f : NwkShown) (aux : NwkAuxiliary) (t : Term) → tools.read_nwk bytes ≡ Some f → f.auxiliary ≡ Some aux → tools.open_nwk bytes key ≡ Some t
+  pub nwk : (bytes key : Bytes) (f : NwkShown) (aux : NwkAuxiliary) (t : Term) → tools.read_nwk bytes ≡ Some f
+      → f.auxiliary ≡ Some aux → tools.open_nwk bytes key ≡ Some t
       → (t.layer ≡ Nwk) × (t.base ≡ key) × (t.source ≡ aux.source) × (t.counter ≡ aux.counter)
-  pub aps : (bytes key : Bytes) (given : ℕ) (a : ApsShown) (aux : ApsAuxiliary) (t : Term) → tools.read_aps bytes ≡ Some a → a.auxiliary ≡ Some aux → tools.open_aps bytes key given ≡ Some t
+  pub aps : (bytes key : Bytes) (given : ℕ) (a : ApsShown) (aux : ApsAuxiliary) (t : Term) → tools.read_aps bytes
+      ≡ Some a → a.auxiliary ≡ Some aux → tools.open_aps bytes key given ≡ Some t
       → (t.layer ≡ Aps) × (t.base ≡ key) × (t.source ≡ source_or given aux.source) × (t.counter ≡ aux.counter)
 
 -- The keys that a change spells have 16 bytes, as those of a program's changes do by their type; a draw spells none.

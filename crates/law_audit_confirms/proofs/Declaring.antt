@@ -37,20 +37,28 @@ role_again model.Device = refl
 
 declares_node : (known ks : List Station) (p : Station) → declares ks (line_for known (Declared p)) ≡ with_station ks p
 unfolding declares line_for
-declares_node known ks p = ap (λ (r : model.Role). with_station ks (record { name = p.name; eui = p.eui; short = p.short; role = r; out_block = p.out_block; in_block = p.in_block })) (role_again p.role)
+declares_node known ks p =
+    ap (λ (r : model.Role). with_station ks
+    (record
+    { name = p.name; eui = p.eui; short = p.short; role = r; out_block = p.out_block; in_block = p.in_block }))
+    (role_again p.role)
 
-not_named : (ks : List Station) (p : Station) (ps : List Station) → NamesDiffer (ks ++ p ∷ ps) → station_named ks p.name ≡ None
+not_named : (ks : List Station) (p : Station) (ps : List Station) → NamesDiffer (ks ++ p ∷ ps)
+    → station_named ks p.name ≡ None
 unfolding station_named
 not_named [] p ps differ = refl
 not_named (q ∷ ks) p ps differ =
-    ap (λ (b : Bool). cond b (Some q) (find (λ (s : Station). bytes_eq s.name p.name) ks)) (at_place ks differ.0) ∙ not_named ks p ps differ.1
+    ap (λ (b : Bool). cond b (Some q) (find (λ (s : Station). bytes_eq s.name p.name) ks)) (at_place ks differ.0) ∙
+    not_named ks p ps differ.1
   where
-    at_place : (xs : List Station) → AllByRecursion (λ (x : Station). bytes_eq q.name x.name ≡ false) (xs ++ p ∷ ps) → bytes_eq q.name p.name ≡ false
+    at_place : (xs : List Station) → AllByRecursion (λ (x : Station). bytes_eq q.name x.name ≡ false) (xs ++ p ∷ ps)
+        → bytes_eq q.name p.name ≡ false
     at_place [] all = all.0
     at_place (x ∷ xs) all = at_place xs all.1
 
 -- the lines that declare these nodes, whose names are new
-pub declares_nodes : (known ks ps : List Station) → NamesDiffer (ks ++ ps) → fold declares ks (printed known (map Declared ps)) ≡ ks ++ ps
+pub declares_nodes : (known ks ps : List Station) → NamesDiffer (ks ++ ps)
+    → fold declares ks (printed known (map Declared ps)) ≡ ks ++ ps
 unfolding with_station
 declares_nodes known ks [] differ = sym (nothing_more ks)
   where
@@ -58,7 +66,8 @@ declares_nodes known ks [] differ = sym (nothing_more ks)
     nothing_more [] = refl
     nothing_more (x ∷ xs) = ap (λ (ys : List Station). x ∷ ys) (nothing_more xs)
 declares_nodes known ks (p ∷ ps) differ =
-    ap (λ (found : List Station). fold declares found (printed known (map Declared ps))) (declares_node known ks p ∙ ap (or_added ks p) (not_named ks p ps differ))
+    ap (λ (found : List Station). fold declares found (printed known (map Declared ps)))
+    (declares_node known ks p ∙ ap (or_added ks p) (not_named ks p ps differ))
     ∙ declares_nodes known (ks ++ p ∷ []) ps (subst NamesDiffer (sym (append_assoc ks (p ∷ []) ps)) differ)
     ∙ append_assoc ks (p ∷ []) ps
 
@@ -104,9 +113,11 @@ declares_none known ks (log.Changed event j (model.Moved (model.Roll sending))) 
 declares_none known ks (log.Changed event j (model.Moved (model.Told device))) plain = refl
 declares_none known ks (log.Changed event j (model.Moved (model.Untold device))) plain = refl
 
-pub declares_no_more : (known ks : List Station) (g : List Line) → AllByRecursion NotDeclared g → fold declares ks (printed known g) ≡ ks
+pub declares_no_more : (known ks : List Station) (g : List Line) → AllByRecursion NotDeclared g
+    → fold declares ks (printed known g) ≡ ks
 declares_no_more known ks [] all = refl
-declares_no_more known ks (m ∷ g) all = ap (λ (found : List Station). fold declares found (printed known g)) (declares_none known ks m all.0) ∙ declares_no_more known ks g all.1
+declares_no_more known ks (m ∷ g) all = ap (λ (found : List Station). fold declares found (printed known g))
+    (declares_none known ks m all.0) ∙ declares_no_more known ks g all.1
 
 -- ---- a run begins with all that declare
 
@@ -115,11 +126,13 @@ abbrev given_lines : Schedule → List Line
 given_lines w =
     flat_map (λ (m : Node). net_line m.station.eui m.network) w.nodes
     ++ (flat_map (λ (m : Node). link_line (centre_of (stations w)) m.station.eui m.code) w.nodes
-    ++ flat_map (λ (m : Node). limit_line m.station.eui Nwk m.start_nwk ++ limit_line m.station.eui Aps m.start_aps) w.nodes)
+    ++ flat_map (λ (m : Node). limit_line m.station.eui Nwk m.start_nwk ++ limit_line m.station.eui Aps m.start_aps)
+    w.nodes)
 
 -- the lines after those that declare
 abbrev pub lines_behind : Tools → Schedule → List Line
-lines_behind tools w = given_lines w ++ (groups tools w (start w) [] 1 w.events ++ end_line tools (length w.events) (run_lines tools w) ∷ [])
+lines_behind tools w = given_lines w
+    ++ (groups tools w (start w) [] 1 w.events ++ end_line tools (length w.events) (run_lines tools w) ∷ [])
 
 pub begins : (tools : Tools) (w : Schedule) → transcript tools w ≡ map Declared (stations w) ++ lines_behind tools w
 unfolding transcript run_lines start
@@ -144,7 +157,8 @@ plain_limit n layer limit = by_test (nat_eq limit 0)
     by_test true = tt
     by_test false = (tt, tt)
 
-plain_each : (f : Node → List Line) → ((m : Node) → AllByRecursion NotDeclared (f m)) → (ms : List Node) → AllByRecursion NotDeclared (flat_map f ms)
+plain_each : (f : Node → List Line) → ((m : Node) → AllByRecursion NotDeclared (f m)) → (ms : List Node)
+    → AllByRecursion NotDeclared (flat_map f ms)
 plain_each f each [] = tt
 plain_each f each (m ∷ ms) = all-append NotDeclared (f m) (flat_map f ms) (each m) (plain_each f each ms)
 
@@ -152,10 +166,13 @@ plain_given : (w : Schedule) → AllByRecursion NotDeclared (given_lines w)
 plain_given w =
     all-append NotDeclared (flat_map (λ (m : Node). net_line m.station.eui m.network) w.nodes) _
     (plain_each (λ (m : Node). net_line m.station.eui m.network) (λ m. plain_net m.station.eui m.network) w.nodes)
-    (all-append NotDeclared (flat_map (λ (m : Node). link_line (centre_of (stations w)) m.station.eui m.code) w.nodes) _
-    (plain_each (λ (m : Node). link_line (centre_of (stations w)) m.station.eui m.code) (λ m. plain_link (centre_of (stations w)) m.station.eui m.code) w.nodes)
+    (all-append NotDeclared (flat_map (λ (m : Node). link_line (centre_of (stations w)) m.station.eui m.code) w.nodes)
+    _
+    (plain_each (λ (m : Node). link_line (centre_of (stations w)) m.station.eui m.code)
+    (λ m. plain_link (centre_of (stations w)) m.station.eui m.code) w.nodes)
     (plain_each (λ (m : Node). limit_line m.station.eui Nwk m.start_nwk ++ limit_line m.station.eui Aps m.start_aps)
-    (λ m. all-append NotDeclared (limit_line m.station.eui Nwk m.start_nwk) (limit_line m.station.eui Aps m.start_aps) (plain_limit m.station.eui Nwk m.start_nwk) (plain_limit m.station.eui Aps m.start_aps))
+    (λ m. all-append NotDeclared (limit_line m.station.eui Nwk m.start_nwk) (limit_line m.station.eui Aps m.start_aps)
+    (plain_limit m.station.eui Nwk m.start_nwk) (plain_limit m.station.eui Aps m.start_aps))
     w.nodes))
 
 -- the disks are no matter
@@ -191,10 +208,12 @@ asked_plain ds number (ArmStop n calls torn) = plain_node ds number n
 asked_plain ds number (ArmFail n call) = plain_node ds number n
 asked_plain ds number (InjectBytes bytes) = plain_outside number
 asked_plain ds number (ForgeNet to from source key sequence counter content) = plain_outside number
-asked_plain ds number (ForgeNetAps to from source key sequence counter label base aps_counter command) = plain_outside number
+asked_plain ds number (ForgeNetAps to from source key sequence counter label base aps_counter command) =
+    plain_outside number
 asked_plain ds number (ForgeOpen to from source label base aps_counter command) = plain_outside number
 
-plain_groups : (tools : Tools) (w : Schedule) (h : List Line) (ds : List Disk) (number : ℕ) (events : List Event) → AllByRecursion NotDeclared (groups tools w h ds number events)
+plain_groups : (tools : Tools) (w : Schedule) (h : List Line) (ds : List Disk) (number : ℕ) (events : List Event)
+    → AllByRecursion NotDeclared (groups tools w h ds number events)
 unfolding groups
 plain_groups tools w h ds number [] = tt
 plain_groups tools w h ds number (event ∷ events) =
@@ -207,7 +226,9 @@ pub plain_behind : (tools : Tools) (w : Schedule) → AllByRecursion NotDeclared
 unfolding end_line
 plain_behind tools w =
     all-append NotDeclared (given_lines w) _ (plain_given w)
-    (all-append NotDeclared (groups tools w (start w) [] 1 w.events) (end_line tools (length w.events) (run_lines tools w) ∷ []) (plain_groups tools w (start w) [] 1 w.events) (tt, tt))
+    (all-append NotDeclared (groups tools w (start w) [] 1 w.events)
+    (end_line tools (length w.events) (run_lines tools w) ∷ []) (plain_groups tools w (start w) [] 1 w.events)
+    (tt, tt))
 
 -- ---- the centre by its name
 
@@ -223,37 +244,51 @@ neither : (a b : Bool) → (a || b) ≡ false → (a ≡ false) × (b ≡ false)
 neither true b e = absurd (false≢true (sym e))
 neither false b e = (refl, e)
 
-none_alike : (n : ℕ) (test : Station → Bool) (ps : List Station) (p : Station) → list_any (λ (x : Station). nat_eq n x.eui) ps ≡ false → find test ps ≡ Some p → nat_eq n p.eui ≡ false
+none_alike : (n : ℕ) (test : Station → Bool) (ps : List Station) (p : Station)
+    → list_any (λ (x : Station). nat_eq n x.eui) ps ≡ false → find test ps ≡ Some p → nat_eq n p.eui ≡ false
 none_alike n test [] p none found = absurd (no_some p found)
   where
     no_some : (q : Station) → None ≡ Some q → ⊥
     no_some q e = subst IsNothing e tt
-none_alike n test (q ∷ ps) p none found = by_test (test q) found (λ e. none_alike n test ps p (neither (nat_eq n q.eui) (list_any (λ (x : Station). nat_eq n x.eui) ps) none).1 e)
+none_alike n test (q ∷ ps) p none found =
+    by_test (test q) found
+    (λ e. none_alike n test ps p (neither (nat_eq n q.eui) (list_any (λ (x : Station). nat_eq n x.eui) ps) none).1 e)
   where
     both : (nat_eq n q.eui ≡ false) × (list_any (λ (x : Station). nat_eq n x.eui) ps ≡ false)
     both = neither (nat_eq n q.eui) (list_any (λ (x : Station). nat_eq n x.eui) ps) none
 
-    by_test : (b : Bool) → cond b (Some q) (find test ps) ≡ Some p → (find test ps ≡ Some p → nat_eq n p.eui ≡ false) → nat_eq n p.eui ≡ false
+    by_test : (b : Bool) → cond b (Some q) (find test ps) ≡ Some p → (find test ps ≡ Some p → nat_eq n p.eui ≡ false)
+        → nat_eq n p.eui ≡ false
     by_test true e later = subst (λ (k : ℕ). nat_eq n k ≡ false) (ap eui_in e) both.0
     by_test false e later = later e
 
 -- EUIs differ, so who is found by a test is found by its own EUI
-found_again : (test : Station → Bool) (ps : List Station) → all_apart (λ (a b : Station). nat_eq a.eui b.eui) ps ≡ true → (p : Station) → find test ps ≡ Some p → find (λ (x : Station). nat_eq x.eui p.eui) ps ≡ Some p
+found_again : (test : Station → Bool) (ps : List Station) → all_apart (λ (a b : Station). nat_eq a.eui b.eui) ps
+    ≡ true → (p : Station) → find test ps ≡ Some p → find (λ (x : Station). nat_eq x.eui p.eui) ps ≡ Some p
 found_again test [] apart p found = found
 found_again test (q ∷ ps) apart p found =
-    by_test (test q) found (λ e. found_again test ps (and_parts (not (list_any (λ (x : Station). nat_eq q.eui x.eui) ps)) (all_apart (λ (a b : Station). nat_eq a.eui b.eui) ps) apart).1 p e)
+    by_test (test q) found
+    (λ e. found_again test ps
+    (and_parts (not (list_any (λ (x : Station). nat_eq q.eui x.eui) ps))
+    (all_apart (λ (a b : Station). nat_eq a.eui b.eui) ps) apart).1 p e)
   where
     negated : (b : Bool) → not b ≡ true → b ≡ false
     negated true e = absurd (false≢true e)
     negated false e = refl
 
-    parts : (not (list_any (λ (x : Station). nat_eq q.eui x.eui) ps) ≡ true) × (all_apart (λ (a b : Station). nat_eq a.eui b.eui) ps ≡ true)
-    parts = and_parts (not (list_any (λ (x : Station). nat_eq q.eui x.eui) ps)) (all_apart (λ (a b : Station). nat_eq a.eui b.eui) ps) apart
+    parts : (not (list_any (λ (x : Station). nat_eq q.eui x.eui) ps) ≡ true)
+        × (all_apart (λ (a b : Station). nat_eq a.eui b.eui) ps ≡ true)
+    parts = and_parts (not (list_any (λ (x : Station). nat_eq q.eui x.eui) ps))
+        (all_apart (λ (a b : Station). nat_eq a.eui b.eui) ps) apart
 
-    by_test : (b : Bool) → cond b (Some q) (find test ps) ≡ Some p → (find test ps ≡ Some p → find (λ (x : Station). nat_eq x.eui p.eui) ps ≡ Some p) → cond (nat_eq q.eui p.eui) (Some q) (find (λ (x : Station). nat_eq x.eui p.eui) ps) ≡ Some p
-    by_test true e later = ap (λ (b : Bool). cond b (Some q) (find (λ (x : Station). nat_eq x.eui p.eui) ps)) (eq-eqb q.eui p.eui (ap eui_in e)) ∙ e
+    by_test : (b : Bool) → cond b (Some q) (find test ps) ≡ Some p
+        → (find test ps ≡ Some p → find (λ (x : Station). nat_eq x.eui p.eui) ps ≡ Some p)
+        → cond (nat_eq q.eui p.eui) (Some q) (find (λ (x : Station). nat_eq x.eui p.eui) ps) ≡ Some p
+    by_test true e later = ap (λ (b : Bool). cond b (Some q) (find (λ (x : Station). nat_eq x.eui p.eui) ps))
+        (eq-eqb q.eui p.eui (ap eui_in e)) ∙ e
     by_test false e later =
-        ap (λ (b : Bool). cond b (Some q) (find (λ (x : Station). nat_eq x.eui p.eui) ps)) (none_alike q.eui test ps p (negated (list_any (λ (x : Station). nat_eq q.eui x.eui) ps) parts.0) e)
+        ap (λ (b : Bool). cond b (Some q) (find (λ (x : Station). nat_eq x.eui p.eui) ps))
+        (none_alike q.eui test ps p (negated (list_any (λ (x : Station). nat_eq q.eui x.eui) ps) parts.0) e)
         ∙ later e
 
 -- of the declared nodes that one is the centre, by their names
@@ -261,26 +296,35 @@ abbrev pub Centred : List Station → ℕ → Type 0
 Centred known c = (j : ℕ) → IsDeclared known j → is_centres known (name_of known j) ≡ nat_eq j c
 
 -- the first centre is called as the node of its EUI
-centre_called : (w : Schedule) → euis_differ w ≡ true → (n : ℕ) → n < 2 ^ 64 → n ≡ centre_of (stations w) → is_centres (stations w) (name_of (stations w) n) ≡ true
+centre_called : (w : Schedule) → euis_differ w ≡ true → (n : ℕ) → n < 2 ^ 64 → n ≡ centre_of (stations w)
+    → is_centres (stations w) (name_of (stations w) n) ≡ true
 unfolding is_centres centre_name name_of station_of centre_of euis_differ
 centre_called w differ n small its = by_found (find (λ (p : Station). is_centre p.role) (stations w)) refl its
   where
-    by_found : (o : Option Station) → find (λ (p : Station). is_centre p.role) (stations w) ≡ o → n ≡ eui_or model.nobody o
-        → is_name (option_map (λ (s : Station). s.name) o) (name_or_none (find (λ (p : Station). nat_eq p.eui n) (stations w))) ≡ true
+    by_found : (o : Option Station) → find (λ (p : Station). is_centre p.role) (stations w) ≡ o → n
+        ≡ eui_or model.nobody o
+        → is_name (option_map (λ (s : Station). s.name) o)
+        (name_or_none (find (λ (p : Station). nat_eq p.eui n) (stations w))) ≡ true
     by_found None e is = absurd (lt_irrefl (2 ^ 64) (subst (λ (k : ℕ). k < 2 ^ 64) is small))
     by_found (Some p) e is =
-        ap (λ (o : Option Station). bytes_eq p.name (name_or_none o)) (ap (λ (k : ℕ). find (λ (x : Station). nat_eq x.eui k) (stations w)) is ∙ found_again (λ (x : Station). is_centre x.role) (stations w) differ p e)
+        ap (λ (o : Option Station). bytes_eq p.name (name_or_none o))
+        (ap (λ (k : ℕ). find (λ (x : Station). nat_eq x.eui k) (stations w)) is ∙ found_again
+        (λ (x : Station). is_centre x.role) (stations w) differ p e)
         ∙ (bytes_eq-Decides p.name p.name).1 refl
 
 one_name : (o : Option Bytes) (x y : Bytes) → is_name o x ≡ true → is_name o y ≡ true → x ≡ y
 one_name None x y e f = absurd (false≢true e)
 one_name (Some z) x y e f = sym ((bytes_eq-Decides z x).0 e) ∙ (bytes_eq-Decides z y).0 f
 
-pub is_centred : (w : Schedule) → IsSchedule w → euis_differ w ≡ true → AreNamed (stations w) → (c : ℕ) → Names w c → c ≡ centre_of (stations w) → Centred (stations w) c
+pub is_centred : (w : Schedule) → IsSchedule w → euis_differ w ≡ true → AreNamed (stations w) → (c : ℕ) → Names w c
+    → c ≡ centre_of (stations w) → Centred (stations w) c
 unfolding is_centres
 is_centred w is differ fits c there its j named_too =
     let known = stations w in
     let called : is_centres known (name_of known c) ≡ true = centre_called w differ c (me-of w is c there).eui its in
     bool_same (is_centres known (name_of known j)) (nat_eq j c)
-    (λ e. eq-eqb j c (sym (named_again known j fits.differ named_too) ∙ ap (named known) (one_name (centre_name known) (name_of known j) (name_of known c) e called) ∙ named_again known c fits.differ there))
+    (λ e. eq-eqb j c
+    (sym (named_again known j fits.differ named_too) ∙ ap (named known)
+    (one_name (centre_name known) (name_of known j) (name_of known c) e called) ∙ named_again known c fits.differ
+    there))
     (λ e. subst (λ (k : ℕ). is_centres known (name_of known k) ≡ true) (sym (eqb-true j c e)) called)

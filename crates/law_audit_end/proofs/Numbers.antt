@@ -18,30 +18,48 @@ pub record IsWithin (known : List Station) (most : ℕ) (m : Line) : Type 0 wher
   pub event_is : event_of (line_for known m) ≡ Some event
   pub small : event ≤ most
 
-change_within : (known : List Station) (most number n : ℕ) → number ≤ most → (e : Edit) → IsWithin known most (Changed number n e)
+change_within : (known : List Station) (most number n : ℕ) → number ≤ most → (e : Edit)
+    → IsWithin known most (Changed number n e)
 unfolding event_of line_for
-change_within known most number n small (model.Reserve l limit) = record { event = number; event_is = refl; small = small }
-change_within known most number n small (model.Floor l k from value) = record { event = number; event_is = refl; small = small }
-change_within known most number n small (model.Start k value) = record { event = number; event_is = refl; small = small }
-change_within known most number n small (model.Moved (model.Draw key)) = record { event = number; event_is = refl; small = small }
-change_within known most number n small (model.Moved (model.DropNet key)) = record { event = number; event_is = refl; small = small }
-change_within known most number n small (model.Moved (model.DropLink partner key)) = record { event = number; event_is = refl; small = small }
-change_within known most number n small (model.Moved (model.Install key sequence)) = record { event = number; event_is = refl; small = small }
-change_within known most number n small (model.Moved (model.Active key)) = record { event = number; event_is = refl; small = small }
-change_within known most number n small (model.Moved (model.Row partner key attribute)) = record { event = number; event_is = refl; small = small }
-change_within known most number n small (model.Moved (model.Pair first second key)) = record { event = number; event_is = refl; small = small }
-change_within known most number n small (model.Moved (model.Became state)) = record { event = number; event_is = refl; small = small }
-change_within known most number n small (model.Moved (model.Live device)) = record { event = number; event_is = refl; small = small }
-change_within known most number n small (model.Moved (model.Removed device)) = record { event = number; event_is = refl; small = small }
-change_within known most number n small (model.Moved (model.Roll sending)) = record { event = number; event_is = refl; small = small }
-change_within known most number n small (model.Moved (model.Told device)) = record { event = number; event_is = refl; small = small }
-change_within known most number n small (model.Moved (model.Untold device)) = record { event = number; event_is = refl; small = small }
+change_within known most number n small (model.Reserve l limit) =
+    record { event = number; event_is = refl; small = small }
+change_within known most number n small (model.Floor l k from value) =
+    record { event = number; event_is = refl; small = small }
+change_within known most number n small (model.Start k value) =
+    record { event = number; event_is = refl; small = small }
+change_within known most number n small (model.Moved (model.Draw key)) =
+    record { event = number; event_is = refl; small = small }
+change_within known most number n small (model.Moved (model.DropNet key)) =
+    record { event = number; event_is = refl; small = small }
+change_within known most number n small (model.Moved (model.DropLink partner key)) =
+    record { event = number; event_is = refl; small = small }
+change_within known most number n small (model.Moved (model.Install key sequence)) =
+    record { event = number; event_is = refl; small = small }
+change_within known most number n small (model.Moved (model.Active key)) =
+    record { event = number; event_is = refl; small = small }
+change_within known most number n small (model.Moved (model.Row partner key attribute)) =
+    record { event = number; event_is = refl; small = small }
+change_within known most number n small (model.Moved (model.Pair first second key)) =
+    record { event = number; event_is = refl; small = small }
+change_within known most number n small (model.Moved (model.Became state)) =
+    record { event = number; event_is = refl; small = small }
+change_within known most number n small (model.Moved (model.Live device)) =
+    record { event = number; event_is = refl; small = small }
+change_within known most number n small (model.Moved (model.Removed device)) =
+    record { event = number; event_is = refl; small = small }
+change_within known most number n small (model.Moved (model.Roll sending)) =
+    record { event = number; event_is = refl; small = small }
+change_within known most number n small (model.Moved (model.Told device)) =
+    record { event = number; event_is = refl; small = small }
+change_within known most number n small (model.Moved (model.Untold device)) =
+    record { event = number; event_is = refl; small = small }
 
 -- the disks are no matter
 abbrev Any : List Disk → Type 0
 Any ds = Unit {0}
 
-node_within : (known : List Station) (most : ℕ) (ds : List Disk) (number n : ℕ) → number ≤ most → OfNode (IsWithin known most) Any ds number n
+node_within : (known : List Station) (most : ℕ) (ds : List Disk) (number n : ℕ) → number ≤ most
+    → OfNode (IsWithin known most) Any ds number n
 unfolding event_of line_for
 node_within known most ds number n small = record {
   lines = record {
@@ -70,7 +88,8 @@ outside_within known most number small = record {
   inject = λ frame bytes. record { event = number; event_is = refl; small = small };
 }
 
-asked_within : (known : List Station) (most : ℕ) (ds : List Disk) (number : ℕ) → number ≤ most → (act : Event) → Asked (IsWithin known most) Any ds number act
+asked_within : (known : List Station) (most : ℕ) (ds : List Disk) (number : ℕ) → number ≤ most → (act : Event)
+    → Asked (IsWithin known most) Any ds number act
 asked_within known most ds number small (Own n task) = node_within known most ds number n small
 asked_within known most ds number small (RollOver n) = node_within known most ds number n small
 asked_within known most ds number small (Deliver frame n) = node_within known most ds number n small
@@ -80,9 +99,13 @@ asked_within known most ds number small (ShowRecord n) = node_within known most 
 asked_within known most ds number small (ArmStop n calls torn) = node_within known most ds number n small
 asked_within known most ds number small (ArmFail n call) = node_within known most ds number n small
 asked_within known most ds number small (InjectBytes bytes) = outside_within known most number small
-asked_within known most ds number small (ForgeNet to from source key sequence counter content) = outside_within known most number small
-asked_within known most ds number small (ForgeNetAps to from source key sequence counter label base aps_counter command) = outside_within known most number small
-asked_within known most ds number small (ForgeOpen to from source label base aps_counter command) = outside_within known most number small
+asked_within known most ds number small (ForgeNet to from source key sequence counter content) =
+    outside_within known most number small
+asked_within known most ds number small
+    (ForgeNetAps to from source key sequence counter label base aps_counter command) =
+    outside_within known most number small
+asked_within known most ds number small (ForgeOpen to from source label base aps_counter command) =
+    outside_within known most number small
 
 start_within : (known : List Station) (most : ℕ) → OfStart (IsWithin known most)
 unfolding event_of line_for
@@ -95,18 +118,21 @@ start_within known most = record {
 
 -- ---- along the run
 
-groups_within : (tools : Tools) (w : Schedule) (known : List Station) (most : ℕ) (h : List Line) (ds : List Disk) (number : ℕ) (events : List Event) → number + length events ≤ most + 1
+groups_within : (tools : Tools) (w : Schedule) (known : List Station) (most : ℕ) (h : List Line) (ds : List Disk)
+    (number : ℕ) (events : List Event) → number + length events ≤ most + 1
     → AllByRecursion (IsWithin known most) (groups tools w h ds number events)
 unfolding groups
 groups_within tools w known most h ds number [] small = tt
 groups_within tools w known most h ds number (event ∷ events) small =
     let g = step tools w h ds number event in
     all-append (IsWithin known most) g.lines (groups tools w (h ++ g.lines) g.disks (number + 1) events)
-    (step-has (IsWithin known most) Any tools w h ds number event (asked_within known most ds number (omega (arith, small)) event) tt).0
+    (step-has (IsWithin known most) Any tools w h ds number event
+    (asked_within known most ds number (omega (arith, small)) event) tt).0
     (groups_within tools w known most (h ++ g.lines) g.disks (number + 1) events (omega (arith, small)))
 
 -- no line of a run is of a later event than its last one
-pub run_within : (tools : Tools) (w : Schedule) (known : List Station) → AllByRecursion (IsWithin known (length w.events)) (run_lines tools w)
+pub run_within : (tools : Tools) (w : Schedule) (known : List Station)
+    → AllByRecursion (IsWithin known (length w.events)) (run_lines tools w)
 unfolding run_lines
 run_within tools w known =
     all-append (IsWithin known (length w.events)) (start w) (groups tools w (start w) [] 1 w.events)

@@ -47,18 +47,22 @@ abbrev Fronts : Tools → List Station → List Line → Type 0
 Fronts tools known all = (h rest : List Line) → h ++ rest ≡ all → ReadSame tools known h
 
 module _ (tools : Tools) (known : List Station) (all : List Line) (same : Fronts tools known all) where
-  line_so : (h since rest : List Line) (d : ℕ) → (h ++ since) ++ rest ≡ all → (m : Line) → IsOfNodes known m → RefusesLine tools d h since m → Begins known (h ++ since) m
+  line_so : (h since rest : List Line) (d : ℕ) → (h ++ since) ++ rest ≡ all → (m : Line) → IsOfNodes known m
+      → RefusesLine tools d h since m → Begins known (h ++ since) m
       → refuses_line tools d (printed known h) (printed known since) (line_for known m) ≡ true
   unfolding refuses_line line_for
   line_so h since rest d at (log.Accept event j t) is refused before =
       let it = before event refl in
       accept_at tools known h since d event j t is refused it.same
-      (same (claims.before_group event (h ++ since)) (it.group ++ rest) (sym (append_assoc (claims.before_group event (h ++ since)) it.group rest) ∙ ap (λ ls. ls ++ rest) it.whole ∙ at))
+      (same (claims.before_group event (h ++ since)) (it.group ++ rest)
+      (sym (append_assoc (claims.before_group event (h ++ since)) it.group rest) ∙ ap (λ ls. ls ++ rest) it.whole
+      ∙ at))
       (same (h ++ since) rest at)
   line_so h since rest d at (log.Changed event j (model.Moved (model.Draw key))) is refused before = refl
   line_so h since rest d at _ is refused before = refl
 
-  refuses_so : (h since u rest : List Line) (d : ℕ) → (h ++ since) ++ (u ++ rest) ≡ all → Each (RefusesLine tools d h) since u → Each (Begins known) (h ++ since) u → AllByRecursion (IsOfNodes known) u
+  refuses_so : (h since u rest : List Line) (d : ℕ) → (h ++ since) ++ (u ++ rest) ≡ all
+      → Each (RefusesLine tools d h) since u → Each (Begins known) (h ++ since) u → AllByRecursion (IsOfNodes known) u
       → refuses tools d (printed known h) (printed known since) (printed known u) ≡ true
   unfolding refuses
   refuses_so h since [] rest d at refused before of = refl
@@ -66,29 +70,39 @@ module _ (tools : Tools) (known : List Station) (all : List Line) (same : Fronts
       both _ _ (line_so h since (m ∷ u ++ rest) d at m of.0 refused.0 before.0)
       (ap (λ ls. refuses tools d (printed known h) ls (printed known u)) (printed_append known since (m ∷ []))
       ∙ refuses_so h (since ++ m ∷ []) u rest d
-      (ap (λ ls. ls ++ (u ++ rest)) (sym (append_assoc h since (m ∷ []))) ∙ append_assoc (h ++ since) (m ∷ []) (u ++ rest) ∙ at)
+      (ap (λ ls. ls ++ (u ++ rest)) (sym (append_assoc h since (m ∷ []))) ∙ append_assoc (h ++ since) (m ∷ [])
+      (u ++ rest) ∙ at)
       refused.1 (subst (λ ls. Each (Begins known) ls u) (append_assoc h since (m ∷ [])) before.1) of.1)
 
-  locks_so : (h ls : List Line) (d : ℕ) → h ++ ls ≡ all → KeepsOut tools h ls d → Refuses tools h ls d → Each (Begins known) h ls → AllByRecursion (IsOfNodes known) ls
+  locks_so : (h ls : List Line) (d : ℕ) → h ++ ls ≡ all → KeepsOut tools h ls d → Refuses tools h ls d
+      → Each (Begins known) h ls → AllByRecursion (IsOfNodes known) ls
       → locks_out tools (printed known h) (lockout.until_live d (printed known ls)) d ≡ true
   locks_so h ls d at out refused before of =
       let u = claims.until_live d ls in
       let b = behind d ls in
       ap (λ g. locks_out tools (printed known h) g d) ((show_same tools known ls).until_live d)
-      ∙ both _ _ (keeps_so tools known h u d (same (h ++ u) b.rest (append_assoc h u b.rest ∙ ap (λ g. h ++ g) b.whole ∙ at)) out)
+      ∙ both _ _
+      (keeps_so tools known h u d (same (h ++ u) b.rest (append_assoc h u b.rest ∙ ap (λ g. h ++ g) b.whole ∙ at))
+      out)
       (refuses_so h [] u b.rest d (ap (λ g. g ++ (u ++ b.rest)) (append-nil h) ∙ ap (λ g. h ++ g) b.whole ∙ at) refused
-      (subst (λ g. Each (Begins known) g u) (sym (append-nil h)) (each_left (Begins known) h u b.rest (subst (λ g. Each (Begins known) h g) (sym b.whole) before)))
+      (subst (λ g. Each (Begins known) g u) (sym (append-nil h))
+      (each_left (Begins known) h u b.rest (subst (λ g. Each (Begins known) h g) (sym b.whole) before)))
       (all_left (IsOfNodes known) u b.rest (subst (AllByRecursion (IsOfNodes known)) (sym b.whole) of)))
 
-  removal_so : (h ls : List Line) (m : Line) → h ++ m ∷ ls ≡ all → LockedLine tools h m ls → Each (Begins known) (h ++ m ∷ []) ls → AllByRecursion (IsOfNodes known) ls
+  removal_so : (h ls : List Line) (m : Line) → h ++ m ∷ ls ≡ all → LockedLine tools h m ls
+      → Each (Begins known) (h ++ m ∷ []) ls → AllByRecursion (IsOfNodes known) ls
       → locked_line tools (printed known h) (line_for known m) (printed known ls) ≡ true
   unfolding line_for
   removal_so h ls (log.Changed event j (model.Moved (model.Removed device))) at lock before of =
-      ap (λ g. locks_out tools g (lockout.until_live device (printed known ls)) device) (printed_append known h (log.Changed event j (model.Moved (model.Removed device)) ∷ []))
-      ∙ locks_so (h ++ log.Changed event j (model.Moved (model.Removed device)) ∷ []) ls device (append_assoc h (log.Changed event j (model.Moved (model.Removed device)) ∷ []) ls ∙ at) lock.0 lock.1 before of
+      ap (λ g. locks_out tools g (lockout.until_live device (printed known ls)) device)
+      (printed_append known h (log.Changed event j (model.Moved (model.Removed device)) ∷ []))
+      ∙ locks_so (h ++ log.Changed event j (model.Moved (model.Removed device)) ∷ []) ls device
+      (append_assoc h (log.Changed event j (model.Moved (model.Removed device)) ∷ []) ls ∙ at) lock.0 lock.1
+      before of
   removal_so h ls _ at lock before of = refl
 
-  from_so : (h ls : List Line) → h ++ ls ≡ all → LockedFrom tools h ls → Each (Begins known) h ls → AllByRecursion (IsOfNodes known) ls → locked_from tools (printed known h) (printed known ls) ≡ true
+  from_so : (h ls : List Line) → h ++ ls ≡ all → LockedFrom tools h ls → Each (Begins known) h ls
+      → AllByRecursion (IsOfNodes known) ls → locked_from tools (printed known h) (printed known ls) ≡ true
   from_so h [] at lock before of = refl
   from_so h (m ∷ ls) at lock before of =
       both _ _ (removal_so h ls m at lock.0 before.1 of.1)
@@ -97,39 +111,54 @@ module _ (tools : Tools) (known : List Station) (all : List Line) (same : Fronts
 
 -- ---- the two words, without the end line
 
-each_front : (test : List Line → Line → Bool) (h ls more : List Line) → each_line test h (ls ++ more) ≡ true → each_line test h ls ≡ true
+each_front : (test : List Line → Line → Bool) (h ls more : List Line) → each_line test h (ls ++ more) ≡ true
+    → each_line test h ls ≡ true
 unfolding each_line
 each_front test h [] more each = refl
-each_front test h (m ∷ ls) more each = both _ _ (and_left (test h m) _ each) (each_front test (h ++ m ∷ []) ls more (and_right (test h m) _ each))
+each_front test h (m ∷ ls) more each =
+    both _ _ (and_left (test h m) _ each) (each_front test (h ++ m ∷ []) ls more (and_right (test h m) _ each))
 
-says_none : {X : Type 0} (f : Line → List X) (ls : List Line) (m : Line) → f m ≡ [] → flat_map f (ls ++ m ∷ []) ≡ flat_map f ls
-says_none f ls m none = flat_map-append f ls (m ∷ []) ∙ ap (λ xs. flat_map f ls ++ (xs ++ [])) none ∙ append-nil (flat_map f ls)
+says_none : {X : Type 0} (f : Line → List X) (ls : List Line) (m : Line) → f m ≡ [] → flat_map f (ls ++ m ∷ [])
+    ≡ flat_map f ls
+says_none f ls m none = flat_map-append f ls (m ∷ []) ∙ ap (λ xs. flat_map f ls ++ (xs ++ [])) none ∙ append-nil
+    (flat_map f ls)
 
-passes_same : (tools : Tools) (ls : List Line) (m : Line) → forged_in m ≡ [] → network_in m ≡ [] → passes_on tools (ls ++ m ∷ []) ≡ passes_on tools ls
+passes_same : (tools : Tools) (ls : List Line) (m : Line) → forged_in m ≡ [] → network_in m ≡ []
+    → passes_on tools (ls ++ m ∷ []) ≡ passes_on tools ls
 unfolding passes_on network_keys
 passes_same tools ls m forges none =
-    ap (λ ts. list_any (λ (t : Term). holds_some (flat_map network_in (ls ++ m ∷ [])) (carried tools t)) ts) (says_none forged_in ls m forges)
-    ∙ ap (λ ks. list_any (λ (t : Term). holds_some ks (carried tools t)) (flat_map forged_in ls)) (says_none network_in ls m none)
+    ap (λ ts. list_any (λ (t : Term). holds_some (flat_map network_in (ls ++ m ∷ [])) (carried tools t)) ts)
+    (says_none forged_in ls m forges)
+    ∙ ap (λ ks. list_any (λ (t : Term). holds_some ks (carried tools t)) (flat_map forged_in ls))
+    (says_none network_in ls m none)
 
-ideal_run : (tools : Tools) (w : Schedule) → ideal tools (transcript tools w) ≡ true → ideal tools (run_lines tools w) ≡ true
+ideal_run : (tools : Tools) (w : Schedule) → ideal tools (transcript tools w) ≡ true → ideal tools (run_lines tools w)
+    ≡ true
 unfolding ideal transcript
-ideal_run tools w is = each_front (ideal_line tools) [] (run_lines tools w) (end_line tools (length w.events) (run_lines tools w) ∷ []) is
+ideal_run tools w is = each_front (ideal_line tools) [] (run_lines tools w)
+    (end_line tools (length w.events) (run_lines tools w) ∷ []) is
 
-private_run : (tools : Tools) (w : Schedule) → private tools (transcript tools w) ≡ true → private tools (run_lines tools w) ≡ true
+private_run : (tools : Tools) (w : Schedule) → private tools (transcript tools w) ≡ true
+    → private tools (run_lines tools w) ≡ true
 unfolding private transcript end_line
 private_run tools w is =
     let run = run_lines tools w in
     let last = end_line tools (length w.events) run in
-    both _ _ (each_front (based_line tools) [] run (last ∷ []) (and_left (each_line (based_line tools) [] (run ++ last ∷ [])) _ is))
-    (ap not (sym (passes_same tools run last refl refl)) ∙ and_right (each_line (based_line tools) [] (run ++ last ∷ [])) _ is)
+    both _ _
+    (each_front (based_line tools) [] run (last ∷ [])
+    (and_left (each_line (based_line tools) [] (run ++ last ∷ [])) _ is))
+    (ap not (sym (passes_same tools run last refl refl)) ∙ and_right
+    (each_line (based_line tools) [] (run ++ last ∷ [])) _ is)
 
 -- ---- the fifth claim
 
 abbrev lines_of : Tools → Schedule → List Printed
 lines_of tools w = printed (stations w) (transcript tools w)
 
-locked_so : (tools : Tools) → Opens tools → ShowsKeys tools → (w : Schedule) → IsSchedule w → OneCentre w → KeysApart w → AllByRecursion (IsOfNodes (stations w)) (transcript tools w) → RunReadSame tools w
-    → (read.ideal tools (lines_of tools w) && read.private tools (lines_of tools w)) ≡ true → locked tools (lines_of tools w) ≡ true
+locked_so : (tools : Tools) → Opens tools → ShowsKeys tools → (w : Schedule) → IsSchedule w → OneCentre w
+    → KeysApart w → AllByRecursion (IsOfNodes (stations w)) (transcript tools w) → RunReadSame tools w
+    → (read.ideal tools (lines_of tools w) && read.private tools (lines_of tools w)) ≡ true
+    → locked tools (lines_of tools w) ≡ true
 unfolding locked
 locked_so tools opens shows w is one apart of same words =
     let whole = same (transcript tools w) [] (append-nil (transcript tools w)) in
@@ -139,16 +168,22 @@ locked_so tools opens shows w is one apart of same words =
     (private_run tools w (sym whole.words.private ∙ and_right (read.ideal tools (lines_of tools w)) _ words)))
     (begins tools w) of
 
-by_words : (tools : Tools) (lines : List Printed) → ((read.ideal tools lines && read.private tools lines) ≡ true → locked tools lines ≡ true) → (b : Bool) → (read.ideal tools lines && read.private tools lines) ≡ b → unlocked tools lines ≡ None
+by_words : (tools : Tools) (lines : List Printed)
+    → ((read.ideal tools lines && read.private tools lines) ≡ true → locked tools lines ≡ true) → (b : Bool)
+    → (read.ideal tools lines && read.private tools lines) ≡ b → unlocked tools lines ≡ None
 unfolding unlocked
-by_words tools lines locks true yes_yes = ap (λ b. cond b (first_unlocked tools lines) None) yes_yes ∙ none_first tools lines (locks yes_yes)
+by_words tools lines locks true yes_yes = ap (λ b. cond b (first_unlocked tools lines) None) yes_yes ∙ none_first
+    tools lines (locks yes_yes)
 by_words tools lines locks false other = ap (λ b. cond b (first_unlocked tools lines) None) other
 
-keeps_by : (tools : Tools) → Opens tools → ShowsKeys tools → (w : Schedule) → IsSchedule w → OneCentre w → KeysApart w → AllByRecursion (IsOfNodes (stations w)) (transcript tools w) → RunReadSame tools w → KeepsFifth tools w
+keeps_by : (tools : Tools) → Opens tools → ShowsKeys tools → (w : Schedule) → IsSchedule w → OneCentre w → KeysApart w
+    → AllByRecursion (IsOfNodes (stations w)) (transcript tools w) → RunReadSame tools w → KeepsFifth tools w
 keeps_by tools opens shows w is one apart of same =
-    by_words tools (lines_of tools w) (locked_so tools opens shows w is one apart of same) (read.ideal tools (lines_of tools w) && read.private tools (lines_of tools w)) refl
+    by_words tools (lines_of tools w) (locked_so tools opens shows w is one apart of same)
+    (read.ideal tools (lines_of tools w) && read.private tools (lines_of tools w)) refl
 
-pub keeps_fifth : (tools : Tools) → Opens tools → OpensAsJudged tools → ShowsKeys tools → (w : Schedule) → IsSchedule w → euis_differ w ≡ true → OneCentre w → KeysApart w → AreNamed (stations w) → KeepsFifth tools w
+pub keeps_fifth : (tools : Tools) → Opens tools → OpensAsJudged tools → ShowsKeys tools → (w : Schedule)
+    → IsSchedule w → euis_differ w ≡ true → OneCentre w → KeysApart w → AreNamed (stations w) → KeepsFifth tools w
 keeps_fifth tools opens judged shows w is differ one apart fits =
     let lines = transcript tools w in
     keeps_by tools opens shows w is one apart

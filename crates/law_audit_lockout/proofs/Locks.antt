@@ -31,7 +31,8 @@ use Rattle.zb_trace_watch.proofs.Truth.{and_left, and_right, decided, either, or
 
 -- ---- lists
 
-pub printed_append : (known : List Station) (h g : List Line) → printed known h ++ printed known g ≡ printed known (h ++ g)
+pub printed_append : (known : List Station) (h g : List Line) → printed known h ++ printed known g
+    ≡ printed known (h ++ g)
 printed_append known [] g = refl
 printed_append known (m ∷ h) g = ap (λ ls. line_for known m ∷ ls) (printed_append known h g)
 
@@ -44,7 +45,8 @@ each_left P h [] ys all = tt
 each_left P h (x ∷ xs) ys all = (all.0, each_left P (h ++ x ∷ []) xs ys all.1)
 
 -- what passes a test that is enough for a claim
-any_claim : {X : Type 0} (p : X → Bool) (P : X → Type 0) (xs : List X) → ((x : X) → p x ≡ true → P x) → list_any p xs ≡ true → Any P xs
+any_claim : {X : Type 0} (p : X → Bool) (P : X → Type 0) (xs : List X) → ((x : X) → p x ≡ true → P x) → list_any p xs
+    ≡ true → Any P xs
 any_claim p P xs enough there = let a = Any-from_list_any p xs there in (a.0, a.1, a.2, a.3, enough a.1 a.4)
 
 among : (keys : List Bytes) (key : Bytes) → holds keys key ≡ true → Among keys key
@@ -82,9 +84,19 @@ labels_same model.ForLoad model.ForLoad is = refl
 
 abbrev termed : Layer → Bytes → Label → ℕ → ℕ → ℕ → Bytes → Bytes → Term
 termed layer base label source counter control header content =
-    record { layer = layer; base = base; label = label; source = source; counter = counter; control = control; header = header; content = content }
+    record {
+      layer = layer;
+      base = base;
+      label = label;
+      source = source;
+      counter = counter;
+      control = control;
+      header = header;
+      content = content;
+    }
 
-same_termed : (a b : Term) → a.layer ≡ b.layer → a.base ≡ b.base → a.label ≡ b.label → a.source ≡ b.source → a.counter ≡ b.counter → a.control ≡ b.control → a.header ≡ b.header → a.content ≡ b.content → a ≡ b
+same_termed : (a b : Term) → a.layer ≡ b.layer → a.base ≡ b.base → a.label ≡ b.label → a.source ≡ b.source → a.counter
+    ≡ b.counter → a.control ≡ b.control → a.header ≡ b.header → a.content ≡ b.content → a ≡ b
 same_termed a b e0 e1 e2 e3 e4 e5 e6 e7 =
     ap (λ x. termed x a.base a.label a.source a.counter a.control a.header a.content) e0
     ∙ ap (λ x. termed b.layer x a.label a.source a.counter a.control a.header a.content) e1
@@ -104,7 +116,11 @@ terms_same a b is =
     let p3 = and_right (Rattle.std.specs.Prelude.nat_eq a.source b.source) _ p2 in
     let p4 = and_right (Rattle.std.specs.Prelude.nat_eq a.counter b.counter) _ p3 in
     let p5 = and_right (Rattle.std.specs.Prelude.nat_eq a.control b.control) _ p4 in
-    same_termed a b (layers_same a.layer b.layer (and_left _ _ is)) (same_bytes a.base b.base (and_left _ _ p0)) (labels_same a.label b.label (and_left _ _ p1)) (same_number a.source b.source (and_left _ _ p2)) (same_number a.counter b.counter (and_left _ _ p3)) (same_number a.control b.control (and_left _ _ p4)) (same_bytes a.header b.header (and_left _ _ p5)) (same_bytes a.content b.content (and_right (Rattle.std.specs.Prelude.bytes_eq a.header b.header) _ p5))
+    same_termed a b (layers_same a.layer b.layer (and_left _ _ is)) (same_bytes a.base b.base (and_left _ _ p0))
+    (labels_same a.label b.label (and_left _ _ p1)) (same_number a.source b.source (and_left _ _ p2))
+    (same_number a.counter b.counter (and_left _ _ p3)) (same_number a.control b.control (and_left _ _ p4))
+    (same_bytes a.header b.header (and_left _ _ p5))
+    (same_bytes a.content b.content (and_right (Rattle.std.specs.Prelude.bytes_eq a.header b.header) _ p5))
 
 has_term : (terms : List Term) (t : Term) → list_any (same_term t) terms ≡ true → HasTerm terms t
 has_term terms t there = any_claim (same_term t) (λ (u : Term). u ≡ t) terms (λ u is. sym (terms_same t u is)) there
@@ -127,14 +143,19 @@ behind d (m ∷ ms) = behind_one (is_live_line d m) m (claims.until_live d ms) m
 module _ (tools : Tools) (known : List Station) where
   -- ---- no key that is drawn in a window comes out for its device
 
-  pub keeps_so : (h u : List Line) (d : ℕ) → ReadSame tools known (h ++ u) → ((key : Bytes) → Among (flat_map claims.drawn_in u) key → Obtains tools (h ++ u) d key → ⊥)
+  pub keeps_so : (h u : List Line) (d : ℕ) → ReadSame tools known (h ++ u)
+      → ((key : Bytes) → Among (flat_map claims.drawn_in u) key → Obtains tools (h ++ u) d key → ⊥)
       → keeps_out tools (printed known h) (printed known u) d ≡ true
   unfolding keeps_out
   keeps_so h u d same out =
-      not_on (list_any (holds (read_keys (printed known h ++ printed known u))) (flat_map lockout.drawn_in (printed known u)))
-      (ap (λ ks. list_any (holds ks) (flat_map lockout.drawn_in (printed known u))) (ap read_keys (printed_append known h u) ∙ keys_so)
+      not_on (list_any (holds (read_keys (printed known h ++ printed known u)))
+      (flat_map lockout.drawn_in (printed known u)))
+      (ap (λ ks. list_any (holds ks) (flat_map lockout.drawn_in (printed known u)))
+      (ap read_keys (printed_append known h u) ∙ keys_so)
       ∙ ap (list_any (holds keys)) (show_same tools known u).drawn
-      ∙ none_any (holds keys) (flat_map claims.drawn_in u) (λ q there. never (holds keys q) (λ it. out q (among (flat_map claims.drawn_in u) q there) (inr (among keys q it)))))
+      ∙ none_any (holds keys) (flat_map claims.drawn_in u)
+      (λ q there. never (holds keys q)
+      (λ it. out q (among (flat_map claims.drawn_in u) q there) (inr (among keys q it)))))
     where
       read_keys : List Printed → List Bytes
       read_keys g = read.exposed tools g (well_known ∷ read.ever g d)
@@ -143,14 +164,19 @@ module _ (tools : Tools) (known : List Station) where
       keys = exposed tools (h ++ u) (well_known ∷ ever (h ++ u) d)
 
       keys_so : read_keys (printed known (h ++ u)) ≡ keys
-      keys_so = same.shows.exposed (well_known ∷ read.ever (printed known (h ++ u)) d) ∙ ap (λ ks. exposed tools (h ++ u) (well_known ∷ ks)) (same.holds.ever d)
+      keys_so = same.shows.exposed (well_known ∷ read.ever (printed known (h ++ u)) d) ∙ ap
+          (λ ks. exposed tools (h ++ u) (well_known ∷ ks)) (same.holds.ever d)
 
   -- ---- no line of a window accepts what it must not
 
-  pub accept_at : (h since : List Line) (d event n : ℕ) (t : Term) → IsDeclared known n → (t.layer ≡ Nwk → HoldsNoneKnown tools (claims.before_group event (h ++ since)) n → HasTerm (flat_map (seals_of d) since) t ⊎ HasTerm (flat_map forged_in (h ++ since)) t → ⊥)
-      → before_group (printed known ((h ++ since) ++ log.Accept event n t ∷ [])) ≡ printed known (claims.before_group event (h ++ since))
+  pub accept_at : (h since : List Line) (d event n : ℕ) (t : Term) → IsDeclared known n
+      → (t.layer ≡ Nwk → HoldsNoneKnown tools (claims.before_group event (h ++ since)) n
+      → HasTerm (flat_map (seals_of d) since) t ⊎ HasTerm (flat_map forged_in (h ++ since)) t → ⊥)
+      → before_group (printed known ((h ++ since) ++ log.Accept event n t ∷ []))
+      ≡ printed known (claims.before_group event (h ++ since))
       → ReadSame tools known (claims.before_group event (h ++ since)) → ReadSame tools known (h ++ since)
-      → refuses_line tools d (printed known h) (printed known since) (line.Accept event (called known n) (term_of t)) ≡ true
+      → refuses_line tools d (printed known h) (printed known since) (line.Accept event (called known n) (term_of t))
+      ≡ true
   unfolding refuses_line line_for
   accept_at h since d event n t its refused begins past same = by_layer t.layer refl
     where
@@ -161,39 +187,63 @@ module _ (tools : Tools) (known : List Station) where
       knows g = holds_known tools (before_group (g ++ line_is ∷ [])) (name_of known n)
 
       evil : List Term
-      evil = read.along (sealed_by d) (declared_in (printed known h)) (printed known since) ++ flat_map read.forged_in (printed known h ++ printed known since)
+      evil = read.along (sealed_by d) (declared_in (printed known h)) (printed known since)
+          ++ flat_map read.forged_in (printed known h ++ printed known since)
 
       evil_so : evil ≡ flat_map (seals_of d) since ++ flat_map forged_in (h ++ since)
       evil_so =
-          ap (λ ts. ts ++ flat_map read.forged_in (printed known h ++ printed known since)) (same.holds.sealed d h since refl)
+          ap (λ ts. ts ++ flat_map read.forged_in (printed known h ++ printed known since))
+          (same.holds.sealed d h since refl)
           ∙ ap (λ ls. flat_map (seals_of d) since ++ flat_map read.forged_in ls) (printed_append known h since)
           ∙ ap (λ ts. flat_map (seals_of d) since ++ ts) same.shows.forged
 
-      knows_so : knows (printed known h ++ printed known since) ≡ holds_known tools (printed known (claims.before_group event (h ++ since))) (name_of known n)
+      knows_so : knows (printed known h ++ printed known since)
+          ≡ holds_known tools (printed known (claims.before_group event (h ++ since))) (name_of known n)
       knows_so =
           ap knows (printed_append known h since)
-          ∙ ap (λ ls. holds_known tools (before_group ls) (name_of known n)) (printed_append known (h ++ since) (log.Accept event n t ∷ []))
+          ∙ ap (λ ls. holds_known tools (before_group ls) (name_of known n))
+          (printed_append known (h ++ since) (log.Accept event n t ∷ []))
           ∙ ap (λ ls. holds_known tools ls (name_of known n)) begins
 
-      found : list_any (same_term t) (flat_map (seals_of d) since ++ flat_map forged_in (h ++ since)) ≡ true → HasTerm (flat_map (seals_of d) since) t ⊎ HasTerm (flat_map forged_in (h ++ since)) t
-      found there = by_part (either _ _ (sym (list_any-append (same_term t) (flat_map (seals_of d) since) (flat_map forged_in (h ++ since))) ∙ there))
+      found : list_any (same_term t) (flat_map (seals_of d) since ++ flat_map forged_in (h ++ since)) ≡ true
+          → HasTerm (flat_map (seals_of d) since) t ⊎ HasTerm (flat_map forged_in (h ++ since)) t
+      found there =
+          by_part
+          (either _ _
+          (sym (list_any-append (same_term t) (flat_map (seals_of d) since) (flat_map forged_in (h ++ since))) ∙
+          there))
         where
-          by_part : (list_any (same_term t) (flat_map (seals_of d) since) ≡ true) ⊎ (list_any (same_term t) (flat_map forged_in (h ++ since)) ≡ true) → HasTerm (flat_map (seals_of d) since) t ⊎ HasTerm (flat_map forged_in (h ++ since)) t
+          by_part : (list_any (same_term t) (flat_map (seals_of d) since) ≡ true)
+              ⊎ (list_any (same_term t) (flat_map forged_in (h ++ since)) ≡ true)
+              → HasTerm (flat_map (seals_of d) since) t ⊎ HasTerm (flat_map forged_in (h ++ since)) t
           by_part (inl it) = inl (has_term (flat_map (seals_of d) since) t it)
           by_part (inr it) = inr (has_term (flat_map forged_in (h ++ since)) t it)
 
-      is_clean : t.layer ≡ Nwk → knows (printed known h ++ printed known since) ≡ false → list_any (same_term (model_term (term_of t))) evil ≡ false
+      is_clean : t.layer ≡ Nwk → knows (printed known h ++ printed known since) ≡ false
+          → list_any (same_term (model_term (term_of t))) evil ≡ false
       is_clean nwk none =
           ap (λ u. list_any (same_term u) evil) (term_again t) ∙ ap (list_any (same_term t)) evil_so
-          ∙ never (list_any (same_term t) (flat_map (seals_of d) since ++ flat_map forged_in (h ++ since))) (λ there. refused nwk (past.lives.none_known n its (sym knows_so ∙ none)) (found there))
+          ∙ never (list_any (same_term t) (flat_map (seals_of d) since ++ flat_map forged_in (h ++ since)))
+          (λ there. refused nwk (past.lives.none_known n its (sym knows_so ∙ none)) (found there))
 
-      by_knowing : t.layer ≡ Nwk → (knows (printed known h ++ printed known since) ≡ true) ⊎ (knows (printed known h ++ printed known since) ≡ false)
-          → (knows (printed known h ++ printed known since) || not (list_any (same_term (model_term (term_of t))) evil)) ≡ true
+      by_knowing : t.layer ≡ Nwk → (knows (printed known h ++ printed known since) ≡ true)
+          ⊎ (knows (printed known h ++ printed known since) ≡ false)
+          → (knows (printed known h ++ printed known since)
+          || not (list_any (same_term (model_term (term_of t))) evil)) ≡ true
       by_knowing nwk (inl it) = or_left _ _ it
-      by_knowing nwk (inr none) = or_right (knows (printed known h ++ printed known since)) _ (not_on _ (is_clean nwk none))
+      by_knowing nwk (inr none) = or_right (knows (printed known h ++ printed known since)) _
+          (not_on _ (is_clean nwk none))
 
-      by_layer : (x : Layer) → t.layer ≡ x → (is_aps (layer_of t.layer) || (knows (printed known h ++ printed known since) || not (list_any (same_term (model_term (term_of t))) evil))) ≡ true
-      by_layer Aps is = ap (λ x. is_aps (layer_of x) || (knows (printed known h ++ printed known since) || not (list_any (same_term (model_term (term_of t))) evil))) is
+      by_layer : (x : Layer) → t.layer ≡ x
+          → (is_aps (layer_of t.layer)
+          || (knows (printed known h ++ printed known since)
+          || not (list_any (same_term (model_term (term_of t))) evil))) ≡ true
+      by_layer Aps is =
+          ap (λ x. is_aps (layer_of x)
+          || (knows (printed known h ++ printed known since)
+          || not (list_any (same_term (model_term (term_of t))) evil))) is
       by_layer Nwk is =
-          ap (λ x. is_aps (layer_of x) || (knows (printed known h ++ printed known since) || not (list_any (same_term (model_term (term_of t))) evil))) is
+          ap (λ x. is_aps (layer_of x)
+          || (knows (printed known h ++ printed known since)
+          || not (list_any (same_term (model_term (term_of t))) evil))) is
           ∙ by_knowing is (decided (knows (printed known h ++ printed known since)))

@@ -17,7 +17,8 @@ use Rattle.law_audit_names.specs.Agreeing.{ShowSame}
 
 -- ---- lists
 
-pub printed_snoc : (known : List Station) (h : List log.Line) (m : log.Line) → printed known h ++ line_for known m ∷ [] ≡ printed known (h ++ m ∷ [])
+pub printed_snoc : (known : List Station) (h : List log.Line) (m : log.Line) → printed known h ++ line_for known m
+    ∷ [] ≡ printed known (h ++ m ∷ [])
 printed_snoc known [] m = refl
 printed_snoc known (x ∷ h) m = ap (λ ls. line_for known x ∷ ls) (printed_snoc known h m)
 
@@ -26,14 +27,18 @@ printed_length known [] = refl
 printed_length known (m ∷ h) = ap suc (printed_length known h)
 
 -- what each line says, they all say
-pub flat_each : {A : Type 0} (known : List Station) (f : Line → List A) (g : log.Line → List A) → ((m : log.Line) → f (line_for known m) ≡ g m) → (h : List log.Line) → flat_map f (printed known h) ≡ flat_map g h
+pub flat_each : {A : Type 0} (known : List Station) (f : Line → List A) (g : log.Line → List A)
+    → ((m : log.Line) → f (line_for known m) ≡ g m) → (h : List log.Line) → flat_map f (printed known h) ≡ flat_map g h
 flat_each known f g each [] = refl
-flat_each known f g each (m ∷ h) = ap (λ xs. xs ++ flat_map f (printed known h)) (each m) ∙ ap (λ xs. g m ++ xs) (flat_each known f g each h)
+flat_each known f g each (m ∷ h) = ap (λ xs. xs ++ flat_map f (printed known h)) (each m) ∙ ap (λ xs. g m ++ xs)
+    (flat_each known f g each h)
 
-pub flat_where : {A : Type 0} (known : List Station) (P : log.Line → Type 0) (f : Line → List A) (g : log.Line → List A) → ((m : log.Line) → P m → f (line_for known m) ≡ g m)
+pub flat_where : {A : Type 0} (known : List Station) (P : log.Line → Type 0) (f : Line → List A)
+    (g : log.Line → List A) → ((m : log.Line) → P m → f (line_for known m) ≡ g m)
     → (h : List log.Line) → AllByRecursion P h → flat_map f (printed known h) ≡ flat_map g h
 flat_where known P f g each [] all = refl
-flat_where known P f g each (m ∷ h) all = ap (λ xs. xs ++ flat_map f (printed known h)) (each m all.0) ∙ ap (λ xs. g m ++ xs) (flat_where known P f g each h all.1)
+flat_where known P f g each (m ∷ h) all = ap (λ xs. xs ++ flat_map f (printed known h)) (each m all.0) ∙ ap
+    (λ xs. g m ++ xs) (flat_where known P f g each h all.1)
 
 -- ---- lines
 
@@ -70,7 +75,8 @@ unfolding line_for
 drawn_line known (log.Changed event n (model.Moved (model.Draw key))) = refl
 drawn_line known _ = refl
 
-admits_line : (known : List Station) (d : ℕ) (m : log.Line) → lockout.admits d (line_for known m) ≡ claims.is_live_line d m
+admits_line : (known : List Station) (d : ℕ) (m : log.Line) → lockout.admits d (line_for known m)
+    ≡ claims.is_live_line d m
 unfolding line_for
 admits_line known d (log.Changed event n (model.Moved (model.Live device))) = refl
 admits_line known d _ = refl
@@ -81,32 +87,42 @@ pub terms_same : (known : List Station) (h : List log.Line) → audit.terms_of (
 unfolding audit.terms_of secrets.terms_of
 terms_same known h = flat_each known audit.terms_in secrets.terms_in (terms_line known) h
 
-pub removed_same : (known : List Station) (h : List log.Line) → audit.removed_devices (printed known h) ≡ secrets.removed_devices h
+pub removed_same : (known : List Station) (h : List log.Line) → audit.removed_devices (printed known h)
+    ≡ secrets.removed_devices h
 unfolding audit.removed_devices secrets.removed_devices
 removed_same known h = flat_each known audit.removed_in secrets.removed_in (removed_line known) h
 
-network_same : (known : List Station) (h : List log.Line) → audit.network_keys (printed known h) ≡ secrets.network_keys h
+network_same : (known : List Station) (h : List log.Line) → audit.network_keys (printed known h)
+    ≡ secrets.network_keys h
 unfolding audit.network_keys secrets.network_keys
 network_same known h = flat_each known audit.network_in secrets.network_in (network_line known) h
 
-passed_same : (tools : Tools) (known : List Station) (h : List log.Line) → audit.passes_on tools (printed known h) ≡ secrets.passes_on tools h
+passed_same : (tools : Tools) (known : List Station) (h : List log.Line) → audit.passes_on tools (printed known h)
+    ≡ secrets.passes_on tools h
 unfolding audit.passes_on secrets.passes_on
 passed_same tools known h =
-    ap (λ keys. list_any (λ (t : Term). secrets.holds_some keys (secrets.carried tools t)) (flat_map audit.forged_in (printed known h))) (network_same known h)
-    ∙ ap (list_any (λ (t : Term). secrets.holds_some (secrets.network_keys h) (secrets.carried tools t))) (flat_each known audit.forged_in secrets.forged_in (forged_line known) h)
+    ap (λ keys. list_any (λ (t : Term). secrets.holds_some keys (secrets.carried tools t))
+    (flat_map audit.forged_in (printed known h))) (network_same known h)
+    ∙ ap (list_any (λ (t : Term). secrets.holds_some (secrets.network_keys h) (secrets.carried tools t)))
+    (flat_each known audit.forged_in secrets.forged_in (forged_line known) h)
 
-pub exposed_same : (tools : Tools) (known : List Station) (h : List log.Line) (from : List Bytes) → audit.exposed tools (printed known h) from ≡ secrets.exposed tools h from
+pub exposed_same : (tools : Tools) (known : List Station) (h : List log.Line) (from : List Bytes)
+    → audit.exposed tools (printed known h) from ≡ secrets.exposed tools h from
 unfolding audit.exposed secrets.exposed
 exposed_same tools known h from =
-    ap (λ n. secrets.rounds n tools (audit.terms_of (printed known h)) from) (printed_length known h) ∙ ap (λ ts. secrets.rounds (length h) tools ts from) (terms_same known h)
+    ap (λ n. secrets.rounds n tools (audit.terms_of (printed known h)) from) (printed_length known h) ∙ ap
+    (λ ts. secrets.rounds (length h) tools ts from) (terms_same known h)
 
-until_same : (known : List Station) (d : ℕ) (h : List log.Line) → lockout.until_live d (printed known h) ≡ printed known (claims.until_live d h)
+until_same : (known : List Station) (d : ℕ) (h : List log.Line) → lockout.until_live d (printed known h)
+    ≡ printed known (claims.until_live d h)
 until_same known d [] = refl
 until_same known d (m ∷ h) =
-    ap (λ b. cond b [] (line_for known m ∷ lockout.until_live d (printed known h))) (admits_line known d m) ∙ by_test (claims.is_live_line d m) (until_same known d h)
+    ap (λ b. cond b [] (line_for known m ∷ lockout.until_live d (printed known h))) (admits_line known d m) ∙ by_test
+    (claims.is_live_line d m) (until_same known d h)
   where
     by_test : (b : Bool) → lockout.until_live d (printed known h) ≡ printed known (claims.until_live d h)
-        → cond b [] (line_for known m ∷ lockout.until_live d (printed known h)) ≡ printed known (cond b [] (m ∷ claims.until_live d h))
+        → cond b [] (line_for known m ∷ lockout.until_live d (printed known h))
+        ≡ printed known (cond b [] (m ∷ claims.until_live d h))
     by_test true more = refl
     by_test false more = ap (λ ls. line_for known m ∷ ls) more
 

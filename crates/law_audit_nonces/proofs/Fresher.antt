@@ -35,7 +35,8 @@ key_same model.ForTransport base = refl
 key_same model.ForLoad base = refl
 
 abbrev stamped : Bytes → ℕ → ℕ → ℕ → Stamp
-stamped key source counter control = record { key = key; nonce = eight_bytes source ++ (four_bytes counter ++ control ∷ []) }
+stamped key source counter control =
+    record { key = key; nonce = eight_bytes source ++ (four_bytes counter ++ control ∷ []) }
 
 abbrev Apart : Term → Term → Type 0
 Apart u t = stamp real u ≡ stamp real t → ⊥
@@ -46,15 +47,21 @@ unlike u t apart =
     let ku = sealing_key (label_of u.label) u.base in
     let kt = sealing_key (label_of t.label) t.base in
     never_true (same_stamp (term_of t) (term_of u)) (λ e.
-    let first = and_parts (bytes_eq kt ku) (nat_eq t.source u.source && (nat_eq t.counter u.counter && nat_eq t.control u.control)) e in
-    let second = and_parts (nat_eq t.source u.source) (nat_eq t.counter u.counter && nat_eq t.control u.control) first.1 in
+    let first =
+    and_parts (bytes_eq kt ku)
+    (nat_eq t.source u.source && (nat_eq t.counter u.counter && nat_eq t.control u.control)) e in
+    let second = and_parts (nat_eq t.source u.source) (nat_eq t.counter u.counter && nat_eq t.control u.control)
+    first.1 in
     let third = and_parts (nat_eq t.counter u.counter) (nat_eq t.control u.control) second.1 in
     let keys : model_key real u.label u.base ≡ model_key real t.label t.base =
     sym (key_same u.label u.base) ∙ sym ((bytes_eq-Decides kt ku).0 first.0) ∙ key_same t.label t.base in
     apart (ap (λ key. stamped key u.source u.counter u.control) keys
-    ∙ ap (λ source. stamped (model_key real t.label t.base) source u.counter u.control) (sym (eqb-true t.source u.source second.0))
-    ∙ ap (λ counter. stamped (model_key real t.label t.base) t.source counter u.control) (sym (eqb-true t.counter u.counter third.0))
-    ∙ ap (λ control. stamped (model_key real t.label t.base) t.source t.counter control) (sym (eqb-true t.control u.control third.1))))
+    ∙ ap (λ source. stamped (model_key real t.label t.base) source u.counter u.control)
+    (sym (eqb-true t.source u.source second.0))
+    ∙ ap (λ counter. stamped (model_key real t.label t.base) t.source counter u.control)
+    (sym (eqb-true t.counter u.counter third.0))
+    ∙ ap (λ control. stamped (model_key real t.label t.base) t.source t.counter control)
+    (sym (eqb-true t.control u.control third.1))))
 
 -- ---- a line before others
 
@@ -63,7 +70,8 @@ abbrev ApartFrom : Line → List Line → Type 0
 ApartFrom (log.Seal event n u) ms = AllByRecursion (Apart u) (sealed_terms ms)
 ApartFrom _ ms = Unit {0}
 
-alike_not : (known : List Station) (event n : ℕ) (t : Term) (ms : List Line) (m : Line) → ApartFrom m (log.Seal event n t ∷ ms) → seals_alike (term_of t) (line_for known m) ≡ false
+alike_not : (known : List Station) (event n : ℕ) (t : Term) (ms : List Line) (m : Line)
+    → ApartFrom m (log.Seal event n t ∷ ms) → seals_alike (term_of t) (line_for known m) ≡ false
 unfolding line_for sealed_terms
 alike_not known event n t ms (log.Declared p) all = refl
 alike_not known event n t ms (log.GivenNet j key sequence) all = refl
@@ -102,12 +110,16 @@ alike_not known event n t ms (log.Changed e j (model.Moved (model.Untold device)
 abbrev Behind : List Line → Line → Type 0
 Behind ms m = ApartFrom m ms
 
-none_alike : (known : List Station) (event n : ℕ) (t : Term) (ms h : List Line) → AllByRecursion (Behind (log.Seal event n t ∷ ms)) h → list_any (seals_alike (term_of t)) (printed known h) ≡ false
+none_alike : (known : List Station) (event n : ℕ) (t : Term) (ms h : List Line)
+    → AllByRecursion (Behind (log.Seal event n t ∷ ms)) h → list_any (seals_alike (term_of t)) (printed known h)
+    ≡ false
 none_alike known event n t ms [] all = refl
 none_alike known event n t ms (m ∷ h) all =
-    ap (λ b. b || list_any (seals_alike (term_of t)) (printed known h)) (alike_not known event n t ms m all.0) ∙ none_alike known event n t ms h all.1
+    ap (λ b. b || list_any (seals_alike (term_of t)) (printed known h)) (alike_not known event n t ms m all.0) ∙
+    none_alike known event n t ms h all.1
 
-line_fresh : (known : List Station) (h : List Line) (m : Line) (ms : List Line) → AllByRecursion (Behind (m ∷ ms)) h → is_fresh (printed known h) (line_for known m) ≡ true
+line_fresh : (known : List Station) (h : List Line) (m : Line) (ms : List Line) → AllByRecursion (Behind (m ∷ ms)) h
+    → is_fresh (printed known h) (line_for known m) ≡ true
 unfolding is_fresh line_for
 line_fresh known h (log.Declared p) ms all = refl
 line_fresh known h (log.GivenNet j key sequence) ms all = refl
@@ -149,7 +161,8 @@ all_right : {X : Type 0} (P : X → Type 0) (xs ys : List X) → AllByRecursion 
 all_right P [] ys all = all
 all_right P (x ∷ xs) ys all = all_right P xs ys all.1
 
-drop_first : (P : Term → Type 0) (m : Line) (ms : List Line) → AllByRecursion P (sealed_terms (m ∷ ms)) → AllByRecursion P (sealed_terms ms)
+drop_first : (P : Term → Type 0) (m : Line) (ms : List Line) → AllByRecursion P (sealed_terms (m ∷ ms))
+    → AllByRecursion P (sealed_terms ms)
 unfolding sealed_terms
 drop_first P m ms all = all_right P (sealed_in m) (sealed_terms ms) all
 
@@ -188,7 +201,8 @@ less_behind (log.Changed event j (model.Moved (model.Roll sending))) m ms all = 
 less_behind (log.Changed event j (model.Moved (model.Told device))) m ms all = tt
 less_behind (log.Changed event j (model.Moved (model.Untold device))) m ms all = tt
 
-all_less : (h : List Line) (m : Line) (ms : List Line) → AllByRecursion (Behind (m ∷ ms)) h → AllByRecursion (Behind ms) h
+all_less : (h : List Line) (m : Line) (ms : List Line) → AllByRecursion (Behind (m ∷ ms)) h
+    → AllByRecursion (Behind ms) h
 all_less [] m ms all = tt
 all_less (l ∷ h) m ms all = (less_behind l m ms all.0, all_less h m ms all.1)
 
@@ -228,12 +242,16 @@ first_apart (log.Changed event j (model.Moved (model.Roll sending))) ms all = (t
 first_apart (log.Changed event j (model.Moved (model.Told device))) ms all = (tt, all)
 first_apart (log.Changed event j (model.Moved (model.Untold device))) ms all = (tt, all)
 
-passes : (known : List Station) (h ms : List Line) → AllByRecursion (Behind ms) h → Fresh real ms → Passes is_fresh known h ms
+passes : (known : List Station) (h ms : List Line) → AllByRecursion (Behind ms) h → Fresh real ms
+    → Passes is_fresh known h ms
 passes known h [] all is = tt
 passes known h (m ∷ ms) all is =
-    let both = first_apart m ms is in
-    (line_fresh known h m ms all, passes known (h ++ m ∷ []) ms (all-append (Behind ms) h (m ∷ []) (all_less h m ms all) (both.0, tt)) both.1)
+    let both = first_apart m ms is in (
+      line_fresh known h m ms all,
+      passes known (h ++ m ∷ []) ms (all-append (Behind ms) h (m ∷ []) (all_less h m ms all) (both.0, tt)) both.1,
+    )
 
 pub keeps_first : (w : Schedule) → IsSchedule w → KeepsFirst w
 unfolding failing
-keeps_first w is = none_fails is_fresh (stations w) [] (transcript real w) (passes (stations w) [] (transcript real w) tt (fresh real w is))
+keeps_first w is = none_fails is_fresh (stations w) [] (transcript real w)
+    (passes (stations w) [] (transcript real w) tt (fresh real w is))

@@ -20,7 +20,8 @@ use Rattle.zb_trace.specs.declared.line.Line.TheVariants as line
 
 bytes_turned : (a b : Bytes) → bytes_eq a b ≡ bytes_eq b a
 bytes_turned a b =
-    bool_same (bytes_eq a b) (bytes_eq b a) (λ e. (bytes_eq-Decides b a).1 (sym ((bytes_eq-Decides a b).0 e))) (λ e. (bytes_eq-Decides a b).1 (sym ((bytes_eq-Decides b a).0 e)))
+    bool_same (bytes_eq a b) (bytes_eq b a) (λ e. (bytes_eq-Decides b a).1 (sym ((bytes_eq-Decides a b).0 e)))
+    (λ e. (bytes_eq-Decides a b).1 (sym ((bytes_eq-Decides b a).0 e)))
 
 true_after : (b : Bool) → b ≡ (b && true)
 true_after true = refl
@@ -28,10 +29,12 @@ true_after false = refl
 
 -- whether a term is sealed so, in both words
 abbrev is_so : model.Layer → Bytes → Option Bytes → Term → Type 0
-is_so layer key o t = read.is_sealed_at (layer_of layer) o (term_of t) ≡ (state.same_layer t.layer layer && said.is_under layer key t.base)
+is_so layer key o t = read.is_sealed_at (layer_of layer) o (term_of t)
+    ≡ (state.same_layer t.layer layer && said.is_under layer key t.base)
 
 at_nwk : (key : Bytes) (t : Term) → is_so model.Nwk key (Some key) t
-at_nwk key t = ap (λ b. b && bytes_eq key t.base) (layers t.layer model.Nwk) ∙ ap (λ b. state.same_layer t.layer model.Nwk && b) (bytes_turned key t.base)
+at_nwk key t = ap (λ b. b && bytes_eq key t.base) (layers t.layer model.Nwk) ∙ ap
+    (λ b. state.same_layer t.layer model.Nwk && b) (bytes_turned key t.base)
 
 at_aps : (key : Bytes) (o : Option Bytes) (t : Term) → is_so model.Aps key o t
 at_aps key o t = layers t.layer model.Aps ∙ true_after (state.same_layer t.layer model.Aps)
@@ -52,20 +55,24 @@ unfolding read.last
 last_none f = refl
 
 -- the run goes on by a line that boots nothing
-goes_on : (f : Speaks) (run : List Line) (l : Line) (found : Option ℕ) (o : Option ℕ) → following (read.last f run) ≡ found → f l ≡ o → following (read.last f (run ++ l ∷ [])) ≡ following (option_or o (read.last f run))
+goes_on : (f : Speaks) (run : List Line) (l : Line) (found : Option ℕ) (o : Option ℕ) → following (read.last f run)
+    ≡ found → f l ≡ o → following (read.last f (run ++ l ∷ [])) ≡ following (option_or o (read.last f run))
 goes_on f run l found o is e = ap following (last_more f run l ∙ ap (λ x. option_or x (read.last f run)) e)
 
-quiet : (f : Speaks) (run : List Line) (l : Line) (found : Option ℕ) (b : Bool) → following (read.last f run) ≡ found → f l ≡ None → following (read.last f (run ++ l ∷ [])) ≡ cond b found found
+quiet : (f : Speaks) (run : List Line) (l : Line) (found : Option ℕ) (b : Bool) → following (read.last f run) ≡ found
+    → f l ≡ None → following (read.last f (run ++ l ∷ [])) ≡ cond b found found
 quiet f run l found true is e = goes_on f run l found None is e ∙ is
 quiet f run l found false is e = goes_on f run l found None is e ∙ is
 
-booted : (f : Speaks) (run : List Line) (l : Line) (found : Option ℕ) (b c : Bool) → following (read.last f run) ≡ found → f l ≡ None → c ≡ b → following (read.last f (cond c [] (run ++ l ∷ []))) ≡ cond b None found
+booted : (f : Speaks) (run : List Line) (l : Line) (found : Option ℕ) (b c : Bool) → following (read.last f run)
+    ≡ found → f l ≡ None → c ≡ b → following (read.last f (cond c [] (run ++ l ∷ []))) ≡ cond b None found
 booted f run l found true true is e same = ap following (last_none f)
 booted f run l found true false is e same = absurd (Rattle.std.proofs.lemmas.Bool.false≢true same)
 booted f run l found false true is e same = absurd (Rattle.std.proofs.lemmas.Bool.false≢true (sym same))
 booted f run l found false false is e same = goes_on f run l found None is e ∙ is
 
-sealed : (f : Speaks) (run : List Line) (l : Line) (found : Option ℕ) (b c : Bool) (counter : ℕ) → following (read.last f run) ≡ found → f l ≡ cond (b && c) (Some counter) None
+sealed : (f : Speaks) (run : List Line) (l : Line) (found : Option ℕ) (b c : Bool) (counter : ℕ)
+    → following (read.last f run) ≡ found → f l ≡ cond (b && c) (Some counter) None
     → following (read.last f (run ++ l ∷ [])) ≡ cond b (cond c (Some (counter + 1)) found) found
 sealed f run l found true true counter is e = goes_on f run l found (Some counter) is e
 sealed f run l found true false counter is e = goes_on f run l found None is e ∙ is
@@ -78,64 +85,152 @@ abbrev pub found_on : ℕ → model.Layer → Bytes → Option ℕ → log.Line 
 found_on n layer key found l = cond (nat_eq (speaker l) n) (said.sealed_in layer key found l) found
 
 -- one line more
-line_on : (known : List Station) (n : ℕ) → TellsApart known n → (layer : model.Layer) (key : Bytes) (o : Option Bytes) → ((t : Term) → is_so layer key o t) → (run : List Line) (found : Option ℕ)
-    → following (read.last (read.sealed_in (name_of known n) (layer_of layer) o) run) ≡ found → (m : log.Line) → IsOfNodes known m
-    → following (read.last (read.sealed_in (name_of known n) (layer_of layer) o) (run_on (name_of known n) run (line_for known m))) ≡ found_on n layer key found m
+line_on : (known : List Station) (n : ℕ) → TellsApart known n → (layer : model.Layer) (key : Bytes) (o : Option Bytes)
+    → ((t : Term) → is_so layer key o t) → (run : List Line) (found : Option ℕ)
+    → following (read.last (read.sealed_in (name_of known n) (layer_of layer) o) run) ≡ found → (m : log.Line)
+    → IsOfNodes known m
+    → following
+    (read.last (read.sealed_in (name_of known n) (layer_of layer) o)
+    (run_on (name_of known n) run (line_for known m))) ≡ found_on n layer key found m
 unfolding line_for speaker
-line_on known n apart layer key o so run found step (log.Declared p) is = quiet (read.sealed_in (name_of known n) (layer_of layer) o) run (line_for known (log.Declared p)) found (nat_eq p.eui n) step refl
-line_on known n apart layer key o so run found step (log.GivenNet j base sequence) is = quiet (read.sealed_in (name_of known n) (layer_of layer) o) run (line_for known (log.GivenNet j base sequence)) found (nat_eq j n) step refl
-line_on known n apart layer key o so run found step (log.GivenLink j partner base) is = quiet (read.sealed_in (name_of known n) (layer_of layer) o) run (line_for known (log.GivenLink j partner base)) found (nat_eq j n) step refl
-line_on known n apart layer key o so run found step (log.Counter j l limit) is = quiet (read.sealed_in (name_of known n) (layer_of layer) o) run (line_for known (log.Counter j l limit)) found (nat_eq j n) step refl
-line_on known n apart layer key o so run found step (log.Commit event j) is = quiet (read.sealed_in (name_of known n) (layer_of layer) o) run (line_for known (log.Commit event j)) found (nat_eq j n) step refl
-line_on known n apart layer key o so run found step (log.Accept event j t) is = quiet (read.sealed_in (name_of known n) (layer_of layer) o) run (line_for known (log.Accept event j t)) found (nat_eq j n) step refl
-line_on known n apart layer key o so run found step (log.Refuse event j at why) is = quiet (read.sealed_in (name_of known n) (layer_of layer) o) run (line_for known (log.Refuse event j at why)) found (nat_eq j n) step refl
-line_on known n apart layer key o so run found step (log.Seal event j t) is = sealed (read.sealed_in (name_of known n) (layer_of layer) o) run (line_for known (log.Seal event j t)) found (nat_eq j n) (state.same_layer t.layer layer && said.is_under layer key t.base) t.counter step
-    (ap (λ b. cond (b && read.is_sealed_at (layer_of layer) o (term_of t)) (Some t.counter) None) (apart j is) ∙ ap (λ c. cond (nat_eq j n && c) (Some t.counter) None) (so t))
-line_on known n apart layer key o so run found step (log.Forge event t) is = quiet (read.sealed_in (name_of known n) (layer_of layer) o) run (line_for known (log.Forge event t)) found (nat_eq Rattle.zb_model.specs.Data.nobody n) step refl
-line_on known n apart layer key o so run found step (log.Send event from frame bytes) is = quiet (read.sealed_in (name_of known n) (layer_of layer) o) run (line_for known (log.Send event from frame bytes)) found (nat_eq Rattle.zb_model.specs.Data.nobody n) step refl
-line_on known n apart layer key o so run found step (log.Inject event frame bytes) is = quiet (read.sealed_in (name_of known n) (layer_of layer) o) run (line_for known (log.Inject event frame bytes)) found (nat_eq Rattle.zb_model.specs.Data.nobody n) step refl
-line_on known n apart layer key o so run found step (log.Stopped event j) is = quiet (read.sealed_in (name_of known n) (layer_of layer) o) run (line_for known (log.Stopped event j)) found (nat_eq j n) step refl
-line_on known n apart layer key o so run found step (log.DownReset event j) is = quiet (read.sealed_in (name_of known n) (layer_of layer) o) run (line_for known (log.DownReset event j)) found (nat_eq j n) step refl
-line_on known n apart layer key o so run found step (log.DownDisk event j) is = quiet (read.sealed_in (name_of known n) (layer_of layer) o) run (line_for known (log.DownDisk event j)) found (nat_eq j n) step refl
-line_on known n apart layer key o so run found step (log.Boot event j) is = booted (read.sealed_in (name_of known n) (layer_of layer) o) run (line_for known (log.Boot event j)) found (nat_eq j n) (bytes_eq (name_of known j) (name_of known n)) step refl (apart j is)
-line_on known n apart layer key o so run found step (log.Dump event j bytes) is = quiet (read.sealed_in (name_of known n) (layer_of layer) o) run (line_for known (log.Dump event j bytes)) found (nat_eq j n) step refl
-line_on known n apart layer key o so run found step (log.End events seals accepts refusals ideal private) is = quiet (read.sealed_in (name_of known n) (layer_of layer) o) run (line_for known (log.End events seals accepts refusals ideal private)) found (nat_eq Rattle.zb_model.specs.Data.nobody n) step refl
-line_on known n apart layer key o so run found step (log.Changed event j (model.Reserve l limit)) is = quiet (read.sealed_in (name_of known n) (layer_of layer) o) run (line_for known (log.Changed event j (model.Reserve l limit))) found (nat_eq j n) step refl
-line_on known n apart layer key o so run found step (log.Changed event j (model.Floor l k from value)) is = quiet (read.sealed_in (name_of known n) (layer_of layer) o) run (line_for known (log.Changed event j (model.Floor l k from value))) found (nat_eq j n) step refl
-line_on known n apart layer key o so run found step (log.Changed event j (model.Start k value)) is = quiet (read.sealed_in (name_of known n) (layer_of layer) o) run (line_for known (log.Changed event j (model.Start k value))) found (nat_eq j n) step refl
-line_on known n apart layer key o so run found step (log.Changed event j (model.Moved (model.Draw base))) is = quiet (read.sealed_in (name_of known n) (layer_of layer) o) run (line_for known (log.Changed event j (model.Moved (model.Draw base)))) found (nat_eq j n) step refl
-line_on known n apart layer key o so run found step (log.Changed event j (model.Moved (model.DropNet base))) is = quiet (read.sealed_in (name_of known n) (layer_of layer) o) run (line_for known (log.Changed event j (model.Moved (model.DropNet base)))) found (nat_eq j n) step refl
-line_on known n apart layer key o so run found step (log.Changed event j (model.Moved (model.DropLink partner base))) is = quiet (read.sealed_in (name_of known n) (layer_of layer) o) run (line_for known (log.Changed event j (model.Moved (model.DropLink partner base)))) found (nat_eq j n) step refl
-line_on known n apart layer key o so run found step (log.Changed event j (model.Moved (model.Install base sequence))) is = quiet (read.sealed_in (name_of known n) (layer_of layer) o) run (line_for known (log.Changed event j (model.Moved (model.Install base sequence)))) found (nat_eq j n) step refl
-line_on known n apart layer key o so run found step (log.Changed event j (model.Moved (model.Active base))) is = quiet (read.sealed_in (name_of known n) (layer_of layer) o) run (line_for known (log.Changed event j (model.Moved (model.Active base)))) found (nat_eq j n) step refl
-line_on known n apart layer key o so run found step (log.Changed event j (model.Moved (model.Row partner base attribute))) is = quiet (read.sealed_in (name_of known n) (layer_of layer) o) run (line_for known (log.Changed event j (model.Moved (model.Row partner base attribute)))) found (nat_eq j n) step refl
-line_on known n apart layer key o so run found step (log.Changed event j (model.Moved (model.Pair first second base))) is = quiet (read.sealed_in (name_of known n) (layer_of layer) o) run (line_for known (log.Changed event j (model.Moved (model.Pair first second base)))) found (nat_eq j n) step refl
-line_on known n apart layer key o so run found step (log.Changed event j (model.Moved (model.Became state))) is = quiet (read.sealed_in (name_of known n) (layer_of layer) o) run (line_for known (log.Changed event j (model.Moved (model.Became state)))) found (nat_eq j n) step refl
-line_on known n apart layer key o so run found step (log.Changed event j (model.Moved (model.Live device))) is = quiet (read.sealed_in (name_of known n) (layer_of layer) o) run (line_for known (log.Changed event j (model.Moved (model.Live device)))) found (nat_eq j n) step refl
-line_on known n apart layer key o so run found step (log.Changed event j (model.Moved (model.Removed device))) is = quiet (read.sealed_in (name_of known n) (layer_of layer) o) run (line_for known (log.Changed event j (model.Moved (model.Removed device)))) found (nat_eq j n) step refl
-line_on known n apart layer key o so run found step (log.Changed event j (model.Moved (model.Roll sending))) is = quiet (read.sealed_in (name_of known n) (layer_of layer) o) run (line_for known (log.Changed event j (model.Moved (model.Roll sending)))) found (nat_eq j n) step refl
-line_on known n apart layer key o so run found step (log.Changed event j (model.Moved (model.Told device))) is = quiet (read.sealed_in (name_of known n) (layer_of layer) o) run (line_for known (log.Changed event j (model.Moved (model.Told device)))) found (nat_eq j n) step refl
-line_on known n apart layer key o so run found step (log.Changed event j (model.Moved (model.Untold device))) is = quiet (read.sealed_in (name_of known n) (layer_of layer) o) run (line_for known (log.Changed event j (model.Moved (model.Untold device)))) found (nat_eq j n) step refl
+line_on known n apart layer key o so run found step (log.Declared p) is =
+    quiet (read.sealed_in (name_of known n) (layer_of layer) o) run (line_for known (log.Declared p)) found
+    (nat_eq p.eui n) step refl
+line_on known n apart layer key o so run found step (log.GivenNet j base sequence) is =
+    quiet (read.sealed_in (name_of known n) (layer_of layer) o) run (line_for known (log.GivenNet j base sequence))
+    found (nat_eq j n) step refl
+line_on known n apart layer key o so run found step (log.GivenLink j partner base) is =
+    quiet (read.sealed_in (name_of known n) (layer_of layer) o) run (line_for known (log.GivenLink j partner base))
+    found (nat_eq j n) step refl
+line_on known n apart layer key o so run found step (log.Counter j l limit) is =
+    quiet (read.sealed_in (name_of known n) (layer_of layer) o) run (line_for known (log.Counter j l limit)) found
+    (nat_eq j n) step refl
+line_on known n apart layer key o so run found step (log.Commit event j) is =
+    quiet (read.sealed_in (name_of known n) (layer_of layer) o) run (line_for known (log.Commit event j)) found
+    (nat_eq j n) step refl
+line_on known n apart layer key o so run found step (log.Accept event j t) is =
+    quiet (read.sealed_in (name_of known n) (layer_of layer) o) run (line_for known (log.Accept event j t)) found
+    (nat_eq j n) step refl
+line_on known n apart layer key o so run found step (log.Refuse event j at why) is =
+    quiet (read.sealed_in (name_of known n) (layer_of layer) o) run (line_for known (log.Refuse event j at why)) found
+    (nat_eq j n) step refl
+line_on known n apart layer key o so run found step (log.Seal event j t) is =
+    sealed (read.sealed_in (name_of known n) (layer_of layer) o) run (line_for known (log.Seal event j t)) found
+    (nat_eq j n) (state.same_layer t.layer layer && said.is_under layer key t.base) t.counter step
+    (ap (λ b. cond (b && read.is_sealed_at (layer_of layer) o (term_of t)) (Some t.counter) None) (apart j is) ∙ ap
+    (λ c. cond (nat_eq j n && c) (Some t.counter) None) (so t))
+line_on known n apart layer key o so run found step (log.Forge event t) is =
+    quiet (read.sealed_in (name_of known n) (layer_of layer) o) run (line_for known (log.Forge event t)) found
+    (nat_eq Rattle.zb_model.specs.Data.nobody n) step refl
+line_on known n apart layer key o so run found step (log.Send event from frame bytes) is =
+    quiet (read.sealed_in (name_of known n) (layer_of layer) o) run (line_for known (log.Send event from frame bytes))
+    found (nat_eq Rattle.zb_model.specs.Data.nobody n) step refl
+line_on known n apart layer key o so run found step (log.Inject event frame bytes) is =
+    quiet (read.sealed_in (name_of known n) (layer_of layer) o) run (line_for known (log.Inject event frame bytes))
+    found (nat_eq Rattle.zb_model.specs.Data.nobody n) step refl
+line_on known n apart layer key o so run found step (log.Stopped event j) is =
+    quiet (read.sealed_in (name_of known n) (layer_of layer) o) run (line_for known (log.Stopped event j)) found
+    (nat_eq j n) step refl
+line_on known n apart layer key o so run found step (log.DownReset event j) is =
+    quiet (read.sealed_in (name_of known n) (layer_of layer) o) run (line_for known (log.DownReset event j)) found
+    (nat_eq j n) step refl
+line_on known n apart layer key o so run found step (log.DownDisk event j) is =
+    quiet (read.sealed_in (name_of known n) (layer_of layer) o) run (line_for known (log.DownDisk event j)) found
+    (nat_eq j n) step refl
+line_on known n apart layer key o so run found step (log.Boot event j) is =
+    booted (read.sealed_in (name_of known n) (layer_of layer) o) run (line_for known (log.Boot event j)) found
+    (nat_eq j n) (bytes_eq (name_of known j) (name_of known n)) step refl (apart j is)
+line_on known n apart layer key o so run found step (log.Dump event j bytes) is =
+    quiet (read.sealed_in (name_of known n) (layer_of layer) o) run (line_for known (log.Dump event j bytes)) found
+    (nat_eq j n) step refl
+line_on known n apart layer key o so run found step (log.End events seals accepts refusals ideal private) is =
+    quiet (read.sealed_in (name_of known n) (layer_of layer) o) run
+    (line_for known (log.End events seals accepts refusals ideal private)) found
+    (nat_eq Rattle.zb_model.specs.Data.nobody n) step refl
+line_on known n apart layer key o so run found step (log.Changed event j (model.Reserve l limit)) is =
+    quiet (read.sealed_in (name_of known n) (layer_of layer) o) run
+    (line_for known (log.Changed event j (model.Reserve l limit))) found (nat_eq j n) step refl
+line_on known n apart layer key o so run found step (log.Changed event j (model.Floor l k from value)) is =
+    quiet (read.sealed_in (name_of known n) (layer_of layer) o) run
+    (line_for known (log.Changed event j (model.Floor l k from value))) found (nat_eq j n) step refl
+line_on known n apart layer key o so run found step (log.Changed event j (model.Start k value)) is =
+    quiet (read.sealed_in (name_of known n) (layer_of layer) o) run
+    (line_for known (log.Changed event j (model.Start k value))) found (nat_eq j n) step refl
+line_on known n apart layer key o so run found step (log.Changed event j (model.Moved (model.Draw base))) is =
+    quiet (read.sealed_in (name_of known n) (layer_of layer) o) run
+    (line_for known (log.Changed event j (model.Moved (model.Draw base)))) found (nat_eq j n) step refl
+line_on known n apart layer key o so run found step (log.Changed event j (model.Moved (model.DropNet base))) is =
+    quiet (read.sealed_in (name_of known n) (layer_of layer) o) run
+    (line_for known (log.Changed event j (model.Moved (model.DropNet base)))) found (nat_eq j n) step refl
+line_on known n apart layer key o so run found step (log.Changed event j (model.Moved (model.DropLink partner base)))
+    is = quiet (read.sealed_in (name_of known n) (layer_of layer) o) run
+    (line_for known (log.Changed event j (model.Moved (model.DropLink partner base)))) found (nat_eq j n) step refl
+line_on known n apart layer key o so run found step (log.Changed event j (model.Moved (model.Install base sequence)))
+    is = quiet (read.sealed_in (name_of known n) (layer_of layer) o) run
+    (line_for known (log.Changed event j (model.Moved (model.Install base sequence)))) found (nat_eq j n) step refl
+line_on known n apart layer key o so run found step (log.Changed event j (model.Moved (model.Active base))) is =
+    quiet (read.sealed_in (name_of known n) (layer_of layer) o) run
+    (line_for known (log.Changed event j (model.Moved (model.Active base)))) found (nat_eq j n) step refl
+line_on known n apart layer key o so run found step
+    (log.Changed event j (model.Moved (model.Row partner base attribute))) is =
+    quiet (read.sealed_in (name_of known n) (layer_of layer) o) run
+    (line_for known (log.Changed event j (model.Moved (model.Row partner base attribute)))) found (nat_eq j n) step
+    refl
+line_on known n apart layer key o so run found step (log.Changed event j (model.Moved (model.Pair first second base)))
+    is = quiet (read.sealed_in (name_of known n) (layer_of layer) o) run
+    (line_for known (log.Changed event j (model.Moved (model.Pair first second base)))) found (nat_eq j n) step refl
+line_on known n apart layer key o so run found step (log.Changed event j (model.Moved (model.Became state))) is =
+    quiet (read.sealed_in (name_of known n) (layer_of layer) o) run
+    (line_for known (log.Changed event j (model.Moved (model.Became state)))) found (nat_eq j n) step refl
+line_on known n apart layer key o so run found step (log.Changed event j (model.Moved (model.Live device))) is =
+    quiet (read.sealed_in (name_of known n) (layer_of layer) o) run
+    (line_for known (log.Changed event j (model.Moved (model.Live device)))) found (nat_eq j n) step refl
+line_on known n apart layer key o so run found step (log.Changed event j (model.Moved (model.Removed device))) is =
+    quiet (read.sealed_in (name_of known n) (layer_of layer) o) run
+    (line_for known (log.Changed event j (model.Moved (model.Removed device)))) found (nat_eq j n) step refl
+line_on known n apart layer key o so run found step (log.Changed event j (model.Moved (model.Roll sending))) is =
+    quiet (read.sealed_in (name_of known n) (layer_of layer) o) run
+    (line_for known (log.Changed event j (model.Moved (model.Roll sending)))) found (nat_eq j n) step refl
+line_on known n apart layer key o so run found step (log.Changed event j (model.Moved (model.Told device))) is =
+    quiet (read.sealed_in (name_of known n) (layer_of layer) o) run
+    (line_for known (log.Changed event j (model.Moved (model.Told device)))) found (nat_eq j n) step refl
+line_on known n apart layer key o so run found step (log.Changed event j (model.Moved (model.Untold device))) is =
+    quiet (read.sealed_in (name_of known n) (layer_of layer) o) run
+    (line_for known (log.Changed event j (model.Moved (model.Untold device)))) found (nat_eq j n) step refl
 
-lines_on : (known : List Station) (n : ℕ) → TellsApart known n → (layer : model.Layer) (key : Bytes) (o : Option Bytes) → ((t : Term) → is_so layer key o t) → (run : List Line) (found : Option ℕ)
-    → following (read.last (read.sealed_in (name_of known n) (layer_of layer) o) run) ≡ found → (h : List log.Line) → AllByRecursion (IsOfNodes known) h
-    → following (read.last (read.sealed_in (name_of known n) (layer_of layer) o) (fold (run_on (name_of known n)) run (map (line_for known) h))) ≡ fold (found_on n layer key) found h
+lines_on : (known : List Station) (n : ℕ) → TellsApart known n
+    → (layer : model.Layer) (key : Bytes) (o : Option Bytes) → ((t : Term) → is_so layer key o t)
+    → (run : List Line) (found : Option ℕ)
+    → following (read.last (read.sealed_in (name_of known n) (layer_of layer) o) run) ≡ found → (h : List log.Line)
+    → AllByRecursion (IsOfNodes known) h
+    → following
+    (read.last (read.sealed_in (name_of known n) (layer_of layer) o)
+    (fold (run_on (name_of known n)) run (map (line_for known) h))) ≡ fold (found_on n layer key) found h
 lines_on known n apart layer key o so run found step [] all = step
 lines_on known n apart layer key o so run found step (m ∷ h) all =
-    lines_on known n apart layer key o so (run_on (name_of known n) run (line_for known m)) (found_on n layer key found m) (line_on known n apart layer key o so run found step m all.0) h all.1
+    lines_on known n apart layer key o so (run_on (name_of known n) run (line_for known m))
+    (found_on n layer key found m) (line_on known n apart layer key o so run found step m all.0) h all.1
 
 -- what is sealed since the last boot
-pub sealed_nwk : (known : List Station) (n : ℕ) → TellsApart known n → (key : Bytes) (h : List log.Line) → AllByRecursion (IsOfNodes known) h
-    → following (read.last (read.sealed_in (name_of known n) (layer_of model.Nwk) (Some key)) (read.since_boot (name_of known n) (map (line_for known) h))) ≡ said.sealed_since n model.Nwk key h
+pub sealed_nwk : (known : List Station) (n : ℕ) → TellsApart known n → (key : Bytes) (h : List log.Line)
+    → AllByRecursion (IsOfNodes known) h
+    → following
+    (read.last (read.sealed_in (name_of known n) (layer_of model.Nwk) (Some key))
+    (read.since_boot (name_of known n) (map (line_for known) h))) ≡ said.sealed_since n model.Nwk key h
 unfolding read.since_boot said.sealed_since
 sealed_nwk known n apart key h all =
-    lines_on known n apart model.Nwk key (Some key) (at_nwk key) [] None (ap following (last_none (read.sealed_in (name_of known n) (layer_of model.Nwk) (Some key)))) h all
+    lines_on known n apart model.Nwk key (Some key) (at_nwk key) [] None
+    (ap following (last_none (read.sealed_in (name_of known n) (layer_of model.Nwk) (Some key)))) h all
 
-pub sealed_aps : (known : List Station) (n : ℕ) → TellsApart known n → (key : Bytes) (o : Option Bytes) (h : List log.Line) → AllByRecursion (IsOfNodes known) h
-    → following (read.last (read.sealed_in (name_of known n) (layer_of model.Aps) o) (read.since_boot (name_of known n) (map (line_for known) h))) ≡ said.sealed_since n model.Aps key h
+pub sealed_aps : (known : List Station) (n : ℕ) → TellsApart known n
+    → (key : Bytes) (o : Option Bytes) (h : List log.Line) → AllByRecursion (IsOfNodes known) h
+    → following
+    (read.last (read.sealed_in (name_of known n) (layer_of model.Aps) o)
+    (read.since_boot (name_of known n) (map (line_for known) h))) ≡ said.sealed_since n model.Aps key h
 unfolding read.since_boot said.sealed_since
 sealed_aps known n apart key o h all =
-    lines_on known n apart model.Aps key o (at_aps key o) [] None (ap following (last_none (read.sealed_in (name_of known n) (layer_of model.Aps) o))) h all
+    lines_on known n apart model.Aps key o (at_aps key o) [] None
+    (ap following (last_none (read.sealed_in (name_of known n) (layer_of model.Aps) o))) h all
 
 -- without a key nothing is sealed under it
 
@@ -168,7 +263,8 @@ never name (line.Untold event device) = refl
 never name (line.Commit event node) = refl
 never name (line.Accept event node t) = refl
 never name (line.Refuse event node r) = refl
-never name (line.Seal event node t) = never_so (bytes_eq node.bytes name) (read.same_layer t.layer (layer_of model.Nwk)) t.counter
+never name (line.Seal event node t) =
+    never_so (bytes_eq node.bytes name) (read.same_layer t.layer (layer_of model.Nwk)) t.counter
 never name (line.Forge event t) = refl
 never name (line.Send event node frame bytes) = refl
 never name (line.Inject event frame bytes) = refl
@@ -182,4 +278,7 @@ never name (line.End events seals accepts refusals ideal private) = refl
 pub no_key : (name : Bytes) (run : List Line) → read.last (read.sealed_in name (layer_of model.Nwk) None) run ≡ None
 unfolding read.last
 no_key name [] = refl
-no_key name (l ∷ run) = ap (λ (o : Option ℕ). fold (λ (found : Option ℕ) (x : Line). option_or (read.sealed_in name (layer_of model.Nwk) None x) found) (option_or o None) run) (never name l) ∙ no_key name run
+no_key name (l ∷ run) =
+    ap (λ (o : Option ℕ). fold
+    (λ (found : Option ℕ) (x : Line). option_or (read.sealed_in name (layer_of model.Nwk) None x) found)
+    (option_or o None) run) (never name l) ∙ no_key name run

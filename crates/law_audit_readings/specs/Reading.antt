@@ -17,10 +17,16 @@ use Rattle.zb_trace_model.specs.Naming.{name_of}
 
 -- What is read of a node after these groups is what its state says: of the next counters, where it has power.
 pub record Reads (known : List Station) (before : List (List log.Line)) (n : ℕ) : Type 0 where
-  pub active_is : read.active (flat (all_printed known before)) (name_of known n) ≡ (state_of (said.flat before) n).active
-  pub limits : (layer : Layer) → read.limit (all_printed known before) (name_of known n) (layer_of layer) ≡ stored_limit layer (state_of (said.flat before) n)
-  pub nexts : is_up (said.flat before) n ≡ true → (layer : Layer) → read.next (all_printed known before) (name_of known n) (layer_of layer) ≡ next_counter layer (state_of (said.flat before) n)
-  pub floors : (layer : Layer) (key : Bytes) (sender : ℕ) → read.stored (flat (all_printed known before)) (name_of known n) (layer_of layer) key sender ≡ floor_at layer key sender (state_of (said.flat before) n)
+  pub active_is : read.active (flat (all_printed known before)) (name_of known n)
+      ≡ (state_of (said.flat before) n).active
+  pub limits : (layer : Layer) → read.limit (all_printed known before) (name_of known n) (layer_of layer)
+      ≡ stored_limit layer (state_of (said.flat before) n)
+  pub nexts : is_up (said.flat before) n ≡ true → (layer : Layer)
+      → read.next (all_printed known before) (name_of known n) (layer_of layer)
+      ≡ next_counter layer (state_of (said.flat before) n)
+  pub floors : (layer : Layer) (key : Bytes) (sender : ℕ)
+      → read.stored (flat (all_printed known before)) (name_of known n) (layer_of layer) key sender
+      ≡ floor_at layer key sender (state_of (said.flat before) n)
 
 abbrev pub AllRead : Schedule → List (List log.Line) → Type 0
 AllRead w before = (n : ℕ) → Names w n → Reads (stations w) before n

@@ -31,15 +31,19 @@ use Rattle.zb_trace.specs.declared.line.Line.{Line}
 
 -- ---- the first bad line
 
-none_bad : (lines : List Line) → failing is_fresh lines ≡ [] → failing is_later lines ≡ [] → failing is_confirmable lines ≡ [] → uncounted lines ≡ [] → unlocked real lines ≡ None → ill_ended real lines ≡ []
+none_bad : (lines : List Line) → failing is_fresh lines ≡ [] → failing is_later lines ≡ []
+    → failing is_confirmable lines ≡ [] → uncounted lines ≡ [] → unlocked real lines ≡ None → ill_ended real lines ≡ []
     → first_fault real lines ≡ None
 unfolding first_fault first_uncounted
 none_bad lines first second third fourth fifth sixth =
     let last = by 6 (head (ill_ended real lines)) in
     let locks = sooner (by 5 (unlocked real lines)) last in
     let counts = sooner (by 4 (first_of (uncounted lines))) locks in
-    ap (λ (ns : List ℕ). sooner (by 1 (head ns)) (sooner (by 2 (head (failing is_later lines))) (sooner (by 3 (head (failing is_confirmable lines))) counts))) first
-    ∙ (ap (λ (ns : List ℕ). sooner (by 2 (head ns)) (sooner (by 3 (head (failing is_confirmable lines))) counts)) second
+    ap (λ (ns : List ℕ). sooner (by 1 (head ns))
+    (sooner (by 2 (head (failing is_later lines))) (sooner (by 3 (head (failing is_confirmable lines))) counts)))
+    first
+    ∙ (ap (λ (ns : List ℕ). sooner (by 2 (head ns)) (sooner (by 3 (head (failing is_confirmable lines))) counts))
+    second
     ∙ (ap (λ (ns : List ℕ). sooner (by 3 (head ns)) counts) third
     ∙ (ap (λ (ns : List ℕ). sooner (by 4 (first_of ns)) locks) fourth
     ∙ (ap (λ (o : Option ℕ). sooner (by 5 o) last) fifth ∙ ap (λ (ns : List ℕ). by 6 (head ns)) sixth))))
@@ -51,11 +55,15 @@ sound shows p is =
     let differ = different p is in
     let fits = are_named p is in
     let whole : first_fault real (lines_of w) ≡ None =
-    none_bad (lines_of w) (keeps_first w met.schedule) (keeps_second real opens_real w met.schedule met.one_centre fits) (keeps_third w met differ fits)
+    none_bad (lines_of w) (keeps_first w met.schedule)
+    (keeps_second real opens_real w met.schedule met.one_centre fits) (keeps_third w met differ fits)
     (keeps_fourth real opens_real opens_as_judged w met.schedule differ met.one_centre fits)
     (keeps_fifth real opens_real opens_as_judged shows w met.schedule differ met.one_centre met.keys fits)
     (keeps_sixth real opens_as_judged w met.schedule differ met.one_centre fits) in
     record {
       whole = whole;
-      answer = answered w (run_read_same real opens_as_judged w met.schedule differ met.one_centre fits (transcript real w) [] (append-nil' (transcript real w))).words whole;
+      answer =
+          answered w
+          (run_read_same real opens_as_judged w met.schedule differ met.one_centre fits (transcript real w) []
+          (append-nil' (transcript real w))).words whole;
     }

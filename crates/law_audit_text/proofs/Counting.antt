@@ -26,7 +26,8 @@ onto_plain l [] = refl
 onto_plain l ([] ∷ gs) = refl
 onto_plain l ((m ∷ run) ∷ gs) = rw (event_plain l, event_plain m) (by_test (same_event (event_of l) (event_of m)))
   where
-    by_test : (b : Bool) → cond b ((plain l ∷ plain m ∷ plains run) ∷ map plains gs) ((plain l ∷ []) ∷ (plain m ∷ plains run) ∷ map plains gs)
+    by_test : (b : Bool) → cond b ((plain l ∷ plain m ∷ plains run) ∷ map plains gs)
+        ((plain l ∷ []) ∷ (plain m ∷ plains run) ∷ map plains gs)
         ≡ map plains (cond b ((l ∷ m ∷ run) ∷ gs) ((l ∷ []) ∷ (m ∷ run) ∷ gs))
     by_test true = refl
     by_test false = refl
@@ -46,9 +47,11 @@ groups_snoc (x ∷ gs) g = ap (λ xs. plains x ∷ xs) (groups_snoc gs g)
 
 -- ---- readings
 
-last_plain : {A : Type 0} (speaks : Line → Option A) → ((l : Line) → speaks (plain l) ≡ speaks l) → (h : List Line) → last speaks (plains h) ≡ last speaks h
+last_plain : {A : Type 0} (speaks : Line → Option A) → ((l : Line) → speaks (plain l) ≡ speaks l) → (h : List Line)
+    → last speaks (plains h) ≡ last speaks h
 unfolding last
-last_plain {A = A} speaks each h = fold_plain (λ (found : Option A) (l : Line). option_or (speaks l) found) (λ found l. ap (λ o. option_or o found) (each l)) None h
+last_plain {A = A} speaks each h = fold_plain (λ (found : Option A) (l : Line). option_or (speaks l) found)
+    (λ found l. ap (λ o. option_or o found) (each l)) None h
 
 active_line : (n : Bytes) (l : Line) → active_in n (plain l) ≡ active_in n l
 active_line n (line.Active event node key) = refl
@@ -88,21 +91,35 @@ limit_line n key was (line.Start event node k value) = refl
 limit_line n key was (line.Reserve event node layer value) = refl
 limit_line n key was _ = refl
 
-behind_plain : (h : List Line) (n key : Bytes) (gs : List (List Line)) → limit_behind (plains h) n key (map plains gs) ≡ limit_behind h n key gs
+behind_plain : (h : List Line) (n key : Bytes) (gs : List (List Line)) → limit_behind (plains h) n key (map plains gs)
+    ≡ limit_behind h n key gs
 unfolding limit_behind
 behind_plain h n key [] = refl
 behind_plain h n key (g ∷ gs) =
-    rw (plains_append h g, behind_plain (h ++ g) n key gs, active_plain h n, last_plain (limit_in n key (is_key (active h n) key)) (limit_line n key (is_key (active h n) key)) g) refl
+    rw (
+      plains_append h g,
+      behind_plain (h ++ g) n key gs,
+      active_plain h n,
+      last_plain (limit_in n key (is_key (active h n) key)) (limit_line n key (is_key (active h n) key)) g,
+    ) refl
 
-under_plain : (before : List (List Line)) (n : Bytes) (key : Option Bytes) → limit_under (map plains before) n key ≡ limit_under before n key
+under_plain : (before : List (List Line)) (n : Bytes) (key : Option Bytes) → limit_under (map plains before) n key
+    ≡ limit_under before n key
 unfolding limit_under
 under_plain before n None = rw (flats_plain before, counter_plain (flat before) n Nwk) refl
-under_plain before n (Some key) = rw (flats_plain before, counter_plain (flat before) n Nwk, behind_plain [] n key before) refl
+under_plain before n (Some key) =
+    rw (flats_plain before, counter_plain (flat before) n Nwk, behind_plain [] n key before) refl
 
 limit_plain : (before : List (List Line)) (n : Bytes) (l : Layer) → limit (map plains before) n l ≡ limit before n l
 unfolding limit
-limit_plain before n Nwk = rw (flats_plain before, active_plain (flat before) n) (under_plain before n (active (flat before) n))
-limit_plain before n Aps = rw (flats_plain before, last_plain (reserve_in n Aps) (reserve_line n Aps) (flat before), counter_plain (flat before) n Aps) refl
+limit_plain before n Nwk = rw (flats_plain before, active_plain (flat before) n)
+    (under_plain before n (active (flat before) n))
+limit_plain before n Aps =
+    rw (
+      flats_plain before,
+      last_plain (reserve_in n Aps) (reserve_line n Aps) (flat before),
+      counter_plain (flat before) n Aps,
+    ) refl
 
 boots_line : (n : Bytes) (l : Line) → boots n (plain l) ≡ boots n l
 boots_line n (line.Boot event node) = refl
@@ -120,28 +137,40 @@ booted_plain n run l = ap (λ b. cond b [] (plains run ++ plain l ∷ [])) (boot
 
 since_from : (n : Bytes) (run h : List Line) → fold (booted n) (plains run) (plains h) ≡ plains (fold (booted n) run h)
 since_from n run [] = refl
-since_from n run (l ∷ h) = ap (λ xs. fold (booted n) xs (plains h)) (booted_plain n run l) ∙ since_from n (booted n run l) h
+since_from n run (l ∷ h) = ap (λ xs. fold (booted n) xs (plains h)) (booted_plain n run l) ∙ since_from n
+    (booted n run l) h
 
 since_plain : (n : Bytes) (h : List Line) → since_boot n (plains h) ≡ plains (since_boot n h)
 unfolding since_boot
 since_plain n h = since_from n [] h
 
-sealed_line : (n : Bytes) (l : Layer) (key : Option Bytes) (m : Line) → sealed_in n l key (plain m) ≡ sealed_in n l key m
+sealed_line : (n : Bytes) (l : Layer) (key : Option Bytes) (m : Line) → sealed_in n l key (plain m)
+    ≡ sealed_in n l key m
 sealed_line n l key (line.Seal event node t) = refl
 sealed_line n l key _ = refl
 
 next_plain : (before : List (List Line)) (n : Bytes) (l : Layer) → next (map plains before) n l ≡ next before n l
 unfolding next
 next_plain before n l =
-    rw (limit_plain before n l, flats_plain before, active_plain (flat before) n, since_plain n (flat before), last_plain (sealed_in n l (active (flat before) n)) (sealed_line n l (active (flat before) n)) (since_boot n (flat before))) refl
+    rw (
+      limit_plain before n l,
+      flats_plain before,
+      active_plain (flat before) n,
+      since_plain n (flat before),
+      last_plain (sealed_in n l (active (flat before) n)) (sealed_line n l (active (flat before) n))
+          (since_boot n (flat before)),
+    ) refl
 
-floor_line : (n : Bytes) (l : Layer) (key : Bytes) (sender : ℕ) (m : Line) → floor_in n l key sender (plain m) ≡ floor_in n l key sender m
+floor_line : (n : Bytes) (l : Layer) (key : Bytes) (sender : ℕ) (m : Line) → floor_in n l key sender (plain m)
+    ≡ floor_in n l key sender m
 floor_line n l key sender (line.Floor event node layer k s value) = refl
 floor_line n l key sender _ = refl
 
-stored_plain : (h : List Line) (n : Bytes) (l : Layer) (key : Bytes) (sender : ℕ) → stored (plains h) n l key sender ≡ stored h n l key sender
+stored_plain : (h : List Line) (n : Bytes) (l : Layer) (key : Bytes) (sender : ℕ) → stored (plains h) n l key sender
+    ≡ stored h n l key sender
 unfolding stored
-stored_plain h n l key sender = ap (λ o. unwrap_or o 0) (last_plain (floor_in n l key sender) (floor_line n l key sender) h)
+stored_plain h n l key sender =
+    ap (λ o. unwrap_or o 0) (last_plain (floor_in n l key sender) (floor_line n l key sender) h)
 
 -- ---- lines that add up
 
@@ -162,29 +191,47 @@ starts_line : (n key : Bytes) (m : Line) → starts n key (plain m) ≡ starts n
 starts_line n key (line.Start event node k value) = refl
 starts_line n key _ = refl
 
-accepted_line : (n : Bytes) (l : Layer) (key : Bytes) (sender : ℕ) (m : Line) → accepted_in n l key sender (plain m) ≡ accepted_in n l key sender m
+accepted_line : (n : Bytes) (l : Layer) (key : Bytes) (sender : ℕ) (m : Line) → accepted_in n l key sender (plain m)
+    ≡ accepted_in n l key sender m
 accepted_line n l key sender (line.Accept event node t) = refl
 accepted_line n l key sender _ = refl
 
-accepted_plain : (group : List Line) (n : Bytes) (l : Layer) (key : Bytes) (sender : ℕ) → accepted (plains group) n l key sender ≡ accepted group n l key sender
+accepted_plain : (group : List Line) (n : Bytes) (l : Layer) (key : Bytes) (sender : ℕ)
+    → accepted (plains group) n l key sender ≡ accepted group n l key sender
 unfolding accepted
 accepted_plain group n l key sender = flat_plain (accepted_in n l key sender) (accepted_line n l key sender) group
 
 -- the nodes that the lines before a line declare
-declared_before : (before : List (List Line)) (front : List Line) → declared_in (flat (map plains before) ++ plains front) ≡ declared_in (flat before ++ front)
+declared_before : (before : List (List Line)) (front : List Line)
+    → declared_in (flat (map plains before) ++ plains front) ≡ declared_in (flat before ++ front)
 declared_before before front =
-    ap (λ h. declared_in (h ++ plains front)) (flats_plain before) ∙ (ap declared_in (plains_append (flat before) front) ∙ declared_plain (flat before ++ front))
+    ap (λ h. declared_in (h ++ plains front)) (flats_plain before) ∙
+    (ap declared_in (plains_append (flat before) front) ∙ declared_plain (flat before ++ front))
 
 module _ (before : List (List Line)) (group front : List Line) (n : Bytes) where
   seal_plain : (t : Term) → seal_stands (map plains before) (plains front) n t ≡ seal_stands before front n t
   unfolding seal_stands
   seal_plain t =
-      rw (declared_before before front, next_plain before n t.layer, limit_plain before n t.layer, flats_plain before, active_plain (flat before) n, last_plain (reserve_in n t.layer) (reserve_line n t.layer) front) refl
+      rw (
+        declared_before before front,
+        next_plain before n t.layer,
+        limit_plain before n t.layer,
+        flats_plain before,
+        active_plain (flat before) n,
+        last_plain (reserve_in n t.layer) (reserve_line n t.layer) front,
+      ) refl
 
-  reserve_plain : (l : Layer) (value : ℕ) → reserve_stands (map plains before) (plains group) (plains front) n l value ≡ reserve_stands before group front n l value
+  reserve_plain : (l : Layer) (value : ℕ) → reserve_stands (map plains before) (plains group) (plains front) n l value
+      ≡ reserve_stands before group front n l value
   unfolding reserve_stands
   reserve_plain l value =
-      rw (declared_before before front, next_plain before n l, limit_plain before n l, any_plain cuts cuts_line group, any_plain (seals_at n l) (seals_line n l) group) refl
+      rw (
+        declared_before before front,
+        next_plain before n l,
+        limit_plain before n l,
+        any_plain cuts cuts_line group,
+        any_plain (seals_at n l) (seals_line n l) group,
+      ) refl
 
   accept_plain : (t : Term) → accept_stands (map plains before) (plains group) n t ≡ accept_stands before group n t
   unfolding accept_stands
@@ -195,7 +242,8 @@ module _ (before : List (List Line)) (group front : List Line) (n : Bytes) where
         last_plain (floor_in n t.layer t.base.0 t.source.0) (floor_line n t.layer t.base.0 t.source.0) group,
       ) refl
 
-  floor_plain : (l : Layer) (key : Bytes) (sender value : ℕ) → floor_stands (map plains before) (plains group) (plains front) n l key sender value ≡ floor_stands before group front n l key sender value
+  floor_plain : (l : Layer) (key : Bytes) (sender value : ℕ) → floor_stands (map plains before) (plains group)
+      (plains front) n l key sender value ≡ floor_stands before group front n l key sender value
   unfolding floor_stands
   floor_plain l key sender value =
       rw (
@@ -206,7 +254,8 @@ module _ (before : List (List Line)) (group front : List Line) (n : Bytes) where
         any_plain cuts cuts_line group,
       ) refl
 
-  start_plain : (key : Bytes) (value : ℕ) → start_stands (map plains before) (plains group) (plains front) n key value ≡ start_stands before group front n key value
+  start_plain : (key : Bytes) (value : ℕ) → start_stands (map plains before) (plains group) (plains front) n key value
+      ≡ start_stands before group front n key value
   unfolding start_stands
   start_plain key value =
       rw (
@@ -217,33 +266,53 @@ module _ (before : List (List Line)) (group front : List Line) (n : Bytes) where
         any_plain (activates n key) (activates_line n key) group,
       ) refl
 
-  active_stands_plain : (key : Bytes) → active_stands (map plains before) (plains group) n key ≡ active_stands before group n key
+  active_stands_plain : (key : Bytes) → active_stands (map plains before) (plains group) n key
+      ≡ active_stands before group n key
   unfolding active_stands
-  active_stands_plain key = rw (flats_plain before, started_plain (flat before) n key, any_plain (starts n key) (starts_line n key) group) refl
+  active_stands_plain key =
+      rw (flats_plain before, started_plain (flat before) n key, any_plain (starts n key) (starts_line n key) group)
+      refl
 
-counted_plain : (before : List (List Line)) (group front : List Line) (l : Line) → is_counted (map plains before) (plains group) (plains front) (plain l) ≡ is_counted before group front l
+counted_plain : (before : List (List Line)) (group front : List Line) (l : Line)
+    → is_counted (map plains before) (plains group) (plains front) (plain l) ≡ is_counted before group front l
 unfolding is_counted
 counted_plain before group front (line.Seal event node t) = seal_plain before group front node.bytes t
-counted_plain before group front (line.Reserve event node l value) = reserve_plain before group front node.bytes l value
+counted_plain before group front (line.Reserve event node l value) = reserve_plain before group front node.bytes l
+    value
 counted_plain before group front (line.Accept event node t) = accept_plain before group front node.bytes t
-counted_plain before group front (line.Floor event node l key sender value) = floor_plain before group front node.bytes l key.0 sender.0 value
-counted_plain before group front (line.Start event node key value) = start_plain before group front node.bytes key.0 value
+counted_plain before group front (line.Floor event node l key sender value) =
+    floor_plain before group front node.bytes l key.0 sender.0 value
+counted_plain before group front (line.Start event node key value) = start_plain before group front node.bytes key.0
+    value
 counted_plain before group front (line.Active event node key) = active_stands_plain before group front node.bytes key.0
 counted_plain before group front _ = refl
 
 uncounted_in_plain : (before : List (List Line)) (group front : List Line) (number : ℕ) (ls : List Line)
-    → uncounted_in (map plains before) (plains group) (plains front) number (plains ls) ≡ uncounted_in before group front number ls
+    → uncounted_in (map plains before) (plains group) (plains front) number (plains ls)
+    ≡ uncounted_in before group front number ls
 unfolding uncounted_in
 uncounted_in_plain before group front number [] = refl
 uncounted_in_plain before group front number (l ∷ ls) =
-    rw (counted_plain before group front l, plains_snoc front l, uncounted_in_plain before group (front ++ l ∷ []) (number + 1) ls) refl
+    rw (
+      counted_plain before group front l,
+      plains_snoc front l,
+      uncounted_in_plain before group (front ++ l ∷ [])
+          (number + 1) ls,
+    ) refl
 
-uncounted_from_plain : (before : List (List Line)) (number : ℕ) (gs : List (List Line)) → uncounted_from (map plains before) number (map plains gs) ≡ uncounted_from before number gs
+uncounted_from_plain : (before : List (List Line)) (number : ℕ) (gs : List (List Line))
+    → uncounted_from (map plains before) number (map plains gs) ≡ uncounted_from before number gs
 unfolding uncounted_from
 uncounted_from_plain before number [] = refl
 uncounted_from_plain before number (g ∷ gs) =
-    rw (uncounted_in_plain before g [] number g, groups_snoc before g, plains_length g, uncounted_from_plain (before ++ g ∷ []) (number + length g) gs) refl
+    rw (
+      uncounted_in_plain before g [] number g,
+      groups_snoc before g,
+      plains_length g,
+      uncounted_from_plain (before ++ g ∷ []) (number + length g) gs,
+    ) refl
 
 pub uncounted_plain : (lines : List Line) → first_uncounted (plains lines) ≡ first_uncounted lines
 unfolding first_uncounted uncounted
-uncounted_plain lines = ap (λ gs. first_of (uncounted_from [] 1 gs)) (groups_plain lines) ∙ ap first_of (uncounted_from_plain [] 1 (groups lines))
+uncounted_plain lines = ap (λ gs. first_of (uncounted_from [] 1 gs)) (groups_plain lines) ∙ ap first_of
+    (uncounted_from_plain [] 1 (groups lines))

@@ -23,12 +23,15 @@ use Rattle.law_audit_text.specs.Alike.{AreJudgedAlike, HaveSameWords}
 
 -- ---- bad lines
 
-from_plain : (test : List Line → Line → Bool) → ((h : List Line) (l : Line) → test (plains h) (plain l) ≡ test h l) → (h ls : List Line) → failing_from test (plains h) (plains ls) ≡ failing_from test h ls
+from_plain : (test : List Line → Line → Bool) → ((h : List Line) (l : Line) → test (plains h) (plain l) ≡ test h l)
+    → (h ls : List Line) → failing_from test (plains h) (plains ls) ≡ failing_from test h ls
 unfolding failing_from
 from_plain test each h [] = refl
-from_plain test each h (l ∷ ls) = rw (each h l, plains_length h, plains_snoc h l, from_plain test each (h ++ l ∷ []) ls) refl
+from_plain test each h (l ∷ ls) =
+    rw (each h l, plains_length h, plains_snoc h l, from_plain test each (h ++ l ∷ []) ls) refl
 
-failing_plain : (test : List Line → Line → Bool) → ((h : List Line) (l : Line) → test (plains h) (plain l) ≡ test h l) → (lines : List Line) → failing test (plains lines) ≡ failing test lines
+failing_plain : (test : List Line → Line → Bool) → ((h : List Line) (l : Line) → test (plains h) (plain l) ≡ test h l)
+    → (lines : List Line) → failing test (plains lines) ≡ failing test lines
 unfolding failing
 failing_plain test each lines = from_plain test each [] lines
 
@@ -53,24 +56,28 @@ later_plain h _ = refl
 
 -- ---- confirmed keys
 
-becomes_plain : (partner : ℕ) (key : Bytes) (known : List Station) (s : RowState) (l : Line) → row_becomes partner key known s (plain l) ≡ row_becomes partner key known s l
+becomes_plain : (partner : ℕ) (key : Bytes) (known : List Station) (s : RowState) (l : Line)
+    → row_becomes partner key known s (plain l) ≡ row_becomes partner key known s l
 becomes_plain partner key known s (line.Row event node p k a) = refl
 becomes_plain partner key known s (line.DropLink event node p k) = refl
 becomes_plain partner key known s (line.Commit event node) = refl
 becomes_plain partner key known s _ = refl
 
-row_from_plain : (partner : ℕ) (key : Bytes) (known : List Station) (s : RowState) (h : List Line) → row_from partner key known s (plains h) ≡ row_from partner key known s h
+row_from_plain : (partner : ℕ) (key : Bytes) (known : List Station) (s : RowState) (h : List Line)
+    → row_from partner key known s (plains h) ≡ row_from partner key known s h
 unfolding row_from
 row_from_plain partner key known s [] = refl
 row_from_plain partner key known s (l ∷ h) =
     ap (λ k. row_from partner key k (row_becomes partner key known s (plain l)) (plains h)) (declares_plain known l)
-    ∙ (ap (λ r. row_from partner key (declares known l) r (plains h)) (becomes_plain partner key known s l) ∙ row_from_plain partner key (declares known l) (row_becomes partner key known s l) h)
+    ∙ (ap (λ r. row_from partner key (declares known l) r (plains h)) (becomes_plain partner key known s l) ∙
+    row_from_plain partner key (declares known l) (row_becomes partner key known s l) h)
 
 row_plain : (h : List Line) (partner : ℕ) (key : Bytes) → row_in (plains h) partner key ≡ row_in h partner key
 unfolding row_in
 row_plain h partner key = row_from_plain partner key [] Absent h
 
-stands_plain : (h : List Line) (name base : Bytes) (device : Option Eui) → stands_for (plains h) name base device ≡ stands_for h name base device
+stands_plain : (h : List Line) (name base : Bytes) (device : Option Eui) → stands_for (plains h) name base device
+    ≡ stands_for h name base device
 stands_plain h name base None = refl
 stands_plain h name base (Some device) = rw (declared_plain h, row_plain h device.0 base) refl
 
@@ -107,12 +114,20 @@ refusals_plain h = fold_plain refuse_count refuse_line 0 h
 
 greatest_plain : (h : List Line) → greatest_event (plains h) ≡ greatest_event h
 unfolding greatest_event
-greatest_plain h = fold_plain (λ (n : ℕ) (l : Line). greater_event n (event_of l)) (λ n l. ap (greater_event n) (event_plain l)) 0 h
+greatest_plain h = fold_plain (λ (n : ℕ) (l : Line). greater_event n (event_of l))
+    (λ n l. ap (greater_event n) (event_plain l)) 0 h
 
 sums_plain : (tools : Tools) (h : List Line) (l : Line) → sums_up tools (plains h) (plain l) ≡ sums_up tools h l
 unfolding sums_up
 sums_plain tools h (line.End events seals accepts refusals is_ideal is_private) =
-    rw (greatest_plain h, seals_plain h, accepts_plain h, refusals_plain h, ideal_plain tools h, private_plain tools h) refl
+    rw (
+      greatest_plain h,
+      seals_plain h,
+      accepts_plain h,
+      refusals_plain h,
+      ideal_plain tools h,
+      private_plain tools h,
+    ) refl
 sums_plain tools h _ = refl
 
 no_end_plain : (h : List Line) (l : Line) → is_no_end (plains h) (plain l) ≡ is_no_end h l
@@ -128,12 +143,18 @@ ends_from_plain : (tools : Tools) (h ls : List Line) → ends_from tools (plains
 unfolding ends_from
 ends_from_plain tools h [] = refl
 ends_from_plain tools h (l ∷ []) = sums_plain tools h l
-ends_from_plain tools h (l ∷ m ∷ ls) = ap (λ g. ends_from tools g (plains (m ∷ ls))) (plains_snoc h l) ∙ ends_from_plain tools (h ++ l ∷ []) (m ∷ ls)
+ends_from_plain tools h (l ∷ m ∷ ls) = ap (λ g. ends_from tools g (plains (m ∷ ls))) (plains_snoc h l) ∙
+    ends_from_plain tools (h ++ l ∷ []) (m ∷ ls)
 
 ill_plain : (tools : Tools) (lines : List Line) → ill_ended tools (plains lines) ≡ ill_ended tools lines
 unfolding ill_ended ends_well
 ill_plain tools lines =
-    rw (front_plain lines, failing_plain is_no_end no_end_plain (front lines), ends_from_plain tools [] lines, plains_length lines) refl
+    rw (
+      front_plain lines,
+      failing_plain is_no_end no_end_plain (front lines),
+      ends_from_plain tools [] lines,
+      plains_length lines,
+    ) refl
 
 -- ---- the first bad line
 
@@ -150,13 +171,16 @@ fault_plain tools lines =
     ) refl
 
 -- what is the same of lines and of their plain ones is the same of lines with one words
-by_plain : {A : Type 0} (reads : List Line → A) → ((lines : List Line) → reads (plains lines) ≡ reads lines) → (lines others : List Line) → plains lines ≡ plains others → reads lines ≡ reads others
+by_plain : {A : Type 0} (reads : List Line → A) → ((lines : List Line) → reads (plains lines) ≡ reads lines)
+    → (lines others : List Line) → plains lines ≡ plains others → reads lines ≡ reads others
 by_plain reads each lines others same = sym (each lines) ∙ (ap reads same ∙ each others)
 
-locked_plain : (tools : Tools) (lines : List Line) → (ideal tools (plains lines) && private tools (plains lines)) ≡ (ideal tools lines && private tools lines)
+locked_plain : (tools : Tools) (lines : List Line) → (ideal tools (plains lines) && private tools (plains lines))
+    ≡ (ideal tools lines && private tools lines)
 locked_plain tools lines = rw (ideal_plain tools lines, private_plain tools lines) refl
 
-pub judged_alike : (tools : Tools) (lines others : List Line) → HaveSameWords lines others → AreJudgedAlike tools lines others
+pub judged_alike : (tools : Tools) (lines others : List Line) → HaveSameWords lines others
+    → AreJudgedAlike tools lines others
 judged_alike tools lines others same =
     let one = same_plains lines others same in
     record {

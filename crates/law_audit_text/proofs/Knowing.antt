@@ -66,21 +66,27 @@ base_line n _ = refl
 
 -- ---- lists of lines
 
-pub along_plain : {A : Type 0} (says : List Station → Line → List A) → ((known : List Station) (l : Line) → says known (plain l) ≡ says known l)
+pub along_plain : {A : Type 0} (says : List Station → Line → List A)
+    → ((known : List Station) (l : Line) → says known (plain l) ≡ says known l)
     → (known : List Station) (h : List Line) → along says known (plains h) ≡ along says known h
 along_plain says each known [] = refl
 along_plain says each known (l ∷ h) =
     ap (λ xs. xs ++ along says (declares known (plain l)) (plains h)) (each known l)
-    ∙ (ap (λ k. says known l ++ along says k (plains h)) (declares_plain known l) ∙ ap (λ xs. says known l ++ xs) (along_plain says each (declares known l) h))
+    ∙ (ap (λ k. says known l ++ along says k (plains h)) (declares_plain known l) ∙ ap (λ xs. says known l ++ xs)
+    (along_plain says each (declares known l) h))
 
-pub each_plain : (test : List Line → Line → Bool) → ((h : List Line) (l : Line) → test (plains h) (plain l) ≡ test h l) → (h ls : List Line) → each_line test (plains h) (plains ls) ≡ each_line test h ls
+pub each_plain : (test : List Line → Line → Bool)
+    → ((h : List Line) (l : Line) → test (plains h) (plain l) ≡ test h l) → (h ls : List Line)
+    → each_line test (plains h) (plains ls) ≡ each_line test h ls
 unfolding each_line
 each_plain test each h [] = refl
 each_plain test each h (l ∷ ls) =
     ap (λ b. b && each_line test (plains h ++ plain l ∷ []) (plains ls)) (each h l)
-    ∙ (ap (λ g. test h l && each_line test g (plains ls)) (plains_snoc h l) ∙ ap (λ b. test h l && b) (each_plain test each (h ++ l ∷ []) ls))
+    ∙ (ap (λ g. test h l && each_line test g (plains ls)) (plains_snoc h l) ∙ ap (λ b. test h l && b)
+    (each_plain test each (h ++ l ∷ []) ls))
 
-pub flat_alike : {A B : Type 0} (f g : A → List B) → ((a : A) → f a ≡ g a) → (xs : List A) → flat_map f xs ≡ flat_map g xs
+pub flat_alike : {A B : Type 0} (f g : A → List B) → ((a : A) → f a ≡ g a) → (xs : List A) → flat_map f xs
+    ≡ flat_map g xs
 flat_alike f g each [] = refl
 flat_alike f g each (x ∷ xs) = ap (λ ys. ys ++ flat_map f xs) (each x) ∙ ap (λ ys. g x ++ ys) (flat_alike f g each xs)
 
@@ -107,9 +113,11 @@ bases_plain : (n : Bytes) (h : List Line) → bases (plains h) n ≡ bases h n
 unfolding bases
 bases_plain n h = flat_plain (base_in n) (base_line n) h
 
-pub exposed_plain : (tools : Tools) (h : List Line) (from : List Bytes) → exposed tools (plains h) from ≡ exposed tools h from
+pub exposed_plain : (tools : Tools) (h : List Line) (from : List Bytes) → exposed tools (plains h) from
+    ≡ exposed tools h from
 unfolding exposed
-exposed_plain tools h from = ap (λ n. rounds n tools (terms_of (plains h)) from) (plains_length h) ∙ ap (λ ts. rounds (length h) tools ts from) (terms_plain h)
+exposed_plain tools h from = ap (λ n. rounds n tools (terms_of (plains h)) from) (plains_length h) ∙ ap
+    (λ ts. rounds (length h) tools ts from) (terms_plain h)
 
 pub ever_plain : (h : List Line) (d : ℕ) → ever (plains h) d ≡ ever h d
 unfolding ever
@@ -121,7 +129,8 @@ outside_plain h =
     ap (λ ds. well_known ∷ flat_map (ever (plains h)) ds) (removed_plain h)
     ∙ ap (λ ks. well_known ∷ ks) (flat_alike (ever (plains h)) (ever h) (ever_plain h) (removed_devices h))
 
-pub known_plain : (tools : Tools) (h : List Line) → exposed tools (plains h) (outside (plains h)) ≡ exposed tools h (outside h)
+pub known_plain : (tools : Tools) (h : List Line) → exposed tools (plains h) (outside (plains h))
+    ≡ exposed tools h (outside h)
 known_plain tools h = ap (exposed tools (plains h)) (outside_plain h) ∙ exposed_plain tools h (outside h)
 
 -- ---- the two words
@@ -130,11 +139,14 @@ came_plain : (tools : Tools) (h : List Line) (n key : Bytes) → came_by tools (
 unfolding came_by
 came_plain tools h n key = rw (codes_plain n h) (rw (bases_plain n h) (rw (terms_plain h) refl))
 
-ideal_line_plain : (tools : Tools) (h : List Line) (l : Line) → ideal_line tools (plains h) (plain l) ≡ ideal_line tools h l
+ideal_line_plain : (tools : Tools) (h : List Line) (l : Line) → ideal_line tools (plains h) (plain l)
+    ≡ ideal_line tools h l
 unfolding ideal_line
 ideal_line_plain tools h (line.Accept event node t) = ap (list_any (same_term (model_term t))) (terms_plain h)
-ideal_line_plain tools h (line.Install event node key sequence) = rw (declared_plain h) (rw (came_plain tools h node.bytes key.0) refl)
-ideal_line_plain tools h (line.Row event node partner key a) = rw (declared_plain h) (rw (came_plain tools h node.bytes key.0) refl)
+ideal_line_plain tools h (line.Install event node key sequence) =
+    rw (declared_plain h) (rw (came_plain tools h node.bytes key.0) refl)
+ideal_line_plain tools h (line.Row event node partner key a) =
+    rw (declared_plain h) (rw (came_plain tools h node.bytes key.0) refl)
 ideal_line_plain tools h _ = refl
 
 pub ideal_plain : (tools : Tools) (lines : List Line) → ideal tools (plains lines) ≡ ideal tools lines
@@ -148,7 +160,8 @@ based_plain tools h _ = refl
 passes_plain : (tools : Tools) (h : List Line) → passes_on tools (plains h) ≡ passes_on tools h
 unfolding passes_on
 passes_plain tools h =
-    ap (λ ks. list_any (λ (t : Term). holds_some ks (carried tools t)) (flat_map forged_in (plains h))) (network_plain h)
+    ap (λ ks. list_any (λ (t : Term). holds_some ks (carried tools t)) (flat_map forged_in (plains h)))
+    (network_plain h)
     ∙ ap (list_any (λ (t : Term). holds_some (network_keys h) (carried tools t))) (forged_plain h)
 
 pub private_plain : (tools : Tools) (lines : List Line) → private tools (plains lines) ≡ private tools lines

@@ -54,7 +54,8 @@ plains lines = map plain lines
 
 -- the program's line for a line of the model, with this name of its node
 abbrev again : ArrayString → log.Line → Line
-again node (log.Declared p) = line.Node (name_in p.name) (role_for p.role) (eui_of p.eui) (record { 0 = p.short }) p.out_block p.in_block
+again node (log.Declared p) = line.Node (name_in p.name) (role_for p.role) (eui_of p.eui) (record { 0 = p.short })
+    p.out_block p.in_block
 again node (log.GivenNet n key sequence) = line.GivenNet node (key_of key) sequence
 again node (log.GivenLink n partner key) = line.GivenLink node (eui_of partner) (key_of key)
 again node (log.Counter n l limit) = line.Counter node (layer_of l) limit
@@ -86,12 +87,14 @@ unfoldable spoken : List Word → Line
 spoken ws = again (name_in (name_said ws)) (said [] ws)
 
 again_plain : (l : Line) → again (name_in (name_said (words l))) (logged [] l) ≡ plain l
-again_plain (line.Node name r eui short out_block in_block) = ap (λ x. line.Node (bare name) x eui short out_block in_block) (role_same r)
+again_plain (line.Node name r eui short out_block in_block) =
+    ap (λ x. line.Node (bare name) x eui short out_block in_block) (role_same r)
 again_plain (line.GivenNet node key sequence) = refl
 again_plain (line.GivenLink node partner key) = refl
 again_plain (line.Counter node l limit) = ap (λ x. line.Counter (bare node) x limit) (layer_same l)
 again_plain (line.Reserve event node l limit) = ap (λ x. line.Reserve event (bare node) x limit) (layer_same l)
-again_plain (line.Floor event node l key sender value) = ap (λ x. line.Floor event (bare node) x key sender value) (layer_same l)
+again_plain (line.Floor event node l key sender value) = ap (λ x. line.Floor event (bare node) x key sender value)
+    (layer_same l)
 again_plain (line.Draw event key) = refl
 again_plain (line.DropNet event node key) = refl
 again_plain (line.DropLink event node partner key) = refl
@@ -126,7 +129,8 @@ spoken_plain l = ap (again (name_in (name_said (words l)))) (words_read [] l) �
 
 spoken_plains : (lines : List Line) → map spoken (map words lines) ≡ plains lines
 spoken_plains [] = refl
-spoken_plains (l ∷ ls) = ap (λ x. x ∷ map spoken (map words ls)) (spoken_plain l) ∙ ap (λ xs. plain l ∷ xs) (spoken_plains ls)
+spoken_plains (l ∷ ls) = ap (λ x. x ∷ map spoken (map words ls)) (spoken_plain l) ∙ ap (λ xs. plain l ∷ xs)
+    (spoken_plains ls)
 
 pub same_plains : (lines others : List Line) → map words lines ≡ map words others → plains lines ≡ plains others
 same_plains lines others same = sym (spoken_plains lines) ∙ (ap (map spoken) same ∙ spoken_plains others)
@@ -145,14 +149,19 @@ pub plains_length : (h : List Line) → length (plains h) ≡ length h
 plains_length [] = refl
 plains_length (l ∷ h) = ap suc (plains_length h)
 
-pub any_plain : (test : Line → Bool) → ((l : Line) → test (plain l) ≡ test l) → (h : List Line) → list_any test (plains h) ≡ list_any test h
+pub any_plain : (test : Line → Bool) → ((l : Line) → test (plain l) ≡ test l) → (h : List Line)
+    → list_any test (plains h) ≡ list_any test h
 any_plain test each [] = refl
-any_plain test each (l ∷ h) = ap (λ b. b || list_any test (plains h)) (each l) ∙ ap (λ b. test l || b) (any_plain test each h)
+any_plain test each (l ∷ h) = ap (λ b. b || list_any test (plains h)) (each l) ∙ ap (λ b. test l || b)
+    (any_plain test each h)
 
-pub flat_plain : {A : Type 0} (says : Line → List A) → ((l : Line) → says (plain l) ≡ says l) → (h : List Line) → flat_map says (plains h) ≡ flat_map says h
+pub flat_plain : {A : Type 0} (says : Line → List A) → ((l : Line) → says (plain l) ≡ says l) → (h : List Line)
+    → flat_map says (plains h) ≡ flat_map says h
 flat_plain says each [] = refl
-flat_plain says each (l ∷ h) = ap (λ xs. xs ++ flat_map says (plains h)) (each l) ∙ ap (λ xs. says l ++ xs) (flat_plain says each h)
+flat_plain says each (l ∷ h) = ap (λ xs. xs ++ flat_map says (plains h)) (each l) ∙ ap (λ xs. says l ++ xs)
+    (flat_plain says each h)
 
-pub fold_plain : {A : Type 0} (step : A → Line → A) → ((a : A) (l : Line) → step a (plain l) ≡ step a l) → (a : A) (h : List Line) → fold step a (plains h) ≡ fold step a h
+pub fold_plain : {A : Type 0} (step : A → Line → A) → ((a : A) (l : Line) → step a (plain l) ≡ step a l)
+    → (a : A) (h : List Line) → fold step a (plains h) ≡ fold step a h
 fold_plain step each a [] = refl
 fold_plain step each a (l ∷ h) = ap (λ b. fold step b (plains h)) (each a l) ∙ fold_plain step each (step a l) h

@@ -38,42 +38,58 @@ centre_in : (b c : Bool) → (b && c) ≡ true → b ≡ true
 centre_in b c e = (both b c e).0
 
 -- where it begins, no row is told
-rolled : (sending : Bool) (s : NodeState) → Rules s → keeps_rules (record s { sending = sending; links = if sending then map (told_as false) s.links else s.links }) ≡ (not sending || is_centre s.role)
+rolled : (sending : Bool) (s : NodeState) → Rules s
+    → keeps_rules (record s { sending = sending; links = if sending then map (told_as false) s.links else s.links })
+    ≡ (not sending || is_centre s.role)
 rolled false s r = rolled_kept false s r
 rolled true s r =
     let untold : NodeState = record s { links = map (told_as false) s.links } in
-    rolled_kept true untold (rules_of untold (links_kept s (map (told_as false) s.links) r (untold_kept s.role s.links (link_rules s r))))
+    rolled_kept true untold
+    (rules_of untold (links_kept s (map (told_as false) s.links) r (untold_kept s.role s.links (link_rules s r))))
 
-move_rules : (m : Move) (s : NodeState) → Rules s → may_move m s ≡ true → keeps_rules (applied (Moved m) s) ≡ move_leaves m s
+move_rules : (m : Move) (s : NodeState) → Rules s → may_move m s ≡ true → keeps_rules (applied (Moved m) s)
+    ≡ move_leaves m s
 unfolding applied
 move_rules (Draw key) s r may = rules_back s r
 move_rules (DropNet key) s r may = dropped_net_kept key s r
-move_rules (DropLink partner key) s r may = links_kept s (at_link partner key dropped_link s.links) r (dropped_link_kept partner key s.role s.links (link_rules s r))
+move_rules (DropLink partner key) s r may = links_kept s (at_link partner key dropped_link s.links) r
+    (dropped_link_kept partner key s.role s.links (link_rules s r))
 move_rules (Install key sequence) s r may = rw (not-true _ may) (installed_kept key sequence s r (not-true _ may))
 move_rules (Active key) s r may = activated_kept key s r may
 move_rules (Row partner key attribute) s r may = row_kept partner key attribute s r
 move_rules (Pair first second key) s r may = paired_kept first second key s r may
 move_rules (Became state) s r may = staged_kept state s r
-move_rules (Live device) s r may = links_kept s (with_told device false s.links) r (marked_kept device false s.role s.links (λ e. centre_in (is_centre s.role) (is_live s device) may) (link_rules s r))
+move_rules (Live device) s r may = links_kept s (with_told device false s.links) r
+    (marked_kept device false s.role s.links (λ e. centre_in (is_centre s.role) (is_live s device) may)
+    (link_rules s r))
 move_rules (Removed device) s r may = removed_kept device s r
 move_rules (Roll sending) s r may = rolled sending s r
-move_rules (Told device) s r may = links_kept s (with_told device true s.links) r (marked_kept device true s.role s.links (λ e. centre_in (is_centre s.role) (is_live s device) may) (link_rules s r))
-move_rules (Untold device) s r may = links_kept s (with_told device false s.links) r (marked_kept device false s.role s.links (λ e. centre_in (is_centre s.role) (is_live s device) may) (link_rules s r))
+move_rules (Told device) s r may = links_kept s (with_told device true s.links) r
+    (marked_kept device true s.role s.links (λ e. centre_in (is_centre s.role) (is_live s device) may)
+    (link_rules s r))
+move_rules (Untold device) s r may = links_kept s (with_told device false s.links) r
+    (marked_kept device false s.role s.links (λ e. centre_in (is_centre s.role) (is_live s device) may)
+    (link_rules s r))
 
-pub change_rules : (e : Edit) (s : NodeState) → Rules s → may_change e s ≡ true → keeps_rules (applied e s) ≡ leaves_rules e s
+pub change_rules : (e : Edit) (s : NodeState) → Rules s → may_change e s ≡ true → keeps_rules (applied e s)
+    ≡ leaves_rules e s
 unfolding applied leaves_rules
 change_rules (Reserve Nwk limit) s r may = reserved_kept limit s s.active refl r
 change_rules (Reserve Aps limit) s r may = aps_kept (max s.aps_limit (min limit greatest_counter)) s r
-change_rules (Floor Nwk key sender value) s r may = floored_kept key sender value s r (net_of key s) refl (both (live_net key s) _ may).0
-change_rules (Floor Aps key sender value) s r may = links_kept s (at_link sender key (link_floor value) s.links) r (link_floor_kept sender key value s.role s.links (link_rules s r))
+change_rules (Floor Nwk key sender value) s r may = floored_kept key sender value s r (net_of key s) refl
+    (both (live_net key s) _ may).0
+change_rules (Floor Aps key sender value) s r may = links_kept s (at_link sender key (link_floor value) s.links) r
+    (link_floor_kept sender key value s.role s.links (link_rules s r))
 change_rules (Start key value) s r may = started_kept key value s r
 change_rules (Moved m) s r may = move_rules m s r may
 
-by_may : (e : Edit) (s : NodeState) → Rules s → (b : Bool) → may_change e s ≡ b → (may_change e s && keeps_rules (applied e s)) ≡ (may_change e s && leaves_rules e s)
+by_may : (e : Edit) (s : NodeState) → Rules s → (b : Bool) → may_change e s ≡ b
+    → (may_change e s && keeps_rules (applied e s)) ≡ (may_change e s && leaves_rules e s)
 by_may e s r true is = ap (λ c. may_change e s && c) (change_rules e s r is)
 by_may e s r false is = ap (λ c. c && keeps_rules (applied e s)) is ∙ sym (ap (λ c. c && leaves_rules e s) is)
 
-move_fits : (m : Move) (s : NodeState) → keeps_rules s ≡ true → fits (Moved m) s ≡ (may_change (Moved m) s && leaves_rules (Moved m) s)
+move_fits : (m : Move) (s : NodeState) → keeps_rules s ≡ true → fits (Moved m) s
+    ≡ (may_change (Moved m) s && leaves_rules (Moved m) s)
 unfolding fits leaves_rules
 move_fits (Draw key) s kept = refl
 move_fits (DropNet key) s kept = by_may (Moved (DropNet key)) s (rules_of s kept) _ refl

@@ -13,7 +13,8 @@ use Rattle.law_change_fits.proofs.Tests.{both}
 -- what the rules ask of one row, and of two
 
 abbrev pub floors_rule : NetKey → Bool
-floors_rule r = nat_le (length r.floors) most_senders && (list_all (λ (f : SenderFloor). nat_lt 0 f.stored) r.floors && senders_ascend r.floors)
+floors_rule r = nat_le (length r.floors) most_senders
+    && (list_all (λ (f : SenderFloor). nat_lt 0 f.stored) r.floors && senders_ascend r.floors)
 
 abbrev pub limit_rule : NetKey → Bool
 limit_rule r = r.started || nat_eq r.limit 0
@@ -57,7 +58,8 @@ pub record Rules (s : NodeState) : Type 0 where
   pub pair_names : all_apart pairs_alike s.pairs ≡ true
 
 pub rules_of : (s : NodeState) → keeps_rules s ≡ true → Rules s
-unfolding keeps_rules rows_have_room keys_differ at_most_two_live partners_agree links_are_marked floors_are_kept limits_are_started pairs_are_kept
+unfolding keeps_rules rows_have_room keys_differ at_most_two_live partners_agree links_are_marked floors_are_kept
+    limits_are_started pairs_are_kept
 rules_of s kept =
     let r1 = both (rows_have_room s) _ kept in
     let r2 = both (keys_differ s) _ r1.1 in
@@ -92,13 +94,30 @@ rules_of s kept =
     }
 
 pub rules_back : (s : NodeState) → Rules s → keeps_rules s ≡ true
-unfolding keeps_rules rows_have_room keys_differ at_most_two_live partners_agree links_are_marked floors_are_kept limits_are_started pairs_are_kept
+unfolding keeps_rules rows_have_room keys_differ at_most_two_live partners_agree links_are_marked floors_are_kept
+    limits_are_started pairs_are_kept
 rules_back s r =
     let nets : nat_le (length s.nets) most_nets ≡ true = le-leb _ _ r.nets_room in
     let links : nat_le (length s.links) (most_links s.role) ≡ true = le-leb _ _ r.links_room in
     let pairs : nat_le (length s.pairs) most_pairs ≡ true = le-leb _ _ r.pairs_room in
     let two : nat_le (length (live_nets s)) 2 ≡ true = le-leb _ _ r.two in
-    rw (nets, links, pairs, r.net_keys, r.link_keys, two, r.active, r.kinds, r.told, r.marks, r.floors, r.limits, r.role_kept, r.pairs, r.pair_names) refl
+    rw (
+      nets,
+      links,
+      pairs,
+      r.net_keys,
+      r.link_keys,
+      two,
+      r.active,
+      r.kinds,
+      r.told,
+      r.marks,
+      r.floors,
+      r.limits,
+      r.role_kept,
+      r.pairs,
+      r.pair_names,
+    ) refl
 
 -- keys
 
@@ -109,4 +128,5 @@ pub same_key_of : (a b : Bytes) → a ≡ b → same_key a b ≡ true
 same_key_of a b e = (bytes_eq-Decides a b).1 e
 
 pub same_key_sym : (a b : Bytes) → same_key a b ≡ same_key b a
-same_key_sym a b = same_from_decides (same_key a b) (same_key b a) (bytes_eq-Decides a b) ((λ e. sym (same_key_is b a e)), (λ e. same_key_of b a (sym e)))
+same_key_sym a b = same_from_decides (same_key a b) (same_key b a) (bytes_eq-Decides a b)
+    ((λ e. sym (same_key_is b a e)), (λ e. same_key_of b a (sym e)))

@@ -12,12 +12,15 @@ use Rattle.law_change_fits.proofs.Parts.{Rules, rules_of, floors_rule}
 use Rattle.law_change_fits.proofs.Nets.{Mild, mild_kept}
 use Rattle.law_change_fits.proofs.FitLaws.{fits_is}
 
-found_shown : (key : Bytes) (nets : List NetKey) → find (λ (r : NetKey). same_key r.key key) (map shown_net nets) ≡ option_map shown_net (find (λ (r : NetKey). same_key r.key key) nets)
+found_shown : (key : Bytes) (nets : List NetKey) → find (λ (r : NetKey). same_key r.key key) (map shown_net nets)
+    ≡ option_map shown_net (find (λ (r : NetKey). same_key r.key key) nets)
 found_shown key [] = refl
 found_shown key (r ∷ rs) = at_test (same_key r.key key) (found_shown key rs)
   where
-    at_test : (b : Bool) → find (λ (x : NetKey). same_key x.key key) (map shown_net rs) ≡ option_map shown_net (find (λ (x : NetKey). same_key x.key key) rs)
-        → (if b then Some (shown_net r) else find (λ (x : NetKey). same_key x.key key) (map shown_net rs)) ≡ option_map shown_net (if b then Some r else find (λ (x : NetKey). same_key x.key key) rs)
+    at_test : (b : Bool) → find (λ (x : NetKey). same_key x.key key) (map shown_net rs)
+        ≡ option_map shown_net (find (λ (x : NetKey). same_key x.key key) rs)
+        → (if b then Some (shown_net r) else find (λ (x : NetKey). same_key x.key key) (map shown_net rs))
+        ≡ option_map shown_net (if b then Some r else find (λ (x : NetKey). same_key x.key key) rs)
     at_test true e = refl
     at_test false e = e
 
@@ -33,44 +36,61 @@ some_shown : (o : Option NetKey) → is_some (option_map shown_net o) ≡ is_som
 some_shown None = refl
 some_shown (Some r) = refl
 
-reserve_limit_shown : (declared : ℕ) (o : Option NetKey) → limit_of declared (option_map shown_net o) ≡ limit_of declared o
+reserve_limit_shown : (declared : ℕ) (o : Option NetKey) → limit_of declared (option_map shown_net o)
+    ≡ limit_of declared o
 reserve_limit_shown declared None = refl
 reserve_limit_shown declared (Some r) = refl
 
-active_shown : (s : NodeState) (active : Option Bytes) → net_of_active active (shown s) ≡ option_map shown_net (net_of_active active s)
+active_shown : (s : NodeState) (active : Option Bytes) → net_of_active active (shown s)
+    ≡ option_map shown_net (net_of_active active s)
 unfolding shown
 active_shown s None = refl
 active_shown s (Some key) = found_shown key s.nets
 
 -- the floor under a live key is shown
 floor_shown : (sender value : ℕ) (o : Option NetKey)
-    → ((row_is_live (option_map shown_net o) && nat_le (net_stored sender (option_map shown_net o)) value) && floor_has_room sender value (option_map shown_net o))
+    → ((row_is_live (option_map shown_net o) && nat_le (net_stored sender (option_map shown_net o)) value)
+    && floor_has_room sender value (option_map shown_net o))
     ≡ ((row_is_live o && nat_le (net_stored sender o) value) && floor_has_room sender value o)
 floor_shown sender value None = refl
 floor_shown sender value (Some r) = by_live r.live
   where
-    by_live : (b : Bool) → ((b && nat_le (net_stored sender (Some (shown_net (record r { live = b })))) value) && floor_has_room sender value (Some (shown_net (record r { live = b }))))
-        ≡ ((b && nat_le (net_stored sender (Some (record r { live = b }))) value) && floor_has_room sender value (Some (record r { live = b })))
+    by_live : (b : Bool)
+        → ((b && nat_le (net_stored sender (Some (shown_net (record r { live = b })))) value)
+        && floor_has_room sender value (Some (shown_net (record r { live = b }))))
+        ≡ ((b && nat_le (net_stored sender (Some (record r { live = b }))) value)
+        && floor_has_room sender value (Some (record r { live = b })))
     by_live true = refl
     by_live false = refl
 
-lives_shown : (nets : List NetKey) → length (filter (λ (r : NetKey). r.live) (map shown_net nets)) ≡ length (filter (λ (r : NetKey). r.live) nets)
+lives_shown : (nets : List NetKey) → length (filter (λ (r : NetKey). r.live) (map shown_net nets))
+    ≡ length (filter (λ (r : NetKey). r.live) nets)
 lives_shown [] = refl
 lives_shown (r ∷ rs) = at_test r.live (lives_shown rs)
   where
-    at_test : (b : Bool) → length (filter (λ (x : NetKey). x.live) (map shown_net rs)) ≡ length (filter (λ (x : NetKey). x.live) rs)
-        → length (if b then shown_net r ∷ filter (λ (x : NetKey). x.live) (map shown_net rs) else filter (λ (x : NetKey). x.live) (map shown_net rs)) ≡ length (if b then r ∷ filter (λ (x : NetKey). x.live) rs else filter (λ (x : NetKey). x.live) rs)
+    at_test : (b : Bool) → length (filter (λ (x : NetKey). x.live) (map shown_net rs))
+        ≡ length (filter (λ (x : NetKey). x.live) rs)
+        → length (if b then shown_net r ∷ filter (λ (x : NetKey). x.live) (map shown_net rs)
+        else filter (λ (x : NetKey). x.live) (map shown_net rs))
+        ≡ length (if b then r ∷ filter (λ (x : NetKey). x.live) rs else filter (λ (x : NetKey). x.live) rs)
     at_test true e = rw e refl
     at_test false e = e
 
-move_shown : (m : Move) (s : NodeState) → (may_move m (shown s) && move_leaves m (shown s)) ≡ (may_move m s && move_leaves m s)
+move_shown : (m : Move) (s : NodeState) → (may_move m (shown s) && move_leaves m (shown s))
+    ≡ (may_move m s && move_leaves m s)
 unfolding shown is_live pair_of
 move_shown (Draw key) s = refl
-move_shown (DropNet key) s = ap (λ b. b && move_leaves (DropNet key) s) (ap row_is_live (found_shown key s.nets) ∙ live_shown (net_of key s))
+move_shown (DropNet key) s = ap (λ b. b && move_leaves (DropNet key) s)
+    (ap row_is_live (found_shown key s.nets) ∙ live_shown (net_of key s))
 move_shown (DropLink partner key) s = refl
 move_shown (Install key sequence) s =
-    ap (λ b. not b && (nat_lt (length (map shown_net s.nets)) 256 && nat_lt (length (filter (λ (r : NetKey). r.live) (map shown_net s.nets))) 2)) (any_map (λ (r : NetKey). same_key r.key key) shown_net s.nets)
-    ∙ ap (λ n. not (has_net key s.nets) && (nat_lt n 256 && nat_lt (length (filter (λ (r : NetKey). r.live) (map shown_net s.nets))) 2)) (length-map s.nets shown_net)
+    ap (λ b. not b
+    && (nat_lt (length (map shown_net s.nets)) 256
+    && nat_lt (length (filter (λ (r : NetKey). r.live) (map shown_net s.nets))) 2))
+    (any_map (λ (r : NetKey). same_key r.key key) shown_net s.nets)
+    ∙ ap (λ n. not (has_net key s.nets)
+    && (nat_lt n 256 && nat_lt (length (filter (λ (r : NetKey). r.live) (map shown_net s.nets))) 2))
+    (length-map s.nets shown_net)
     ∙ ap (λ n. not (has_net key s.nets) && (nat_lt (length s.nets) 256 && nat_lt n 2)) (lives_shown s.nets)
 move_shown (Active key) s = ap (λ b. b && true) (ap row_is_live (found_shown key s.nets) ∙ live_shown (net_of key s))
 move_shown (Row partner key attribute) s = refl
@@ -82,19 +102,24 @@ move_shown (Roll sending) s = refl
 move_shown (Told device) s = refl
 move_shown (Untold device) s = refl
 
-change_shown : (e : Edit) (s : NodeState) → (may_change e (shown s) && leaves_rules e (shown s)) ≡ (may_change e s && leaves_rules e s)
+change_shown : (e : Edit) (s : NodeState) → (may_change e (shown s) && leaves_rules e (shown s))
+    ≡ (may_change e s && leaves_rules e s)
 unfolding shown leaves_rules active_row stored_limit
 change_shown (Reserve Nwk limit) s =
     ap (λ o. (is_some o && nat_le (limit_of s.declared o) limit) && true) (active_shown s s.active)
-    ∙ ap (λ b. (b && nat_le (limit_of s.declared (option_map shown_net (active_row s))) limit) && true) (some_shown (active_row s))
+    ∙ ap (λ b. (b && nat_le (limit_of s.declared (option_map shown_net (active_row s))) limit) && true)
+    (some_shown (active_row s))
     ∙ ap (λ n. (is_some (active_row s) && nat_le n limit) && true) (reserve_limit_shown s.declared (active_row s))
 change_shown (Reserve Aps limit) s = refl
 change_shown (Floor Nwk key sender value) s =
-    ap (λ o. (row_is_live o && nat_le (net_stored sender o) value) && floor_has_room sender value o) (found_shown key s.nets) ∙ floor_shown sender value (net_of key s)
+    ap (λ o. (row_is_live o && nat_le (net_stored sender o) value) && floor_has_room sender value o)
+    (found_shown key s.nets) ∙ floor_shown sender value (net_of key s)
 change_shown (Floor Aps key sender value) s = refl
 change_shown (Start key value) s =
-    ap (λ b. (b && nat_le (net_limit (net_of key (shown s))) value) && true) (any_map (λ (r : NetKey). same_key r.key key) shown_net s.nets)
-    ∙ ap (λ n. (has_net key s.nets && nat_le n value) && true) (ap net_limit (found_shown key s.nets) ∙ limit_shown (net_of key s))
+    ap (λ b. (b && nat_le (net_limit (net_of key (shown s))) value) && true)
+    (any_map (λ (r : NetKey). same_key r.key key) shown_net s.nets)
+    ∙ ap (λ n. (has_net key s.nets && nat_le n value) && true)
+    (ap net_limit (found_shown key s.nets) ∙ limit_shown (net_of key s))
 change_shown (Moved m) s = move_shown m s
 
 shown_is_mild : Mild shown_net

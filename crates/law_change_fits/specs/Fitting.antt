@@ -12,11 +12,13 @@ has_floor sender floors = list_any (λ (f : SenderFloor). nat_eq f.sender sender
 -- a sender that has a floor, or room for one that isn't 0
 abbrev pub floor_has_room : ℕ → ℕ → Option NetKey → Bool
 floor_has_room sender value None = true
-floor_has_room sender value (Some r) = has_floor sender r.floors || (nat_lt 0 value && nat_lt (length r.floors) most_senders)
+floor_has_room sender value (Some r) = has_floor sender r.floors
+    || (nat_lt 0 value && nat_lt (length r.floors) most_senders)
 
 -- another row of the partner in use, which is offered where this one is to be, or else isn't
 abbrev pub is_rival : ℕ → Bytes → Attribute → LinkKey → Bool
-is_rival partner key attribute r = (is_live_of partner r && not (is_link partner key r)) && same_bool (is_unverified r.attribute) (is_unverified attribute)
+is_rival partner key attribute r = (is_live_of partner r && not (is_link partner key r))
+    && same_bool (is_unverified r.attribute) (is_unverified attribute)
 
 abbrev pub key_is_used : Bytes → List LinkKey → Bool
 key_is_used key links = list_any (λ (r : LinkKey). same_key r.key key) links

@@ -38,18 +38,23 @@ IsDiskFrom seen left calls faults (wrote at bytes ∷ deeds) =
     (file_told (overwrite seen at bytes) (TornThere at (length bytes) left) (risen calls 1) faults) done
     × IsDiskFrom (overwrite seen at bytes) (TornThere at (length bytes) left) (risen calls 1) faults deeds
 IsDiskFrom seen left calls faults (spoiled at n ∷ deeds) = (now : List ℕ)
-    × (left seen × ((bytes : List ℕ) → length bytes ≡ n → IsWrite content_told at bytes (file_told seen left calls faults)
+    × (left seen
+    × ((bytes : List ℕ) → length bytes ≡ n → IsWrite content_told at bytes (file_told seen left calls faults)
     (file_told now (TornThere at n left) (risen calls 1) (faults + 1)) failed)
     × IsDiskFrom now (TornThere at n left) (risen calls 1) (faults + 1) deeds)
 IsDiskFrom seen left calls faults (synced ∷ deeds) =
-    left seen × IsSync content_told (file_told seen left calls faults) (file_told seen (λ bytes. bytes ≡ seen) (risen calls 1) faults) done
+    left seen × IsSync content_told (file_told seen left calls faults)
+    (file_told seen (λ bytes. bytes ≡ seen) (risen calls 1) faults) done
     × IsDiskFrom seen (λ bytes. bytes ≡ seen) (risen calls 1) faults deeds
 IsDiskFrom seen left calls faults (unsynced ∷ deeds) =
-    left seen × IsSync content_told (file_told seen left calls faults) (file_told seen left (risen calls 1) (faults + 1)) failed
+    left seen × IsSync content_told (file_told seen left calls faults)
+    (file_told seen left (risen calls 1) (faults + 1)) failed
     × IsDiskFrom seen left (risen calls 1) (faults + 1) deeds
-IsDiskFrom seen left calls faults (read at bytes ∷ deeds) = (bytes ≡ window seen at (length bytes)) × IsDiskFrom seen left calls faults deeds
+IsDiskFrom seen left calls faults (read at bytes ∷ deeds) = (bytes ≡ window seen at (length bytes))
+    × IsDiskFrom seen left calls faults deeds
 IsDiskFrom seen left calls faults (sized n ∷ deeds) = (n ≡ length seen) × IsDiskFrom seen left calls faults deeds
-IsDiskFrom seen left calls faults (lost found ∷ deeds) = left found × IsDiskFrom found (λ bytes. bytes ≡ found) calls faults deeds
+IsDiskFrom seen left calls faults (lost found ∷ deeds) = left found × IsDiskFrom found (λ bytes. bytes ≡ found) calls
+    faults deeds
 
 -- a file that had these bytes when it was opened is a disk over these deeds
 abbrev pub IsDisk : List ℕ → List Deed → Type 0

@@ -29,14 +29,17 @@ TornThere at n left bytes = (old : List ℕ) × left old × Torn at n old bytes
 abbrev pub GoesFaithfully : List ℕ → (List ℕ → Type 0) → List Deed → Type 0
 GoesFaithfully seen left [] = Unit {0}
 -- what was written reads so, and is torn at most in its own range
-GoesFaithfully seen left (wrote at bytes ∷ deeds) = GoesFaithfully (overwrite seen at bytes) (TornThere at (length bytes) left) deeds
+GoesFaithfully seen left (wrote at bytes ∷ deeds) = GoesFaithfully (overwrite seen at bytes)
+    (TornThere at (length bytes) left) deeds
 -- a failed write spoils at most its own range
-GoesFaithfully seen left (spoiled at n ∷ deeds) = (now : List ℕ) × Torn at n seen now × GoesFaithfully now (TornThere at n left) deeds
+GoesFaithfully seen left (spoiled at n ∷ deeds) = (now : List ℕ) × Torn at n seen now
+    × GoesFaithfully now (TornThere at n left) deeds
 -- after a sync what reads is on the disk; a failed one changes nothing
 GoesFaithfully seen left (synced ∷ deeds) = GoesFaithfully seen (λ bytes. bytes ≡ seen) deeds
 GoesFaithfully seen left (unsynced ∷ deeds) = GoesFaithfully seen left deeds
 -- it reads back what was written, and has that size
-GoesFaithfully seen left (read at bytes ∷ deeds) = (bytes ≡ window seen at (length bytes)) × GoesFaithfully seen left deeds
+GoesFaithfully seen left (read at bytes ∷ deeds) = (bytes ≡ window seen at (length bytes))
+    × GoesFaithfully seen left deeds
 GoesFaithfully seen left (sized n ∷ deeds) = (n ≡ length seen) × GoesFaithfully seen left deeds
 -- a loss of power leaves what may be on the disk, and nothing else
 GoesFaithfully seen left (lost found ∷ deeds) = left found × GoesFaithfully found (λ bytes. bytes ≡ found) deeds

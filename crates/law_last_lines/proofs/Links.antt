@@ -13,10 +13,12 @@ abbrev found_said : Bool → LinkKey → Option LinkSaid → Option LinkSaid
 found_said b r rest = cond b (Some (link_said r)) rest
 
 -- a row more in front
-said_cons : (partner : ℕ) (key : Bytes) (r : LinkKey) (rs : List LinkKey) → said_at partner key (r ∷ rs) ≡ found_said (is_link partner key r) r (said_at partner key rs)
+said_cons : (partner : ℕ) (key : Bytes) (r : LinkKey) (rs : List LinkKey) → said_at partner key (r ∷ rs)
+    ≡ found_said (is_link partner key r) r (said_at partner key rs)
 said_cons partner key r rs = by_test (is_link partner key r)
   where
-    by_test : (b : Bool) → option_map link_said (cond b (Some r) (find (is_link partner key) rs)) ≡ found_said b r (said_at partner key rs)
+    by_test : (b : Bool) → option_map link_said (cond b (Some r) (find (is_link partner key) rs))
+        ≡ found_said b r (said_at partner key rs)
     by_test true = refl
     by_test false = refl
 
@@ -29,15 +31,20 @@ pub record KeepsSaid (f : LinkKey → LinkKey) : Type 0 where
   pub row : Keeps f
   pub said : (r : LinkKey) → link_said (f r) ≡ link_said r
 
-is_same : (f : LinkKey → LinkKey) → Keeps f → (partner : ℕ) (key : Bytes) (r : LinkKey) → is_link partner key (f r) ≡ is_link partner key r
-is_same f keeps partner key r = ap (λ p. nat_eq p partner && same_key (f r).key key) (keeps.partner r) ∙ ap (λ k. nat_eq r.partner partner && same_key k key) (keeps.key r)
+is_same : (f : LinkKey → LinkKey) → Keeps f → (partner : ℕ) (key : Bytes) (r : LinkKey) → is_link partner key (f r)
+    ≡ is_link partner key r
+is_same f keeps partner key r = ap (λ p. nat_eq p partner && same_key (f r).key key) (keeps.partner r) ∙ ap
+    (λ k. nat_eq r.partner partner && same_key k key) (keeps.key r)
 
-pub said_same : (f : LinkKey → LinkKey) → KeepsSaid f → (partner : ℕ) (key : Bytes) (links : List LinkKey) → said_at partner key (map f links) ≡ said_at partner key links
+pub said_same : (f : LinkKey → LinkKey) → KeepsSaid f → (partner : ℕ) (key : Bytes) (links : List LinkKey)
+    → said_at partner key (map f links) ≡ said_at partner key links
 said_same f keeps partner key [] = refl
 said_same f keeps partner key (r ∷ rs) =
-    said_cons partner key (f r) (map f rs) ∙ ap (λ b. found_said b (f r) (said_at partner key (map f rs))) (is_same f keeps.row partner key r)
+    said_cons partner key (f r) (map f rs) ∙ ap (λ b. found_said b (f r) (said_at partner key (map f rs)))
+    (is_same f keeps.row partner key r)
     ∙ ap (λ (x : LinkSaid). cond (is_link partner key r) (Some x) (said_at partner key (map f rs))) (keeps.said r)
-    ∙ ap (λ o. found_said (is_link partner key r) r o) (said_same f keeps partner key rs) ∙ sym (said_cons partner key r rs)
+    ∙ ap (λ o. found_said (is_link partner key r) r o) (said_same f keeps partner key rs) ∙ sym
+    (said_cons partner key r rs)
 
 -- a change of some rows
 some_keep : (f : LinkKey → LinkKey) → Keeps f → (test : LinkKey → Bool) → Keeps (λ r. cond (test r) (f r) r)
@@ -51,7 +58,8 @@ some_keep f keeps test = record { partner = λ r. by_partner (test r) r; key = �
     by_key true r = keeps.key r
     by_key false r = refl
 
-pub some_said : (f : LinkKey → LinkKey) → KeepsSaid f → (test : LinkKey → Bool) → KeepsSaid (λ r. cond (test r) (f r) r)
+pub some_said : (f : LinkKey → LinkKey) → KeepsSaid f → (test : LinkKey → Bool)
+    → KeepsSaid (λ r. cond (test r) (f r) r)
 some_said f keeps test = record { row = some_keep f keeps.row test; said = λ r. by_test (test r) r }
   where
     by_test : (b : Bool) (r : LinkKey) → link_said (cond b (f r) r) ≡ link_said r
@@ -61,47 +69,68 @@ some_said f keeps test = record { row = some_keep f keeps.row test; said = λ r.
 pub told_said : (told : Bool) → KeepsSaid (told_as told)
 told_said told = record { row = record { partner = λ r. refl; key = λ r. refl }; said = λ r. refl }
 
-pub with_told_said : (p : ℕ) (told : Bool) (partner : ℕ) (key : Bytes) (links : List LinkKey) → said_at partner key (with_told p told links) ≡ said_at partner key links
-with_told_said p told partner key links = said_same (λ r. cond (is_live_of p r) (told_as told r) r) (some_said (told_as told) (told_said told) (is_live_of p)) partner key links
+pub with_told_said : (p : ℕ) (told : Bool) (partner : ℕ) (key : Bytes) (links : List LinkKey)
+    → said_at partner key (with_told p told links) ≡ said_at partner key links
+with_told_said p told partner key links = said_same (λ r. cond (is_live_of p r) (told_as told r) r)
+    (some_said (told_as told) (told_said told) (is_live_of p)) partner key links
 
-pub at_said : (f : LinkKey → LinkKey) → KeepsSaid f → (p : ℕ) (k : Bytes) (partner : ℕ) (key : Bytes) (links : List LinkKey) → said_at partner key (at_link p k f links) ≡ said_at partner key links
-at_said f keeps p k partner key links = said_same (λ r. cond (is_link p k r) (f r) r) (some_said f keeps (is_link p k)) partner key links
+pub at_said : (f : LinkKey → LinkKey) → KeepsSaid f → (p : ℕ) (k : Bytes) (partner : ℕ) (key : Bytes)
+    (links : List LinkKey) → said_at partner key (at_link p k f links) ≡ said_at partner key links
+at_said f keeps p k partner key links = said_same (λ r. cond (is_link p k r) (f r) r)
+    (some_said f keeps (is_link p k)) partner key links
 
 -- ---- a change of the rows of one partner and key
 
 -- a row of this partner and key is of that one where these are the same
-row_is : (partner : ℕ) (key : Bytes) (p : ℕ) (k : Bytes) (r : LinkKey) → is_link partner key r ≡ true → is_link p k r ≡ is_row partner key p k
+row_is : (partner : ℕ) (key : Bytes) (p : ℕ) (k : Bytes) (r : LinkKey) → is_link partner key r ≡ true → is_link p k r
+    ≡ is_row partner key p k
 row_is partner key p k r own =
     let parts = and_parts (nat_eq r.partner partner) (same_key r.key key) own in
-    ap (λ x. nat_eq x p && same_key r.key k) (eqb-true r.partner partner parts.0) ∙ ap (λ x. nat_eq partner p && same_key x k) (same_key-eq r.key key parts.1)
+    ap (λ x. nat_eq x p && same_key r.key k) (eqb-true r.partner partner parts.0) ∙ ap
+    (λ x. nat_eq partner p && same_key x k) (same_key-eq r.key key parts.1)
 
-pub changed_said : (f : LinkKey → LinkKey) (g : LinkSaid → LinkSaid) → Keeps f → ((r : LinkKey) → link_said (f r) ≡ g (link_said r)) → (p : ℕ) (k : Bytes) (partner : ℕ) (key : Bytes) (links : List LinkKey)
-    → said_at partner key (at_link p k f links) ≡ cond (is_row partner key p k) (option_map g (said_at partner key links)) (said_at partner key links)
+pub changed_said : (f : LinkKey → LinkKey) (g : LinkSaid → LinkSaid) → Keeps f
+    → ((r : LinkKey) → link_said (f r) ≡ g (link_said r)) → (p : ℕ) (k : Bytes) (partner : ℕ) (key : Bytes)
+    (links : List LinkKey)
+    → said_at partner key (at_link p k f links)
+    ≡ cond (is_row partner key p k) (option_map g (said_at partner key links)) (said_at partner key links)
 changed_said f g keeps says p k partner key [] = by_test (is_row partner key p k)
   where
-    by_test : (b : Bool) → said_at partner key [] ≡ cond b (option_map g (said_at partner key [])) (said_at partner key [])
+    by_test : (b : Bool) → said_at partner key [] ≡ cond b (option_map g (said_at partner key []))
+        (said_at partner key [])
     by_test true = refl
     by_test false = refl
 changed_said f g keeps says p k partner key (r ∷ rs) =
-    said_cons partner key (cond (is_link p k r) (f r) r) (at_link p k f rs) ∙ ap (λ b. found_said b (cond (is_link p k r) (f r) r) (said_at partner key (at_link p k f rs))) (is_same (λ x. cond (is_link p k x) (f x) x) (some_keep f keeps (is_link p k)) partner key r)
-    ∙ by_own (is_link partner key r) refl (changed_said f g keeps says p k partner key rs) ∙ ap (λ o. cond (is_row partner key p k) (option_map g o) o) (sym (said_cons partner key r rs))
+    said_cons partner key (cond (is_link p k r) (f r) r) (at_link p k f rs) ∙ ap
+    (λ b. found_said b (cond (is_link p k r) (f r) r) (said_at partner key (at_link p k f rs)))
+    (is_same (λ x. cond (is_link p k x) (f x) x) (some_keep f keeps (is_link p k)) partner key r)
+    ∙ by_own (is_link partner key r) refl (changed_said f g keeps says p k partner key rs) ∙ ap
+    (λ o. cond (is_row partner key p k) (option_map g o) o) (sym (said_cons partner key r rs))
   where
-    here : (b : Bool) → Some (link_said (cond b (f r) r)) ≡ cond b (option_map g (Some (link_said r))) (Some (link_said r))
+    here : (b : Bool) → Some (link_said (cond b (f r) r))
+        ≡ cond b (option_map g (Some (link_said r))) (Some (link_said r))
     here true = ap (λ (x : LinkSaid). Some x) (says r)
     here false = refl
 
-    by_own : (b : Bool) → is_link partner key r ≡ b → said_at partner key (at_link p k f rs) ≡ cond (is_row partner key p k) (option_map g (said_at partner key rs)) (said_at partner key rs)
+    by_own : (b : Bool) → is_link partner key r ≡ b → said_at partner key (at_link p k f rs)
+        ≡ cond (is_row partner key p k) (option_map g (said_at partner key rs)) (said_at partner key rs)
         → found_said b (cond (is_link p k r) (f r) r) (said_at partner key (at_link p k f rs))
-        ≡ cond (is_row partner key p k) (option_map g (found_said b r (said_at partner key rs))) (found_said b r (said_at partner key rs))
-    by_own true own again = here (is_link p k r) ∙ ap (λ b. cond b (option_map g (Some (link_said r))) (Some (link_said r))) (row_is partner key p k r own)
+        ≡ cond (is_row partner key p k) (option_map g (found_said b r (said_at partner key rs)))
+        (found_said b r (said_at partner key rs))
+    by_own true own again =
+        here (is_link p k r) ∙ ap (λ b. cond b (option_map g (Some (link_said r))) (Some (link_said r)))
+        (row_is partner key p k r own)
     by_own false own again = again
 
 dropped_keeps : Keeps dropped_link
 dropped_keeps = record { partner = λ r. refl; key = λ r. refl }
 
 pub said_dropped : (p : ℕ) (k : Bytes) (partner : ℕ) (key : Bytes) (links : List LinkKey)
-    → said_at partner key (at_link p k dropped_link links) ≡ cond (is_row partner key p k) (option_map dropped_said (said_at partner key links)) (said_at partner key links)
-said_dropped p k partner key links = changed_said dropped_link dropped_said dropped_keeps (λ r. refl) p k partner key links
+    → said_at partner key (at_link p k dropped_link links)
+    ≡ cond (is_row partner key p k) (option_map dropped_said (said_at partner key links))
+    (said_at partner key links)
+said_dropped p k partner key links = changed_said dropped_link dropped_said dropped_keeps (λ r. refl) p k partner key
+    links
 
 -- ---- a row that is given
 
@@ -109,11 +138,15 @@ revived_keeps : (attribute : Attribute) (told : Bool) → Keeps (revived attribu
 revived_keeps attribute told = record { partner = λ r. refl; key = λ r. refl }
 
 -- where there is a row, something is said of it
-is_said : (partner : ℕ) (key : Bytes) (x : LinkSaid) (links : List LinkKey) → has_link partner key links ≡ true → option_map (λ (y : LinkSaid). x) (said_at partner key links) ≡ Some x
+is_said : (partner : ℕ) (key : Bytes) (x : LinkSaid) (links : List LinkKey) → has_link partner key links ≡ true
+    → option_map (λ (y : LinkSaid). x) (said_at partner key links) ≡ Some x
 is_said partner key x [] has = absurd (false≢true has)
-is_said partner key x (r ∷ rs) has = ap (option_map (λ (y : LinkSaid). x)) (said_cons partner key r rs) ∙ by_test (is_link partner key r) has (is_said partner key x rs)
+is_said partner key x (r ∷ rs) has = ap (option_map (λ (y : LinkSaid). x)) (said_cons partner key r rs) ∙ by_test
+    (is_link partner key r) has (is_said partner key x rs)
   where
-    by_test : (b : Bool) → (b || has_link partner key rs) ≡ true → (has_link partner key rs ≡ true → option_map (λ (y : LinkSaid). x) (said_at partner key rs) ≡ Some x) → option_map (λ (y : LinkSaid). x) (found_said b r (said_at partner key rs)) ≡ Some x
+    by_test : (b : Bool) → (b || has_link partner key rs) ≡ true
+        → (has_link partner key rs ≡ true → option_map (λ (y : LinkSaid). x) (said_at partner key rs) ≡ Some x)
+        → option_map (λ (y : LinkSaid). x) (found_said b r (said_at partner key rs)) ≡ Some x
     by_test true more again = refl
     by_test false more again = again more
 
@@ -123,8 +156,10 @@ parts false b e = (refl, e)
 
 -- a row at the end of rows of which none is of its partner and key
 said_behind : (x : LinkKey) (partner : ℕ) (key : Bytes) (links : List LinkKey) → has_link x.partner x.key links ≡ false
-    → said_at partner key (links ++ x ∷ []) ≡ cond (is_row partner key x.partner x.key) (Some (link_said x)) (said_at partner key links)
-said_behind x partner key [] none = said_cons partner key x [] ∙ ap (λ b. cond b (Some (link_said x)) None) (turned (is_link partner key x) refl)
+    → said_at partner key (links ++ x ∷ []) ≡ cond (is_row partner key x.partner x.key) (Some (link_said x))
+    (said_at partner key links)
+said_behind x partner key [] none = said_cons partner key x [] ∙ ap (λ b. cond b (Some (link_said x)) None)
+    (turned (is_link partner key x) refl)
   where
     turned : (b : Bool) → is_link partner key x ≡ b → is_link partner key x ≡ is_row partner key x.partner x.key
     turned true own = own ∙ sym (sym (row_is partner key x.partner x.key x own) ∙ own_row)
@@ -138,33 +173,47 @@ said_behind x partner key [] none = said_cons partner key x [] ∙ ap (λ b. con
         not_row true is =
             let both = and_parts (nat_eq partner x.partner) (same_key key x.key) is in
             let there : is_link partner key x ≡ true =
-            ap (λ p. nat_eq p partner && same_key x.key key) (sym (eqb-true partner x.partner both.0)) ∙ ap (λ k. nat_eq partner partner && same_key k key) (sym (same_key-eq key x.key both.1))
+            ap (λ p. nat_eq p partner && same_key x.key key) (sym (eqb-true partner x.partner both.0)) ∙ ap
+            (λ k. nat_eq partner partner && same_key k key) (sym (same_key-eq key x.key both.1))
             ∙ ap (λ b. b && same_key key key) (nat_eq-refl partner) ∙ same_key-refl key in
             absurd (false≢true (sym own ∙ there))
 said_behind x partner key (r ∷ rs) none =
-    said_cons partner key r (rs ++ x ∷ []) ∙ by_own (is_link partner key r) refl (said_behind x partner key rs) ∙ ap (λ o. cond (is_row partner key x.partner x.key) (Some (link_said x)) o) (sym (said_cons partner key r rs))
+    said_cons partner key r (rs ++ x ∷ []) ∙ by_own (is_link partner key r) refl (said_behind x partner key rs) ∙ ap
+    (λ o. cond (is_row partner key x.partner x.key) (Some (link_said x)) o) (sym (said_cons partner key r rs))
   where
     by_own : (b : Bool) → is_link partner key r ≡ b
-        → (has_link x.partner x.key rs ≡ false → said_at partner key (rs ++ x ∷ []) ≡ cond (is_row partner key x.partner x.key) (Some (link_said x)) (said_at partner key rs))
-        → found_said b r (said_at partner key (rs ++ x ∷ [])) ≡ cond (is_row partner key x.partner x.key) (Some (link_said x)) (found_said b r (said_at partner key rs))
+        → (has_link x.partner x.key rs ≡ false → said_at partner key (rs ++ x ∷ [])
+        ≡ cond (is_row partner key x.partner x.key) (Some (link_said x)) (said_at partner key rs))
+        → found_said b r (said_at partner key (rs ++ x ∷ []))
+        ≡ cond (is_row partner key x.partner x.key) (Some (link_said x)) (found_said b r (said_at partner key rs))
     by_own true own again =
-        let other = sym (row_is partner key x.partner x.key r own) ∙ (parts (is_link x.partner x.key r) (has_link x.partner x.key rs) none).0 in
+        let other = sym (row_is partner key x.partner x.key r own) ∙
+        (parts (is_link x.partner x.key r) (has_link x.partner x.key rs) none).0 in
         ap (λ b. cond b (Some (link_said x)) (Some (link_said r))) (sym other)
     by_own false own again = again (parts (is_link x.partner x.key r) (has_link x.partner x.key rs) none).1
 
-pub said_given : (p : ℕ) (k : Bytes) (attribute : Attribute) (told : Bool) (partner : ℕ) (key : Bytes) (links : List LinkKey)
-    → said_at partner key (with_link p k attribute told links) ≡ cond (is_row partner key p k) (given_as attribute) (said_at partner key links)
+pub said_given : (p : ℕ) (k : Bytes) (attribute : Attribute) (told : Bool) (partner : ℕ) (key : Bytes)
+    (links : List LinkKey)
+    → said_at partner key (with_link p k attribute told links) ≡ cond (is_row partner key p k) (given_as attribute)
+    (said_at partner key links)
 said_given p k attribute told partner key links = by_has (has_link p k links) refl
   where
     by_row : (b : Bool) → is_row partner key p k ≡ b → has_link p k links ≡ true
-        → cond b (option_map (λ (y : LinkSaid). record { attribute = attribute; live = true }) (said_at partner key links)) (said_at partner key links) ≡ cond b (given_as attribute) (said_at partner key links)
+        → cond b
+        (option_map (λ (y : LinkSaid). record { attribute = attribute; live = true }) (said_at partner key links))
+        (said_at partner key links) ≡ cond b (given_as attribute) (said_at partner key links)
     by_row true is has =
         let both = and_parts (nat_eq partner p) (same_key key k) is in
         is_said partner key (record { attribute = attribute; live = true }) links
-        (ap (λ x. has_link x key links) (eqb-true partner p both.0) ∙ ap (λ x. has_link p x links) (same_key-eq key k both.1) ∙ has)
+        (ap (λ x. has_link x key links) (eqb-true partner p both.0) ∙ ap (λ x. has_link p x links)
+        (same_key-eq key k both.1) ∙ has)
     by_row false is has = refl
 
-    by_has : (b : Bool) → has_link p k links ≡ b → said_at partner key (cond b (at_link p k (revived attribute told) links) (links ++ new_link p k attribute told ∷ [])) ≡ cond (is_row partner key p k) (given_as attribute) (said_at partner key links)
+    by_has : (b : Bool) → has_link p k links ≡ b
+        → said_at partner key
+        (cond b (at_link p k (revived attribute told) links) (links ++ new_link p k attribute told ∷ []))
+        ≡ cond (is_row partner key p k) (given_as attribute) (said_at partner key links)
     by_has true has =
-        changed_said (revived attribute told) (λ (y : LinkSaid). record { attribute = attribute; live = true }) (revived_keeps attribute told) (λ r. refl) p k partner key links ∙ by_row (is_row partner key p k) refl has
+        changed_said (revived attribute told) (λ (y : LinkSaid). record { attribute = attribute; live = true })
+        (revived_keeps attribute told) (λ r. refl) p k partner key links ∙ by_row (is_row partner key p k) refl has
     by_has false has = said_behind (new_link p k attribute told) partner key links has

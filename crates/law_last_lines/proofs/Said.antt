@@ -9,7 +9,8 @@ use Rattle.law_last_lines.proofs.Nets.{keys, keys_active, keys_at, keys_more, ke
 use Rattle.law_last_lines.proofs.Links.{KeepsSaid, at_said, said_at, said_dropped, said_given, said_same, told_said, with_told_said}
 
 -- what each line says of a reading, all lines say
-module _ {A : Type 0} (R : NodeState → A) (says : Line → A → A) (line : (l : Line) (s : NodeState) → R (after l s) ≡ says l (R s)) where
+module _ {A : Type 0} (R : NodeState → A) (says : Line → A → A)
+    (line : (l : Line) (s : NodeState) → R (after l s) ≡ says l (R s)) where
   by_speaker : (l : Line) (s : NodeState) (b : Bool) → R (cond b (after l s) s) ≡ cond b (says l (R s)) (R s)
   by_speaker l s true = line l s
   by_speaker l s false = refl
@@ -17,11 +18,13 @@ module _ {A : Type 0} (R : NodeState → A) (says : Line → A → A) (line : (l
   pub along : (h : List Line) (n : ℕ) (s : NodeState) → R (fold (heard_line n) s h) ≡ said_own says (R s) h n
   unfolding heard_line
   along [] n s = refl
-  along (l ∷ h) n s = along h n (heard_line n s l) ∙ ap (λ x. said_own says x h n) (by_speaker l s (nat_eq (speaker l) n))
+  along (l ∷ h) n s = along h n (heard_line n s l) ∙ ap (λ x. said_own says x h n)
+      (by_speaker l s (nat_eq (speaker l) n))
 
 -- ---- a rollover
 
-roll_heard : (layer : Layer) (key : Bytes) (sender counter : ℕ) (s : NodeState) → (after_hearing layer key sender counter s).sending ≡ s.sending
+roll_heard : (layer : Layer) (key : Bytes) (sender counter : ℕ) (s : NodeState)
+    → (after_hearing layer key sender counter s).sending ≡ s.sending
 unfolding after_hearing
 roll_heard Nwk key sender counter s = refl
 roll_heard Aps key sender counter s = refl
@@ -63,7 +66,8 @@ declared_live v r = by_started r.started
     by_started true = refl
     by_started false = refl
 
-keys_heard : (layer : Layer) (key : Bytes) (sender counter : ℕ) (s : NodeState) → keys (after_hearing layer key sender counter s).nets ≡ keys s.nets
+keys_heard : (layer : Layer) (key : Bytes) (sender counter : ℕ) (s : NodeState)
+    → keys (after_hearing layer key sender counter s).nets ≡ keys s.nets
 unfolding after_hearing
 keys_heard Nwk key sender counter s = keys_at (net_kept sender (counter + 1)) (λ r. refl) key s.nets
 keys_heard Aps key sender counter s = refl
@@ -93,12 +97,14 @@ pub keys_said : (h : List Line) (n : ℕ) → keys_of (state_of h n) ≡ said_ow
 unfolding state_of
 keys_said h n = along keys_of names_key keys_line h n (new_node Device)
 
-nets_heard : (q : Bytes) (layer : Layer) (key : Bytes) (sender counter : ℕ) (s : NodeState) → live_at q (after_hearing layer key sender counter s).nets ≡ live_at q s.nets
+nets_heard : (q : Bytes) (layer : Layer) (key : Bytes) (sender counter : ℕ) (s : NodeState)
+    → live_at q (after_hearing layer key sender counter s).nets ≡ live_at q s.nets
 unfolding after_hearing
 nets_heard q Nwk key sender counter s = live_of_at (net_kept sender (counter + 1)) (λ r. refl) (λ r. refl) key q s.nets
 nets_heard q Aps key sender counter s = refl
 
-nets_sealed : (q : Bytes) (layer : Layer) (t : Term) (s : NodeState) → live_at q (sealed_at layer t s).nets ≡ live_at q s.nets
+nets_sealed : (q : Bytes) (layer : Layer) (t : Term) (s : NodeState) → live_at q (sealed_at layer t s).nets
+    ≡ live_at q s.nets
 nets_sealed q Nwk t s = live_of_at (next_at (t.counter + 1)) (λ r. refl) (λ r. refl) t.base q s.nets
 nets_sealed q Aps t s = refl
 
@@ -119,29 +125,37 @@ nets_line q (Changed e n (Moved (Install k sequence))) s = live_more (new_net k 
 nets_line q (Boot e n) s = live_same booted_net (λ r. refl) (λ r. refl) q s.nets
 nets_line q _ s = refl
 
-pub nets_said : (h : List Line) (n : ℕ) (key : Bytes) → net_of_state key (state_of h n) ≡ said_own (net_says key) None h n
+pub nets_said : (h : List Line) (n : ℕ) (key : Bytes) → net_of_state key (state_of h n)
+    ≡ said_own (net_says key) None h n
 unfolding state_of
 nets_said h n key = along (net_of_state key) (net_says key) (nets_line key) h n (new_node Device)
 
 -- ---- link rows
 
-plain : (f : LinkKey → LinkKey) → ((r : LinkKey) → (f r).partner ≡ r.partner) → ((r : LinkKey) → (f r).key ≡ r.key) → ((r : LinkKey) → link_said (f r) ≡ link_said r) → KeepsSaid f
+plain : (f : LinkKey → LinkKey) → ((r : LinkKey) → (f r).partner ≡ r.partner) → ((r : LinkKey) → (f r).key ≡ r.key)
+    → ((r : LinkKey) → link_said (f r) ≡ link_said r) → KeepsSaid f
 plain f partner key said = record { row = record { partner = partner; key = key }; said = said }
 
-links_heard : (p : ℕ) (q : Bytes) (layer : Layer) (key : Bytes) (sender counter : ℕ) (s : NodeState) → said_at p q (after_hearing layer key sender counter s).links ≡ said_at p q s.links
+links_heard : (p : ℕ) (q : Bytes) (layer : Layer) (key : Bytes) (sender counter : ℕ) (s : NodeState)
+    → said_at p q (after_hearing layer key sender counter s).links ≡ said_at p q s.links
 unfolding after_hearing
 links_heard p q Nwk key sender counter s = refl
-links_heard p q Aps key sender counter s = at_said (link_kept (counter + 1)) (plain (link_kept (counter + 1)) (λ r. refl) (λ r. refl) (λ r. refl)) sender key p q s.links
+links_heard p q Aps key sender counter s =
+    at_said (link_kept (counter + 1)) (plain (link_kept (counter + 1)) (λ r. refl) (λ r. refl) (λ r. refl)) sender key
+    p q s.links
 
-links_sealed : (p : ℕ) (q : Bytes) (layer : Layer) (t : Term) (s : NodeState) → said_at p q (sealed_at layer t s).links ≡ said_at p q s.links
+links_sealed : (p : ℕ) (q : Bytes) (layer : Layer) (t : Term) (s : NodeState)
+    → said_at p q (sealed_at layer t s).links ≡ said_at p q s.links
 links_sealed p q Nwk t s = refl
 links_sealed p q Aps t s = refl
 
-rolled : (p : ℕ) (q : Bytes) (b : Bool) (links : List LinkKey) → said_at p q (cond b (map (told_as false) links) links) ≡ said_at p q links
+rolled : (p : ℕ) (q : Bytes) (b : Bool) (links : List LinkKey)
+    → said_at p q (cond b (map (told_as false) links) links) ≡ said_at p q links
 rolled p q true links = said_same (told_as false) (told_said false) p q links
 rolled p q false links = refl
 
-links_line : (p : ℕ) (q : Bytes) (l : Line) (s : NodeState) → link_of_state p q (after l s) ≡ link_says p q l (link_of_state p q s)
+links_line : (p : ℕ) (q : Bytes) (l : Line) (s : NodeState) → link_of_state p q (after l s)
+    ≡ link_says p q l (link_of_state p q s)
 unfolding after applied with_given_net with_given_link with_declared after_accepting after_sealing after_boot
 links_line p q (Accept e n t) s = links_heard p q t.layer t.base t.source t.counter s
 links_line p q (Seal e n t) s = links_sealed p q t.layer t s
@@ -151,9 +165,11 @@ links_line p q (Counter n Aps v) s = refl
 links_line p q (Changed e n (Reserve Nwk v)) s = refl
 links_line p q (Changed e n (Reserve Aps v)) s = refl
 links_line p q (Changed e n (Floor Nwk k from v)) s = refl
-links_line p q (Changed e n (Floor Aps k from v)) s = at_said (link_floor v) (plain (link_floor v) (λ r. refl) (λ r. refl) (λ r. refl)) from k p q s.links
+links_line p q (Changed e n (Floor Aps k from v)) s =
+    at_said (link_floor v) (plain (link_floor v) (λ r. refl) (λ r. refl) (λ r. refl)) from k p q s.links
 links_line p q (Changed e n (Moved (DropLink partner key))) s = said_dropped partner key p q s.links
-links_line p q (Changed e n (Moved (Row partner key attribute))) s = said_given partner key attribute (is_told s partner) p q s.links
+links_line p q (Changed e n (Moved (Row partner key attribute))) s =
+    said_given partner key attribute (is_told s partner) p q s.links
 links_line p q (Changed e n (Moved (Live device))) s = with_told_said device false p q s.links
 links_line p q (Changed e n (Moved (Told device))) s = with_told_said device true p q s.links
 links_line p q (Changed e n (Moved (Untold device))) s = with_told_said device false p q s.links
@@ -161,6 +177,8 @@ links_line p q (Changed e n (Moved (Roll sending))) s = rolled p q sending s.lin
 links_line p q (Boot e n) s = said_same booted_link (plain booted_link (λ r. refl) (λ r. refl) (λ r. refl)) p q s.links
 links_line p q _ s = refl
 
-pub links_said : (h : List Line) (n : ℕ) (partner : ℕ) (key : Bytes) → link_of_state partner key (state_of h n) ≡ said_own (link_says partner key) None h n
+pub links_said : (h : List Line) (n : ℕ) (partner : ℕ) (key : Bytes) → link_of_state partner key (state_of h n)
+    ≡ said_own (link_says partner key) None h n
 unfolding state_of
-links_said h n partner key = along (link_of_state partner key) (link_says partner key) (links_line partner key) h n (new_node Device)
+links_said h n partner key = along (link_of_state partner key) (link_says partner key) (links_line partner key) h n
+    (new_node Device)

@@ -1,4 +1,5 @@
--- What lines say of a node's rows and of a rollover, with no tables and no counters: of each thing the last line of the
+-- What lines say of a node's rows and of a rollover, with no tables and no counters: of each thing the last line of
+-- the
 -- node that speaks of it decides.
 use Rattle.std.specs.Prelude.{ℕ, Bool, true, false, if◌then◌else◌, ◌&&◌, List, [], ◌∷◌, ◌++◌, fold, find, map, Option, Some, None, nat_eq, option_map}
 use Rattle.std.specs.List.{list_any}
@@ -34,7 +35,8 @@ first_given (Some live) = Some live
 abbrev pub net_says : Bytes → Line → Option Bool → Option Bool
 net_says key (GivenNet n k sequence) found = if same_key key k then first_given found else found
 net_says key (Changed e n (Moved (Install k sequence))) found = if same_key key k then first_given found else found
-net_says key (Changed e n (Moved (DropNet k))) found = if same_key key k then option_map (λ (live : Bool). false) found else found
+net_says key (Changed e n (Moved (DropNet k))) found = if same_key key k
+    then option_map (λ (live : Bool). false) found else found
 net_says key _ found = found
 
 -- A link row, where there is one. Its attribute is that of the last line that gives the row, and a code's is
@@ -54,8 +56,10 @@ is_row partner key p k = nat_eq partner p && same_key key k
 
 abbrev pub link_says : ℕ → Bytes → Line → Option LinkSaid → Option LinkSaid
 link_says partner key (GivenLink n p k) found = if is_row partner key p k then given_as Provisional else found
-link_says partner key (Changed e n (Moved (Row p k attribute))) found = if is_row partner key p k then given_as attribute else found
-link_says partner key (Changed e n (Moved (DropLink p k))) found = if is_row partner key p k then option_map dropped_said found else found
+link_says partner key (Changed e n (Moved (Row p k attribute))) found = if is_row partner key p k
+    then given_as attribute else found
+link_says partner key (Changed e n (Moved (DropLink p k))) found = if is_row partner key p k
+    then option_map dropped_said found else found
 link_says partner key _ found = found
 
 -- the same of a state

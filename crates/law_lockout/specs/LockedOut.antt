@@ -6,7 +6,8 @@ use Rattle.zb_model.specs.Lines.{Accept, Changed, Line}
 use Rattle.zb_model.specs.Secrets.{forged_in}
 use Rattle.zb_model.specs.Tools.{Tools}
 
--- `h` are the lines up to the removal of the device, `after` all lines after it, `since` those of them before this one.
+-- `h` are the lines up to the removal of the device, `after` all lines after it, `since` those of them before this
+-- one.
 -- A node none of whose live network keys is known outside accepts at NWK no term that the device seals after its
 -- removal, and none that was forged.
 abbrev pub TakesNoneOf : Tools → ℕ → List Line → List Line → List Line → Line → Type 0
@@ -21,7 +22,8 @@ IsKeptOff tools h after d = Each (TakesNoneOf tools d h after) [] (until_live d 
 
 abbrev pub LockedOutLine : Tools → List Line → Line → List Line → Type 0
 LockedOutLine tools h (Changed e n (Moved (Removed d))) after =
-    KeepsOut tools (h ++ Changed e n (Moved (Removed d)) ∷ []) after d × IsKeptOff tools (h ++ Changed e n (Moved (Removed d)) ∷ []) after d
+    KeepsOut tools (h ++ Changed e n (Moved (Removed d)) ∷ []) after d
+    × IsKeptOff tools (h ++ Changed e n (Moved (Removed d)) ∷ []) after d
 LockedOutLine tools h _ after = ⊤
 
 abbrev pub LockedOutFrom : Tools → List Line → List Line → Type 0

@@ -5,11 +5,13 @@ use Rattle.zb_model.specs.Data.{Bytes}
 use Rattle.zb_trace_read.specs.Faults.{IsFirstBad}
 use Rattle.zb_command.specs.Auditing.{IsBrokenText, IsSoundText}
 
--- A text is that of a sound transcript with one verdict, or it is broken at one line by one claim, or one line of it is
+-- A text is that of a sound transcript with one verdict, or it is broken at one line by one claim, or one line of it
+-- is
 -- the first that is no line of a transcript; and no two of these.
 pub record HasOneAnswer (text : Bytes) : Type 0 where
   pub verdict : (v w : Verdict) → IsSoundText text v → IsSoundText text w → v ≡ w
-  pub fault : (line clause other claim : ℕ) → IsBrokenText text line clause → IsBrokenText text other claim → (line ≡ other) × (clause ≡ claim)
+  pub fault : (line clause other claim : ℕ) → IsBrokenText text line clause → IsBrokenText text other claim
+      → (line ≡ other) × (clause ≡ claim)
   pub bad : (line other : ℕ) → IsFirstBad text line → IsFirstBad text other → line ≡ other
   pub sound_or_broken : (v : Verdict) (line clause : ℕ) → IsSoundText text v → IsBrokenText text line clause → ⊥
   pub sound_or_bad : (v : Verdict) (line : ℕ) → IsSoundText text v → IsFirstBad text line → ⊥

@@ -17,13 +17,15 @@ use Rattle.law_tables_suffice.proofs.Ready.{declared_along, ruled_along, start_r
 use Rattle.zb_sched.specs.Schedules.{Schedule}
 use Rattle.zb_sched.specs.Valid.{IsSchedule}
 
-pub sound : ((w : model.Schedule) → euis_differ w ≡ true → AllByRecursion (StartsAlone w) w.nodes) → (p : Schedule) → IsSchedule p → NodesAreSound (schedule_of p)
+pub sound : ((w : model.Schedule) → euis_differ w ≡ true → AllByRecursion (StartsAlone w) w.nodes) → (p : Schedule)
+    → IsSchedule p → NodesAreSound (schedule_of p)
 sound alone p is = record {
   starts = alone (schedule_of p) (different p is);
   rules_first = start_rules (schedule_of p) (is_schedule p is) (different p is);
   declared = declared_along real (schedule_of p) (is_schedule p is) (different p is);
   rules = ruled_along real opens_as_judged (schedule_of p) (is_schedule p is) (different p is);
   newest = newest-along real opens_as_judged (schedule_of p) (is_schedule p is) (different p is);
-  no_filler = none-along real (schedule_of p) (all_hold p is).granted (all_hold p is).room (newest-along real opens_as_judged (schedule_of p) (is_schedule p is) (different p is));
+  no_filler = none-along real (schedule_of p) (all_hold p is).granted (all_hold p is).room
+      (newest-along real opens_as_judged (schedule_of p) (is_schedule p is) (different p is));
   sealable = sealable real (schedule_of p);
 }

@@ -25,5 +25,6 @@ shown_or given (Some source) = refl
 pub opens_real : Opens real
 opens_real = record {
   nwk = nwk-opens;
-  aps = λ bytes key given f aux t a b c. let o = aps-opens bytes key given f aux t a b c in (o.0, o.1, o.2 ∙ shown_or given aux.source, o.3);
+  aps = λ bytes key given f aux t a b c. let o = aps-opens bytes key given f aux t a b c in
+      (o.0, o.1, o.2 ∙ shown_or given aux.source, o.3);
 }

@@ -39,7 +39,8 @@ why_share s device partner _ = ⊤
 
 -- only while it rejoins, or where another row than the offered one opened the command
 abbrev pub why_confirm : Setting → NodeState → Heard → Reason → Type 0
-why_confirm c s m WrongState = (in_rejoining s.state ≡ true) ⊎ (row_is m.row (offered s (centre_of c.stations)) ≡ false)
+why_confirm c s m WrongState = (in_rejoining s.state ≡ true)
+    ⊎ (row_is m.row (offered s (centre_of c.stations)) ≡ false)
 why_confirm c s m _ = ⊤
 
 -- only where the request isn't one that the centre takes
@@ -48,12 +49,14 @@ why_request c s m Policy = (is_centre c.me.role && under_current s m) ≡ false
 why_request c s m _ = ⊤
 
 abbrev pub why_app_request : Setting → NodeState → Heard → ℕ → Reason → Type 0
-why_app_request c s m partner Policy = (is_centre c.me.role && (under_current s m && not (nat_eq partner m.sender || nat_eq partner c.me.eui))) ≡ false
+why_app_request c s m partner Policy =
+    (is_centre c.me.role && (under_current s m && not (nat_eq partner m.sender || nat_eq partner c.me.eui))) ≡ false
 why_app_request c s m partner _ = ⊤
 
 -- only where the hash proves neither key
 abbrev pub why_verify : Tools → NodeState → ℕ → Bytes → Reason → Type 0
-why_verify tools s device hash WrongHash = (proves tools hash (offered s device) ≡ false) × (proves tools hash (verified_current s device) ≡ false)
+why_verify tools s device hash WrongHash = (proves tools hash (offered s device) ≡ false)
+    × (proves tools hash (verified_current s device) ≡ false)
 why_verify tools s device hash _ = ⊤
 
 -- rows-full isn't the answer to a frame at its NWK layer
@@ -63,8 +66,12 @@ IsNotFull _ _ = ⊤
 
 -- of a node, after the lines
 pub record NoFillerDecides (tools : Tools) (w : Schedule) (h : List Line) (n : ℕ) : Type 0 where
-  pub timer : is_centre (setting_of w n).me.role ≡ false → RefusedFor (why_timer (state_of h n)) (member_timer tools (setting_of w n) (state_of h n))
-  pub rollover : is_centre (setting_of w n).me.role ≡ true → RefusedFor (why_rollover (state_of h n)) (centre_timer (setting_of w n) (state_of h n))
+  pub timer : is_centre (setting_of w n).me.role ≡ false
+      → RefusedFor (why_timer (state_of h n)) (member_timer tools (setting_of w n) (state_of h n))
+  pub rollover : is_centre (setting_of w n).me.role ≡ true
+      → RefusedFor (why_rollover (state_of h n)) (centre_timer (setting_of w n) (state_of h n))
   pub switch : RefusedFor (why_switch (state_of h n)) (switch_over (state_of h n))
-  pub shared : is_centre (setting_of w n).me.role ≡ true → (device partner : ℕ) → RefusedFor (why_share (state_of h n) device partner) (share (setting_of w n) (state_of h n) device partner)
-  pub room : (bytes : Bytes) (draw : Option Bytes) → let p = plan_of tools (setting_of w n) (state_of h n) (Received bytes draw) in IsNotFull p.place (refusal_of p)
+  pub shared : is_centre (setting_of w n).me.role ≡ true → (device partner : ℕ)
+      → RefusedFor (why_share (state_of h n) device partner) (share (setting_of w n) (state_of h n) device partner)
+  pub room : (bytes : Bytes) (draw : Option Bytes) → let p = plan_of tools (setting_of w n) (state_of h n)
+      (Received bytes draw) in IsNotFull p.place (refusal_of p)

@@ -23,6 +23,7 @@ pub record NodesAreSound (w : Schedule) : Type 0 where
   pub rules : NodesAllAlong IsRuled real w
   pub newest : NodesAllAlong HasNewest real w
   -- before each event no rule of its node refuses for want of what is always there
-  pub no_filler : BeforeEach (λ (h : List Line) (event : Event). OfNode (λ n. NoFillerDecides real w h n) event) real w (start w) [] 1 w.events
+  pub no_filler : BeforeEach (λ (h : List Line) (event : Event). OfNode (λ n. NoFillerDecides real w h n) event) real
+      w (start w) [] 1 w.events
   -- before each event, what any node would send may be sealed
   pub sealable : BeforeEach (λ (h : List Line) (event : Event). SendsSealable real w h) real w (start w) [] 1 w.events

@@ -24,4 +24,5 @@ pub record MayRejoin (w : Schedule) (x : Front) (c d : ℕ) : Type 0 where
   pub may : may_rejoin (state_of x.lines d) ≡ true
   pub linked : AreLinked (setting_of w c) (setting_of w d) (state_of x.lines c) (state_of x.lines d)
   pub not_stopped : why_not_sent (state_of x.lines c) d ≡ None
-  pub not_refused : why_not_taken (state_of x.lines d) linked.own (next_counter Aps (state_of x.lines c)) linked.net.key ≡ None
+  pub not_refused : why_not_taken (state_of x.lines d) linked.own (next_counter Aps (state_of x.lines c))
+      linked.net.key ≡ None

@@ -35,36 +35,45 @@ abbrev IsNone : CommandShown → Type 0
 IsNone (Known (model.ConfirmKey status kind destination)) = ⊥
 IsNone _ = Unit {0}
 
-follow-none : (A : Type 0) (o : Result (A × List ℕ) CmdError) (next : A → List ℕ → Result (Command × List ℕ) CmdError) → ((x : A) (rest : List ℕ) → ReadsNone (next x rest)) → ReadsNone (follow o next)
+follow-none : (A : Type 0) (o : Result (A × List ℕ) CmdError) (next : A → List ℕ → Result (Command × List ℕ) CmdError)
+    → ((x : A) (rest : List ℕ) → ReadsNone (next x rest)) → ReadsNone (follow o next)
 follow-none A (Ok x) next k = k x.0 x.1
 follow-none A (Err e) next k = tt
 
 network-none : (cut : CmdError) (bytes : List ℕ) → ReadsNone (network_at cut bytes)
 unfolding network_at
 network-none cut bytes =
-    follow-none Key (key_at cut bytes) (λ k r. follow (byte_at cut r) (λ q r. follow (eui_at cut r) (λ d r. follow (eui_at cut r) (λ s r. Ok (TransportNetwork k q d s, r))))) (λ k r.
-    follow-none ℕ (byte_at cut r) (λ q r. follow (eui_at cut r) (λ d r. follow (eui_at cut r) (λ s r. Ok (TransportNetwork k q d s, r)))) (λ q r.
+    follow-none Key (key_at cut bytes)
+    (λ k r. follow (byte_at cut r)
+    (λ q r. follow (eui_at cut r) (λ d r. follow (eui_at cut r) (λ s r. Ok (TransportNetwork k q d s, r)))))
+    (λ k r.
+    follow-none ℕ (byte_at cut r)
+    (λ q r. follow (eui_at cut r) (λ d r. follow (eui_at cut r) (λ s r. Ok (TransportNetwork k q d s, r)))) (λ q r.
     follow-none Eui (eui_at cut r) (λ d r. follow (eui_at cut r) (λ s r. Ok (TransportNetwork k q d s, r))) (λ d r.
     follow-none Eui (eui_at cut r) (λ s r. Ok (TransportNetwork k q d s, r)) (λ s r. tt))))
 
 application-none : (cut : CmdError) (bytes : List ℕ) → ReadsNone (application_at cut bytes)
 unfolding application_at
 application-none cut bytes =
-    follow-none Key (key_at cut bytes) (λ k r. follow (eui_at cut r) (λ p r. follow (byte_at cut r) (λ i r. Ok (TransportApplication k p i, r)))) (λ k r.
+    follow-none Key (key_at cut bytes)
+    (λ k r. follow (eui_at cut r) (λ p r. follow (byte_at cut r) (λ i r. Ok (TransportApplication k p i, r))))
+    (λ k r.
     follow-none Eui (eui_at cut r) (λ p r. follow (byte_at cut r) (λ i r. Ok (TransportApplication k p i, r))) (λ p r.
     follow-none ℕ (byte_at cut r) (λ i r. Ok (TransportApplication k p i, r)) (λ i r. tt)))
 
 link-none : (cut : CmdError) (bytes : List ℕ) → ReadsNone (link_at cut bytes)
 unfolding link_at
 link-none cut bytes =
-    follow-none Key (key_at cut bytes) (λ k r. follow (eui_at cut r) (λ d r. follow (eui_at cut r) (λ s r. Ok (TransportLink k d s, r)))) (λ k r.
+    follow-none Key (key_at cut bytes)
+    (λ k r. follow (eui_at cut r) (λ d r. follow (eui_at cut r) (λ s r. Ok (TransportLink k d s, r)))) (λ k r.
     follow-none Eui (eui_at cut r) (λ d r. follow (eui_at cut r) (λ s r. Ok (TransportLink k d s, r))) (λ d r.
     follow-none Eui (eui_at cut r) (λ s r. Ok (TransportLink k d s, r)) (λ s r. tt)))
 
 update-none : (cut : CmdError) (bytes : List ℕ) → ReadsNone (update_at cut bytes)
 unfolding update_at
 update-none cut bytes =
-    follow-none Eui (eui_at cut bytes) (λ d r. follow (short_at cut r) (λ a r. follow (byte_at cut r) (λ s r. Ok (Update d a s, r)))) (λ d r.
+    follow-none Eui (eui_at cut bytes)
+    (λ d r. follow (short_at cut r) (λ a r. follow (byte_at cut r) (λ s r. Ok (Update d a s, r)))) (λ d r.
     follow-none Short (short_at cut r) (λ a r. follow (byte_at cut r) (λ s r. Ok (Update d a s, r))) (λ a r.
     follow-none ℕ (byte_at cut r) (λ s r. Ok (Update d a s, r)) (λ s r. tt)))
 
@@ -89,7 +98,8 @@ tunnel-none cut bytes =
 verify-none : (cut : CmdError) (bytes : List ℕ) → ReadsNone (verify_at cut bytes)
 unfolding verify_at
 verify-none cut bytes =
-    follow-none ℕ (byte_at cut bytes) (λ k r. follow (eui_at cut r) (λ s r. follow (bytes_at 16 cut r) (λ h r. Ok (Verify k s h, r)))) (λ k r.
+    follow-none ℕ (byte_at cut bytes)
+    (λ k r. follow (eui_at cut r) (λ s r. follow (bytes_at 16 cut r) (λ h r. Ok (Verify k s h, r)))) (λ k r.
     follow-none Eui (eui_at cut r) (λ s r. follow (bytes_at 16 cut r) (λ h r. Ok (Verify k s h, r))) (λ s r.
     follow-none (List ℕ) (bytes_at 16 cut r) (λ h r. Ok (Verify k s h, r)) (λ h r. tt)))
 
@@ -113,7 +123,8 @@ error-none (fault.KeyType found) = tt
 error-none (fault.Short len) = tt
 error-none (fault.Trailing len) = tt
 
-ended-none : (c : Command) (left : ℕ) (b : Bool) → NoConfirm c → IsNone (command_shown (cond b (Ok c) (Err (fault.Trailing left))))
+ended-none : (c : Command) (left : ℕ) (b : Bool) → NoConfirm c
+    → IsNone (command_shown (cond b (Ok c) (Err (fault.Trailing left))))
 ended-none c left true n = known-none c n
 ended-none c left false n = tt
 
@@ -132,7 +143,8 @@ transport-net rest = whole-none (network_at (cut_of (5 ∷ 1 ∷ rest)) rest) (n
 
 transport-app : (rest : List ℕ) → IsNone (command_shown (command_of (5 ∷ 3 ∷ rest)))
 unfolding command_of command_at body_of transport_at transport_of
-transport-app rest = whole-none (application_at (cut_of (5 ∷ 3 ∷ rest)) rest) (application-none (cut_of (5 ∷ 3 ∷ rest)) rest)
+transport-app rest = whole-none (application_at (cut_of (5 ∷ 3 ∷ rest)) rest)
+    (application-none (cut_of (5 ∷ 3 ∷ rest)) rest)
 
 transport-link : (rest : List ℕ) → IsNone (command_shown (command_of (5 ∷ 4 ∷ rest)))
 unfolding command_of command_at body_of transport_at transport_of
@@ -167,20 +179,25 @@ unfolding command_of command_at body_of
 verify rest = whole-none (verify_at (cut_of (15 ∷ rest)) rest) (verify-none (cut_of (15 ∷ rest)) rest)
 
 -- a Confirm-Key is read with its own device
-confirm-again : (status kind device : ℕ) → device < 2 ^ 64 → command_of (16 ∷ status ∷ kind ∷ eui (eui_of device)) ≡ Ok (Confirm status kind (eui_of device))
+confirm-again : (status kind device : ℕ) → device < 2 ^ 64 → command_of (16 ∷ status ∷ kind ∷ eui (eui_of device))
+    ≡ Ok (Confirm status kind (eui_of device))
 unfolding command_of command_at body_of confirm_at
 confirm-again status kind device lt =
-    let again : eui_at (cut_of (16 ∷ status ∷ kind ∷ eui (eui_of device))) (eui (eui_of device)) ≡ Ok (eui_of device, []) =
-    ap (λ b. eui_at (cut_of (16 ∷ status ∷ kind ∷ eui (eui_of device))) b) (sym (append-nil' (eui (eui_of device)))) ∙ eui_again (cut_of (16 ∷ status ∷ kind ∷ eui (eui_of device))) (eui_of device) [] lt in
+    let again : eui_at (cut_of (16 ∷ status ∷ kind ∷ eui (eui_of device))) (eui (eui_of device))
+    ≡ Ok (eui_of device, []) =
+    ap (λ b. eui_at (cut_of (16 ∷ status ∷ kind ∷ eui (eui_of device))) b) (sym (append-nil' (eui (eui_of device)))) ∙
+    eui_again (cut_of (16 ∷ status ∷ kind ∷ eui (eui_of device))) (eui_of device) [] lt in
     rw again refl
 
 device_of : CommandShown → ℕ
 device_of (Known (model.ConfirmKey status kind device)) = device
 device_of _ = 0
 
-confirmed : (status kind device k d : ℕ) → command_shown (command_of (16 ∷ status ∷ kind ∷ eui (eui_of device))) ≡ Known (model.ConfirmKey 0 k d) → device < 2 ^ 64 → device ≡ d
+confirmed : (status kind device k d : ℕ) → command_shown (command_of (16 ∷ status ∷ kind ∷ eui (eui_of device)))
+    ≡ Known (model.ConfirmKey 0 k d) → device < 2 ^ 64 → device ≡ d
 unfolding device_of
-confirmed status kind device k d e lt = ap (λ r. device_of (command_shown r)) (sym (confirm-again status kind device lt)) ∙ ap device_of e
+confirmed status kind device k d e lt =
+    ap (λ r. device_of (command_shown r)) (sym (confirm-again status kind device lt)) ∙ ap device_of e
 
 pub spells-confirm : SpellsConfirm real
 unfolding real

@@ -12,5 +12,6 @@ given_or given (Some source) = refl
 pub opens-real : Opens real
 opens-real = record {
   nwk = nwk-opens;
-  aps = λ bytes key given f aux t a b c. let o = aps-opens bytes key given f aux t a b c in (o.0, o.1, o.2 ∙ given_or given aux.source, o.3);
+  aps = λ bytes key given f aux t a b c. let o = aps-opens bytes key given f aux t a b c in
+      (o.0, o.1, o.2 ∙ given_or given aux.source, o.3);
 }

@@ -6,4 +6,11 @@ use Rattle.law_real_runs.proofs.Commands.{spelled-key}
 
 pub shows-keys : ShowsKeys real
 unfolding real
-shows-keys = record { spelled = spelled-key; plain = shows-plain; clear = shows-clear; command = shows-command; telling = shows-telling }
+shows-keys =
+    record {
+      spelled = spelled-key;
+      plain = shows-plain;
+      clear = shows-clear;
+      command = shows-command;
+      telling = shows-telling;
+    }

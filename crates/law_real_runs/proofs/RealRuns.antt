@@ -29,7 +29,8 @@ ends [] l e = e
 ends (x ∷ []) l e = e
 ends (x ∷ y ∷ ls) l e = ends (y ∷ ls) l e
 
-two_words : (w : Schedule) → EndsYesYes (transcript real w) → (ideal real (run_lines real w) ≡ true) × (private real (run_lines real w) ≡ true)
+two_words : (w : Schedule) → EndsYesYes (transcript real w) → (ideal real (run_lines real w) ≡ true)
+    × (private real (run_lines real w) ≡ true)
 unfolding transcript end_line
 two_words w e = ends (run_lines real w) (end_line real (length w.events) (run_lines real w)) e
 

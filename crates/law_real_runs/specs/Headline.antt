@@ -35,7 +35,8 @@ pub record Holds (w : Schedule) : Type 0 where
   -- before each event every node has what the rules take for granted, so none is refused for want of it
   pub granted : BeforeEach (λ (h : List Line) (event : Event). (n : ℕ) → Granted w h n) real w (start w) [] 1 w.events
   -- so the centre answers no-draw only where the supply is empty; and no event of a node's own is refused as policy
-  pub draws : BeforeEach (λ (h : List Line) (event : Event). (n : ℕ) → DrawsAreThere real w h n) real w (start w) [] 1 w.events
+  pub draws : BeforeEach (λ (h : List Line) (event : Event). (n : ℕ) → DrawsAreThere real w h n) real w (start w) [] 1
+      w.events
   pub suited : BeforeEach (IsSuited real w) real w (start w) [] 1 w.events
   -- and there is room for the floor of each declared sender
   pub room : BeforeEach (λ (h : List Line) (event : Event). (n : ℕ) → HasRoom w h n) real w (start w) [] 1 w.events

@@ -15,14 +15,31 @@ abbrev net : ℕ → NetKey
 net n = record { key = key n; sequence = n; live = true; started = true; limit = 9; next = 5; floors = [] }
 
 abbrev link : ℕ → LinkKey
-link partner = record { partner = partner; key = key 99; attribute = Verified; live = true; code = false; told = false; kept = 3; stored = 8 }
+link partner =
+    record {
+      partner = partner;
+      key = key 99;
+      attribute = Verified;
+      live = true;
+      code = false;
+      told = false;
+      kept = 3;
+      stored = 8;
+    }
 
 -- a centre with the network key 1 and two devices, and a confirmed device with the keys 1, which is active, and 2
 abbrev centre : NodeState
 centre = record (new_node Centre) { nets = net 1 ∷ []; active = Some (key 1); links = link 2 ∷ link 4 ∷ link 2 ∷ [] }
 
 abbrev member : NodeState
-member = record (new_node Device) { state = Confirmed; nets = net 1 ∷ net 2 ∷ []; active = Some (key 1); links = link 1 ∷ [] }
+member =
+    record (new_node Device) {
+      state = Confirmed;
+      nets = net 1 ∷ net 2 ∷ [];
+      active = Some (key 1);
+      links = link 1
+          ∷ [];
+    }
 
 -- nothing stands in the way
 free_centre : why_not_sent centre 2 ≡ None
@@ -51,7 +68,8 @@ after_a_boot : why_not_taken member (record (link 1) { kept = 8 }) 4 (key 1) ≡
 unfolding why_not_taken
 after_a_boot = refl
 
-full_rows : why_not_taken (record member { nets = member.nets ++ replicate 254 (net 9) }) (link 1) 4 (key 3) ≡ Some KeysFull
+full_rows : why_not_taken (record member { nets = member.nets ++ replicate 254 (net 9) }) (link 1) 4 (key 3)
+    ≡ Some KeysFull
 unfolding why_not_taken
 full_rows = refl
 
@@ -66,7 +84,8 @@ setting = record { me = station Device 2; stations = station Centre 1 ∷ statio
 abbrev from_centre : Heard
 from_centre = record { sender = 1; label = Some ForTransport; row = Some (link 1); nwk_source = Some 1 }
 
-told_of_the_third : take_net_key setting member from_centre (key 3) 3 2 1 ≡ Does (DropNet (key 2) ∷ Install (key 3) 3 ∷ []) None
+told_of_the_third : take_net_key setting member from_centre (key 3) 3 2 1
+    ≡ Does (DropNet (key 2) ∷ Install (key 3) 3 ∷ []) None
 unfolding take_net_key unless choose centre_of drop_old
 told_of_the_third = refl
 

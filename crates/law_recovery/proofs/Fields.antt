@@ -1,4 +1,5 @@
--- What changes, accepted terms and seals make of a node's state, of its active key and of its rollover: the last change
+-- What changes, accepted terms and seals make of a node's state, of its active key and of its rollover: the last
+-- change
 -- of each decides.
 use Rattle.std.proofs.Common.{◌≡◌, ℕ, Bool, None, option_to_list, option_map, List, [], ◌∷◌, ◌++◌, fold, Option, Some, refl, ap, ◌∙◌}
 use Rattle.zb_model.specs.Data.{Bytes, Layer, Nwk, Aps, State, Term, Move, Active, Became, Roll, Edit, Reserve, Floor, Start, Moved}
@@ -49,7 +50,8 @@ unfolding applied_all
 by_edits [] s = refl
 by_edits (e ∷ es) s = by_edits es (applied e s) ∙ ap (λ x. fold fields_by x es) (by_edit e s)
 
-by_hearing : (layer : Layer) (t : Term) (s : NodeState) → fields (after_hearing layer t.base t.source t.counter s) ≡ fields s
+by_hearing : (layer : Layer) (t : Term) (s : NodeState) → fields (after_hearing layer t.base t.source t.counter s)
+    ≡ fields s
 unfolding after_hearing
 by_hearing Nwk t s = refl
 by_hearing Aps t s = refl
@@ -71,11 +73,14 @@ by_seals (t ∷ ts) s = by_seals ts (after_sealing t s) ∙ by_sealing t.layer t
 -- after an answer they are as its changes leave them
 pub fields_after : (a : Answer) (s : NodeState) → fields (answered a s) ≡ fold fields_by (fields s) a.edits
 unfolding answered
-fields_after a s = by_seals a.seals (accepted_all a.accepts (applied_all a.edits s)) ∙ by_accepts a.accepts (applied_all a.edits s) ∙ by_edits a.edits s
+fields_after a s = by_seals a.seals (accepted_all a.accepts (applied_all a.edits s)) ∙ by_accepts a.accepts
+    (applied_all a.edits s) ∙ by_edits a.edits s
 
 -- a reserve changes none of them
 pub reserve_leaves : (nwk aps : Option ℕ) (x : Fields) (es : List Edit)
-    → fold fields_by x ((option_to_list (option_map (Reserve Nwk) nwk) ++ option_to_list (option_map (Reserve Aps) aps)) ++ es) ≡ fold fields_by x es
+    → fold fields_by x
+    ((option_to_list (option_map (Reserve Nwk) nwk) ++ option_to_list (option_map (Reserve Aps) aps)) ++ es)
+    ≡ fold fields_by x es
 reserve_leaves None None x es = refl
 reserve_leaves None (Some v) x es = refl
 reserve_leaves (Some u) None x es = refl

@@ -40,7 +40,14 @@ pub record KeyFrameInRange (f : KeyFrame) : Type 0 where
 -- The frame is read, opened and understood as it was sealed: its addresses, that a command is sealed in it for
 -- transport, the term, and the command.
 pub record Arrives (tools : Tools) (f : KeyFrame) : Type 0 where
-  pub shown : tools.read_nwk (key_bytes tools f) ≡ Some (record { is_command = false; destination = f.to; source = f.from; auxiliary = None; body = tools.wire (key_term tools f) })
+  pub shown : tools.read_nwk (key_bytes tools f)
+      ≡ Some (record {
+        is_command = false;
+        destination = f.to;
+        source = f.from;
+        auxiliary = None;
+        body = tools.wire (key_term tools f);
+      })
   pub part : ApsShown
   pub reads : tools.read_aps (tools.wire (key_term tools f)) ≡ Some part
   pub is_command : part.is_command ≡ true

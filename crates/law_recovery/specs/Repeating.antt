@@ -15,11 +15,13 @@ repeated tools c device (suc n) s = repeated tools c device n (after_task tools 
 -- none of so many answers is refused
 abbrev pub AreTaken : Tools → Setting → ℕ → ℕ → NodeState → Type 0
 AreTaken tools c device zero s = Unit {0}
-AreTaken tools c device (suc n) s = IsTaken tools c s (HasChild device true) × AreTaken tools c device n (after_task tools c s (HasChild device true))
+AreTaken tools c device (suc n) s = IsTaken tools c s (HasChild device true)
+    × AreTaken tools c device n (after_task tools c s (HasChild device true))
 
 -- The centre has the same active network key and the same link key of the device; its counter went on.
 pub record WentOn (s u : NodeState) (device frames : ℕ) : Type 0 where
   pub key : option_map (λ (r : NetKey). r.key) (active_row u) ≡ option_map (λ (r : NetKey). r.key) (active_row s)
-  pub sequence : option_map (λ (r : NetKey). r.sequence) (active_row u) ≡ option_map (λ (r : NetKey). r.sequence) (active_row s)
+  pub sequence : option_map (λ (r : NetKey). r.sequence) (active_row u)
+      ≡ option_map (λ (r : NetKey). r.sequence) (active_row s)
   pub link : current u device ≡ current s device
   pub counter : next_counter Aps u ≡ next_counter Aps s + frames

@@ -54,10 +54,12 @@ EndsAfter tools c (suc timers) s = TellsNext tools c s × EndsAfter tools c time
 
 -- Too few counters are left for so many frames at both layers and one at NWK. No counter passes its end.
 abbrev pub LacksCounters : NodeState → ℕ → Type 0
-LacksCounters s frames = (greatest_counter ≤ next_counter Nwk s + frames) ⊎ ((next_counter Aps s ≤ greatest_counter) × (greatest_counter < next_counter Aps s + frames))
+LacksCounters s frames = (greatest_counter ≤ next_counter Nwk s + frames)
+    ⊎ ((next_counter Aps s ≤ greatest_counter) × (greatest_counter < next_counter Aps s + frames))
 
 -- one of so many timers, or the switch after them, is refused as counter-spent, and the timers before it tell devices
 abbrev pub SpentWithin : Tools → Setting → ℕ → NodeState → Type 0
 SpentWithin tools c zero s = IsRefused tools c s DoSwitch CounterSpent
 SpentWithin tools c (suc timers) s =
-    IsRefused tools c s DoTimer CounterSpent ⊎ (TellsNext tools c s × SpentWithin tools c timers (after_task tools c s DoTimer))
+    IsRefused tools c s DoTimer CounterSpent
+    ⊎ (TellsNext tools c s × SpentWithin tools c timers (after_task tools c s DoTimer))

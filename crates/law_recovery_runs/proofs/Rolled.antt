@@ -14,17 +14,25 @@ use Rattle.law_recovery_runs.specs.Fronts.{Front, IsReady, after_event, after_ev
 use Rattle.law_recovery_runs.specs.Rolled.{EndsRolled, rollover_events}
 use Rattle.law_recovery_runs.proofs.Exchanged.{answered-by}
 
-by_events : (tools : Tools) (w : Schedule) (c n : ℕ) (x : Front) → IsReady x c → EndsAfter tools (setting_of w c) n (state_of x.lines c) → EndsRolled (after_events tools w x (rollover_events c n)) c
+by_events : (tools : Tools) (w : Schedule) (c n : ℕ) (x : Front) → IsReady x c
+    → EndsAfter tools (setting_of w c) n (state_of x.lines c)
+    → EndsRolled (after_events tools w x (rollover_events c n)) c
 unfolding after_task rollover_events
 by_events tools w c zero x ready ends =
     let a = answer tools (setting_of w c) (state_of x.lines c) DoSwitch in
-    let to = answered-by tools w x c a (Own c DoSwitch) ready (own-up tools w x.lines x.disks x.number c DoSwitch ready.up) in
+    let to = answered-by tools w x c a (Own c DoSwitch) ready
+    (own-up tools w x.lines x.disks x.number c DoSwitch ready.up) in
     record { over = ap (λ (s : NodeState). s.sending) to.state ∙ ends.over; ready = to.ready }
 by_events tools w c (suc n) x ready ends =
     let a = answer tools (setting_of w c) (state_of x.lines c) DoTimer in
-    let to = answered-by tools w x c a (Own c DoTimer) ready (own-up tools w x.lines x.disks x.number c DoTimer ready.up) in
-    by_events tools w c n (after_event tools w x (Own c DoTimer)) to.ready (subst (EndsAfter tools (setting_of w c) n) (sym to.state) ends.1)
+    let to = answered-by tools w x c a (Own c DoTimer) ready
+    (own-up tools w x.lines x.disks x.number c DoTimer ready.up) in
+    by_events tools w c n (after_event tools w x (Own c DoTimer)) to.ready
+    (subst (EndsAfter tools (setting_of w c) n) (sym to.state) ends.1)
 
-pub rolled : (tools : Tools) (w : Schedule) (x : Front) (c : ℕ) → is_centre (setting_of w c).me.role ≡ true → IsReady x c → IsRolling (state_of x.lines c) → HasCounters (state_of x.lines c) (length (untold (state_of x.lines c)))
+pub rolled : (tools : Tools) (w : Schedule) (x : Front) (c : ℕ) → is_centre (setting_of w c).me.role ≡ true
+    → IsReady x c → IsRolling (state_of x.lines c)
+    → HasCounters (state_of x.lines c) (length (untold (state_of x.lines c)))
     → EndsRolled (after_events tools w x (rollover_events c (length (untold (state_of x.lines c))))) c
-rolled tools w x c role ready rolling counters = by_events tools w c (length (untold (state_of x.lines c))) x ready (rollover_ends tools (setting_of w c) (state_of x.lines c) role rolling counters)
+rolled tools w x c role ready rolling counters = by_events tools w c (length (untold (state_of x.lines c))) x ready
+    (rollover_ends tools (setting_of w c) (state_of x.lines c) role rolling counters)

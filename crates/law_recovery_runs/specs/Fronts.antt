@@ -17,7 +17,8 @@ pub record Front : Type 0 where
 
 -- the front after one event, and after several
 unfoldable pub after_event : Tools → Schedule → Front → Event → Front
-after_event tools w x event = let g = step tools w x.lines x.disks x.number event in record { lines = x.lines ++ g.lines; disks = g.disks; number = x.number + 1 }
+after_event tools w x event = let g = step tools w x.lines x.disks x.number event in
+    record { lines = x.lines ++ g.lines; disks = g.disks; number = x.number + 1 }
 
 abbrev pub after_events : Tools → Schedule → Front → List Event → Front
 after_events tools w x events = fold (after_event tools w) x events
@@ -43,9 +44,11 @@ pub record CanRejoin (w : Schedule) (x : Front) (c d : ℕ) : Type 0 where
   pub role : (state_of x.lines d).role ≡ (setting_of w d).me.role
   pub may : may_rejoin (state_of x.lines d) ≡ true
   pub linked : AreLinked (setting_of w c) (setting_of w d) (state_of x.lines c) (state_of x.lines d)
-  pub in_range : KeyFrameInRange (answer_frame (setting_of w c) (setting_of w d) (state_of x.lines c) linked.net linked.row)
+  pub in_range : KeyFrameInRange
+      (answer_frame (setting_of w c) (setting_of w d) (state_of x.lines c) linked.net linked.row)
   pub not_stopped : why_not_sent (state_of x.lines c) d ≡ None
-  pub not_refused : why_not_taken (state_of x.lines d) linked.own (next_counter Aps (state_of x.lines c)) linked.net.key ≡ None
+  pub not_refused : why_not_taken (state_of x.lines d) linked.own (next_counter Aps (state_of x.lines c))
+      linked.net.key ≡ None
 
 -- The member is confirmed with the centre's active network key, and both nodes are ready for what comes.
 pub record EndsRejoined (x : Front) (c d : ℕ) : Type 0 where

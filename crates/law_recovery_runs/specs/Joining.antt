@@ -24,9 +24,11 @@ pub record CanJoin (w : Schedule) (x : Front) (c d : ℕ) : Type 0 where
   pub rules : keeps_rules (state_of x.lines d) ≡ true
   pub role : (state_of x.lines d).role ≡ (setting_of w d).me.role
   pub introduced : AreIntroduced (setting_of w c) (setting_of w d) (state_of x.lines c) (state_of x.lines d)
-  pub in_range : KeyFrameInRange (answer_frame (setting_of w c) (setting_of w d) (state_of x.lines c) introduced.net introduced.row)
+  pub in_range : KeyFrameInRange
+      (answer_frame (setting_of w c) (setting_of w d) (state_of x.lines c) introduced.net introduced.row)
   pub not_stopped : why_not_sent (state_of x.lines c) d ≡ None
-  pub not_refused : why_not_taken (state_of x.lines d) introduced.own (next_counter Aps (state_of x.lines c)) introduced.net.key ≡ None
+  pub not_refused : why_not_taken (state_of x.lines d) introduced.own (next_counter Aps (state_of x.lines c))
+      introduced.net.key ≡ None
 
 -- The device is joined with the centre's active network key, and both nodes are ready for what comes.
 pub record EndsJoined (x : Front) (c d : ℕ) : Type 0 where

@@ -16,7 +16,8 @@ use Rattle.law_run.proofs.LockoutDeeds.{OfMember, Deed, member, nothing, quiet, 
 use Rattle.law_run.proofs.LockoutDevices.{OfMemberEdit}
 use Rattle.law_run.proofs.LockoutGroups.{mere-member, moves-member, edits-parts}
 
-of-member : (c : Setting) (s : NodeState) (task : Task) (moves : List Move) → is_centre c.me.role ≡ false → Deed c s task moves → AllByRecursion OfMember moves
+of-member : (c : Setting) (s : NodeState) (task : Task) (moves : List Move) → is_centre c.me.role ≡ false
+    → Deed c s task moves → AllByRecursion OfMember moves
 of-member c s task moves e (member m a d) = a
 of-member c s task moves e (nothing q) = subst (AllByRecursion OfMember) (sym q) tt
 of-member c s task moves e (quiet m a y) = absurd (false≢true (sym e ∙ m))
@@ -27,7 +28,8 @@ of-member c s task moves e (pairs m a b k new la lb q) = absurd (false≢true (s
 of-member c s task moves e (enters m p k by dead none q) = absurd (false≢true (sym e ∙ m))
 of-member c s task moves e (removes m p live q) = absurd (false≢true (sym e ∙ m))
 
-outcome-member : (c : Setting) (s : NodeState) (task : Task) (o : Outcome) → is_centre c.me.role ≡ false → OutcomeFits c s task o → AllByRecursion OfMember (moves_of o)
+outcome-member : (c : Setting) (s : NodeState) (task : Task) (o : Outcome) → is_centre c.me.role ≡ false
+    → OutcomeFits c s task o → AllByRecursion OfMember (moves_of o)
 outcome-member c s task (Stop reason) e f = tt
 outcome-member c s task (Does moves sending) e f = of-member c s task moves e f.deed
 
@@ -53,11 +55,16 @@ each-edit : (es : List Edit) → AllByRecursion OfMemberEdit es → AllByRecursi
 each-edit [] a = tt
 each-edit (e ∷ es) a = (of-each e a.0, each-edit es a.1)
 
-plan-edits : (s : NodeState) (k : Counting) (p : Plan) → AllByRecursion OfMember (moves_of p.outcome) → AllByRecursion OfEachNode (edits_of s k p)
+plan-edits : (s : NodeState) (k : Counting) (p : Plan) → AllByRecursion OfMember (moves_of p.outcome)
+    → AllByRecursion OfEachNode (edits_of s k p)
 plan-edits s k p a = each-edit (edits_of s k p) (subst (AllByRecursion OfMemberEdit) (sym (edits-parts s k p))
-    (all-append OfMemberEdit (rest_edits k p.accepts) (flat_map (move_edits k) (filter (changes s) (moves_of p.outcome))) (mere-member (rest_edits k p.accepts) (rests-mere k p.accepts)) (moves-member s k (moves_of p.outcome) a)))
+    (all-append OfMemberEdit (rest_edits k p.accepts)
+    (flat_map (move_edits k) (filter (changes s) (moves_of p.outcome)))
+    (mere-member (rest_edits k p.accepts) (rests-mere k p.accepts)) (moves-member s k (moves_of p.outcome) a)))
 
-pub centre-alone : (tools : Tools) → Opens tools → (c : Setting) (s : NodeState) (task : Task) → is_centre c.me.role ≡ false → AllByRecursion OfEachNode (answer tools c s task).edits
+pub centre-alone : (tools : Tools) → Opens tools → (c : Setting) (s : NodeState) (task : Task) → is_centre c.me.role
+    ≡ false → AllByRecursion OfEachNode (answer tools c s task).edits
 unfolding answer answer_by
 centre-alone tools opens c s task e =
-    plan-edits s (counting_of c s (plan_of tools c s task)) (plan_of tools c s task) (outcome-member c s task (plan_of tools c s task).outcome e (plan-fits tools opens c s task))
+    plan-edits s (counting_of c s (plan_of tools c s task)) (plan_of tools c s task)
+    (outcome-member c s task (plan_of tools c s task).outcome e (plan-fits tools opens c s task))

@@ -40,13 +40,15 @@ each-takes h (l ∷ ls) f = (line-takes h l f.0, each-takes (h ++ l ∷ []) ls f
 
 run-fits : (tools : Tools) (w : Schedule) → IsSchedule w → Each LineFits [] (run_lines tools w)
 unfolding run_lines
-run-fits tools w i = each-append LineFits [] (start w) (groups tools w (start w) [] 1 w.events) (plain [] (start w) (start-plain w)) (groups-fit tools w i (start w) [] 1 w.events i.events (start-inv tools w))
+run-fits tools w i = each-append LineFits [] (start w) (groups tools w (start w) [] 1 w.events)
+    (plain [] (start w) (start-plain w)) (groups-fit tools w i (start w) [] 1 w.events i.events (start-inv tools w))
 
 pub takes-next : (tools : Tools) (w : Schedule) → IsSchedule w → Each TakesNext [] (transcript tools w)
 unfolding transcript end_line
 takes-next tools w i =
     each-takes [] (run_lines tools w ++ end_line tools (length w.events) (run_lines tools w) ∷ [])
-    (each-append LineFits [] (run_lines tools w) (end_line tools (length w.events) (run_lines tools w) ∷ []) (run-fits tools w i) (tt, tt))
+    (each-append LineFits [] (run_lines tools w) (end_line tools (length w.events) (run_lines tools w) ∷ [])
+    (run-fits tools w i) (tt, tt))
 
 -- a value that a test gives
 abbrev IsNumber : ℕ → Option ℕ → Type 0
@@ -67,18 +69,28 @@ by-test : (b : Bool) (n v : ℕ) → cond b (Some n) None ≡ Some v → (b ≡ 
 by-test true n v e = (refl, sym (some-number n v e))
 by-test false n v e = absurd (none-some v e)
 
-pub reserve-block : (c : Setting) (s : NodeState) (send : Option Sending) (layer : Layer) (v : ℕ) → reserve_of c s send layer ≡ Some v → (next_counter layer s ≡ stored_limit layer s) × (v ≡ min (next_counter layer s + c.me.out_block) greatest_counter)
+pub reserve-block : (c : Setting) (s : NodeState) (send : Option Sending) (layer : Layer) (v : ℕ)
+    → reserve_of c s send layer ≡ Some v → (next_counter layer s ≡ stored_limit layer s)
+    × (v ≡ min (next_counter layer s + c.me.out_block) greatest_counter)
 unfolding reserve_of
-reserve-block c s send layer v e = (eqb-true (next_counter layer s) (stored_limit layer s) (and_parts (may_seal s send) equal (and_parts (seals_at layer send) (may_seal s send && equal) found.0).1).1, found.1)
+reserve-block c s send layer v e = (
+  eqb-true (next_counter layer s) (stored_limit layer s)
+      (and_parts (may_seal s send) equal (and_parts (seals_at layer send) (may_seal s send && equal) found.0).1).1,
+  found.1,
+)
   where
     equal : Bool
     equal = nat_eq (next_counter layer s) (stored_limit layer s)
 
-    found : ((seals_at layer send && (may_seal s send && equal)) ≡ true) × (v ≡ min (next_counter layer s + c.me.out_block) greatest_counter)
-    found = by-test (seals_at layer send && (may_seal s send && equal)) (min (next_counter layer s + c.me.out_block) greatest_counter) v e
+    found : ((seals_at layer send && (may_seal s send && equal)) ≡ true)
+        × (v ≡ min (next_counter layer s + c.me.out_block) greatest_counter)
+    found = by-test (seals_at layer send && (may_seal s send && equal))
+        (min (next_counter layer s + c.me.out_block) greatest_counter) v e
 
-pub floor-block : (c : Setting) (s : NodeState) (t : Term) (v : ℕ) → floor_for c s t ≡ Some v → (stored_floor t s ≤ t.counter) × (v ≡ min (t.counter + c.me.in_block) greatest_counter)
+pub floor-block : (c : Setting) (s : NodeState) (t : Term) (v : ℕ) → floor_for c s t ≡ Some v
+    → (stored_floor t s ≤ t.counter) × (v ≡ min (t.counter + c.me.in_block) greatest_counter)
 floor-block c s t v e = (leb-true (stored_floor t s) t.counter (found e).0, (found e).1)
   where
-    found : floor_for c s t ≡ Some v → (nat_le (stored_floor t s) t.counter ≡ true) × (v ≡ min (t.counter + c.me.in_block) greatest_counter)
+    found : floor_for c s t ≡ Some v → (nat_le (stored_floor t s) t.counter ≡ true)
+        × (v ≡ min (t.counter + c.me.in_block) greatest_counter)
     found e = by-test (nat_le (stored_floor t s) t.counter) (min (t.counter + c.me.in_block) greatest_counter) v e

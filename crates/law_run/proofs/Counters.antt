@@ -38,16 +38,20 @@ IsMissing (Some y) = ⊥
 pub none-some : (x : NetKey) → None ≡ Some x → ⊥
 none-some x e = subst (λ o. IsMissing o) e tt
 
-found-test : (key : Bytes) (x r : NetKey) (o : Option NetKey) (b : Bool) → at_key key x ≡ b → (o ≡ Some r → same_key r.key key ≡ true) → cond b (Some x) o ≡ Some r → same_key r.key key ≡ true
+found-test : (key : Bytes) (x r : NetKey) (o : Option NetKey) (b : Bool) → at_key key x ≡ b
+    → (o ≡ Some r → same_key r.key key ≡ true) → cond b (Some x) o ≡ Some r → same_key r.key key ≡ true
 found-test key x r o true h k e = subst (λ o. IsKept key o) e h
 found-test key x r o false h k e = k e
 
-pub found-key : (key : Bytes) (nets : List NetKey) (r : NetKey) → find (at_key key) nets ≡ Some r → same_key r.key key ≡ true
+pub found-key : (key : Bytes) (nets : List NetKey) (r : NetKey) → find (at_key key) nets ≡ Some r → same_key r.key key
+    ≡ true
 found-key key [] r e = absurd (none-some r e)
 found-key key (x ∷ nets) r e = found-test key x r (find (at_key key) nets) (at_key key x) refl (found-key key nets r) e
 
 -- A row's next counter moves where a term is sealed under its key.
-moved-row : (P Q : NetKey → Type 0) (f : NetKey → NetKey) (key base : Bytes) (nets : List NetKey) → ((r : NetKey) → P r → Q r → P (f r)) → (o : Option NetKey) → find (at_key key) nets ≡ o → Holds P o → On Q base nets → Holds P (option_map (λ r. cond (same_key r.key base) (f r) r) o)
+moved-row : (P Q : NetKey → Type 0) (f : NetKey → NetKey) (key base : Bytes) (nets : List NetKey)
+    → ((r : NetKey) → P r → Q r → P (f r)) → (o : Option NetKey) → find (at_key key) nets ≡ o → Holds P o
+    → On Q base nets → Holds P (option_map (λ r. cond (same_key r.key base) (f r) r) o)
 unfolding Holds
 moved-row P Q f key base nets k None e h q = h
 moved-row P Q f key base nets k (Some r) e h q = by-test (same_key r.key base) refl
@@ -62,16 +66,20 @@ moved-row P Q f key base nets k (Some r) e h q = by-test (same_key r.key base) r
     by-test true b = k r h (there b)
     by-test false b = h
 
-at-key-kept : (f : NetKey → NetKey) (base key : Bytes) → ((r : NetKey) → (f r).key ≡ r.key) → (r : NetKey) → at_key key (cond (same_key r.key base) (f r) r) ≡ at_key key r
+at-key-kept : (f : NetKey → NetKey) (base key : Bytes) → ((r : NetKey) → (f r).key ≡ r.key) → (r : NetKey)
+    → at_key key (cond (same_key r.key base) (f r) r) ≡ at_key key r
 at-key-kept f base key k r = by-test (same_key r.key base)
   where
     by-test : (b : Bool) → at_key key (cond b (f r) r) ≡ at_key key r
     by-test true = ap (λ x. same_key x key) (k r)
     by-test false = refl
 
-pub on-sealed : (P Q : NetKey → Type 0) (f : NetKey → NetKey) (key base : Bytes) (nets : List NetKey) → ((r : NetKey) → (f r).key ≡ r.key) → ((r : NetKey) → P r → Q r → P (f r)) → On P key nets → On Q base nets → On P key (at_net base f nets)
+pub on-sealed : (P Q : NetKey → Type 0) (f : NetKey → NetKey) (key base : Bytes) (nets : List NetKey)
+    → ((r : NetKey) → (f r).key ≡ r.key) → ((r : NetKey) → P r → Q r → P (f r)) → On P key nets → On Q base nets
+    → On P key (at_net base f nets)
 on-sealed P Q f key base nets same k h q =
-    subst (λ o. Holds P o) (sym (find-map (at_key key) (λ r. cond (same_key r.key base) (f r) r) (at-key-kept f base key same) nets))
+    subst (λ o. Holds P o)
+    (sym (find-map (at_key key) (λ r. cond (same_key r.key base) (f r) r) (at-key-kept f base key same) nets))
     (moved-row P Q f key base nets k (find (at_key key) nets) refl h q)
 
 -- Under each line a used counter stays covered.
@@ -96,15 +104,19 @@ covers-declared c value = record { key = λ r. key (r.started) r; kept = λ r h.
     kept true r h = (h.0, omega (arith, h.1), omega (arith, h.2))
     kept false r h = h
 
-covers-sealed : (layer : Layer) (c : ℕ) (key : Bytes) (t : Term) (s : NodeState) → SealFitsAt layer t s → On (Covers c) key s.nets → On (Covers c) key (sealed_at layer t s).nets
+covers-sealed : (layer : Layer) (c : ℕ) (key : Bytes) (t : Term) (s : NodeState) → SealFitsAt layer t s
+    → On (Covers c) key s.nets → On (Covers c) key (sealed_at layer t s).nets
 unfolding SealFitsAt
 covers-sealed Nwk c key t s m h =
-    on-sealed (Covers c) (Gives t.counter) (next_at (t.counter + 1)) key t.base s.nets (λ r. refl) (λ r p q. (p.0, omega (arith, p.1, q.1), p.2)) h m.2
+    on-sealed (Covers c) (Gives t.counter) (next_at (t.counter + 1)) key t.base s.nets (λ r. refl)
+    (λ r p q. (p.0, omega (arith, p.1, q.1), p.2)) h m.2
 covers-sealed Aps c key t s m h = h
 
-pub covers-after : (c : ℕ) (key : Bytes) (l : Line) (s : NodeState) → StateFits l s → On (Covers c) key s.nets → On (Covers c) key (after l s).nets
+pub covers-after : (c : ℕ) (key : Bytes) (l : Line) (s : NodeState) → StateFits l s → On (Covers c) key s.nets
+    → On (Covers c) key (after l s).nets
 unfolding after with_given_net with_given_link with_declared after_sealing
-covers-after c key (GivenNet n k q) s m h = on-add (Covers c) (has_net k s.nets) key s.nets (given_net s.declared k q ∷ []) h
+covers-after c key (GivenNet n k q) s m h = on-add (Covers c) (has_net k s.nets) key s.nets
+    (given_net s.declared k q ∷ []) h
 covers-after c key (Counter n Nwk v) s m h = on-map (Covers c) (declared_at v) (covers-declared c v) key s.nets h
 covers-after c key (Counter n Aps v) s m h = h
 covers-after c key (Changed e n edit) s m h = on-applied (Covers c) (covers-closed c) key edit s (mild-covers c edit) h
@@ -140,12 +152,14 @@ aps-applied c (Floor Aps k p v) s h = h
 aps-applied c (Start k v) s h = h
 aps-applied c (Moved m) s h = aps-moved c m s h
 
-aps-heard : (c : ℕ) (layer : Layer) (k : Bytes) (sender counter : ℕ) (s : NodeState) → ApsCovers c s → ApsCovers c (after_hearing layer k sender counter s)
+aps-heard : (c : ℕ) (layer : Layer) (k : Bytes) (sender counter : ℕ) (s : NodeState) → ApsCovers c s
+    → ApsCovers c (after_hearing layer k sender counter s)
 unfolding after_hearing
 aps-heard c Nwk k sender counter s h = h
 aps-heard c Aps k sender counter s h = h
 
-aps-sealed : (layer : Layer) (c : ℕ) (t : Term) (s : NodeState) → SealFitsAt layer t s → ApsCovers c s → ApsCovers c (sealed_at layer t s)
+aps-sealed : (layer : Layer) (c : ℕ) (t : Term) (s : NodeState) → SealFitsAt layer t s → ApsCovers c s
+    → ApsCovers c (sealed_at layer t s)
 unfolding SealFitsAt
 aps-sealed Nwk c t s m h = h
 aps-sealed Aps c t s m h = (omega (arith, m.1, h.0), h.1)
@@ -182,45 +196,61 @@ pub record Commanded (s : NodeState) : Type 0 where
   pub nets : (key : Bytes) → IfHolds Behind (find (at_key key) s.nets)
   pub aps : s.aps_next ≤ s.aps_limit
 
-if-map : (f : NetKey → NetKey) → ((r : NetKey) → Behind r → Behind (f r)) → (o : Option NetKey) → IfHolds Behind o → IfHolds Behind (option_map f o)
+if-map : (f : NetKey → NetKey) → ((r : NetKey) → Behind r → Behind (f r)) → (o : Option NetKey) → IfHolds Behind o
+    → IfHolds Behind (option_map f o)
 if-map f k None h = h
 if-map f k (Some r) h = k r h
 
-if-at : (f : NetKey → NetKey) (base : Bytes) → ((r : NetKey) → (f r).key ≡ r.key) → ((r : NetKey) → Behind r → Behind (f r)) → (nets : List NetKey) → ((key : Bytes) → IfHolds Behind (find (at_key key) nets)) → (key : Bytes) → IfHolds Behind (find (at_key key) (at_net base f nets))
+if-at : (f : NetKey → NetKey) (base : Bytes) → ((r : NetKey) → (f r).key ≡ r.key)
+    → ((r : NetKey) → Behind r → Behind (f r)) → (nets : List NetKey)
+    → ((key : Bytes) → IfHolds Behind (find (at_key key) nets)) → (key : Bytes)
+    → IfHolds Behind (find (at_key key) (at_net base f nets))
 if-at f base same k nets h key =
-    subst (λ o. IfHolds Behind o) (sym (find-map (at_key key) (λ r. cond (same_key r.key base) (f r) r) (at-key-kept f base key same) nets))
-    (if-map (λ r. cond (same_key r.key base) (f r) r) (λ r p. by-test (same_key r.key base) r p) (find (at_key key) nets) (h key))
+    subst (λ o. IfHolds Behind o)
+    (sym (find-map (at_key key) (λ r. cond (same_key r.key base) (f r) r) (at-key-kept f base key same) nets))
+    (if-map (λ r. cond (same_key r.key base) (f r) r) (λ r p. by-test (same_key r.key base) r p)
+    (find (at_key key) nets) (h key))
   where
     by-test : (b : Bool) (r : NetKey) → Behind r → Behind (cond b (f r) r)
     by-test true r p = k r p
     by-test false r p = p
 
-if-all : (f : NetKey → NetKey) → ((r : NetKey) → (f r).key ≡ r.key) → ((r : NetKey) → Behind r → Behind (f r)) → (nets : List NetKey) → ((key : Bytes) → IfHolds Behind (find (at_key key) nets)) → (key : Bytes) → IfHolds Behind (find (at_key key) (map f nets))
+if-all : (f : NetKey → NetKey) → ((r : NetKey) → (f r).key ≡ r.key) → ((r : NetKey) → Behind r → Behind (f r))
+    → (nets : List NetKey) → ((key : Bytes) → IfHolds Behind (find (at_key key) nets)) → (key : Bytes)
+    → IfHolds Behind (find (at_key key) (map f nets))
 if-all f same k nets h key =
-    subst (λ o. IfHolds Behind o) (sym (find-map (at_key key) f (λ r. ap (λ x. same_key x key) (same r)) nets)) (if-map f k (find (at_key key) nets) (h key))
+    subst (λ o. IfHolds Behind o) (sym (find-map (at_key key) f (λ r. ap (λ x. same_key x key) (same r)) nets))
+    (if-map f k (find (at_key key) nets) (h key))
 
 if-one : (x : NetKey) → Behind x → (b : Bool) → IfHolds Behind (cond b (Some x) None)
 if-one x p true = p
 if-one x p false = tt
 
-if-cons : (y : NetKey) (b : Bool) (o q : Option NetKey) → (IfHolds Behind o → IfHolds Behind q) → IfHolds Behind (cond b (Some y) o) → IfHolds Behind (cond b (Some y) q)
+if-cons : (y : NetKey) (b : Bool) (o q : Option NetKey) → (IfHolds Behind o → IfHolds Behind q)
+    → IfHolds Behind (cond b (Some y) o) → IfHolds Behind (cond b (Some y) q)
 if-cons y true o q k h = h
 if-cons y false o q k h = k h
 
-if-new : (x : NetKey) → Behind x → (nets : List NetKey) (key : Bytes) → IfHolds Behind (find (at_key key) nets) → IfHolds Behind (find (at_key key) (nets ++ x ∷ []))
+if-new : (x : NetKey) → Behind x → (nets : List NetKey) (key : Bytes) → IfHolds Behind (find (at_key key) nets)
+    → IfHolds Behind (find (at_key key) (nets ++ x ∷ []))
 if-new x p [] key h = if-one x p (at_key key x)
-if-new x p (y ∷ nets) key h = if-cons y (at_key key y) (find (at_key key) nets) (find (at_key key) (nets ++ x ∷ [])) (if-new x p nets key) h
+if-new x p (y ∷ nets) key h = if-cons y (at_key key y) (find (at_key key) nets) (find (at_key key) (nets ++ x ∷ []))
+    (if-new x p nets key) h
 
-if-add : (b : Bool) (x : NetKey) → Behind x → (nets : List NetKey) → ((key : Bytes) → IfHolds Behind (find (at_key key) nets)) → (key : Bytes) → IfHolds Behind (find (at_key key) (cond b nets (nets ++ x ∷ [])))
+if-add : (b : Bool) (x : NetKey) → Behind x → (nets : List NetKey)
+    → ((key : Bytes) → IfHolds Behind (find (at_key key) nets)) → (key : Bytes)
+    → IfHolds Behind (find (at_key key) (cond b nets (nets ++ x ∷ [])))
 if-add true x p nets h key = h key
 if-add false x p nets h key = if-new x p nets key (h key)
 
 commanded-moved : (m : Move) (s : NodeState) → Commanded s → Commanded (moved m s)
 unfolding Behind
 commanded-moved (Draw k) s o = o
-commanded-moved (DropNet k) s o = record { nets = if-at dropped_net k (λ r. refl) (λ r p. p) s.nets o.nets; aps = o.aps }
+commanded-moved (DropNet k) s o =
+    record { nets = if-at dropped_net k (λ r. refl) (λ r p. p) s.nets o.nets; aps = o.aps }
 commanded-moved (DropLink p k) s o = record { nets = o.nets; aps = o.aps }
-commanded-moved (Install k q) s o = record { nets = if-add (has_net k s.nets) (new_net k q) (behind-new k q) s.nets o.nets; aps = o.aps }
+commanded-moved (Install k q) s o =
+    record { nets = if-add (has_net k s.nets) (new_net k q) (behind-new k q) s.nets o.nets; aps = o.aps }
 commanded-moved (Active k) s o = record { nets = o.nets; aps = o.aps }
 commanded-moved (Row p k t) s o = record { nets = o.nets; aps = o.aps }
 commanded-moved (Pair a b k) s o = record { nets = o.nets; aps = o.aps }
@@ -231,7 +261,9 @@ commanded-moved (Roll b) s o = record { nets = o.nets; aps = o.aps }
 commanded-moved (Told d) s o = record { nets = o.nets; aps = o.aps }
 commanded-moved (Untold d) s o = record { nets = o.nets; aps = o.aps }
 
-if-active : (active : Option Bytes) (v : ℕ) (nets : List NetKey) → ((key : Bytes) → IfHolds Behind (find (at_key key) nets)) → (key : Bytes) → IfHolds Behind (find (at_key key) (of_active (reserved v) active nets))
+if-active : (active : Option Bytes) (v : ℕ) (nets : List NetKey)
+    → ((key : Bytes) → IfHolds Behind (find (at_key key) nets)) → (key : Bytes)
+    → IfHolds Behind (find (at_key key) (of_active (reserved v) active nets))
 unfolding Behind
 if-active None v nets h key = h key
 if-active (Some a) v nets h key = if-at (reserved v) a (λ r. refl) (λ r p. (omega (arith, p.0), λ q. refl)) nets h key
@@ -240,21 +272,30 @@ pub commanded-applied : (e : Edit) (s : NodeState) → Commanded s → Commanded
 unfolding applied Behind
 commanded-applied (Reserve Nwk v) s o = record { nets = if-active s.active v s.nets o.nets; aps = o.aps }
 commanded-applied (Reserve Aps v) s o = record { nets = o.nets; aps = omega (arith, o.aps) }
-commanded-applied (Floor Nwk k p v) s o = record { nets = if-at (net_floor p v) k (λ r. refl) (λ r p. p) s.nets o.nets; aps = o.aps }
+commanded-applied (Floor Nwk k p v) s o =
+    record { nets = if-at (net_floor p v) k (λ r. refl) (λ r p. p) s.nets o.nets; aps = o.aps }
 commanded-applied (Floor Aps k p v) s o = record { nets = o.nets; aps = o.aps }
-commanded-applied (Start k v) s o = record { nets = if-at (started_at v) k (λ r. refl) (λ r p. (omega (arith, p.0), λ q. refl)) s.nets o.nets; aps = o.aps }
+commanded-applied (Start k v) s o =
+    record {
+      nets = if-at (started_at v) k (λ r. refl) (λ r p. (omega (arith, p.0), λ q. refl)) s.nets o.nets;
+      aps = o.aps;
+    }
 commanded-applied (Moved m) s o = commanded-moved m s o
 
-commanded-heard : (layer : Layer) (k : Bytes) (sender counter : ℕ) (s : NodeState) → Commanded s → Commanded (after_hearing layer k sender counter s)
+commanded-heard : (layer : Layer) (k : Bytes) (sender counter : ℕ) (s : NodeState) → Commanded s
+    → Commanded (after_hearing layer k sender counter s)
 unfolding after_hearing Behind
-commanded-heard Nwk k sender counter s o = record { nets = if-at (net_kept sender (counter + 1)) k (λ r. refl) (λ r p. p) s.nets o.nets; aps = o.aps }
+commanded-heard Nwk k sender counter s o =
+    record { nets = if-at (net_kept sender (counter + 1)) k (λ r. refl) (λ r p. p) s.nets o.nets; aps = o.aps }
 commanded-heard Aps k sender counter s o = record { nets = o.nets; aps = o.aps }
 
 pub commanded-accepted : (t : Term) (s : NodeState) → Commanded s → Commanded (after_accepting t s)
 unfolding after_accepting
 commanded-accepted t s o = commanded-heard t.layer t.base t.source t.counter s o
 
-if-moved : (c : ℕ) (key base : Bytes) (nets : List NetKey) (o : Option NetKey) → find (at_key key) nets ≡ o → IfHolds Behind o → On (Gives c) base nets → IfHolds Behind (option_map (λ r. cond (same_key r.key base) (next_at (c + 1) r) r) o)
+if-moved : (c : ℕ) (key base : Bytes) (nets : List NetKey) (o : Option NetKey) → find (at_key key) nets ≡ o
+    → IfHolds Behind o → On (Gives c) base nets
+    → IfHolds Behind (option_map (λ r. cond (same_key r.key base) (next_at (c + 1) r) r) o)
 unfolding Holds Behind
 if-moved c key base nets None e h q = tt
 if-moved c key base nets (Some r) e h q = by-test (same_key r.key base) refl
@@ -272,33 +313,52 @@ if-moved c key base nets (Some r) e h q = by-test (same_key r.key base) refl
     by-test true b = (limit (there b), h.1)
     by-test false b = h
 
-commanded-sealed : (layer : Layer) (t : Term) (s : NodeState) → SealFitsAt layer t s → Commanded s → Commanded (sealed_at layer t s)
+commanded-sealed : (layer : Layer) (t : Term) (s : NodeState) → SealFitsAt layer t s → Commanded s
+    → Commanded (sealed_at layer t s)
 unfolding SealFitsAt
 commanded-sealed Nwk t s m o = record {
-  nets = λ key. subst (λ x. IfHolds Behind x) (sym (find-map (at_key key) (λ r. cond (same_key r.key t.base) (next_at (t.counter + 1) r) r) (at-key-kept (next_at (t.counter + 1)) t.base key (λ r. refl)) s.nets))
+  nets = λ key. subst (λ x. IfHolds Behind x)
+      (sym (find-map (at_key key) (λ r. cond (same_key r.key t.base) (next_at (t.counter + 1) r) r)
+      (at-key-kept (next_at (t.counter + 1)) t.base key (λ r. refl)) s.nets))
       (if-moved t.counter key t.base s.nets (find (at_key key) s.nets) refl (o.nets key) m.2);
   aps = o.aps;
 }
 commanded-sealed Aps t s m o = record { nets = o.nets; aps = omega (arith, m.2) }
 
-behind-declared : (v : ℕ) (b : Bool) (r : NetKey) → r.started ≡ b → Behind r → Behind (cond b (record r { limit = max r.limit v; next = max r.next v }) r)
+behind-declared : (v : ℕ) (b : Bool) (r : NetKey) → r.started ≡ b → Behind r
+    → Behind (cond b (record r { limit = max r.limit v; next = max r.next v }) r)
 unfolding Behind
 behind-declared v true r e p = (omega (arith, p.0), λ q. e)
 behind-declared v false r e p = p
 
-key-declared : (v : ℕ) (b : Bool) (r : NetKey) → (cond b (record r { limit = max r.limit v; next = max r.next v }) r).key ≡ r.key
+key-declared : (v : ℕ) (b : Bool) (r : NetKey)
+    → (cond b (record r { limit = max r.limit v; next = max r.next v }) r).key ≡ r.key
 key-declared v true r = refl
 key-declared v false r = refl
 
 pub commanded-after : (l : Line) (s : NodeState) → StateFits l s → Commanded s → Commanded (after l s)
 unfolding after with_given_net with_given_link with_declared after_sealing after_boot Behind
 commanded-after (Declared p) s m o = record { nets = o.nets; aps = o.aps }
-commanded-after (GivenNet n k q) s m o = record { nets = if-add (has_net k s.nets) (given_net s.declared k q) (le_refl s.declared, λ p. refl) s.nets o.nets; aps = o.aps }
+commanded-after (GivenNet n k q) s m o =
+    record {
+      nets = if-add (has_net k s.nets) (given_net s.declared k q) (le_refl s.declared, λ p. refl) s.nets
+          o.nets;
+      aps = o.aps;
+    }
 commanded-after (GivenLink n p k) s m o = record { nets = o.nets; aps = o.aps }
-commanded-after (Counter n Nwk v) s m o = record { nets = if-all (declared_at v) (λ r. key-declared v r.started r) (λ r p. behind-declared v r.started r refl p) s.nets o.nets; aps = o.aps }
+commanded-after (Counter n Nwk v) s m o =
+    record {
+      nets = if-all (declared_at v) (λ r. key-declared v r.started r)
+          (λ r p. behind-declared v r.started r refl p) s.nets o.nets;
+      aps = o.aps;
+    }
 commanded-after (Counter n Aps v) s m o = record { nets = o.nets; aps = omega (arith, o.aps) }
 commanded-after (Changed e n edit) s m o = commanded-applied edit s o
 commanded-after (Accept e n t) s m o = commanded-accepted t s o
 commanded-after (Seal e n t) s m o = commanded-sealed t.layer t s m.fits o
-commanded-after (Boot e n) s m o = record { nets = if-all booted_net (λ r. refl) (λ r p. (le_refl r.limit, p.1)) s.nets o.nets; aps = le_refl s.aps_limit }
+commanded-after (Boot e n) s m o =
+    record {
+      nets = if-all booted_net (λ r. refl) (λ r p. (le_refl r.limit, p.1)) s.nets o.nets;
+      aps = le_refl s.aps_limit;
+    }
 commanded-after _ s m o = o

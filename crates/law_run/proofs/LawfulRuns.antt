@@ -14,17 +14,24 @@ no_counters : Counting
 no_counters = record { counter = λ layer. 0; reserve = λ layer. None; floor = λ layer. None; start = None }
 
 taken : Tools → Schedule → List Line → ℕ → Task → Counting
-taken tools w h n task = counting_of (setting_of w n) (state_of h n) (plan_of tools (setting_of w n) (state_of h n) task)
+taken tools w h n task = counting_of (setting_of w n) (state_of h n)
+    (plan_of tools (setting_of w n) (state_of h n) task)
 
-task-answers : (tools : Tools) (w : Schedule) (h : List Line) (disks : List Disk) (number n : ℕ) (task : Task) → (k : Counting) × (task_step tools counting_of w h disks number n task ≡ task_step tools (λ c s p. k) w h disks number n task)
+task-answers : (tools : Tools) (w : Schedule) (h : List Line) (disks : List Disk) (number n : ℕ) (task : Task)
+    → (k : Counting)
+    × (task_step tools counting_of w h disks number n task ≡ task_step tools (λ c s p. k) w h disks number n task)
 unfolding task_step taken
 task-answers tools w h disks number n task = (taken tools w h n task, refl)
 
-deliver-answers : (tools : Tools) (w : Schedule) (h : List Line) (disks : List Disk) (number n : ℕ) (o : Option Bytes) → (k : Counting) × (deliver_step tools counting_of w h disks number n o ≡ deliver_step tools (λ c s p. k) w h disks number n o)
+deliver-answers : (tools : Tools) (w : Schedule) (h : List Line) (disks : List Disk) (number n : ℕ) (o : Option Bytes)
+    → (k : Counting)
+    × (deliver_step tools counting_of w h disks number n o ≡ deliver_step tools (λ c s p. k) w h disks number n o)
 deliver-answers tools w h disks number n None = (no_counters, refl)
-deliver-answers tools w h disks number n (Some bytes) = task-answers tools w h disks number n (Received bytes (supply w h))
+deliver-answers tools w h disks number n (Some bytes) =
+    task-answers tools w h disks number n (Received bytes (supply w h))
 
-answers : (tools : Tools) (w : Schedule) (h : List Line) (disks : List Disk) (number : ℕ) (event : Event) → Answers tools w h disks number event (step tools w h disks number event)
+answers : (tools : Tools) (w : Schedule) (h : List Line) (disks : List Disk) (number : ℕ) (event : Event)
+    → Answers tools w h disks number event (step tools w h disks number event)
 unfolding step step_by
 answers tools w h disks number (Own n task) = task-answers tools w h disks number n task
 answers tools w h disks number (RollOver n) = task-answers tools w h disks number n (DoRoll (supply w h))
@@ -36,18 +43,22 @@ answers tools w h disks number (ArmStop n calls torn) = (no_counters, refl)
 answers tools w h disks number (ArmFail n call) = (no_counters, refl)
 answers tools w h disks number (InjectBytes bytes) = (no_counters, refl)
 answers tools w h disks number (ForgeNet to from source key sequence counter content) = (no_counters, refl)
-answers tools w h disks number (ForgeNetAps to from source key sequence counter label base aps_counter command) = (no_counters, refl)
+answers tools w h disks number (ForgeNetAps to from source key sequence counter label base aps_counter command) =
+    (no_counters, refl)
 answers tools w h disks number (ForgeOpen to from source label base aps_counter command) = (no_counters, refl)
 
-lawful-from : (tools : Tools) (w : Schedule) (h : List Line) (disks : List Disk) (number : ℕ) (events : List Event) → LawfulFrom tools w h disks number events (groups tools w h disks number events)
+lawful-from : (tools : Tools) (w : Schedule) (h : List Line) (disks : List Disk) (number : ℕ) (events : List Event)
+    → LawfulFrom tools w h disks number events (groups tools w h disks number events)
 unfolding groups
 lawful-from tools w h disks number [] = refl
 lawful-from tools w h disks number (event ∷ events) = (
   step tools w h disks number event,
-  groups tools w (h ++ (step tools w h disks number event).lines) (step tools w h disks number event).disks (number + 1) events,
+  groups tools w (h ++ (step tools w h disks number event).lines) (step tools w h disks number event).disks
+      (number + 1) events,
   refl,
   answers tools w h disks number event,
-  lawful-from tools w (h ++ (step tools w h disks number event).lines) (step tools w h disks number event).disks (number + 1) events,
+  lawful-from tools w (h ++ (step tools w h disks number event).lines) (step tools w h disks number event).disks
+      (number + 1) events,
 )
 
 pub lawful : (tools : Tools) (w : Schedule) → Lawful tools w (transcript tools w)

@@ -71,7 +71,8 @@ late-back d a (Changed e n (Moved (Removed x))) k i = by-test (nat_eq x d) i
     by-test false i = inl i
 late-back d a (Changed e n (Moved (Draw j))) k i = by-test a.gone i
   where
-    by-test : (b : Bool) → In k (cond b (record { gone = true; keys = j ∷ a.keys }) a).keys → In k a.keys ⊎ In k (j ∷ [])
+    by-test : (b : Bool) → In k (cond b (record { gone = true; keys = j ∷ a.keys }) a).keys → In k a.keys
+        ⊎ In k (j ∷ [])
     by-test true (inl q) = inr (inl q)
     by-test true (inr i) = inl i
     by-test false i = inl i
@@ -122,20 +123,26 @@ line-one (Changed e n (Moved (Row o i t))) p q k j r x = sym r.0 ∙ x.0
 line-one (GivenLink n o i) p q k j r x = sym r.0 ∙ x.0
 line-one _ p q k j r x = absurd r
 
-pub row-back : (h : List Line) (l : Line) (c p : ℕ) (k : Bytes) → HasRow (state_of (h ++ l ∷ []) c) p k → HasRow (state_of h c) p k ⊎ ((speaker l ≡ c) × LineRow l p k)
-row-back h l c p k r = ⊎_elim (λ o. inl (old o)) (λ n. inr (n.0, row-line l r.row p k n.1 r.partner r.key)) (link-back h l c r.row r.among)
+pub row-back : (h : List Line) (l : Line) (c p : ℕ) (k : Bytes) → HasRow (state_of (h ++ l ∷ []) c) p k
+    → HasRow (state_of h c) p k ⊎ ((speaker l ≡ c) × LineRow l p k)
+row-back h l c p k r = ⊎_elim (λ o. inl (old o)) (λ n. inr (n.0, row-line l r.row p k n.1 r.partner r.key))
+    (link-back h l c r.row r.among)
   where
     old : OldLink (state_of h c).links r.row → HasRow (state_of h c) p k
     old o = record { row = o.row; among = o.among; partner = o.partner ∙ r.partner; key = o.key ∙ r.key }
 
-pub has-net-back : (h : List Line) (l : Line) (c : ℕ) (k : Bytes) → HasNet (state_of (h ++ l ∷ []) c) k → HasNet (state_of h c) k ⊎ ((speaker l ≡ c) × LineNet l k)
-has-net-back h l c k r = ⊎_elim (λ o. inl (old o)) (λ n. inr (n.0, net-line l r.row k n.1 r.key)) (net-back h l c r.row r.among)
+pub has-net-back : (h : List Line) (l : Line) (c : ℕ) (k : Bytes) → HasNet (state_of (h ++ l ∷ []) c) k
+    → HasNet (state_of h c) k ⊎ ((speaker l ≡ c) × LineNet l k)
+has-net-back h l c k r = ⊎_elim (λ o. inl (old o)) (λ n. inr (n.0, net-line l r.row k n.1 r.key))
+    (net-back h l c r.row r.among)
   where
     old : SameNet (state_of h c).nets r.row → HasNet (state_of h c) k
     old o = record { row = o.row; among = o.among; key = o.key ∙ r.key }
 
-pub has-pair-back : (h : List Line) (l : Line) (c : ℕ) (k : Bytes) → HasPair (state_of (h ++ l ∷ []) c) k → HasPair (state_of h c) k ⊎ ((speaker l ≡ c) × LinePair l k)
-has-pair-back h l c k r = ⊎_elim (λ i. inl (record { pair = r.pair; among = i; key = r.key })) (λ n. inr (n.0, pair-line l r.pair k n.1 r.key)) (pair-back h l c r.pair r.among)
+pub has-pair-back : (h : List Line) (l : Line) (c : ℕ) (k : Bytes) → HasPair (state_of (h ++ l ∷ []) c) k
+    → HasPair (state_of h c) k ⊎ ((speaker l ≡ c) × LinePair l k)
+has-pair-back h l c k r = ⊎_elim (λ i. inl (record { pair = r.pair; among = i; key = r.key }))
+    (λ n. inr (n.0, pair-line l r.pair k n.1 r.key)) (pair-back h l c r.pair r.among)
 
 -- Readings of one line more
 
@@ -145,7 +152,8 @@ terms-snoc h l = flat_map-append terms_in h (l ∷ []) ∙ ap (λ x. flat_map te
 
 pub ever-snoc : (h : List Line) (d : ℕ) (l : Line) → ever (h ++ l ∷ []) d ≡ ever h d ++ ever_in (stations_of h) d l
 unfolding ever stations_of
-ever-snoc h d l = ever-append [] d h (l ∷ []) ∙ ap (λ x. ever_from [] d h ++ x) (append-nil' (ever_in (fold station_line [] h) d l))
+ever-snoc h d l = ever-append [] d h (l ∷ []) ∙ ap (λ x. ever_from [] d h ++ x)
+    (append-nil' (ever_in (fold station_line [] h) d l))
 
 abbrev pub drawn : List Line → List Bytes
 drawn h = flat_map drawn_in h
@@ -178,7 +186,8 @@ Unseen tools d h k = ((t : Term) → In t (terms_of h) → carried tools t ≡ S
 -- The invariant of a device. Net: the keys of the network, over the whole run; Given: those that the device starts
 -- with.
 pub record Kept (tools : Tools) (c d : ℕ) (Net Given : Bytes → Type 0) (h : List Line) : Type 0 where
-  pub closed : (t : Term) → In t (terms_of h) → (k : Bytes) → carried tools t ≡ Some k → Safe c d h k → Other (state_of h c) d t.base
+  pub closed : (t : Term) → In t (terms_of h) → (k : Bytes) → carried tools t ≡ Some k → Safe c d h k
+      → Other (state_of h c) d t.base
   pub out : (k : Bytes) → In k (ever h d) → Safe c d h k → ⊥
   pub terms_known : (t : Term) → In t (terms_of h) → (k : Bytes) → carried tools t ≡ Some k → Net k → Known c h k
   pub ever_known : (k : Bytes) → In k (ever h d) → Net k → Known c h k ⊎ Given k
@@ -187,11 +196,14 @@ pub record Kept (tools : Tools) (c d : ℕ) (Net Given : Bytes → Type 0) (h : 
 
 -- what a line must meet
 pub record Fits (tools : Tools) (c d : ℕ) (Net Given : Bytes → Type 0) (h : List Line) (l : Line) : Type 0 where
-  pub terms : (t : Term) → In t (terms_in l) → (k : Bytes) → carried tools t ≡ Some k → (Safe c d (h ++ l ∷ []) k → Other (state_of (h ++ l ∷ []) c) d t.base) × (Net k → Known c (h ++ l ∷ []) k)
-  pub held : (k : Bytes) → In k (ever_in (stations_of h) d l) → (Safe c d (h ++ l ∷ []) k → ⊥) × (Net k → Known c (h ++ l ∷ []) k ⊎ Given k)
+  pub terms : (t : Term) → In t (terms_in l) → (k : Bytes) → carried tools t ≡ Some k
+      → (Safe c d (h ++ l ∷ []) k → Other (state_of (h ++ l ∷ []) c) d t.base) × (Net k → Known c (h ++ l ∷ []) k)
+  pub held : (k : Bytes) → In k (ever_in (stations_of h) d l) → (Safe c d (h ++ l ∷ []) k → ⊥)
+      × (Net k → Known c (h ++ l ∷ []) k ⊎ Given k)
   pub safe : (k : Bytes) → Safe c d (h ++ l ∷ []) k → Safe c d h k ⊎ Unseen tools d h k
 
-pub other-more : (h : List Line) (l : Line) (c d : ℕ) (k : Bytes) → Other (state_of h c) d k → Other (state_of (h ++ l ∷ []) c) d k
+pub other-more : (h : List Line) (l : Line) (c d : ℕ) (k : Bytes) → Other (state_of h c) d k
+    → Other (state_of (h ++ l ∷ []) c) d k
 other-more h l c d k o = record { partner = o.partner; not_it = o.not_it; row = row-forth h l c o.partner k o.row }
 
 pub drawn-more : (h : List Line) (l : Line) (k : Bytes) → In k (drawn h) → In k (drawn (h ++ l ∷ []))
@@ -205,14 +217,19 @@ known-more h l c k (inl i) = inl (drawn-more h l k i)
 known-more h l c k (inr (inl r)) = inr (inl (r.0, row-forth h l c r.0 k r.1))
 known-more h l c k (inr (inr n)) = inr (inr (net-forth h l c k n))
 
-pub kept-step : (tools : Tools) (c d : ℕ) (Net Given : Bytes → Type 0) (h : List Line) (l : Line) → Kept tools c d Net Given h → Fits tools c d Net Given h l → Kept tools c d Net Given (h ++ l ∷ [])
+pub kept-step : (tools : Tools) (c d : ℕ) (Net Given : Bytes → Type 0) (h : List Line) (l : Line)
+    → Kept tools c d Net Given h → Fits tools c d Net Given h l → Kept tools c d Net Given (h ++ l ∷ [])
 kept-step tools c d Net Given h l k f = record {
   closed = λ t i j e s. ⊎_elim (λ a. old-term t a j e s) (λ a. (f.terms t a j e).0 s) (term-cases t i);
-  out = λ j i s. ⊎_elim (λ a. ⊎_elim (λ b. k.out j a b) (λ u. u.1 a) (f.safe j s)) (λ a. (f.held j a).0 s) (ever-cases j i);
-  terms_known = λ t i j e n. ⊎_elim (λ a. known-more h l c j (k.terms_known t a j e n)) (λ a. (f.terms t a j e).1 n) (term-cases t i);
-  ever_known = λ j i n. ⊎_elim (λ a. ⊎_elim (λ b. inl (known-more h l c j b)) (λ b. inr b) (k.ever_known j a n)) (λ a. (f.held j a).1 n) (ever-cases j i);
+  out = λ j i s. ⊎_elim (λ a. ⊎_elim (λ b. k.out j a b) (λ u. u.1 a) (f.safe j s)) (λ a. (f.held j a).0 s)
+      (ever-cases j i);
+  terms_known = λ t i j e n. ⊎_elim (λ a. known-more h l c j (k.terms_known t a j e n)) (λ a. (f.terms t a j e).1 n)
+      (term-cases t i);
+  ever_known = λ j i n. ⊎_elim (λ a. ⊎_elim (λ b. inl (known-more h l c j b)) (λ b. inr b) (k.ever_known j a n))
+      (λ a. (f.held j a).1 n) (ever-cases j i);
   none = subst NoneOk (sym (away-snoc d h l)) (none-line d (away d h) l k.none);
-  late_drawn = λ j i. ⊎_elim (λ a. drawn-more h l j (k.late_drawn j a)) (λ a. drawn-new h l j a) (late-back d (away d h) l j (subst (λ a. In j a.keys) (away-snoc d h l) i));
+  late_drawn = λ j i. ⊎_elim (λ a. drawn-more h l j (k.late_drawn j a)) (λ a. drawn-new h l j a)
+      (late-back d (away d h) l j (subst (λ a. In j a.keys) (away-snoc d h l) i));
 }
   where
     term-cases : (t : Term) → In t (terms_of (h ++ l ∷ [])) → In t (terms_of h) ⊎ In t (terms_in l)
@@ -221,17 +238,24 @@ kept-step tools c d Net Given h l k f = record {
     ever-cases : (j : Bytes) → In j (ever (h ++ l ∷ []) d) → In j (ever h d) ⊎ In j (ever_in (stations_of h) d l)
     ever-cases j i = in-append' j (ever h d) (ever_in (stations_of h) d l) (subst (λ x. In j x) (ever-snoc h d l) i)
 
-    old-term : (t : Term) → In t (terms_of h) → (j : Bytes) → carried tools t ≡ Some j → Safe c d (h ++ l ∷ []) j → Other (state_of (h ++ l ∷ []) c) d t.base
-    old-term t a j e s = ⊎_elim (λ b. other-more h l c d t.base (k.closed t a j e b)) (λ u. absurd (u.0 t a e)) (f.safe j s)
+    old-term : (t : Term) → In t (terms_of h) → (j : Bytes) → carried tools t ≡ Some j → Safe c d (h ++ l ∷ []) j
+        → Other (state_of (h ++ l ∷ []) c) d t.base
+    old-term t a j e s = ⊎_elim (λ b. other-more h l c d t.base (k.closed t a j e b)) (λ u. absurd (u.0 t a e))
+        (f.safe j s)
 
 -- what becomes safe by a line: a draw, or another's row
-pub safe-cases : (c d : ℕ) (h : List Line) (l : Line) (k : Bytes) → Safe c d (h ++ l ∷ []) k → Safe c d h k ⊎ ((In k (late_line d (away d h) l).keys × In k (drawn_in l)) ⊎ ((p : ℕ) × (p ≡ d → ⊥) × (speaker l ≡ c) × LineRow l p k))
+pub safe-cases : (c d : ℕ) (h : List Line) (l : Line) (k : Bytes) → Safe c d (h ++ l ∷ []) k → Safe c d h k
+    ⊎ ((In k (late_line d (away d h) l).keys × In k (drawn_in l))
+    ⊎ ((p : ℕ) × (p ≡ d → ⊥) × (speaker l ≡ c) × LineRow l p k))
 safe-cases c d h l k (inl i) = late (subst (λ a. In k a.keys) (away-snoc d h l) i)
   where
-    late : In k (late_line d (away d h) l).keys → Safe c d h k ⊎ ((In k (late_line d (away d h) l).keys × In k (drawn_in l)) ⊎ ((p : ℕ) × (p ≡ d → ⊥) × (speaker l ≡ c) × LineRow l p k))
+    late : In k (late_line d (away d h) l).keys → Safe c d h k
+        ⊎ ((In k (late_line d (away d h) l).keys × In k (drawn_in l))
+        ⊎ ((p : ℕ) × (p ≡ d → ⊥) × (speaker l ≡ c) × LineRow l p k))
     late j = ⊎_elim (λ a. inl (inl a)) (λ a. inr (inl (j, a))) (late-back d (away d h) l k j)
 safe-cases c d h l k (inr o) =
-    ⊎_elim (λ r. inl (inr (record { partner = o.partner; not_it = o.not_it; row = r }))) (λ r. inr (inr (o.partner, o.not_it, r.0, r.1))) (row-back h l c o.partner k o.row)
+    ⊎_elim (λ r. inl (inr (record { partner = o.partner; not_it = o.not_it; row = r })))
+    (λ r. inr (inr (o.partner, o.not_it, r.0, r.1))) (row-back h l c o.partner k o.row)
 
 -- The rows of the centre: no key serves two, each is known, and none is the centre's own or the well-known one.
 pub record Ledger (c : ℕ) (draws : List Bytes) (Net NetGiven : Bytes → Type 0) (h : List Line) : Type 0 where
@@ -254,11 +278,13 @@ pub record RowFits (c : ℕ) (Net : Bytes → Type 0) (s : NodeState) (p : ℕ) 
   pub well : k ≡ well_known → ⊥
   pub known : Net k
 
-pub record LedgerFits (c : ℕ) (draws : List Bytes) (Net NetGiven : Bytes → Type 0) (h : List Line) (l : Line) : Type 0 where
-  pub rows : (p : ℕ) (k : Bytes) → speaker l ≡ c → LineRow l p k → RowFits c Net (state_of h c) p k
-  pub nets : (k : Bytes) → speaker l ≡ c → LineNet l k → ((p : ℕ) → HasRow (state_of h c) p k → ⊥) × (In k (drawn h) ⊎ NetGiven k)
-  pub pairs : (k : Bytes) → speaker l ≡ c → LinePair l k → ((p : ℕ) → HasRow (state_of h c) p k → ⊥) × In k (drawn h)
-  pub draw : (k : Bytes) → In k (drawn_in l) → Net k × (slice_get draws (draws_used h) ≡ Some k)
+pub record LedgerFits (c : ℕ) (draws : List Bytes) (Net NetGiven : Bytes → Type 0) (h : List Line) (l : Line) : Type 0
+  where
+    pub rows : (p : ℕ) (k : Bytes) → speaker l ≡ c → LineRow l p k → RowFits c Net (state_of h c) p k
+    pub nets : (k : Bytes) → speaker l ≡ c → LineNet l k → ((p : ℕ) → HasRow (state_of h c) p k → ⊥)
+        × (In k (drawn h) ⊎ NetGiven k)
+    pub pairs : (k : Bytes) → speaker l ≡ c → LinePair l k → ((p : ℕ) → HasRow (state_of h c) p k → ⊥) × In k (drawn h)
+    pub draw : (k : Bytes) → In k (drawn_in l) → Net k × (slice_get draws (draws_used h) ≡ Some k)
 
 pub used-less : (n : ℕ) (l : Line) → n ≡ draw_line n l ⊎ ((n + 1) ≡ draw_line n l)
 used-less n (Changed e m (Moved (Draw k))) = inr refl
@@ -277,28 +303,42 @@ used-less n (Changed e m (Moved (Untold d))) = inl refl
 used-less n _ = inl refl
 
 less-used : (i n : ℕ) (l : Line) → i < n → i < draw_line n l
-less-used i n l lt = ⊎_elim (λ e. subst (λ m. i < m) e lt) (λ e. subst (λ m. i < m) e (omega (arith, lt))) (used-less n l)
+less-used i n l lt = ⊎_elim (λ e. subst (λ m. i < m) e lt) (λ e. subst (λ m. i < m) e (omega (arith, lt)))
+    (used-less n l)
 
 pub drawn-used : (n : ℕ) (l : Line) (k : Bytes) → In k (drawn_in l) → n < draw_line n l
 unfolding In
 drawn-used n (Changed e m (Moved (Draw j))) k i = omega arith
 drawn-used n _ k i = absurd i
 
-pub ledger-step : (c : ℕ) (draws : List Bytes) (Net NetGiven : Bytes → Type 0) (h : List Line) (l : Line) → Ledger c draws Net NetGiven h → LedgerFits c draws Net NetGiven h l → Ledger c draws Net NetGiven (h ++ l ∷ [])
+pub ledger-step : (c : ℕ) (draws : List Bytes) (Net NetGiven : Bytes → Type 0) (h : List Line) (l : Line)
+    → Ledger c draws Net NetGiven h → LedgerFits c draws Net NetGiven h l → Ledger c draws Net NetGiven (h ++ l ∷ [])
 ledger-step c draws Net NetGiven h l g f = record {
-  one = λ p q k a b. ⊎_elim (λ x. ⊎_elim (λ y. g.one p q k x y) (λ y. (f.rows q k y.0 y.1).one p x) (row-back h l c q k b))
-      (λ x. ⊎_elim (λ y. sym ((f.rows p k x.0 x.1).one q y)) (λ y. line-one l p q k k x.1 y.1) (row-back h l c q k b)) (row-back h l c p k a);
+  one = λ p q k a b. ⊎_elim
+      (λ x. ⊎_elim (λ y. g.one p q k x y) (λ y. (f.rows q k y.0 y.1).one p x) (row-back h l c q k b))
+      (λ x. ⊎_elim (λ y. sym ((f.rows p k x.0 x.1).one q y)) (λ y. line-one l p q k k x.1 y.1) (row-back h l c q k b))
+      (row-back h l c p k a);
   net = λ p k a b. ⊎_elim (λ x. ⊎_elim (λ y. g.net p k x y) (λ y. (f.nets k y.0 y.1).0 p x) (has-net-back h l c k b))
-      (λ x. ⊎_elim (λ y. (f.rows p k x.0 x.1).net y) (λ y. row-apart-net l p k k x.1 y.1) (has-net-back h l c k b)) (row-back h l c p k a);
-  pair = λ p k a b. ⊎_elim (λ x. ⊎_elim (λ y. g.pair p k x y) (λ y. (f.pairs k y.0 y.1).0 p x) (has-pair-back h l c k b))
-      (λ x. ⊎_elim (λ y. (f.rows p k x.0 x.1).pair y) (λ y. row-apart-pair l p k k x.1 y.1) (has-pair-back h l c k b)) (row-back h l c p k a);
-  pair_drawn = λ k a. ⊎_elim (λ x. drawn-more h l k (g.pair_drawn k x)) (λ x. drawn-more h l k (f.pairs k x.0 x.1).1) (has-pair-back h l c k a);
-  net_known = λ k a. ⊎_elim (λ x. more k (g.net_known k x)) (λ x. more k (f.nets k x.0 x.1).1) (has-net-back h l c k a);
+      (λ x. ⊎_elim (λ y. (f.rows p k x.0 x.1).net y) (λ y. row-apart-net l p k k x.1 y.1) (has-net-back h l c k b))
+      (row-back h l c p k a);
+  pair = λ p k a b. ⊎_elim
+      (λ x. ⊎_elim (λ y. g.pair p k x y) (λ y. (f.pairs k y.0 y.1).0 p x) (has-pair-back h l c k b))
+      (λ x. ⊎_elim (λ y. (f.rows p k x.0 x.1).pair y) (λ y. row-apart-pair l p k k x.1 y.1) (has-pair-back h l c k b))
+      (row-back h l c p k a);
+  pair_drawn = λ k a. ⊎_elim (λ x. drawn-more h l k (g.pair_drawn k x)) (λ x. drawn-more h l k (f.pairs k x.0 x.1).1)
+      (has-pair-back h l c k a);
+  net_known = λ k a. ⊎_elim (λ x. more k (g.net_known k x)) (λ x. more k (f.nets k x.0 x.1).1)
+      (has-net-back h l c k a);
   centre = λ p k a. ⊎_elim (λ x. g.centre p k x) (λ x. (f.rows p k x.0 x.1).centre) (row-back h l c p k a);
   well = λ p k a. ⊎_elim (λ x. g.well p k x) (λ x. (f.rows p k x.0 x.1).well) (row-back h l c p k a);
   row_net = λ p k a. ⊎_elim (λ x. g.row_net p k x) (λ x. (f.rows p k x.0 x.1).known) (row-back h l c p k a);
   drawn_net = λ k i. ⊎_elim (λ x. g.drawn_net k x) (λ x. (f.draw k x).0) (drawn-cases k i);
-  drawn_from = λ k i. ⊎_elim (λ x. later k (g.drawn_from k x)) (λ x. (draws_used h, subst (λ m. draws_used h < m) (sym (used-snoc h l)) (drawn-used (draws_used h) l k x), (f.draw k x).1)) (drawn-cases k i);
+  drawn_from = λ k i. ⊎_elim (λ x. later k (g.drawn_from k x))
+      (λ x. (
+        draws_used h,
+        subst (λ m. draws_used h < m) (sym (used-snoc h l)) (drawn-used (draws_used h) l k x),
+        (f.draw k x).1,
+      )) (drawn-cases k i);
 }
   where
     drawn-cases : (k : Bytes) → In k (drawn (h ++ l ∷ [])) → In k (drawn h) ⊎ In k (drawn_in l)
@@ -308,7 +348,8 @@ ledger-step c draws Net NetGiven h l g f = record {
     more k (inl i) = inl (drawn-more h l k i)
     more k (inr n) = inr n
 
-    later : (k : Bytes) → ((i : ℕ) × (i < draws_used h) × (slice_get draws i ≡ Some k)) → (i : ℕ) × (i < draws_used (h ++ l ∷ [])) × (slice_get draws i ≡ Some k)
+    later : (k : Bytes) → ((i : ℕ) × (i < draws_used h) × (slice_get draws i ≡ Some k)) → (i : ℕ)
+        × (i < draws_used (h ++ l ∷ [])) × (slice_get draws i ≡ Some k)
     later k d = (d.0, subst (λ m. d.0 < m) (sym (used-snoc h l)) (less-used d.0 (draws_used h) l d.1), d.2)
 
 -- While a device is away it has no live row.
@@ -324,7 +365,9 @@ pub record DeadFits (c d : ℕ) (h : List Line) (l : Line) : Type 0 where
 
 pub dead-step : (c d : ℕ) (h : List Line) (l : Line) → Dead c d h → DeadFits c d h l → Dead c d (h ++ l ∷ [])
 dead-step c d h l dead f gone r i live partner =
-    ⊎_elim (λ o. old o.row o.among (o.live live) (o.partner ∙ partner)) (λ n. f.came gone' r.partner r.key n.0 (row-line l r r.partner r.key n.1 refl refl) partner) (link-back h l c r i)
+    ⊎_elim (λ o. old o.row o.among (o.live live) (o.partner ∙ partner))
+    (λ n. f.came gone' r.partner r.key n.0 (row-line l r r.partner r.key n.1 refl refl) partner)
+    (link-back h l c r i)
   where
     gone' : (late_line d (away d h) l).gone ≡ true
     gone' = subst (λ a. a.gone ≡ true) (away-snoc d h l) gone
@@ -337,7 +380,8 @@ dead-step c d h l dead f gone r i live partner =
 pub holds-in : (xs : List Bytes) (k : Bytes) → holds xs k ≡ true → In k xs
 unfolding In
 holds-in [] k e = absurd (false≢true e)
-holds-in (x ∷ xs) k e = ⊎_elim (λ a. inl (sym (same_key-eq k x a))) (λ a. inr (holds-in xs k a)) (or_cases (same_key k x) (holds xs k) e)
+holds-in (x ∷ xs) k e = ⊎_elim (λ a. inl (sym (same_key-eq k x a))) (λ a. inr (holds-in xs k a))
+    (or_cases (same_key k x) (holds xs k) e)
 
 abbrev Free : (Bytes → Type 0) → List Bytes → Type 0
 Free S keys = (k : Bytes) → holds keys k ≡ true → S k → ⊥
@@ -345,24 +389,32 @@ Free S keys = (k : Bytes) → holds keys k ≡ true → S k → ⊥
 abbrev pub Closed : Tools → (Bytes → Type 0) → List Term → Type 0
 Closed tools S terms = (t : Term) → In t terms → (k : Bytes) → carried tools t ≡ Some k → S k → S t.base
 
-opened-free : (tools : Tools) (S : Bytes → Type 0) (keys : List Bytes) (t : Term) → ((k : Bytes) → carried tools t ≡ Some k → S k → S t.base) → Free S keys → Free S (opened_by tools keys t)
+opened-free : (tools : Tools) (S : Bytes → Type 0) (keys : List Bytes) (t : Term)
+    → ((k : Bytes) → carried tools t ≡ Some k → S k → S t.base) → Free S keys → Free S (opened_by tools keys t)
 opened-free tools S keys t closed f = by-base (holds keys t.base) refl (carried tools t) refl
   where
-    by-base : (b : Bool) → holds keys t.base ≡ b → (o : Option Bytes) → carried tools t ≡ o → Free S (cond b (fold with_key keys (option_to_list o)) keys)
+    by-base : (b : Bool) → holds keys t.base ≡ b → (o : Option Bytes) → carried tools t ≡ o
+        → Free S (cond b (fold with_key keys (option_to_list o)) keys)
     by-base false e o q k i s = f k i s
     by-base true e None q k i s = f k i s
-    by-base true e (Some x) q k i s = ⊎_elim (λ a. f k a s) (λ a. f t.base e (closed x q (subst S a s))) (with-cases-by (holds keys x) keys x k i)
+    by-base true e (Some x) q k i s = ⊎_elim (λ a. f k a s) (λ a. f t.base e (closed x q (subst S a s)))
+        (with-cases-by (holds keys x) keys x k i)
 
-round-free : (tools : Tools) (S : Bytes → Type 0) (terms : List Term) (keys : List Bytes) → Closed tools S terms → Free S keys → Free S (fold (opened_by tools) keys terms)
+round-free : (tools : Tools) (S : Bytes → Type 0) (terms : List Term) (keys : List Bytes) → Closed tools S terms
+    → Free S keys → Free S (fold (opened_by tools) keys terms)
 unfolding In
 round-free tools S [] keys c f = f
-round-free tools S (t ∷ ts) keys c f = round-free tools S ts (opened_by tools keys t) (λ u i. c u (inr i)) (opened-free tools S keys t (c t (inl refl)) f)
+round-free tools S (t ∷ ts) keys c f = round-free tools S ts (opened_by tools keys t) (λ u i. c u (inr i))
+    (opened-free tools S keys t (c t (inl refl)) f)
 
-rounds-free : (n : ℕ) (tools : Tools) (S : Bytes → Type 0) (terms : List Term) (keys : List Bytes) → Closed tools S terms → Free S keys → Free S (rounds n tools terms keys)
+rounds-free : (n : ℕ) (tools : Tools) (S : Bytes → Type 0) (terms : List Term) (keys : List Bytes)
+    → Closed tools S terms → Free S keys → Free S (rounds n tools terms keys)
 unfolding rounds a_round
 rounds-free zero tools S terms keys c f = f
-rounds-free (suc n) tools S terms keys c f = rounds-free n tools S terms (a_round tools terms keys) c (round-free tools S terms keys c f)
+rounds-free (suc n) tools S terms keys c f = rounds-free n tools S terms (a_round tools terms keys) c
+    (round-free tools S terms keys c f)
 
-pub exposed-free : (tools : Tools) (S : Bytes → Type 0) (h : List Line) (from : List Bytes) → Closed tools S (terms_of h) → Free S from → Free S (exposed tools h from)
+pub exposed-free : (tools : Tools) (S : Bytes → Type 0) (h : List Line) (from : List Bytes)
+    → Closed tools S (terms_of h) → Free S from → Free S (exposed tools h from)
 unfolding exposed
 exposed-free tools S h from c f = rounds-free (length h) tools S (terms_of h) from c f

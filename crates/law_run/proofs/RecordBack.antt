@@ -47,27 +47,36 @@ small-take n bytes h i =
 
 -- One reading and what follows it
 
-data Step (A B : Type 0) (spell : A → Bytes) (P : A → Type 0) (bytes : Bytes) (next : A → Taking B) (y : B) (rest : Bytes) : Type 0 where
-  Went : (value : A) (mid : Bytes) → bytes ≡ spell value ++ mid → Small mid → P value → next value mid ≡ Some (y, rest) → Step A B spell P bytes next y rest
+data Step (A B : Type 0) (spell : A → Bytes) (P : A → Type 0) (bytes : Bytes) (next : A → Taking B) (y : B)
+    (rest : Bytes) : Type 0 where
+  Went : (value : A) (mid : Bytes) → bytes ≡ spell value ++ mid → Small mid → P value → next value mid
+      ≡ Some (y, rest) → Step A B spell P bytes next y rest
 
 -- what a reading reads is spelled, and has a property
 abbrev Back : (A : Type 0) → Taking A → (A → Bytes) → (A → Type 0) → Type 0
-Back A read spell P = (bytes : Bytes) (x : A) (rest : Bytes) → Small bytes → read bytes ≡ Some (x, rest) → (bytes ≡ spell x ++ rest) × P x
+Back A read spell P = (bytes : Bytes) (x : A) (rest : Bytes) → Small bytes → read bytes ≡ Some (x, rest)
+    → (bytes ≡ spell x ++ rest) × P x
 
-step-by : (A B : Type 0) (read : Taking A) (spell : A → Bytes) (P : A → Type 0) → Back A read spell P → (bytes : Bytes) (next : A → Taking B) (y : B) (rest : Bytes) → Small bytes
+step-by : (A B : Type 0) (read : Taking A) (spell : A → Bytes) (P : A → Type 0) → Back A read spell P
+    → (bytes : Bytes) (next : A → Taking B) (y : B) (rest : Bytes) → Small bytes
     → (o : Option (A × Bytes)) → read bytes ≡ o → follow o next ≡ Some (y, rest) → Step A B spell P bytes next y rest
 unfolding follow
 step-by A B read spell P back bytes next y rest s None q e = absurd (none-is (B × Bytes) (y, rest) e)
 step-by A B read spell P back bytes next y rest s (Some x) q e =
-    Went x.0 x.1 (back bytes x.0 x.1 s q).0 (small-rest (spell x.0) x.1 bytes (back bytes x.0 x.1 s q).0 s) (back bytes x.0 x.1 s q).1 e
+    Went x.0 x.1 (back bytes x.0 x.1 s q).0 (small-rest (spell x.0) x.1 bytes (back bytes x.0 x.1 s q).0 s)
+    (back bytes x.0 x.1 s q).1 e
 
-step : (A B : Type 0) (read : Taking A) (spell : A → Bytes) (P : A → Type 0) → Back A read spell P → (bytes : Bytes) (next : A → Taking B) (y : B) (rest : Bytes) → Small bytes → follow (read bytes) next ≡ Some (y, rest) → Step A B spell P bytes next y rest
-step A B read spell P back bytes next y rest s e = step-by A B read spell P back bytes next y rest s (read bytes) refl e
+step : (A B : Type 0) (read : Taking A) (spell : A → Bytes) (P : A → Type 0) → Back A read spell P
+    → (bytes : Bytes) (next : A → Taking B) (y : B) (rest : Bytes) → Small bytes → follow (read bytes) next
+    ≡ Some (y, rest) → Step A B spell P bytes next y rest
+step A B read spell P back bytes next y rest s e = step-by A B read spell P back bytes next y rest s (read bytes) refl
+    e
 
 data Pick (A B : Type 0) (o : Option A) (bytes : Bytes) (next : A → Taking B) (y : B) (rest : Bytes) : Type 0 where
   Picked : (value : A) → o ≡ Some value → next value bytes ≡ Some (y, rest) → Pick A B o bytes next y rest
 
-pick : (A B : Type 0) (o : Option A) (bytes : Bytes) (next : A → Taking B) (y : B) (rest : Bytes) → follow (chosen o bytes) next ≡ Some (y, rest) → Pick A B o bytes next y rest
+pick : (A B : Type 0) (o : Option A) (bytes : Bytes) (next : A → Taking B) (y : B) (rest : Bytes)
+    → follow (chosen o bytes) next ≡ Some (y, rest) → Pick A B o bytes next y rest
 unfolding follow chosen
 pick A B None bytes next y rest e = absurd (none-is (B × Bytes) (y, rest) e)
 pick A B (Some x) bytes next y rest e = Picked x refl e
@@ -87,9 +96,12 @@ byte-back (b ∷ bytes) x rest s e = (ap (λ p. p.0 ∷ p.1) (some-same (ℕ × 
 abbrev same : Bytes → Bytes
 same xs = xs
 
-bytes-by : (n : ℕ) (bytes xs rest : Bytes) (b : Bool) → cond {A = Option (Bytes × Bytes)} b None (Some (take n bytes, drop n bytes)) ≡ Some (xs, rest) → bytes ≡ xs ++ rest
+bytes-by : (n : ℕ) (bytes xs rest : Bytes) (b : Bool)
+    → cond {A = Option (Bytes × Bytes)} b None (Some (take n bytes, drop n bytes)) ≡ Some (xs, rest) → bytes ≡ xs
+    ++ rest
 bytes-by n bytes xs rest true e = absurd (none-is (Bytes × Bytes) (xs, rest) e)
-bytes-by n bytes xs rest false e = sym (take-append-drop n bytes) ∙ ap (λ p. p.0 ++ p.1) (some-same (Bytes × Bytes) (take n bytes, drop n bytes) (xs, rest) e)
+bytes-by n bytes xs rest false e = sym (take-append-drop n bytes) ∙ ap (λ p. p.0 ++ p.1)
+    (some-same (Bytes × Bytes) (take n bytes, drop n bytes) (xs, rest) e)
 
 bytes-back : (n : ℕ) → Back Bytes (some_bytes n) same (Any Bytes)
 unfolding some_bytes
@@ -107,12 +119,19 @@ spells32 bs len s = le_bytes_4 bs (from_le_bytes w32 bs) len s refl
 spells64 : Spells w64
 spells64 bs len s = le_bytes_8 bs (from_le_bytes w64 bs) len s refl
 
-number-by : (w : Width) → Spells w → (bytes : Bytes) (n : ℕ) (rest : Bytes) → Small bytes → (b : Bool) → nat_lt (length bytes) (byte_len w) ≡ b → cond {A = Option (ℕ × Bytes)} b None (Some (from_le_bytes w (take (byte_len w) bytes), drop (byte_len w) bytes)) ≡ Some (n, rest) → bytes ≡ to_le_bytes w n ++ rest
+number-by : (w : Width) → Spells w → (bytes : Bytes) (n : ℕ) (rest : Bytes) → Small bytes → (b : Bool)
+    → nat_lt (length bytes) (byte_len w) ≡ b
+    → cond {A = Option (ℕ × Bytes)} b None (Some (from_le_bytes w (take (byte_len w) bytes), drop (byte_len w) bytes))
+    ≡ Some (n, rest) → bytes ≡ to_le_bytes w n ++ rest
 number-by w sp bytes n rest s true q e = absurd (none-is (ℕ × Bytes) (n, rest) e)
 number-by w sp bytes n rest s false q e =
     sym (take-append-drop (byte_len w) bytes)
-    ∙ ap (λ l. l ++ drop (byte_len w) bytes) (sym (sp (take (byte_len w) bytes) (omega (arith, length-take (byte_len w) bytes, ltb-false (length bytes) (byte_len w) q)) (small-take (byte_len w) bytes s)))
-    ∙ ap (λ p. to_le_bytes w p.0 ++ p.1) (some-same (ℕ × Bytes) (from_le_bytes w (take (byte_len w) bytes), drop (byte_len w) bytes) (n, rest) e)
+    ∙ ap (λ l. l ++ drop (byte_len w) bytes)
+    (sym (sp (take (byte_len w) bytes)
+    (omega (arith, length-take (byte_len w) bytes, ltb-false (length bytes) (byte_len w) q))
+    (small-take (byte_len w) bytes s)))
+    ∙ ap (λ p. to_le_bytes w p.0 ++ p.1)
+    (some-same (ℕ × Bytes) (from_le_bytes w (take (byte_len w) bytes), drop (byte_len w) bytes) (n, rest) e)
 
 number-back : (w : Width) → Spells w → Back ℕ (a_number w) (to_le_bytes w) (Any ℕ)
 unfolding a_number
@@ -170,9 +189,12 @@ three-back (suc zero) f e = ap three_worth (some-same (Bool × Bool × Bool) (tr
 three-back (suc (suc zero)) f e = ap three_worth (some-same (Bool × Bool × Bool) (false, true, false) f e)
 three-back (suc (suc (suc zero))) f e = ap three_worth (some-same (Bool × Bool × Bool) (true, true, false) f e)
 three-back (suc (suc (suc (suc zero)))) f e = ap three_worth (some-same (Bool × Bool × Bool) (false, false, true) f e)
-three-back (suc (suc (suc (suc (suc zero))))) f e = ap three_worth (some-same (Bool × Bool × Bool) (true, false, true) f e)
-three-back (suc (suc (suc (suc (suc (suc zero)))))) f e = ap three_worth (some-same (Bool × Bool × Bool) (false, true, true) f e)
-three-back (suc (suc (suc (suc (suc (suc (suc zero))))))) f e = ap three_worth (some-same (Bool × Bool × Bool) (true, true, true) f e)
+three-back (suc (suc (suc (suc (suc zero))))) f e =
+    ap three_worth (some-same (Bool × Bool × Bool) (true, false, true) f e)
+three-back (suc (suc (suc (suc (suc (suc zero)))))) f e =
+    ap three_worth (some-same (Bool × Bool × Bool) (false, true, true) f e)
+three-back (suc (suc (suc (suc (suc (suc (suc zero))))))) f e =
+    ap three_worth (some-same (Bool × Bool × Bool) (true, true, true) f e)
 three-back (suc (suc (suc (suc (suc (suc (suc (suc b)))))))) f e = absurd (none-is (Bool × Bool × Bool) f e)
 
 only-by : (wanted b : ℕ) (x : Unit {0}) (t : Bool) → nat_eq b wanted ≡ t → cond t (Some tt) None ≡ Some x → b ≡ wanted
@@ -183,23 +205,34 @@ only-back : (wanted b : ℕ) (x : Unit {0}) → only wanted b ≡ Some x → b �
 only-back wanted b x e = only-by wanted b x (nat_eq b wanted) refl e
 
 -- so many of them
-many-back : (A : Type 0) (read : Taking A) (spell : A → Bytes) (P : A → Type 0) → Back A read spell P → (n : ℕ) (bytes : Bytes) (xs : List A) (rest : Bytes) → Small bytes → so_many read n bytes ≡ Some (xs, rest)
+many-back : (A : Type 0) (read : Taking A) (spell : A → Bytes) (P : A → Type 0) → Back A read spell P
+    → (n : ℕ) (bytes : Bytes) (xs : List A) (rest : Bytes) → Small bytes → so_many read n bytes ≡ Some (xs, rest)
     → (bytes ≡ flat_map spell xs ++ rest) × (length xs ≡ n) × AllByRecursion P xs
 unfolding so_many
-many-back A read spell P back zero bytes xs rest s e = subst (λ (p : List A × Bytes). (bytes ≡ flat_map spell p.0 ++ p.1) × (length p.0 ≡ 0) × AllByRecursion P p.0) (some-same (List A × Bytes) ([], bytes) (xs, rest) e) (refl, refl, tt)
+many-back A read spell P back zero bytes xs rest s e =
+    subst (λ (p : List A × Bytes). (bytes ≡ flat_map spell p.0 ++ p.1) × (length p.0 ≡ 0) × AllByRecursion P p.0)
+    (some-same (List A × Bytes) ([], bytes) (xs, rest) e) (refl, refl, tt)
 many-back A read spell P back (suc n) bytes xs rest s e =
     elim (step A (List A) read spell P back bytes _ xs rest s e) [
       | Went one_v one_m one_t one_s one_h one_l ↦
           elim (step (List A) (List A) (so_many read n) (flat_map spell) (λ ys. (length ys ≡ n) × AllByRecursion P ys)
-          (λ b ys r t q. let m = many-back A read spell P back n b ys r t q in (m.0, (m.1, m.2))) one_m _ xs rest one_s one_l) [
+          (λ b ys r t q. let m = many-back A read spell P back n b ys r t q in (m.0, (m.1, m.2))) one_m _ xs rest
+          one_s one_l) [
             | Went more_v more_m more_t more_s more_h more_l ↦
-                subst (λ (p : List A × Bytes). (bytes ≡ flat_map spell p.0 ++ p.1) × (length p.0 ≡ suc n) × AllByRecursion P p.0) (some-same (List A × Bytes) (one_v ∷ more_v, more_m) (xs, rest) more_l)
-                (one_t ∙ ap (λ l. spell one_v ++ l) more_t ∙ sym (append_assoc (spell one_v) (flat_map spell more_v) more_m), ap suc more_h.0, (one_h, more_h.1))
+                subst (λ (p : List A × Bytes). (bytes ≡ flat_map spell p.0 ++ p.1) × (length p.0 ≡ suc n)
+                × AllByRecursion P p.0) (some-same (List A × Bytes) (one_v ∷ more_v, more_m) (xs, rest) more_l) (
+                  one_t ∙ ap (λ l. spell one_v ++ l) more_t ∙ sym
+                      (append_assoc (spell one_v) (flat_map spell more_v) more_m),
+                  ap suc more_h.0,
+                  (one_h, more_h.1),
+                )
           ]
     ]
 
-many-of : (A : Type 0) (read : Taking A) (spell : A → Bytes) (P : A → Type 0) → Back A read spell P → (n : ℕ) → Back (List A) (so_many read n) (flat_map spell) (λ ys. (length ys ≡ n) × AllByRecursion P ys)
-many-of A read spell P back n bytes xs rest s e = let m = many-back A read spell P back n bytes xs rest s e in (m.0, (m.1, m.2))
+many-of : (A : Type 0) (read : Taking A) (spell : A → Bytes) (P : A → Type 0) → Back A read spell P → (n : ℕ)
+    → Back (List A) (so_many read n) (flat_map spell) (λ ys. (length ys ≡ n) × AllByRecursion P ys)
+many-of A read spell P back n bytes xs rest s e = let m = many-back A read spell P back n bytes xs rest s e in
+    (m.0, (m.1, m.2))
 
 -- Rows
 
@@ -217,20 +250,39 @@ net-back bytes r rest s e =
                   | Went b_v b_m b_t b_s b_h b_l ↦
                       elim (pick (Bool × Bool) NetKey (two_flags b_v) b_m _ r rest b_l) [
                         | Picked f_v f_i f_l ↦
-                            elim (step ℕ NetKey (a_number w32) (to_le_bytes w32) (Any ℕ) (number-back w32 spells32) b_m _ r rest b_s f_l) [
+                            elim (step ℕ NetKey (a_number w32) (to_le_bytes w32) (Any ℕ) (number-back w32 spells32)
+                            b_m _ r rest b_s f_l) [
                               | Went l_v l_m l_t l_s l_h l_l ↦
                                   subst (λ (p : NetKey × Bytes). (bytes ≡ net_bytes p.0 ++ p.1) × IsBare p.0)
-                                  (some-same (NetKey × Bytes) (record { key = k_v; sequence = q_v; live = f_v.0; started = f_v.1; limit = l_v; next = l_v; floors = [] }, l_m) (r, rest) l_l)
-                                  (net-text k_v q_v b_v l_v f_v bytes k_m q_m b_m l_m k_t q_t b_t (two-back b_v f_v f_i) l_t, (refl, refl))
+                                  (some-same (NetKey × Bytes) (
+                                    record {
+                                      key = k_v;
+                                      sequence = q_v;
+                                      live = f_v.0;
+                                      started = f_v.1;
+                                      limit = l_v;
+                                      next = l_v;
+                                      floors = [];
+                                    },
+                                    l_m,
+                                  ) (r, rest) l_l) (
+                                    net-text k_v q_v b_v l_v f_v bytes k_m q_m b_m l_m k_t q_t b_t
+                                        (two-back b_v f_v f_i) l_t,
+                                    (refl, refl),
+                                  )
                             ]
                       ]
                 ]
           ]
     ]
   where
-    net-text : (key : Bytes) (q b l : ℕ) (f : Bool × Bool) (bytes m1 m2 m3 m4 : Bytes) → bytes ≡ key ++ m1 → m1 ≡ q ∷ m2 → m2 ≡ b ∷ m3 → b ≡ two_worth f → m3 ≡ to_le_bytes w32 l ++ m4 → bytes ≡ (key ++ (q ∷ two_worth f ∷ to_le_bytes w32 l)) ++ m4
+    net-text : (key : Bytes) (q b l : ℕ) (f : Bool × Bool) (bytes m1 m2 m3 m4 : Bytes) → bytes ≡ key ++ m1 → m1 ≡ q
+        ∷ m2 → m2 ≡ b ∷ m3 → b ≡ two_worth f → m3 ≡ to_le_bytes w32 l ++ m4 → bytes
+        ≡ (key ++ (q ∷ two_worth f ∷ to_le_bytes w32 l)) ++ m4
     net-text key q b l f bytes m1 m2 m3 m4 e1 e2 e3 e4 e5 =
-        e1 ∙ ap (λ x. key ++ x) (e2 ∙ ap (λ x. q ∷ x) (e3 ∙ ap (λ x. b ∷ x) e5 ∙ ap (λ x. x ∷ (to_le_bytes w32 l ++ m4)) e4)) ∙ sym (append_assoc key (q ∷ two_worth f ∷ to_le_bytes w32 l) m4)
+        e1 ∙ ap (λ x. key ++ x)
+        (e2 ∙ ap (λ x. q ∷ x) (e3 ∙ ap (λ x. b ∷ x) e5 ∙ ap (λ x. x ∷ (to_le_bytes w32 l ++ m4)) e4)) ∙ sym
+        (append_assoc key (q ∷ two_worth f ∷ to_le_bytes w32 l) m4)
 
 abbrev FixedSender : SenderFloor → Type 0
 FixedSender f = booted_floor f ≡ f
@@ -240,10 +292,16 @@ unfolding sender_at
 sender-back bytes f rest s e =
     elim (step ℕ SenderFloor (a_number w64) (to_le_bytes w64) (Any ℕ) (number-back w64 spells64) bytes _ f rest s e) [
       | Went a_v a_m a_t a_s a_h a_l ↦
-          elim (step ℕ SenderFloor (a_number w32) (to_le_bytes w32) (Any ℕ) (number-back w32 spells32) a_m _ f rest a_s a_l) [
+          elim (step ℕ SenderFloor (a_number w32) (to_le_bytes w32) (Any ℕ) (number-back w32 spells32) a_m _ f rest
+          a_s a_l) [
             | Went b_v b_m b_t b_s b_h b_l ↦
-                subst (λ (p : SenderFloor × Bytes). (bytes ≡ sender_bytes p.0 ++ p.1) × FixedSender p.0) (some-same (SenderFloor × Bytes) (record { sender = a_v; kept = b_v; stored = b_v }, b_m) (f, rest) b_l)
-                (a_t ∙ ap (λ x. to_le_bytes w64 a_v ++ x) b_t ∙ sym (append_assoc (to_le_bytes w64 a_v) (to_le_bytes w32 b_v) b_m), refl)
+                subst (λ (p : SenderFloor × Bytes). (bytes ≡ sender_bytes p.0 ++ p.1) × FixedSender p.0)
+                (some-same (SenderFloor × Bytes) (record { sender = a_v; kept = b_v; stored = b_v }, b_m)
+                (f, rest) b_l) (
+                  a_t ∙ ap (λ x. to_le_bytes w64 a_v ++ x) b_t ∙ sym
+                      (append_assoc (to_le_bytes w64 a_v) (to_le_bytes w32 b_v) b_m),
+                  refl,
+                )
           ]
     ]
 
@@ -259,8 +317,10 @@ unfolding floors_at
 floors-back bytes fs rest s e =
     elim (step ℕ (List SenderFloor) a_byte one (Any ℕ) byte-back bytes _ fs rest s e) [
       | Went c_v c_m c_t c_s c_h c_l ↦
-          let m = many-back SenderFloor sender_at sender_bytes FixedSender sender-back c_v c_m fs rest c_s c_l in
-          (c_t ∙ ap (λ x. c_v ∷ x) m.0 ∙ ap (λ n. n ∷ (flat_map sender_bytes fs ++ rest)) (sym m.1), fixed-map SenderFloor booted_floor fs m.2)
+          let m = many-back SenderFloor sender_at sender_bytes FixedSender sender-back c_v c_m fs rest c_s c_l in (
+            c_t ∙ ap (λ x. c_v ∷ x) m.0 ∙ ap (λ n. n ∷ (flat_map sender_bytes fs ++ rest)) (sym m.1),
+            fixed-map SenderFloor booted_floor fs m.2,
+          )
     ]
 
 -- the floors of the live rows
@@ -275,44 +335,71 @@ record FloorsOf (rs nets : List NetKey) : Type 0 where
 abbrev with_ : NetKey → ℕ → List SenderFloor → NetKey
 with_ r next floors = record r { next = next; floors = floors }
 
-fixed-live : (r : NetKey) (fs : List SenderFloor) → r.next ≡ r.limit → r.live ≡ true → map booted_floor fs ≡ fs → booted_row (record r { floors = fs }) ≡ record r { floors = fs }
+fixed-live : (r : NetKey) (fs : List SenderFloor) → r.next ≡ r.limit → r.live ≡ true → map booted_floor fs ≡ fs
+    → booted_row (record r { floors = fs }) ≡ record r { floors = fs }
 fixed-live r fs next live fix =
-    ap (λ n. with_ r n (cond r.live (map booted_floor fs) [])) (sym next) ∙ ap (λ b. with_ r r.next (cond b (map booted_floor fs) [])) live ∙ ap (λ l. with_ r r.next l) fix
+    ap (λ n. with_ r n (cond r.live (map booted_floor fs) [])) (sym next) ∙ ap
+    (λ b. with_ r r.next (cond b (map booted_floor fs) [])) live ∙ ap (λ l. with_ r r.next l) fix
 
 fixed-dropped : (r : NetKey) → r.next ≡ r.limit → r.live ≡ false → r.floors ≡ [] → booted_row r ≡ r
 fixed-dropped r next live empty =
-    ap (λ n. with_ r n (cond r.live (map booted_floor r.floors) [])) (sym next) ∙ ap (λ b. with_ r r.next (cond b (map booted_floor r.floors) [])) live ∙ ap (λ l. with_ r r.next l) (sym empty)
+    ap (λ n. with_ r n (cond r.live (map booted_floor r.floors) [])) (sym next) ∙ ap
+    (λ b. with_ r r.next (cond b (map booted_floor r.floors) [])) live ∙ ap (λ l. with_ r r.next l) (sym empty)
 
 abbrev NetsBack : List NetKey → Type 0
 NetsBack rs = Back (List NetKey) (with_floors rs) live_floors (FloorsOf rs)
 
-with-by : (b : Bool) (r : NetKey) (rs : List NetKey) → r.live ≡ b → IsBare r → NetsBack rs → (bytes : Bytes) (nets : List NetKey) (rest : Bytes) → Small bytes
-    → cond b (follow (floors_at bytes) (λ floors mid. follow (with_floors rs mid) (λ ns end_. Some (record r { floors = floors } ∷ ns, end_)))) (follow (with_floors rs bytes) (λ ns end_. Some (r ∷ ns, end_))) ≡ Some (nets, rest)
+with-by : (b : Bool) (r : NetKey) (rs : List NetKey) → r.live ≡ b → IsBare r → NetsBack rs
+    → (bytes : Bytes) (nets : List NetKey) (rest : Bytes) → Small bytes
+    → cond b
+    (follow (floors_at bytes)
+    (λ floors mid. follow (with_floors rs mid) (λ ns end_. Some (record r { floors = floors } ∷ ns, end_))))
+    (follow (with_floors rs bytes) (λ ns end_. Some (r ∷ ns, end_))) ≡ Some (nets, rest)
     → (bytes ≡ live_floors nets ++ rest) × FloorsOf (r ∷ rs) nets
 with-by true r rs live bare back bytes nets rest s e =
-    elim (step (List SenderFloor) (List NetKey) floors_at floors_text (λ fs. map booted_floor fs ≡ fs) floors-back bytes _ nets rest s e) [
+    elim (step (List SenderFloor) (List NetKey) floors_at floors_text (λ fs. map booted_floor fs ≡ fs) floors-back
+    bytes _ nets rest s e) [
       | Went f_v f_m f_t f_s f_h f_l ↦
-          elim (step (List NetKey) (List NetKey) (with_floors rs) live_floors (FloorsOf rs) back f_m _ nets rest f_s f_l) [
+          elim (step (List NetKey) (List NetKey) (with_floors rs) live_floors (FloorsOf rs) back f_m _ nets rest f_s
+          f_l) [
             | Went m_v m_m m_t m_s m_h m_l ↦
-                subst (λ (p : List NetKey × Bytes). (bytes ≡ live_floors p.0 ++ p.1) × FloorsOf (r ∷ rs) p.0) (some-same (List NetKey × Bytes) (record r { floors = f_v } ∷ m_v, m_m) (nets, rest) m_l) (
+                subst (λ (p : List NetKey × Bytes). (bytes ≡ live_floors p.0 ++ p.1) × FloorsOf (r ∷ rs) p.0)
+                (some-same (List NetKey × Bytes) (record r { floors = f_v } ∷ m_v, m_m) (nets, rest) m_l) (
                   f_t ∙ ap (λ l. floors_text f_v ++ l) m_t ∙ sym (append_assoc (floors_text f_v) (live_floors m_v) m_m)
-                      ∙ ap (λ b. flat_map floors_bytes (cond b (record r { floors = f_v } ∷ filter (λ (x : NetKey). x.live) m_v) (filter (λ (x : NetKey). x.live) m_v)) ++ m_m) (sym live),
-                  record { rows = ap (λ l. net_bytes r ++ l) m_h.rows; count = ap suc m_h.count; fixed = (fixed-live r f_v bare.0 live f_h, m_h.fixed) },
+                      ∙ ap (λ b. flat_map floors_bytes
+                      (cond b (record r { floors = f_v } ∷ filter (λ (x : NetKey). x.live) m_v)
+                      (filter (λ (x : NetKey). x.live) m_v)) ++ m_m) (sym live),
+                  record {
+                    rows = ap (λ l. net_bytes r ++ l) m_h.rows;
+                    count = ap suc m_h.count;
+                    fixed = (fixed-live r f_v bare.0 live f_h, m_h.fixed);
+                  },
                 )
           ]
     ]
 with-by false r rs live bare back bytes nets rest s e =
     elim (step (List NetKey) (List NetKey) (with_floors rs) live_floors (FloorsOf rs) back bytes _ nets rest s e) [
       | Went m_v m_m m_t m_s m_h m_l ↦
-          subst (λ (p : List NetKey × Bytes). (bytes ≡ live_floors p.0 ++ p.1) × FloorsOf (r ∷ rs) p.0) (some-same (List NetKey × Bytes) (r ∷ m_v, m_m) (nets, rest) m_l) (
-            m_t ∙ ap (λ b. flat_map floors_bytes (cond b (r ∷ filter (λ (x : NetKey). x.live) m_v) (filter (λ (x : NetKey). x.live) m_v)) ++ m_m) (sym live),
-            record { rows = ap (λ l. net_bytes r ++ l) m_h.rows; count = ap suc m_h.count; fixed = (fixed-dropped r bare.0 live bare.1, m_h.fixed) },
+          subst (λ (p : List NetKey × Bytes). (bytes ≡ live_floors p.0 ++ p.1) × FloorsOf (r ∷ rs) p.0)
+          (some-same (List NetKey × Bytes) (r ∷ m_v, m_m) (nets, rest) m_l) (
+            m_t ∙ ap
+                (λ b. flat_map floors_bytes
+                (cond b (r ∷ filter (λ (x : NetKey). x.live) m_v) (filter (λ (x : NetKey). x.live) m_v)) ++ m_m)
+                (sym live),
+            record {
+              rows = ap (λ l. net_bytes r ++ l) m_h.rows;
+              count = ap suc m_h.count;
+              fixed = (fixed-dropped r bare.0 live bare.1, m_h.fixed);
+            },
           )
     ]
 
 with-back : (rs : List NetKey) → AllByRecursion IsBare rs → NetsBack rs
 unfolding with_floors
-with-back [] a bytes nets rest s e = subst (λ (p : List NetKey × Bytes). (bytes ≡ live_floors p.0 ++ p.1) × FloorsOf [] p.0) (some-same (List NetKey × Bytes) ([], bytes) (nets, rest) e) (refl, record { rows = refl; count = refl; fixed = tt })
+with-back [] a bytes nets rest s e =
+    subst (λ (p : List NetKey × Bytes). (bytes ≡ live_floors p.0 ++ p.1) × FloorsOf [] p.0)
+    (some-same (List NetKey × Bytes) ([], bytes) (nets, rest) e)
+    (refl, record { rows = refl; count = refl; fixed = tt })
 with-back (r ∷ rs) a bytes nets rest s e = with-by r.live r rs refl a.0 (with-back rs a.1) bytes nets rest s e
 
 abbrev FixedLink : LinkKey → Type 0
@@ -333,11 +420,32 @@ link-back bytes r rest s e =
                               | Went b_v b_m b_t b_s b_h b_l ↦
                                   elim (pick (Bool × Bool × Bool) LinkKey (three_flags b_v) b_m _ r rest b_l) [
                                     | Picked f_v f_i f_l ↦
-                                        elim (step ℕ LinkKey (a_number w32) (to_le_bytes w32) (Any ℕ) (number-back w32 spells32) b_m _ r rest b_s f_l) [
+                                        elim (step ℕ LinkKey (a_number w32) (to_le_bytes w32) (Any ℕ)
+                                        (number-back w32 spells32) b_m _ r rest b_s f_l) [
                                           | Went l_v l_m l_t l_s l_h l_l ↦
-                                              subst (λ (x : LinkKey × Bytes). (bytes ≡ link_bytes x.0 ++ x.1) × FixedLink x.0)
-                                              (some-same (LinkKey × Bytes) (record { partner = p_v; key = k_v; attribute = t_v; live = f_v.0; code = f_v.1; told = f_v.2; kept = l_v; stored = l_v }, l_m) (r, rest) l_l)
-                                              (link-text (to_le_bytes w64 p_v) k_v (to_le_bytes w32 l_v) a_v b_v (attribute_byte t_v) (three_worth f_v) bytes p_m k_m a_m b_m l_m p_t k_t a_t (attribute-back a_v t_v t_i) b_t (three-back b_v f_v f_i) l_t, refl)
+                                              subst (λ (x : LinkKey × Bytes). (bytes ≡ link_bytes x.0 ++ x.1)
+                                              × FixedLink x.0)
+                                              (some-same (LinkKey × Bytes) (
+                                                record {
+                                                  partner = p_v;
+                                                  key = k_v;
+                                                  attribute = t_v;
+                                                  live = f_v.0;
+                                                  code = f_v.1;
+                                                  told = f_v.2;
+                                                  kept = l_v;
+                                                  stored = l_v;
+                                                },
+                                                l_m,
+                                              )
+                                              (r, rest) l_l) (
+                                                link-text (to_le_bytes w64 p_v) k_v (to_le_bytes w32 l_v) a_v b_v
+                                                    (attribute_byte t_v) (three_worth f_v) bytes p_m k_m a_m b_m l_m
+                                                    p_t
+                                                    k_t a_t (attribute-back a_v t_v t_i) b_t (three-back b_v f_v f_i)
+                                                    l_t,
+                                                refl,
+                                              )
                                         ]
                                   ]
                             ]
@@ -346,9 +454,14 @@ link-back bytes r rest s e =
           ]
     ]
   where
-    link-text : (partner key stored : Bytes) (a b t f : ℕ) (bytes m1 m2 m3 m4 m5 : Bytes) → bytes ≡ partner ++ m1 → m1 ≡ key ++ m2 → m2 ≡ a ∷ m3 → a ≡ t → m3 ≡ b ∷ m4 → b ≡ f → m4 ≡ stored ++ m5 → bytes ≡ (partner ++ (key ++ (t ∷ f ∷ stored))) ++ m5
+    link-text : (partner key stored : Bytes) (a b t f : ℕ) (bytes m1 m2 m3 m4 m5 : Bytes) → bytes ≡ partner ++ m1 → m1
+        ≡ key ++ m2 → m2 ≡ a ∷ m3 → a ≡ t → m3 ≡ b ∷ m4 → b ≡ f → m4 ≡ stored ++ m5 → bytes
+        ≡ (partner ++ (key ++ (t ∷ f ∷ stored))) ++ m5
     link-text partner key stored a b t f bytes m1 m2 m3 m4 m5 e1 e2 e3 e4 e5 e6 e7 =
-        e1 ∙ ap (λ x. partner ++ x) (e2 ∙ ap (λ x. key ++ x) (e3 ∙ ap (λ x. a ∷ x) (e5 ∙ ap (λ x. b ∷ x) e7 ∙ ap (λ x. x ∷ (stored ++ m5)) e6) ∙ ap (λ x. x ∷ f ∷ (stored ++ m5)) e4) ∙ sym (append_assoc key (t ∷ f ∷ stored) m5))
+        e1 ∙ ap (λ x. partner ++ x)
+        (e2 ∙ ap (λ x. key ++ x)
+        (e3 ∙ ap (λ x. a ∷ x) (e5 ∙ ap (λ x. b ∷ x) e7 ∙ ap (λ x. x ∷ (stored ++ m5)) e6) ∙ ap
+        (λ x. x ∷ f ∷ (stored ++ m5)) e4) ∙ sym (append_assoc key (t ∷ f ∷ stored) m5))
         ∙ sym (append_assoc partner (key ++ (t ∷ f ∷ stored)) m5)
 
 pair-back : Back PairKey pair_at pair_bytes (Any PairKey)
@@ -356,7 +469,8 @@ unfolding pair_at
 pair-back bytes p rest s e =
     elim (step ℕ PairKey (a_number w64) (to_le_bytes w64) (Any ℕ) (number-back w64 spells64) bytes _ p rest s e) [
       | Went a_v a_m a_t a_s a_h a_l ↦
-          elim (step ℕ PairKey (a_number w64) (to_le_bytes w64) (Any ℕ) (number-back w64 spells64) a_m _ p rest a_s a_l) [
+          elim (step ℕ PairKey (a_number w64) (to_le_bytes w64) (Any ℕ) (number-back w64 spells64) a_m _ p rest a_s
+          a_l) [
             | Went b_v b_m b_t b_s b_h b_l ↦
                 elim (step Bytes PairKey (some_bytes 16) same (Any Bytes) (bytes-back 16) b_m _ p rest b_s b_l) [
                   | Went k_v k_m k_t k_s k_h k_l ↦
@@ -364,17 +478,26 @@ pair-back bytes p rest s e =
                         | Went c_v c_m c_t c_s c_h c_l ↦
                             elim (pick (Unit {0}) PairKey (only 1 c_v) c_m _ p rest c_l) [
                               | Picked l_v l_i l_l ↦
-                                  subst (λ (x : PairKey × Bytes). (bytes ≡ pair_bytes x.0 ++ x.1) × Any PairKey x.0) (some-same (PairKey × Bytes) (record { first = a_v; second = b_v; key = k_v }, c_m) (p, rest) l_l)
-                                  (pair-text (to_le_bytes w64 a_v) (to_le_bytes w64 b_v) k_v c_v bytes a_m b_m k_m c_m a_t b_t k_t c_t (only-back 1 c_v l_v l_i), tt)
+                                  subst (λ (x : PairKey × Bytes). (bytes ≡ pair_bytes x.0 ++ x.1) × Any PairKey x.0)
+                                  (some-same (PairKey × Bytes)
+                                  (record { first = a_v; second = b_v; key = k_v }, c_m) (p, rest) l_l) (
+                                    pair-text (to_le_bytes w64 a_v) (to_le_bytes w64 b_v) k_v c_v bytes a_m b_m k_m c_m
+                                        a_t b_t k_t c_t (only-back 1 c_v l_v l_i),
+                                    tt,
+                                  )
                             ]
                       ]
                 ]
           ]
     ]
   where
-    pair-text : (first second key : Bytes) (c : ℕ) (bytes m1 m2 m3 m4 : Bytes) → bytes ≡ first ++ m1 → m1 ≡ second ++ m2 → m2 ≡ key ++ m3 → m3 ≡ c ∷ m4 → c ≡ 1 → bytes ≡ (first ++ (second ++ (key ++ 1 ∷ []))) ++ m4
+    pair-text : (first second key : Bytes) (c : ℕ) (bytes m1 m2 m3 m4 : Bytes) → bytes ≡ first ++ m1 → m1 ≡ second
+        ++ m2 → m2 ≡ key ++ m3 → m3 ≡ c ∷ m4 → c ≡ 1 → bytes ≡ (first ++ (second ++ (key ++ 1 ∷ []))) ++ m4
     pair-text first second key c bytes m1 m2 m3 m4 e1 e2 e3 e4 e5 =
-        e1 ∙ ap (λ x. first ++ x) (e2 ∙ ap (λ x. second ++ x) (e3 ∙ ap (λ x. key ++ x) (e4 ∙ ap (λ x. x ∷ m4) e5) ∙ sym (append_assoc key (1 ∷ []) m4)) ∙ sym (append_assoc second (key ++ 1 ∷ []) m4))
+        e1 ∙ ap (λ x. first ++ x)
+        (e2 ∙ ap (λ x. second ++ x)
+        (e3 ∙ ap (λ x. key ++ x) (e4 ∙ ap (λ x. x ∷ m4) e5) ∙ sym (append_assoc key (1 ∷ []) m4)) ∙ sym
+        (append_assoc second (key ++ 1 ∷ []) m4))
         ∙ sym (append_assoc first (second ++ (key ++ 1 ∷ [])) m4)
 
 -- The place of the active row
@@ -382,33 +505,47 @@ pair-back bytes p rest s e =
 abbrev alike : NetKey → NetKey → Bool
 alike a b = same_key a.key b.key
 
-get-any : (test : NetKey → Bool) (nets : List NetKey) (i : ℕ) (r : NetKey) → slice_get nets i ≡ Some r → test r ≡ true → list_any test nets ≡ true
+get-any : (test : NetKey → Bool) (nets : List NetKey) (i : ℕ) (r : NetKey) → slice_get nets i ≡ Some r → test r ≡ true
+    → list_any test nets ≡ true
 get-any test [] i r e t = absurd (none-is NetKey r e)
-get-any test (x ∷ xs) zero r e t = ap (λ y. test y || list_any test xs) (some-same NetKey x r e) ∙ ap (λ b. b || list_any test xs) t
+get-any test (x ∷ xs) zero r e t = ap (λ y. test y || list_any test xs) (some-same NetKey x r e) ∙ ap
+    (λ b. b || list_any test xs) t
 get-any test (x ∷ xs) (suc i) r e t = later (test x) (list_any test xs) (get-any test xs i r e t)
   where
     later : (a b : Bool) → b ≡ true → (a || b) ≡ true
     later true b q = refl
     later false b q = q
 
-first-place : (at : ℕ) (nets : List NetKey) (i : ℕ) (r : NetKey) → all_apart alike nets ≡ true → slice_get nets i ≡ Some r → place_from at r.key nets ≡ at + i
+first-place : (at : ℕ) (nets : List NetKey) (i : ℕ) (r : NetKey) → all_apart alike nets ≡ true → slice_get nets i
+    ≡ Some r → place_from at r.key nets ≡ at + i
 first-place at [] i r a e = absurd (none-is NetKey r e)
-first-place at (x ∷ xs) zero r a e = ap (λ b. cond b at (place_from (at + 1) r.key xs)) (ap (λ (y : NetKey). same_key y.key r.key) (some-same NetKey x r e) ∙ same_key-refl r.key) ∙ omega arith
-first-place at (x ∷ xs) (suc i) r a e = ap (λ b. cond b at (place_from (at + 1) r.key xs)) (other (same_key x.key r.key) refl) ∙ first-place (at + 1) xs i r (and_parts (not (list_any (alike x) xs)) (all_apart alike xs) a).1 e ∙ omega arith
+first-place at (x ∷ xs) zero r a e = ap (λ b. cond b at (place_from (at + 1) r.key xs))
+    (ap (λ (y : NetKey). same_key y.key r.key) (some-same NetKey x r e) ∙ same_key-refl r.key) ∙ omega arith
+first-place at (x ∷ xs) (suc i) r a e = ap (λ b. cond b at (place_from (at + 1) r.key xs))
+    (other (same_key x.key r.key) refl) ∙ first-place (at + 1) xs i r
+    (and_parts (not (list_any (alike x) xs)) (all_apart alike xs) a).1 e ∙ omega arith
   where
     other : (b : Bool) → same_key x.key r.key ≡ b → b ≡ false
-    other true q = absurd (false≢true (sym (not-true (list_any (alike x) xs) (and_parts (not (list_any (alike x) xs)) (all_apart alike xs) a).0) ∙ get-any (alike x) xs i r e q))
+    other true q =
+        absurd (false≢true
+        (sym (not-true (list_any (alike x) xs) (and_parts (not (list_any (alike x) xs)) (all_apart alike xs) a).0) ∙
+        get-any (alike x) xs i r e q))
     other false q = refl
 
 zero-plus : (m : ℕ) → m ≡ 0 + m
 zero-plus m = omega arith
 
-active-by : (place : ℕ) (nets : List NetKey) (o : Option Bytes) → all_apart alike nets ≡ true → (b : Bool) → nat_eq place 65535 ≡ b → (x : Option NetKey) → slice_get nets place ≡ x → cond b (Some None) (option_map (λ (r : NetKey). Some r.key) x) ≡ Some o → place ≡ place_by o nets
-active-by place nets o a true q x g e = eqb-true place 65535 q ∙ ap (λ y. place_by y nets) (some-same (Option Bytes) None o e)
+active-by : (place : ℕ) (nets : List NetKey) (o : Option Bytes) → all_apart alike nets ≡ true → (b : Bool)
+    → nat_eq place 65535 ≡ b → (x : Option NetKey) → slice_get nets place ≡ x
+    → cond b (Some None) (option_map (λ (r : NetKey). Some r.key) x) ≡ Some o → place ≡ place_by o nets
+active-by place nets o a true q x g e = eqb-true place 65535 q ∙ ap (λ y. place_by y nets)
+    (some-same (Option Bytes) None o e)
 active-by place nets o a false q None g e = absurd (none-is (Option Bytes) o e)
-active-by place nets o a false q (Some r) g e = zero-plus place ∙ sym (first-place 0 nets place r a g) ∙ ap (λ y. place_by y nets) (some-same (Option Bytes) (Some r.key) o e)
+active-by place nets o a false q (Some r) g e = zero-plus place ∙ sym (first-place 0 nets place r a g) ∙ ap
+    (λ y. place_by y nets) (some-same (Option Bytes) (Some r.key) o e)
 
-active-back : (place : ℕ) (nets : List NetKey) (o : Option Bytes) → all_apart alike nets ≡ true → active_at place nets ≡ Some o → place ≡ place_by o nets
+active-back : (place : ℕ) (nets : List NetKey) (o : Option Bytes) → all_apart alike nets ≡ true → active_at place nets
+    ≡ Some o → place ≡ place_by o nets
 unfolding active_at
 active-back place nets o a e = active-by place nets o a (nat_eq place 65535) refl (slice_get nets place) refl e
 
@@ -423,19 +560,30 @@ record Found (bytes : Bytes) (s : NodeState) (rest : Bytes) : Type 0 where
   nets : AllByRecursion (λ r. booted_row r ≡ r) s.nets
   links : AllByRecursion FixedLink s.links
 
-chain : (bytes m1 m2 m3 m4 m5 m6 m7 m8 m9 m10 m11 m12 m13 rest D A C C' P N N' F G G' L H H' Q : Bytes) (v ro d st g roll w : ℕ)
-    → bytes ≡ v ∷ m1 → v ≡ 3 → m1 ≡ ro ∷ m2 → ro ≡ d → m2 ≡ st ∷ m3 → st ≡ g → m3 ≡ D ++ m4 → m4 ≡ A ++ m5 → m5 ≡ roll ∷ m6 → roll ≡ w → m6 ≡ C ++ m7 → C ≡ C' → m7 ≡ P ++ m8 → m8 ≡ N ++ m9 → N ≡ N' → m9 ≡ F ++ m10
+chain : (bytes m1 m2 m3 m4 m5 m6 m7 m8 m9 m10 m11 m12 m13 rest D A C C' P N N' F G G' L H H' Q : Bytes)
+    (v ro d st g roll w : ℕ)
+    → bytes ≡ v ∷ m1 → v ≡ 3 → m1 ≡ ro ∷ m2 → ro ≡ d → m2 ≡ st ∷ m3 → st ≡ g → m3 ≡ D ++ m4 → m4 ≡ A ++ m5 → m5 ≡ roll
+    ∷ m6 → roll ≡ w → m6 ≡ C ++ m7 → C ≡ C' → m7 ≡ P ++ m8 → m8 ≡ N ++ m9 → N ≡ N' → m9 ≡ F ++ m10
     → m10 ≡ G ++ m11 → G ≡ G' → m11 ≡ L ++ m12 → m12 ≡ H ++ m13 → H ≡ H' → m13 ≡ Q ++ rest
     → bytes ≡ 3 ∷ d ∷ g ∷ (D ++ (A ++ (w ∷ (C' ++ (P ++ (N' ++ (F ++ (G' ++ (L ++ (H' ++ (Q ++ rest)))))))))))
-chain bytes m1 m2 m3 m4 m5 m6 m7 m8 m9 m10 m11 m12 m13 rest D A C C' P N N' F G G' L H H' Q v ro d st g roll w e1 e2 e3 e4 e5 e6 e7 e8 e9 e10 e11 e12 e13 e14 e15 e16 e17 e18 e19 e20 e21 e22 = cc
+chain bytes m1 m2 m3 m4 m5 m6 m7 m8 m9 m10 m11 m12 m13 rest D A C C' P N N' F G G' L H H' Q v ro d st g roll w e1 e2
+    e3 e4 e5 e6 e7 e8 e9 e10 e11 e12 e13 e14 e15 e16 e17 e18 e19 e20 e21 e22 = cc
 
-regroup : (D A C P N F G L H Q rest : Bytes) (w : ℕ) → D ++ (A ++ (w ∷ (C ++ (P ++ (N ++ (F ++ (G ++ (L ++ (H ++ (Q ++ rest)))))))))) ≡ (D ++ (A ++ (w ∷ (C ++ (P ++ (N ++ (F ++ (G ++ (L ++ (H ++ Q)))))))))) ++ rest
+regroup : (D A C P N F G L H Q rest : Bytes) (w : ℕ) → D
+    ++ (A ++ (w ∷ (C ++ (P ++ (N ++ (F ++ (G ++ (L ++ (H ++ (Q ++ rest))))))))))
+    ≡ (D ++ (A ++ (w ∷ (C ++ (P ++ (N ++ (F ++ (G ++ (L ++ (H ++ Q)))))))))) ++ rest
 regroup D A C P N F G L H Q rest w =
-    sym (append_assoc D (A ++ (w ∷ (C ++ (P ++ (N ++ (F ++ (G ++ (L ++ (H ++ Q))))))))) rest ∙ ap (λ x. D ++ x) (append_assoc A (w ∷ (C ++ (P ++ (N ++ (F ++ (G ++ (L ++ (H ++ Q)))))))) rest ∙ ap (λ x. A ++ (w ∷ x)) (
-    append_assoc C (P ++ (N ++ (F ++ (G ++ (L ++ (H ++ Q)))))) rest ∙ ap (λ x. C ++ x) (append_assoc P (N ++ (F ++ (G ++ (L ++ (H ++ Q))))) rest ∙ ap (λ x. P ++ x) (append_assoc N (F ++ (G ++ (L ++ (H ++ Q)))) rest ∙ ap (λ x. N ++ x) (
-    append_assoc F (G ++ (L ++ (H ++ Q))) rest ∙ ap (λ x. F ++ x) (append_assoc G (L ++ (H ++ Q)) rest ∙ ap (λ x. G ++ x) (append_assoc L (H ++ Q) rest ∙ ap (λ x. L ++ x) (append_assoc H Q rest)))))))))
+    sym (append_assoc D (A ++ (w ∷ (C ++ (P ++ (N ++ (F ++ (G ++ (L ++ (H ++ Q))))))))) rest ∙ ap (λ x. D ++ x)
+    (append_assoc A (w ∷ (C ++ (P ++ (N ++ (F ++ (G ++ (L ++ (H ++ Q)))))))) rest ∙ ap (λ x. A ++ (w ∷ x)) (
+    append_assoc C (P ++ (N ++ (F ++ (G ++ (L ++ (H ++ Q)))))) rest ∙ ap (λ x. C ++ x)
+    (append_assoc P (N ++ (F ++ (G ++ (L ++ (H ++ Q))))) rest ∙ ap (λ x. P ++ x)
+    (append_assoc N (F ++ (G ++ (L ++ (H ++ Q)))) rest ∙ ap (λ x. N ++ x) (
+    append_assoc F (G ++ (L ++ (H ++ Q))) rest ∙ ap (λ x. F ++ x)
+    (append_assoc G (L ++ (H ++ Q)) rest ∙ ap (λ x. G ++ x)
+    (append_assoc L (H ++ Q) rest ∙ ap (λ x. L ++ x) (append_assoc H Q rest)))))))))
 
-found : (bytes : Bytes) (s : NodeState) (rest : Bytes) → Small bytes → record_at bytes ≡ Some (s, rest) → Found bytes s rest
+found : (bytes : Bytes) (s : NodeState) (rest : Bytes) → Small bytes → record_at bytes ≡ Some (s, rest)
+    → Found bytes s rest
 unfolding record_at
 found bytes s rest small e =
     elim (step ℕ NodeState a_byte one (Any ℕ) byte-back bytes _ s rest small e) [
@@ -450,29 +598,93 @@ found bytes s rest small e =
                               | Went st_v st_m st_t st_s st_h st_l ↦
                                   elim (pick State NodeState (state_of_byte st_v) st_m _ s rest st_l) [
                                     | Picked state_v state_i state_l ↦
-                                        elim (step ℕ NodeState (a_number w32) (to_le_bytes w32) (Any ℕ) (number-back w32 spells32) st_m _ s rest st_s state_l) [
+                                        elim (step ℕ NodeState (a_number w32) (to_le_bytes w32) (Any ℕ)
+                                        (number-back w32 spells32) st_m _ s rest st_s state_l) [
                                           | Went declared_v declared_m declared_t declared_s declared_h declared_l ↦
-                                              elim (step ℕ NodeState (a_number w32) (to_le_bytes w32) (Any ℕ) (number-back w32 spells32) declared_m _ s rest declared_s declared_l) [
+                                              elim (step ℕ NodeState (a_number w32) (to_le_bytes w32) (Any ℕ)
+                                              (number-back w32 spells32) declared_m _ s rest declared_s
+                                              declared_l) [
                                                 | Went aps_v aps_m aps_t aps_s aps_h aps_l ↦
-                                                    elim (step ℕ NodeState a_byte one (Any ℕ) byte-back aps_m _ s rest aps_s aps_l) [
+                                                    elim (step ℕ NodeState a_byte one (Any ℕ) byte-back aps_m _ s rest
+                                                    aps_s aps_l) [
                                                       | Went roll_v roll_m roll_t roll_s roll_h roll_l ↦
-                                                          elim (pick Bool NodeState (yes_or_no roll_v) roll_m _ s rest roll_l) [
+                                                          elim (pick Bool NodeState (yes_or_no roll_v) roll_m _ s rest
+                                                          roll_l) [
                                                             | Picked sending_v sending_i sending_l ↦
-                                                                elim (step ℕ NodeState (a_number w16) (to_le_bytes w16) (Any ℕ) (number-back w16 spells16) roll_m _ s rest roll_s sending_l) [
+                                                                elim (step ℕ NodeState (a_number w16)
+                                                                (to_le_bytes w16) (Any ℕ)
+                                                                (number-back w16 spells16) roll_m _ s rest roll_s
+                                                                sending_l) [
                                                                   | Went nc_v nc_m nc_t nc_s nc_h nc_l ↦
-                                                                      elim (step ℕ NodeState (a_number w16) (to_le_bytes w16) (Any ℕ) (number-back w16 spells16) nc_m _ s rest nc_s nc_l) [
-                                                                        | Went place_v place_m place_t place_s place_h place_l ↦
-                                                                            elim (step (List NetKey) NodeState (so_many net_at nc_v) (flat_map net_bytes) (λ ys. (length ys ≡ nc_v) × AllByRecursion IsBare ys) (many-of NetKey net_at net_bytes IsBare net-back nc_v) place_m _ s rest place_s place_l) [
-                                                                              | Went rows_v rows_m rows_t rows_s rows_h rows_l ↦
-                                                                                  elim (step (List NetKey) NodeState (with_floors rows_v) live_floors (FloorsOf rows_v) (with-back rows_v rows_h.1) rows_m _ s rest rows_s rows_l) [
-                                                                                    | Went nets_v nets_m nets_t nets_s nets_h nets_l ↦
-                                                                                        elim (pick (Option Bytes) NodeState (active_at place_v nets_v) nets_m _ s rest nets_l) [
-                                                                                          | Picked active_v active_i active_l ↦
-                                                                                              elim (step ℕ NodeState (a_number w16) (to_le_bytes w16) (Any ℕ) (number-back w16 spells16) nets_m _ s rest nets_s active_l) [
-                                                                                                | Went lc_v lc_m lc_t lc_s lc_h lc_l ↦
-                                                                                                    elim (step (List LinkKey) NodeState (so_many link_at lc_v) (flat_map link_bytes) (λ ys. (length ys ≡ lc_v) × AllByRecursion FixedLink ys) (many-of LinkKey link_at link_bytes FixedLink link-back lc_v) lc_m _ s rest lc_s lc_l) [
-                                                                                                      | Went links_v links_m links_t links_s links_h links_l ↦
-                                                                                                          elim (step ℕ NodeState (a_number w16) (to_le_bytes w16) (Any ℕ) (number-back w16 spells16) links_m _ s rest links_s links_l) [
+                                                                      elim (step ℕ NodeState (a_number w16)
+                                                                      (to_le_bytes w16) (Any ℕ)
+                                                                      (number-back w16 spells16) nc_m _ s rest
+                                                                      nc_s nc_l) [
+                                                                        | Went place_v place_m place_t place_s place_h
+                                                                            place_l ↦
+                                                                            elim (step (List NetKey) NodeState
+                                                                            (so_many net_at nc_v)
+                                                                            (flat_map net_bytes)
+                                                                            (λ ys. (length ys ≡ nc_v)
+                                                                            × AllByRecursion IsBare ys)
+                                                                            (many-of NetKey net_at net_bytes
+                                                                            IsBare net-back nc_v) place_m _ s rest
+                                                                            place_s place_l) [
+                                                                              | Went rows_v rows_m rows_t rows_s
+                                                                                  rows_h rows_l ↦
+                                                                                  elim (step (List NetKey) NodeState
+                                                                                  (with_floors rows_v) live_floors
+                                                                                  (FloorsOf rows_v)
+                                                                                  (with-back rows_v rows_h.1)
+                                                                                  rows_m _ s rest rows_s rows_l) [
+                                                                                    | Went nets_v nets_m nets_t nets_s
+                                                                                        nets_h nets_l ↦
+                                                                                        elim (pick (Option Bytes)
+                                                                                        NodeState
+                                                                                        (active_at place_v nets_v)
+                                                                                        nets_m _ s rest nets_l) [
+                                                                                          | Picked active_v active_i
+                                                                                              active_l ↦
+                                                                                              elim (step ℕ NodeState
+                                                                                              (a_number w16)
+                                                                                              (to_le_bytes w16)
+                                                                                              (Any ℕ)
+                                                                                              (number-back w16
+                                                                                              spells16) nets_m _ s
+                                                                                              rest nets_s
+                                                                                              active_l) [
+                                                                                                | Went lc_v lc_m lc_t
+                                                                                                    lc_s lc_h lc_l ↦
+                                                                                                    elim (step
+                                                                                                    (List LinkKey)
+                                                                                                    NodeState
+                                                                                                    (so_many
+                                                                                                    link_at lc_v)
+                                                                                                    (flat_map
+                                                                                                    link_bytes)
+                                                                                                    (λ ys. (length
+                                                                                                    ys ≡ lc_v)
+                                                                                                    × AllByRecursion
+                                                                                                    FixedLink ys)
+                                                                                                    (many-of
+                                                                                                    LinkKey
+                                                                                                    link_at
+                                                                                                    link_bytes
+                                                                                                    FixedLink
+                                                                                                    link-back
+                                                                                                    lc_v) lc_m _ s
+                                                                                                    rest lc_s
+                                                                                                    lc_l) [
+                                                                                                      | Went links_v
+                                                                                                          links_m
+                                                                                                          links_t
+                                                                                                          links_s
+                                                                                                          links_h
+                                                                                                          links_l ↦
+                                                                                                          elim (step ℕ
+                                                                                                          NodeState
+                                                                                                          (a_number
+                                                                                                          w16) (to_le_bytes w16) (Any ℕ) (number-back w16 spells16) links_m _ s rest links_s links_l) [
                                                                                                             | Went pc_v pc_m pc_t pc_s pc_h pc_l ↦
                                                                                                                 elim (step (List PairKey) NodeState (so_many pair_at pc_v) (flat_map pair_bytes) (λ ys. (length ys ≡ pc_v) × AllByRecursion (Any PairKey) ys) (many-of PairKey pair_at pair_bytes (Any PairKey) pair-back pc_v) pc_m _ s rest pc_s pc_l) [
                                                                                                                   | Went pairs_v pairs_m pairs_t pairs_s pairs_h pairs_l ↦
@@ -514,7 +726,8 @@ found bytes s rest small e =
           ]
     ]
 
-whole-by : (x : NodeState × Bytes) (s : NodeState) (b : Bool) → nat_eq (length x.1) 0 ≡ b → cond b (Some x.0) None ≡ Some s → (x.0 ≡ s) × (x.1 ≡ [])
+whole-by : (x : NodeState × Bytes) (s : NodeState) (b : Bool) → nat_eq (length x.1) 0 ≡ b → cond b (Some x.0) None
+    ≡ Some s → (x.0 ≡ s) × (x.1 ≡ [])
 whole-by x s true q e = (some-same NodeState x.0 s e, empty x.1 (eqb-true (length x.1) 0 q))
   where
     empty : (l : Bytes) → length l ≡ 0 → l ≡ []
@@ -524,7 +737,8 @@ whole-by x s false q e = absurd (none-is NodeState s e)
 
 whole-back : (o : Option (NodeState × Bytes)) (s : NodeState) → whole o ≡ Some s → o ≡ Some (s, [])
 whole-back None s e = absurd (none-is NodeState s e)
-whole-back (Some x) s e = let w = whole-by x s (nat_eq (length x.1) 0) refl e in ap (λ y. Some (y, x.1)) w.0 ∙ ap (λ l. Some (s, l)) w.1
+whole-back (Some x) s e = let w = whole-by x s (nat_eq (length x.1) 0) refl e in ap (λ y. Some (y, x.1)) w.0 ∙ ap
+    (λ l. Some (s, l)) w.1
 
 with_rows : NodeState → ℕ → List NetKey → List LinkKey → NodeState
 with_rows s aps nets links = record s { aps_next = aps; nets = nets; links = links }
@@ -533,15 +747,20 @@ fixed-state : (bytes : Bytes) (s : NodeState) (rest : Bytes) → Found bytes s r
 unfolding shown after_boot with_rows
 fixed-state bytes s rest f =
     ap (λ n. with_rows s n (map shown_net (map booted_net s.nets)) (map booted_link s.links)) (sym f.aps)
-    ∙ ap (λ l. with_rows s s.aps_next l (map booted_link s.links)) (sym (map-map shown_net booted_net s.nets) ∙ fixed-map NetKey booted_row s.nets f.nets)
+    ∙ ap (λ l. with_rows s s.aps_next l (map booted_link s.links))
+    (sym (map-map shown_net booted_net s.nets) ∙ fixed-map NetKey booted_row s.nets f.nets)
     ∙ ap (λ l. with_rows s s.aps_next s.nets l) (fixed-map LinkKey booted_link s.links f.links)
 
 apart-nets : (s : NodeState) → keys_differ s ≡ true → all_apart alike s.nets ≡ true
 unfolding keys_differ
 apart-nets s e = (and_parts (all_apart alike s.nets) (all_apart (λ (a b : LinkKey). same_key a.key b.key) s.links) e).0
 
-pub spelled-back : (bytes : List ℕ) (s : NodeState) → AllByRecursion (λ b. b < 256) bytes → state_in bytes ≡ Some s → keys_differ s ≡ true → (record_of s ≡ bytes) × (shown (after_boot s) ≡ s)
+pub spelled-back : (bytes : List ℕ) (s : NodeState) → AllByRecursion (λ b. b < 256) bytes → state_in bytes ≡ Some s
+    → keys_differ s ≡ true → (record_of s ≡ bytes) × (shown (after_boot s) ≡ s)
 unfolding state_in
 spelled-back bytes s a e apart =
-    let f = found bytes s [] (small-of bytes a) (whole-back (record_at bytes) s e) in
-    (record-bytes s ∙ ap (spelled s) (sym (active-back f.place s.nets s.active (apart-nets s apart) f.active)) ∙ sym (f.text ∙ append-nil' (spelled s f.place)), fixed-state bytes s [] f)
+    let f = found bytes s [] (small-of bytes a) (whole-back (record_at bytes) s e) in (
+      record-bytes s ∙ ap (spelled s) (sym (active-back f.place s.nets s.active (apart-nets s apart) f.active)) ∙ sym
+          (f.text ∙ append-nil' (spelled s f.place)),
+      fixed-state bytes s [] f,
+    )

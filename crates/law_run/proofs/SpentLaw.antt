@@ -88,12 +88,14 @@ link-start : (c n : ℕ) (o : Option Bytes) → AllByRecursion Starts (link_line
 link-start c n None = tt
 link-start c n (Some key) = (tt, tt)
 
-limit-by : (n : ℕ) (layer : Layer) (v : ℕ) (b : Bool) → v ≤ greatest_counter → AllByRecursion Starts (cond b [] (Counter n layer v ∷ []))
+limit-by : (n : ℕ) (layer : Layer) (v : ℕ) (b : Bool) → v ≤ greatest_counter
+    → AllByRecursion Starts (cond b [] (Counter n layer v ∷ []))
 limit-by n layer v true m = tt
 limit-by n layer v false m = (m, tt)
 
 -- what each node begins with
-each-start : (f : Node → List Line) → ((m : Node) → IsMember m → AllByRecursion Starts (f m)) → (ms : List Node) → AllByRecursion IsMember ms → AllByRecursion Starts (flat_map f ms)
+each-start : (f : Node → List Line) → ((m : Node) → IsMember m → AllByRecursion Starts (f m)) → (ms : List Node)
+    → AllByRecursion IsMember ms → AllByRecursion Starts (flat_map f ms)
 each-start f k [] a = tt
 each-start f k (m ∷ ms) a = all-append Starts (f m) (flat_map f ms) (k m a.0) (each-start f k ms a.1)
 
@@ -101,11 +103,16 @@ all-start : (w : Schedule) → IsSchedule w → AllByRecursion Starts (start w)
 unfolding start
 all-start w i =
     all-append Starts (map Declared (stations w)) (nets ++ (links ++ limits)) (declared-start (stations w))
-    (all-append Starts nets (links ++ limits) (each-start (λ (m : Node). net_line m.station.eui m.network) (λ m is. net-start m.station.eui m.network) w.nodes i.nodes)
-    (all-append Starts links limits (each-start (λ (m : Node). link_line (centre_of (stations w)) m.station.eui m.code) (λ m is. link-start (centre_of (stations w)) m.station.eui m.code) w.nodes i.nodes)
+    (all-append Starts nets (links ++ limits)
+    (each-start (λ (m : Node). net_line m.station.eui m.network) (λ m is. net-start m.station.eui m.network)
+    w.nodes i.nodes)
+    (all-append Starts links limits
+    (each-start (λ (m : Node). link_line (centre_of (stations w)) m.station.eui m.code)
+    (λ m is. link-start (centre_of (stations w)) m.station.eui m.code) w.nodes i.nodes)
     (each-start (λ (m : Node). limit_line m.station.eui Nwk m.start_nwk ++ limit_line m.station.eui Aps m.start_aps)
     (λ m is. all-append Starts (limit_line m.station.eui Nwk m.start_nwk) (limit_line m.station.eui Aps m.start_aps)
-    (limit-by m.station.eui Nwk m.start_nwk (nat_eq m.start_nwk 0) is.start_nwk) (limit-by m.station.eui Aps m.start_aps (nat_eq m.start_aps 0) is.start_aps)) w.nodes i.nodes)))
+    (limit-by m.station.eui Nwk m.start_nwk (nat_eq m.start_nwk 0) is.start_nwk)
+    (limit-by m.station.eui Aps m.start_aps (nat_eq m.start_aps 0) is.start_aps)) w.nodes i.nodes)))
   where
     nets : List Line
     nets = flat_map (λ (m : Node). net_line m.station.eui m.network) w.nodes
@@ -114,15 +121,22 @@ all-start w i =
     links = flat_map (λ (m : Node). link_line (centre_of (stations w)) m.station.eui m.code) w.nodes
 
     limits : List Line
-    limits = flat_map (λ (m : Node). limit_line m.station.eui Nwk m.start_nwk ++ limit_line m.station.eui Aps m.start_aps) w.nodes
+    limits =
+        flat_map (λ (m : Node). limit_line m.station.eui Nwk m.start_nwk ++ limit_line m.station.eui Aps m.start_aps)
+        w.nodes
 
 -- the whole
 
 pub transcript-spent : (tools : Tools) (w : Schedule) → IsSchedule w → Each SpentLine [] (transcript tools w)
 unfolding transcript run_lines end_line
 transcript-spent tools w i =
-    each-append SpentLine [] (start w ++ groups tools w (start w) [] 1 w.events) (end_line tools (length w.events) (start w ++ groups tools w (start w) [] 1 w.events) ∷ [])
-    (each-append SpentLine [] (start w) (groups tools w (start w) [] 1 w.events) (all-starts-quiet [] (start w) (all-start w i))
-    (each-spent (start w) (groups tools w (start w) [] 1 w.events) (within-lines [] (start w) (all-starts-small (start w) (all-start w i)) no-lines-within)
-    (all-small (start w) (groups tools w (start w) [] 1 w.events) (groups-fit tools w i (start w) [] 1 w.events i.events (start-inv tools w)) (groups-spent tools w (start w) [] 1 w.events))
+    each-append SpentLine [] (start w ++ groups tools w (start w) [] 1 w.events)
+    (end_line tools (length w.events) (start w ++ groups tools w (start w) [] 1 w.events) ∷ [])
+    (each-append SpentLine [] (start w) (groups tools w (start w) [] 1 w.events)
+    (all-starts-quiet [] (start w) (all-start w i))
+    (each-spent (start w) (groups tools w (start w) [] 1 w.events)
+    (within-lines [] (start w) (all-starts-small (start w) (all-start w i)) no-lines-within)
+    (all-small (start w) (groups tools w (start w) [] 1 w.events)
+    (groups-fit tools w i (start w) [] 1 w.events i.events (start-inv tools w))
+    (groups-spent tools w (start w) [] 1 w.events))
     (groups-spent tools w (start w) [] 1 w.events))) (tt, tt)

@@ -20,7 +20,8 @@ IsConfirmOf _ d = ⊥
 
 -- Of the commands, only Confirm-Key is spelled so that it reads as a Confirm-Key of status 0, and with its own device.
 abbrev pub SpellsConfirm : Tools → Type 0
-SpellsConfirm tools = (command : Command) (kind d : ℕ) → tools.read_command (tools.spelled command) ≡ Known (ConfirmKey 0 kind d) → IsConfirmOf command d
+SpellsConfirm tools = (command : Command) (kind d : ℕ) → tools.read_command (tools.spelled command)
+    ≡ Known (ConfirmKey 0 kind d) → IsConfirmOf command d
 
 -- the frame control of a command that stands unsealed in a frame: to one node, or to all
 abbrev pub IsClearControl : ℕ → Type 0
@@ -30,8 +31,15 @@ IsClearControl control = (control ≡ clear_command) ⊎ (control ≡ clear_broa
 -- doesn't begin as a command isn't read as one; a command in clear is read after its control and its counter; a sealed
 -- APS frame shows that it is sealed.
 pub record ShowsKeys (tools : Tools) : Type 0 where
-  pub spelled : (o : Command) (k : Bytes) → key_shown (tools.read_command (tools.spelled o)) ≡ Some k → key_in o ≡ Some k
-  pub plain : (bytes : Bytes) (a : ApsShown) → tools.read_aps bytes ≡ Some a → is_command_header bytes ≡ false → a.is_command ≡ false
-  pub clear : (control counter : ℕ) (bytes : Bytes) (a : ApsShown) → IsClearControl control → tools.read_aps (control ∷ counter ∷ bytes) ≡ Some a → a.body ≡ bytes
-  pub command : (label : Label) (key : Bytes) (source counter : ℕ) (content : Bytes) (a : ApsShown) → tools.read_aps (tools.wire (aps_term sealed_command label key source counter content)) ≡ Some a → is_some a.auxiliary ≡ true
-  pub telling : (label : Label) (key : Bytes) (source counter : ℕ) (content : Bytes) (a : ApsShown) → tools.read_aps (tools.wire (aps_term (data_front sealed_data) label key source counter content)) ≡ Some a → is_some a.auxiliary ≡ true
+  pub spelled : (o : Command) (k : Bytes) → key_shown (tools.read_command (tools.spelled o)) ≡ Some k → key_in o
+      ≡ Some k
+  pub plain : (bytes : Bytes) (a : ApsShown) → tools.read_aps bytes ≡ Some a → is_command_header bytes ≡ false
+      → a.is_command ≡ false
+  pub clear : (control counter : ℕ) (bytes : Bytes) (a : ApsShown) → IsClearControl control
+      → tools.read_aps (control ∷ counter ∷ bytes) ≡ Some a → a.body ≡ bytes
+  pub command : (label : Label) (key : Bytes) (source counter : ℕ) (content : Bytes) (a : ApsShown)
+      → tools.read_aps (tools.wire (aps_term sealed_command label key source counter content)) ≡ Some a
+      → is_some a.auxiliary ≡ true
+  pub telling : (label : Label) (key : Bytes) (source counter : ℕ) (content : Bytes) (a : ApsShown)
+      → tools.read_aps (tools.wire (aps_term (data_front sealed_data) label key source counter content)) ≡ Some a
+      → is_some a.auxiliary ≡ true

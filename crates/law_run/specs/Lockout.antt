@@ -6,7 +6,8 @@ use Rattle.zb_model.specs.Tools.{Tools}
 use Rattle.zb_model.specs.Claims.{KeepsOut, Refuses}
 
 abbrev pub RefusesAfter : Tools → List Line → Line → List Line → Type 0
-RefusesAfter tools h (Changed e n (Moved (Removed d))) after = Refuses tools (h ++ Changed e n (Moved (Removed d)) ∷ []) after d
+RefusesAfter tools h (Changed e n (Moved (Removed d))) after =
+    Refuses tools (h ++ Changed e n (Moved (Removed d)) ∷ []) after d
 RefusesAfter tools h _ after = ⊤
 
 -- After each removal, and up to the device's next admission: a node none of whose live network keys is known outside
@@ -16,7 +17,8 @@ RefusesOutsiders tools h [] = ⊤
 RefusesOutsiders tools h (l ∷ ls) = RefusesAfter tools h l ls × RefusesOutsiders tools (h ++ l ∷ []) ls
 
 abbrev pub KeepsOutAfter : Tools → List Line → Line → List Line → Type 0
-KeepsOutAfter tools h (Changed e n (Moved (Removed d))) after = KeepsOut tools (h ++ Changed e n (Moved (Removed d)) ∷ []) after d
+KeepsOutAfter tools h (Changed e n (Moved (Removed d))) after =
+    KeepsOut tools (h ++ Changed e n (Moved (Removed d)) ∷ []) after d
 KeepsOutAfter tools h _ after = ⊤
 
 -- After each removal, and up to the device's next admission: the device obtains no key that is drawn since.

@@ -11,7 +11,9 @@ shown_source given (Some source) = source
 -- The term that comes out is of its layer, and has the base key under which the bytes opened and the source and
 -- counter of the auxiliary header.
 pub record Opens (tools : Tools) : Type 0 where
-  pub nwk : (bytes key : Bytes) (f : NwkShown) (aux : NwkAuxiliary) (t : Term) → tools.read_nwk bytes ≡ Some f → f.auxiliary ≡ Some aux → tools.open_nwk bytes key ≡ Some t
+  pub nwk : (bytes key : Bytes) (f : NwkShown) (aux : NwkAuxiliary) (t : Term) → tools.read_nwk bytes ≡ Some f
+      → f.auxiliary ≡ Some aux → tools.open_nwk bytes key ≡ Some t
       → (t.layer ≡ Nwk) × (t.base ≡ key) × (t.source ≡ aux.source) × (t.counter ≡ aux.counter)
-  pub aps : (bytes key : Bytes) (given : ℕ) (a : ApsShown) (aux : ApsAuxiliary) (t : Term) → tools.read_aps bytes ≡ Some a → a.auxiliary ≡ Some aux → tools.open_aps bytes key given ≡ Some t
+  pub aps : (bytes key : Bytes) (given : ℕ) (a : ApsShown) (aux : ApsAuxiliary) (t : Term) → tools.read_aps bytes
+      ≡ Some a → a.auxiliary ≡ Some aux → tools.open_aps bytes key given ≡ Some t
       → (t.layer ≡ Aps) × (t.base ≡ key) × (t.source ≡ shown_source given aux.source) × (t.counter ≡ aux.counter)

@@ -37,11 +37,13 @@ some_bytes n bytes = if nat_lt (length bytes) n then None else Some (take n byte
 
 -- a number of 2, 4 or 8 bytes, the lowest first
 unfoldable pub a_number : Width → Taking ℕ
-a_number w bytes = if nat_lt (length bytes) (byte_len w) then None else Some (from_le_bytes w (take (byte_len w) bytes), drop (byte_len w) bytes)
+a_number w bytes = if nat_lt (length bytes) (byte_len w) then None
+    else Some (from_le_bytes w (take (byte_len w) bytes), drop (byte_len w) bytes)
 
 unfoldable pub so_many : {A : Type 0} → Taking A → ℕ → Taking (List A)
 so_many read zero bytes = Some ([], bytes)
-so_many read (suc n) bytes = follow (read bytes) (λ x rest. follow (so_many read n rest) (λ xs end_. Some (x ∷ xs, end_)))
+so_many read (suc n) bytes =
+    follow (read bytes) (λ x rest. follow (so_many read n rest) (λ xs end_. Some (x ∷ xs, end_)))
 
 -- Bytes that represent one of a few values
 
@@ -105,7 +107,15 @@ net_at = do
   byte ← a_byte
   flags ← chosen (two_flags byte)
   limit ← a_number w32
-  give (record { key = key; sequence = sequence; live = flags.0; started = flags.1; limit = limit; next = limit; floors = [] })
+  give (record {
+    key = key;
+    sequence = sequence;
+    live = flags.0;
+    started = flags.1;
+    limit = limit;
+    next = limit;
+    floors = [];
+  })
 
 unfoldable pub sender_at : Taking SenderFloor
 sender_at = do
@@ -123,7 +133,8 @@ unfoldable pub with_floors : List NetKey → Taking (List NetKey)
 with_floors [] bytes = Some ([], bytes)
 with_floors (r ∷ rs) bytes =
     if r.live
-    then follow (floors_at bytes) (λ floors rest. follow (with_floors rs rest) (λ nets end_. Some (record r { floors = floors } ∷ nets, end_)))
+    then follow (floors_at bytes)
+    (λ floors rest. follow (with_floors rs rest) (λ nets end_. Some (record r { floors = floors } ∷ nets, end_)))
     else follow (with_floors rs bytes) (λ nets end_. Some (r ∷ nets, end_))
 
 -- partner, key, attribute, flags, floor
@@ -136,7 +147,16 @@ link_at = do
   byte ← a_byte
   flags ← chosen (three_flags byte)
   stored ← a_number w32
-  give (record { partner = partner; key = key; attribute = model_attribute; live = flags.0; code = flags.1; told = flags.2; kept = stored; stored = stored })
+  give (record {
+    partner = partner;
+    key = key;
+    attribute = model_attribute;
+    live = flags.0;
+    code = flags.1;
+    told = flags.2;
+    kept = stored;
+    stored = stored;
+  })
 
 unfoldable pub pair_at : Taking PairKey
 pair_at = do
@@ -149,7 +169,8 @@ pair_at = do
 
 -- the key of the row at a place; FFFF is no place
 unfoldable pub active_at : ℕ → List NetKey → Option (Option Bytes)
-active_at place nets = if nat_eq place 65535 then Some None else option_map (λ (r : NetKey). Some r.key) (slice_get nets place)
+active_at place nets = if nat_eq place 65535 then Some None
+    else option_map (λ (r : NetKey). Some r.key) (slice_get nets place)
 
 -- The whole record, version 3.
 unfoldable pub record_at : Taking NodeState
@@ -173,7 +194,18 @@ record_at = do
   links ← so_many link_at link_count
   pair_count ← a_number w16
   pairs ← so_many pair_at pair_count
-  give (record { role = model_role; state = state; declared = declared; aps_limit = aps; aps_next = aps; sending = sending; nets = nets; active = active; links = links; pairs = pairs })
+  give (record {
+    role = model_role;
+    state = state;
+    declared = declared;
+    aps_limit = aps;
+    aps_next = aps;
+    sending = sending;
+    nets = nets;
+    active = active;
+    links = links;
+    pairs = pairs;
+  })
 
 abbrev pub whole : Option (NodeState × Bytes) → Option NodeState
 whole None = None

@@ -33,7 +33,8 @@ aps_behind m _ s = s.aps_next
 
 abbrev pub nwk_behind : ℕ → Bytes → Line → NetKey → ℕ
 nwk_behind m key (Boot e n) r = if nat_eq n m then r.limit else r.next
-nwk_behind m key (Changed e n (Start k v)) r = if nat_eq n m && same_key key k then max r.next (min v greatest_counter) else r.next
+nwk_behind m key (Changed e n (Start k v)) r = if nat_eq n m && same_key key k
+    then max r.next (min v greatest_counter) else r.next
 nwk_behind m key (Counter n Nwk v) r = if nat_eq n m && r.started then max r.next v else r.next
 nwk_behind m key (Seal e n t) r = r.next + taken_nwk m key (Seal e n t)
 nwk_behind m key _ r = r.next
@@ -41,4 +42,5 @@ nwk_behind m key _ r = r.next
 -- Of each node the next counters are those after the line.
 abbrev pub TakesAll : List Line → Line → Type 0
 TakesAll h l = (m : ℕ) → ((state_of (h ++ l ∷ []) m).aps_next ≡ aps_behind m l (state_of h m))
-    × ((key : Bytes) (r : NetKey) → net_of key (state_of h m) ≡ Some r → option_map (λ (x : NetKey). x.next) (net_of key (state_of (h ++ l ∷ []) m)) ≡ Some (nwk_behind m key l r))
+    × ((key : Bytes) (r : NetKey) → net_of key (state_of h m) ≡ Some r
+    → option_map (λ (x : NetKey). x.next) (net_of key (state_of (h ++ l ∷ []) m)) ≡ Some (nwk_behind m key l r))

@@ -71,11 +71,14 @@ either-none false ms a = tt
 
 old-drops : (s : NodeState) → AllByRecursion NoActive (drop_old s)
 unfolding drop_old
-old-drops s = either-none (Rattle.std.specs.Prelude.nat_le 2 (Rattle.std.specs.Prelude.length (live_nets s))) (first_drop (filter (λ (r : NetKey). not (is_active_key s.active r.key)) (live_nets s))) (first-drops (filter (λ (r : NetKey). not (is_active_key s.active r.key)) (live_nets s)))
+old-drops s = either-none (Rattle.std.specs.Prelude.nat_le 2 (Rattle.std.specs.Prelude.length (live_nets s)))
+    (first_drop (filter (λ (r : NetKey). not (is_active_key s.active r.key)) (live_nets s)))
+    (first-drops (filter (λ (r : NetKey). not (is_active_key s.active r.key)) (live_nets s)))
 
 -- a network key that is installed, and perhaps activated
 
-install-has : (b : Bool) (key : Bytes) (q : ℕ) (nets : List NetKey) → has_net key nets ≡ b → has_net key (cond b nets (nets ++ new_net key q ∷ [])) ≡ true
+install-has : (b : Bool) (key : Bytes) (q : ℕ) (nets : List NetKey) → has_net key nets ≡ b
+    → has_net key (cond b nets (nets ++ new_net key q ∷ [])) ≡ true
 install-has true key q nets e = e
 install-has false key q nets e = last key q nets
   where
@@ -91,35 +94,44 @@ install-has false key q nets e = last key q nets
     last key q [] = ap (λ b. b || false) (same_key-refl key)
     last key q (r ∷ rs) = or-later (same_key r.key key) (has_net key (rs ++ new_net key q ∷ [])) (last key q rs)
 
-activate-by : (nets : List NetKey) (key : Bytes) (a b : Bool) (g : State) → has_net key nets ≡ true → MovesFit nets (cond a (Active key ∷ []) [] ++ cond b (Became g ∷ []) [])
+activate-by : (nets : List NetKey) (key : Bytes) (a b : Bool) (g : State) → has_net key nets ≡ true
+    → MovesFit nets (cond a (Active key ∷ []) [] ++ cond b (Became g ∷ []) [])
 activate-by nets key true true g e = (e, (tt, tt))
 activate-by nets key true false g e = (e, tt)
 activate-by nets key false true g e = tt
 activate-by nets key false false g e = tt
 
-activate-fits : (c : Setting) (s : NodeState) (key : Bytes) (nets : List NetKey) → has_net key nets ≡ true → MovesFit nets (activate c s key)
+activate-fits : (c : Setting) (s : NodeState) (key : Bytes) (nets : List NetKey) → has_net key nets ≡ true
+    → MovesFit nets (activate c s key)
 activate-fits c s key nets e = activate-by nets key (activates s) (waits_for_key s.state) (joined_state c s) e
 
-install-fits : (c : Setting) (s : NodeState) (key : Bytes) (q : ℕ) (nets : List NetKey) → MovesFit nets (Install key q ∷ activate c s key)
-install-fits c s key q nets = activate-fits c s key (cond (has_net key nets) nets (nets ++ new_net key q ∷ [])) (install-has (has_net key nets) key q nets refl)
+install-fits : (c : Setting) (s : NodeState) (key : Bytes) (q : ℕ) (nets : List NetKey)
+    → MovesFit nets (Install key q ∷ activate c s key)
+install-fits c s key q nets = activate-fits c s key (cond (has_net key nets) nets (nets ++ new_net key q ∷ []))
+    (install-has (has_net key nets) key q nets refl)
 
-first-fits : (rs : List NetKey) (ms : List Move) → ((nets : List NetKey) → MovesFit nets ms) → (nets : List NetKey) → MovesFit nets (first_drop rs ++ ms)
+first-fits : (rs : List NetKey) (ms : List Move) → ((nets : List NetKey) → MovesFit nets ms) → (nets : List NetKey)
+    → MovesFit nets (first_drop rs ++ ms)
 first-fits [] ms k nets = k nets
 first-fits (r ∷ rs) ms k nets = k (at_net r.key dropped_net nets)
 
-old-by : (b : Bool) (rs : List NetKey) (ms : List Move) → ((nets : List NetKey) → MovesFit nets ms) → (nets : List NetKey) → MovesFit nets (cond b (first_drop rs) [] ++ ms)
+old-by : (b : Bool) (rs : List NetKey) (ms : List Move) → ((nets : List NetKey) → MovesFit nets ms)
+    → (nets : List NetKey) → MovesFit nets (cond b (first_drop rs) [] ++ ms)
 old-by true rs ms k nets = first-fits rs ms k nets
 old-by false rs ms k nets = k nets
 
-old-fits : (s : NodeState) (ms : List Move) → ((nets : List NetKey) → MovesFit nets ms) → (nets : List NetKey) → MovesFit nets (drop_old s ++ ms)
+old-fits : (s : NodeState) (ms : List Move) → ((nets : List NetKey) → MovesFit nets ms) → (nets : List NetKey)
+    → MovesFit nets (drop_old s ++ ms)
 unfolding drop_old
-old-fits s ms k nets = old-by (Rattle.std.specs.Prelude.nat_le 2 (Rattle.std.specs.Prelude.length (live_nets s))) (filter (λ (r : NetKey). not (is_active_key s.active r.key)) (live_nets s)) ms k nets
+old-fits s ms k nets = old-by (Rattle.std.specs.Prelude.nat_le 2 (Rattle.std.specs.Prelude.length (live_nets s)))
+    (filter (λ (r : NetKey). not (is_active_key s.active r.key)) (live_nets s)) ms k nets
 
 -- a row that is there is found by its key
 in-has : (r : NetKey) (nets : List NetKey) → In r nets → has_net r.key nets ≡ true
 unfolding In
 in-has r [] i = absurd i
-in-has r (x ∷ xs) (inl e) = ap (λ b. b || has_net r.key xs) (ap (λ (y : NetKey). same_key y.key r.key) e ∙ same_key-refl r.key)
+in-has r (x ∷ xs) (inl e) =
+    ap (λ b. b || has_net r.key xs) (ap (λ (y : NetKey). same_key y.key r.key) e ∙ same_key-refl r.key)
 in-has r (x ∷ xs) (inr i) = later (same_key x.key r.key) (has_net r.key xs) (in-has r xs i)
   where
     later : (a b : Bool) → b ≡ true → (a || b) ≡ true
@@ -128,11 +140,15 @@ in-has r (x ∷ xs) (inr i) = later (same_key x.key r.key) (has_net r.key xs) (i
 
 newest-has : (s : NodeState) (r : NetKey) → newest s ≡ Some r → has_net r.key s.nets ≡ true
 unfolding newest
-newest-has s r e = in-has r s.nets (in-reverse r s.nets (found-element (λ (r : NetKey). r.live) (reverse s.nets) r e).0)
+newest-has s r e =
+    in-has r s.nets (in-reverse r s.nets (found-element (λ (r : NetKey). r.live) (reverse s.nets) r e).0)
 
 live-has : (s : NodeState) (q : ℕ) (r : NetKey) → live_of s q ≡ Some r → has_net r.key s.nets ≡ true
 unfolding live_of
-live-has s q r e = in-has r s.nets (in-reverse r s.nets (found-element (λ (r : NetKey). r.live && Rattle.std.specs.Prelude.nat_eq r.sequence q) (reverse s.nets) r e).0)
+live-has s q r e =
+    in-has r s.nets
+    (in-reverse r s.nets
+    (found-element (λ (r : NetKey). r.live && Rattle.std.specs.Prelude.nat_eq r.sequence q) (reverse s.nets) r e).0)
 
 -- What is sent without NWK security
 
@@ -164,12 +180,14 @@ unfolding unless
 un s true reason rest f = tt
 un s false reason rest f = f
 
-gi : {A : Type 0} (s : NodeState) (o : Option A) (reason : Reason) (rest : A → Outcome) → ((a : A) → o ≡ Some a → Fits s (rest a)) → Fits s (found_or o reason rest)
+gi : {A : Type 0} (s : NodeState) (o : Option A) (reason : Reason) (rest : A → Outcome)
+    → ((a : A) → o ≡ Some a → Fits s (rest a)) → Fits s (found_or o reason rest)
 unfolding found_or
 gi s None reason rest k = tt
 gi s (Some a) reason rest k = k a refl
 
-ch : (s : NodeState) (b : Bool) (x y : Outcome) → (b ≡ true → Fits s x) → (b ≡ false → Fits s y) → Fits s (choose b x y)
+ch : (s : NodeState) (b : Bool) (x y : Outcome) → (b ≡ true → Fits s x) → (b ≡ false → Fits s y)
+    → Fits s (choose b x y)
 unfolding choose
 ch s true x y f g = f refl
 ch s false x y f g = g refl
@@ -180,7 +198,14 @@ say-fits s to bytes = gi s _ _ _ (λ net e. un s _ _ _ (un s _ _ _ (tt, tt)))
 
 knock-fits : (c : Setting) (s : NodeState) → Fits s (knock c s)
 unfolding knock
-knock-fits c s = gi s _ _ _ (λ row e. (none-fits s.nets (drop_others s row.partner row.key ++ (Row row.partner row.key _ ∷ Became _ ∷ [])) (all-append NoActive (drop_others s row.partner row.key) _ (others-drop s row.partner row.key) (tt, (tt, tt))), tt))
+knock-fits c s =
+    gi s _ _ _
+    (λ row e. (
+      none-fits s.nets (drop_others s row.partner row.key ++ (Row row.partner row.key _ ∷ Became _ ∷ []))
+          (all-append NoActive (drop_others s row.partner row.key) _ (others-drop s row.partner row.key)
+          (tt, (tt, tt))),
+      tt,
+    ))
 
 rejoin-fits : (s : NodeState) → Fits s (rejoin s)
 unfolding rejoin
@@ -204,11 +229,13 @@ tell-fits : (c : Setting) (s : NodeState) (partner : ℕ) (bytes : Bytes) → Fi
 unfolding tell
 tell-fits c s partner bytes = gi s _ _ _ (λ net e. gi s _ _ _ (λ row f. un s _ _ _ (un s _ _ _ (tt, tt))))
 
-report-fits : (c : Setting) (s : NodeState) (child : ℕ) (rejoin : Bool) (o : Option LinkKey) → Fits s (report_child c s child rejoin o)
+report-fits : (c : Setting) (s : NodeState) (child : ℕ) (rejoin : Bool) (o : Option LinkKey)
+    → Fits s (report_child c s child rejoin o)
 report-fits c s child rejoin None = un s _ _ _ (tt, tt)
 report-fits c s child rejoin (Some row) = un s _ _ _ (tt, tt)
 
-router-child-fits : (c : Setting) (s : NodeState) (child : ℕ) (rejoin : Bool) → Fits s (child_of_router c s child rejoin)
+router-child-fits : (c : Setting) (s : NodeState) (child : ℕ) (rejoin : Bool)
+    → Fits s (child_of_router c s child rejoin)
 unfolding child_of_router
 router-child-fits c s child rejoin = gi s _ _ _ (λ net e. un s _ _ _ (report-fits c s child rejoin (current s _)))
 
@@ -218,9 +245,12 @@ centre-child-fits c s child = gi s _ _ _ (λ net e. gi s _ _ _ (λ row f. un s _
 
 centre-timer-fits : (c : Setting) (s : NodeState) → Fits s (centre_timer c s)
 unfolding centre_timer
-centre-timer-fits c s = gi s _ _ _ (λ net e. un s _ _ _ (gi s _ _ _ (λ device f. gi s _ _ _ (λ new g. gi s _ _ _ (λ row h. un s _ _ _ (tt, tt))))))
+centre-timer-fits c s =
+    gi s _ _ _
+    (λ net e. un s _ _ _ (gi s _ _ _ (λ device f. gi s _ _ _ (λ new g. gi s _ _ _ (λ row h. un s _ _ _ (tt, tt))))))
 
-provision-new-fits : (s : NodeState) (device : ℕ) (key : Bytes) (o : Option LinkKey) → Fits s (provision_new s device key o)
+provision-new-fits : (s : NodeState) (device : ℕ) (key : Bytes) (o : Option LinkKey)
+    → Fits s (provision_new s device key o)
 provision-new-fits s device key None = (tt, tt)
 provision-new-fits s device key (Some other) = tt
 
@@ -233,26 +263,43 @@ shown-cond true x y p q = p
 shown-cond false x y p q = q
 
 leave-shown : (c : Setting) (s : NodeState) (device : ℕ) → Shown (tell_leave c s device)
-leave-shown c s device = shown-cond (is_some (active_row s) && not (spent Nwk s)) (sends (short_of c device) true Leaving) None tt tt
+leave-shown c s device = shown-cond (is_some (active_row s) && not (spent Nwk s))
+    (sends (short_of c device) true Leaving) None tt tt
 
-parent-shown : (c : Setting) (s : NodeState) (device via : ℕ) (o : Option LinkKey) → Shown (tell_parent c s device via o)
+parent-shown : (c : Setting) (s : NodeState) (device via : ℕ) (o : Option LinkKey)
+    → Shown (tell_parent c s device via o)
 parent-shown c s device via None = tt
-parent-shown c s device via (Some row) = shown-cond (is_some (active_row s) && not (both_spent s)) (sends (short_of c via) true (Secret ForData row.key (RemoveDevice device))) None tt tt
+parent-shown c s device via (Some row) = shown-cond (is_some (active_row s) && not (both_spent s))
+    (sends (short_of c via) true (Secret ForData row.key (RemoveDevice device))) None tt tt
 
 remove-fits : (c : Setting) (s : NodeState) (device via : ℕ) → Fits s (remove_device c s device via)
 unfolding remove_device
 remove-fits c s device via = un s _ _ _ (
-  none-fits s.nets (drop_partner s device ++ Removed device ∷ []) (all-append NoActive (drop_partner s device) (Removed device ∷ []) (partner-drops s device) (tt, tt)),
-  shown-cond (nat_eq via c.me.eui) (tell_leave c s device) (tell_parent c s device via (current s via)) (leave-shown c s device) (parent-shown c s device via (current s via)),
+  none-fits s.nets (drop_partner s device ++ Removed device ∷ [])
+      (all-append NoActive (drop_partner s device) (Removed device ∷ []) (partner-drops s device) (tt, tt)),
+  shown-cond (nat_eq via c.me.eui) (tell_leave c s device) (tell_parent c s device via (current s via))
+      (leave-shown c s device) (parent-shown c s device via (current s via)),
 )
 
 roll-fits : (s : NodeState) (draw : Option Bytes) → Fits s (roll s draw)
 unfolding roll
-roll-fits s draw = gi s _ _ _ (λ net e. un s _ _ _ (un s _ _ _ (gi s _ _ _ (λ key f. (none-fits s.nets (Draw key ∷ drop_old s ++ (Install key _ ∷ Roll true ∷ [])) (tt, all-append NoActive (drop_old s) (Install key _ ∷ Roll true ∷ []) (old-drops s) (tt, (tt, tt))), tt)))))
+roll-fits s draw =
+    gi s _ _ _
+    (λ net e. un s _ _ _
+    (un s _ _ _
+    (gi s _ _ _
+    (λ key f. (
+      none-fits s.nets (Draw key ∷ drop_old s ++ (Install key _ ∷ Roll true ∷ []))
+          (tt, all-append NoActive (drop_old s) (Install key _ ∷ Roll true ∷ []) (old-drops s) (tt, (tt, tt))),
+      tt,
+    )))))
 
 switch-fits : (s : NodeState) → Fits s (switch_over s)
 unfolding switch_over
-switch-fits s = gi s _ _ _ (λ net e. un s _ _ _ (un s _ _ _ (ch s _ _ _ (λ f. gi s _ _ _ (λ new g. ((newest-has s new g, (tt, tt)), tt))) (λ f. (tt, tt)))))
+switch-fits s =
+    gi s _ _ _
+    (λ net e. un s _ _ _
+    (un s _ _ _ (ch s _ _ _ (λ f. gi s _ _ _ (λ new g. ((newest-has s new g, (tt, tt)), tt))) (λ f. (tt, tt)))))
 
 again-fits : (s : NodeState) (device : ℕ) → Fits s (again s device)
 unfolding again
@@ -260,7 +307,8 @@ again-fits s device = un s _ _ _ (un s _ _ _ (tt, tt))
 
 share-fits : (c : Setting) (s : NodeState) (device partner : ℕ) → Fits s (share c s device partner)
 unfolding share
-share-fits c s device partner = gi s _ _ _ (λ net e. un s _ _ _ (gi s _ _ _ (λ pair f. gi s _ _ _ (λ row g. un s _ _ _ (tt, tt)))))
+share-fits c s device partner =
+    gi s _ _ _ (λ net e. un s _ _ _ (gi s _ _ _ (λ pair f. gi s _ _ _ (λ row g. un s _ _ _ (tt, tt)))))
 
 at-centre-fits : (c : Setting) (s : NodeState) (task : Task) → Fits s (own_at_centre c s task)
 at-centre-fits c s (SayTo to bytes) = say-fits s to bytes
@@ -290,15 +338,18 @@ either-fits s false x y f g = g
 
 own-fits : (tools : Tools) (c : Setting) (s : NodeState) (task : Task) → Fits s (own tools c s task)
 unfolding own
-own-fits tools c s task = either-fits s (is_centre c.me.role) (own_at_centre c s task) (own_at_member tools c s task) (at-centre-fits c s task) (at-member-fits tools c s task)
+own-fits tools c s task = either-fits s (is_centre c.me.role) (own_at_centre c s task) (own_at_member tools c s task)
+    (at-centre-fits c s task) (at-member-fits tools c s task)
 
 -- Commands
 
-unless-old-fits : (s : NodeState) (key : Bytes) (o : Option ℕ) (rest : Outcome) → Fits s rest → Fits s (unless_old s key o rest)
+unless-old-fits : (s : NodeState) (key : Bytes) (o : Option ℕ) (rest : Outcome) → Fits s rest
+    → Fits s (unless_old s key o rest)
 unless-old-fits s key None rest f = f
 unless-old-fits s key (Some place) rest f = tt
 
-net-key-fits : (c : Setting) (s : NodeState) (m : Heard) (key : Bytes) (q destination source : ℕ) → Fits s (take_net_key c s m key q destination source)
+net-key-fits : (c : Setting) (s : NodeState) (m : Heard) (key : Bytes) (q destination source : ℕ)
+    → Fits s (take_net_key c s m key q destination source)
 unfolding take_net_key
 net-key-fits c s m key q destination source = un s _ _ _ (unless-old-fits s key (dropped_at 0 key s.nets) _ (ch s _ _ _
     (λ e. (activate-fits c s key s.nets e, tt))
@@ -308,63 +359,105 @@ unless-used-fits : (s : NodeState) (o : Option LinkKey) (rest : Outcome) → Fit
 unless-used-fits s None rest f = f
 unless-used-fits s (Some other) rest f = tt
 
-row-fits : (s : NodeState) (partner : ℕ) (key : Bytes) (ms : List Move) → AllByRecursion NoActive ms → Fits s (take_row s partner key ms)
+row-fits : (s : NodeState) (partner : ℕ) (key : Bytes) (ms : List Move) → AllByRecursion NoActive ms
+    → Fits s (take_row s partner key ms)
 unfolding take_row
-row-fits s partner key ms a = un s _ _ _ (unless-used-fits s (other_user s partner key) (Does ms None) (none-fits s.nets ms a, tt))
+row-fits s partner key ms a =
+    un s _ _ _ (unless-used-fits s (other_user s partner key) (Does ms None) (none-fits s.nets ms a, tt))
 
-link-key-fits : (c : Setting) (s : NodeState) (m : Heard) (key : Bytes) (destination source : ℕ) → Fits s (take_link_key c s m key destination source)
+link-key-fits : (c : Setting) (s : NodeState) (m : Heard) (key : Bytes) (destination source : ℕ)
+    → Fits s (take_link_key c s m key destination source)
 unfolding take_link_key
-link-key-fits c s m key destination source = un s _ _ _ (un s _ _ _ (ch s _ _ _ (λ e. (tt, tt)) (λ e. row-fits s _ key _ (all-append NoActive (drop_row (offered s _)) _ (row-drops (offered s _)) (tt, (tt, tt))))))
+link-key-fits c s m key destination source =
+    un s _ _ _
+    (un s _ _ _
+    (ch s _ _ _ (λ e. (tt, tt))
+    (λ e. row-fits s _ key _
+    (all-append NoActive (drop_row (offered s _)) _ (row-drops (offered s _)) (tt, (tt, tt))))))
 
-app-key-fits : (c : Setting) (s : NodeState) (m : Heard) (key : Bytes) (partner : ℕ) → Fits s (take_app_key c s m key partner)
+app-key-fits : (c : Setting) (s : NodeState) (m : Heard) (key : Bytes) (partner : ℕ)
+    → Fits s (take_app_key c s m key partner)
 unfolding take_app_key
-app-key-fits c s m key partner = un s _ _ _ (un s _ _ _ (un s _ _ _ (ch s _ _ _ (λ e. (tt, tt)) (λ e. row-fits s partner key _ (all-append NoActive (drop_partner s partner) _ (partner-drops s partner) (tt, tt))))))
+app-key-fits c s m key partner =
+    un s _ _ _
+    (un s _ _ _
+    (un s _ _ _
+    (ch s _ _ _ (λ e. (tt, tt))
+    (λ e. row-fits s partner key _
+    (all-append NoActive (drop_partner s partner) _ (partner-drops s partner) (tt, tt))))))
 
 take-switch-fits : (c : Setting) (s : NodeState) (m : Heard) (q : ℕ) → Fits s (take_switch c s m q)
 unfolding take_switch
 take-switch-fits c s m q = un s _ _ _ (gi s _ _ _ (λ row e. ((live-has s q row e, tt), tt)))
 
-confirm-fits : (c : Setting) (s : NodeState) (m : Heard) (status kind destination : ℕ) → Fits s (take_confirm c s m status kind destination)
+confirm-fits : (c : Setting) (s : NodeState) (m : Heard) (status kind destination : ℕ)
+    → Fits s (take_confirm c s m status kind destination)
 unfolding take_confirm
-confirm-fits c s m status kind destination = un s _ _ _ (un s _ _ _ (un s _ _ _ (gi s _ _ _ (λ row e. (none-fits s.nets (drop_row (current s _) ++ (Row row.partner row.key _ ∷ Became _ ∷ [])) (all-append NoActive (drop_row (current s _)) _ (row-drops (current s _)) (tt, (tt, tt))), tt)))))
+confirm-fits c s m status kind destination =
+    un s _ _ _
+    (un s _ _ _
+    (un s _ _ _
+    (gi s _ _ _
+    (λ row e. (
+      none-fits s.nets (drop_row (current s _) ++ (Row row.partner row.key _ ∷ Became _ ∷ []))
+          (all-append NoActive (drop_row (current s _)) _ (row-drops (current s _)) (tt, (tt, tt))),
+      tt,
+    )))))
 
 take-remove-fits : (c : Setting) (s : NodeState) (m : Heard) (target : ℕ) → Fits s (take_remove c s m target)
 unfolding take_remove
 take-remove-fits c s m target = un s _ _ _ (un s _ _ _ (un s _ _ _ (tt, tt)))
 
-tunnel-fits : (c : Setting) (s : NodeState) (m : Heard) (destination : ℕ) (inner : Bytes) → Fits s (take_tunnel c s m destination inner)
+tunnel-fits : (c : Setting) (s : NodeState) (m : Heard) (destination : ℕ) (inner : Bytes)
+    → Fits s (take_tunnel c s m destination inner)
 unfolding take_tunnel
 tunnel-fits c s m destination inner = un s _ _ _ (un s _ _ _ (tt, tt))
 
 update-fits : (c : Setting) (s : NodeState) (m : Heard) (device status : ℕ) → Fits s (take_update c s m device status)
 unfolding take_update
-update-fits c s m device status = un s _ _ _ (ch s _ _ _ (λ e. (tt, tt)) (λ e. gi s _ _ _ (λ net f. gi s _ _ _ (λ row g. un s _ _ _ (tt, tt)))))
+update-fits c s m device status =
+    un s _ _ _ (ch s _ _ _ (λ e. (tt, tt)) (λ e. gi s _ _ _ (λ net f. gi s _ _ _ (λ row g. un s _ _ _ (tt, tt)))))
 
-answer-request-fits : (c : Setting) (s : NodeState) (device : ℕ) (draw : Option Bytes) (row : LinkKey) (o : Option LinkKey) → Fits s (answer_request c s device draw row o)
+answer-request-fits : (c : Setting) (s : NodeState) (device : ℕ) (draw : Option Bytes) (row : LinkKey)
+    (o : Option LinkKey) → Fits s (answer_request c s device draw row o)
 answer-request-fits c s device draw row None = un s _ _ _ (gi s _ _ _ (λ key e. un s _ _ _ (tt, tt)))
 answer-request-fits c s device draw row (Some offer) = un s _ _ _ (tt, tt)
 
 request-fits : (c : Setting) (s : NodeState) (m : Heard) (draw : Option Bytes) → Fits s (take_request c s m draw)
 unfolding take_request
-request-fits c s m draw = un s _ _ _ (gi s _ _ _ (λ row e. answer-request-fits c s m.sender draw row (offered s m.sender)))
+request-fits c s m draw =
+    un s _ _ _ (gi s _ _ _ (λ row e. answer-request-fits c s m.sender draw row (offered s m.sender)))
 
-answer-pair-fits : (c : Setting) (s : NodeState) (device partner : ℕ) (draw : Option Bytes) (row : LinkKey) (o : Option PairKey) → Fits s (answer_pair c s device partner draw row o)
+answer-pair-fits : (c : Setting) (s : NodeState) (device partner : ℕ) (draw : Option Bytes) (row : LinkKey)
+    (o : Option PairKey) → Fits s (answer_pair c s device partner draw row o)
 answer-pair-fits c s device partner draw row None = un s _ _ _ (gi s _ _ _ (λ key e. un s _ _ _ (tt, tt)))
 answer-pair-fits c s device partner draw row (Some pair) = un s _ _ _ (tt, tt)
 
-app-request-fits : (c : Setting) (s : NodeState) (m : Heard) (draw : Option Bytes) (partner : ℕ) → Fits s (take_app_request c s m draw partner)
+app-request-fits : (c : Setting) (s : NodeState) (m : Heard) (draw : Option Bytes) (partner : ℕ)
+    → Fits s (take_app_request c s m draw partner)
 unfolding take_app_request
-app-request-fits c s m draw partner = un s _ _ _ (un s _ _ _ (un s _ _ _ (gi s _ _ _ (λ row e. answer-pair-fits c s m.sender partner draw row (pair_of s m.sender partner)))))
+app-request-fits c s m draw partner =
+    un s _ _ _
+    (un s _ _ _
+    (un s _ _ _ (gi s _ _ _ (λ row e. answer-pair-fits c s m.sender partner draw row (pair_of s m.sender partner)))))
 
-verify-fits : (tools : Tools) (c : Setting) (s : NodeState) (m : Heard) (kind device : ℕ) (hash : Bytes) → Fits s (take_verify tools c s m kind device hash)
+verify-fits : (tools : Tools) (c : Setting) (s : NodeState) (m : Heard) (kind device : ℕ) (hash : Bytes)
+    → Fits s (take_verify tools c s m kind device hash)
 unfolding take_verify
 verify-fits tools c s m kind device hash = un s _ _ _ (un s _ _ _ (un s _ _ _ (un s _ _ _ (ch s _ _ _
-    (λ e. gi s _ _ _ (λ row f. (none-fits s.nets (drop_row (current s device) ++ (Row device row.key _ ∷ [])) (all-append NoActive (drop_row (current s device)) _ (row-drops (current s device)) (tt, tt)), tt)))
+    (λ e. gi s _ _ _
+    (λ row f. (
+      none-fits s.nets (drop_row (current s device) ++ (Row device row.key _ ∷ []))
+          (all-append NoActive (drop_row (current s device)) _ (row-drops (current s device)) (tt, tt)),
+      tt,
+    )))
     (λ e. ch s _ _ _ (λ f. gi s _ _ _ (λ row g. (tt, tt))) (λ f. tt))))))
 
-take-command-fits : (tools : Tools) (c : Setting) (s : NodeState) (draw : Option Bytes) (m : Heard) (o : Command) → Fits s (take_command tools c s draw m o)
+take-command-fits : (tools : Tools) (c : Setting) (s : NodeState) (draw : Option Bytes) (m : Heard) (o : Command)
+    → Fits s (take_command tools c s draw m o)
 unfolding take_command
-take-command-fits tools c s draw m (TransportNet key q destination source) = net-key-fits c s m key q destination source
+take-command-fits tools c s draw m (TransportNet key q destination source) =
+    net-key-fits c s m key q destination source
 take-command-fits tools c s draw m (TransportApp key partner initiator) = app-key-fits c s m key partner
 take-command-fits tools c s draw m (TransportLink key destination source) = link-key-fits c s m key destination source
 take-command-fits tools c s draw m (UpdateDevice device short status) = update-fits c s m device status
@@ -389,23 +482,33 @@ either-plan : (s : NodeState) (b : Bool) (p q : Plan) → PlanFits s p → PlanF
 either-plan s true p q f g = f
 either-plan s false p q f g = g
 
-command-fits : (tools : Tools) (c : Setting) (s : NodeState) (draw : Option Bytes) (ts : List Term) (m : Heard) (o : CommandShown) → PlanFits s (aps_command tools c s draw ts m o)
+command-fits : (tools : Tools) (c : Setting) (s : NodeState) (draw : Option Bytes) (ts : List Term) (m : Heard)
+    (o : CommandShown) → PlanFits s (aps_command tools c s draw ts m o)
 command-fits tools c s draw ts m (Known command) = take-command-fits tools c s draw m command
 command-fits tools c s draw ts m Unknown = tt
 command-fits tools c s draw ts m Broken = tt
 
-clear-fits : (tools : Tools) (c : Setting) (s : NodeState) (draw : Option Bytes) (nwk : Option Term) (a : ApsShown) → PlanFits s (clear_part tools c s draw nwk a)
-clear-fits tools c s draw nwk a = either-plan s a.is_command (aps_command tools c s draw _ (heard_clear nwk) (tools.read_command a.body)) _ (command-fits tools c s draw _ (heard_clear nwk) (tools.read_command a.body)) (tt, tt)
+clear-fits : (tools : Tools) (c : Setting) (s : NodeState) (draw : Option Bytes) (nwk : Option Term) (a : ApsShown)
+    → PlanFits s (clear_part tools c s draw nwk a)
+clear-fits tools c s draw nwk a =
+    either-plan s a.is_command (aps_command tools c s draw _ (heard_clear nwk) (tools.read_command a.body)) _
+    (command-fits tools c s draw _ (heard_clear nwk) (tools.read_command a.body)) (tt, tt)
 
-sealed-fits : (tools : Tools) (c : Setting) (s : NodeState) (draw : Option Bytes) (nwk : Option Term) (a : ApsShown) (aux : ApsAuxiliary) (v : Verdict Unsealed) → PlanFits s (sealed_part tools c s draw nwk a aux v)
+sealed-fits : (tools : Tools) (c : Setting) (s : NodeState) (draw : Option Bytes) (nwk : Option Term) (a : ApsShown)
+    (aux : ApsAuxiliary) (v : Verdict Unsealed) → PlanFits s (sealed_part tools c s draw nwk a aux v)
 sealed-fits tools c s draw nwk a aux (Not model_place reason) = tt
-sealed-fits tools c s draw nwk a aux (Good u) = either-plan s a.is_command (aps_command tools c s draw _ (heard_sealed nwk aux u) (tools.read_command u.term.content)) _ (command-fits tools c s draw _ (heard_sealed nwk aux u) (tools.read_command u.term.content)) (tt, tt)
+sealed-fits tools c s draw nwk a aux (Good u) =
+    either-plan s a.is_command
+    (aps_command tools c s draw _ (heard_sealed nwk aux u) (tools.read_command u.term.content)) _
+    (command-fits tools c s draw _ (heard_sealed nwk aux u) (tools.read_command u.term.content)) (tt, tt)
 
-security-fits : (tools : Tools) (c : Setting) (s : NodeState) (draw : Option Bytes) (f : NwkShown) (nwk : Option Term) (a : ApsShown) (x : Option ApsAuxiliary) → PlanFits s (by_security tools c s draw f nwk a x)
+security-fits : (tools : Tools) (c : Setting) (s : NodeState) (draw : Option Bytes) (f : NwkShown) (nwk : Option Term)
+    (a : ApsShown) (x : Option ApsAuxiliary) → PlanFits s (by_security tools c s draw f nwk a x)
 security-fits tools c s draw f nwk a None = clear-fits tools c s draw nwk a
 security-fits tools c s draw f nwk a (Some aux) = sealed-fits tools c s draw nwk a aux _
 
-aps-fits : (tools : Tools) (c : Setting) (s : NodeState) (draw : Option Bytes) (f : NwkShown) (nwk : Option Term) (x : Option ApsShown) → PlanFits s (aps_part tools c s draw f nwk x)
+aps-fits : (tools : Tools) (c : Setting) (s : NodeState) (draw : Option Bytes) (f : NwkShown) (nwk : Option Term)
+    (x : Option ApsShown) → PlanFits s (aps_part tools c s draw f nwk x)
 aps-fits tools c s draw f nwk None = tt
 aps-fits tools c s draw f nwk (Some a) = security-fits tools c s draw f nwk a a.auxiliary
 
@@ -414,11 +517,16 @@ nwk-command-fits c s t (Leave options) = leave-fits c s t options
 nwk-command-fits c s t Other = tt
 nwk-command-fits c s t NoCommand = tt
 
-net-fits : (tools : Tools) (c : Setting) (s : NodeState) (draw : Option Bytes) (f : NwkShown) (nwk : Option Term) → PlanFits s (net_part tools c s draw f nwk)
+net-fits : (tools : Tools) (c : Setting) (s : NodeState) (draw : Option Bytes) (f : NwkShown) (nwk : Option Term)
+    → PlanFits s (net_part tools c s draw f nwk)
 net-fits tools c s draw f None = aps-fits tools c s draw f None (tools.read_aps f.body)
-net-fits tools c s draw f (Some t) = either-plan s f.is_command (nwk_command c t (tools.read_leave t.content)) (aps_part tools c s draw f (Some t) (tools.read_aps t.content)) (nwk-command-fits c s t (tools.read_leave t.content)) (aps-fits tools c s draw f (Some t) (tools.read_aps t.content))
+net-fits tools c s draw f (Some t) = either-plan s f.is_command (nwk_command c t (tools.read_leave t.content))
+    (aps_part tools c s draw f (Some t) (tools.read_aps t.content))
+    (nwk-command-fits c s t (tools.read_leave t.content))
+    (aps-fits tools c s draw f (Some t) (tools.read_aps t.content))
 
-received-fits : (tools : Tools) (c : Setting) (s : NodeState) (draw : Option Bytes) (v : Verdict Carrier) → PlanFits s (received_as tools c s draw v)
+received-fits : (tools : Tools) (c : Setting) (s : NodeState) (draw : Option Bytes) (v : Verdict Carrier)
+    → PlanFits s (received_as tools c s draw v)
 received-fits tools c s draw (Not model_place reason) = tt
 received-fits tools c s draw (Good k) = net-fits tools c s draw k.frame k.term
 

@@ -9,7 +9,9 @@ use Rattle.law_run.specs.Opening.{Opens}
 use Rattle.law_run_counters.specs.Counted.{answered_with, CountedFrom, Counted}
 use Rattle.law_run_counters.proofs.Events.{Grounded, counts_of, event-counted, step-is, event-same, event-grounded, start-grounded}
 
-counted-from : (tools : Tools) → Opens tools → (w : Schedule) (h : List Line) (disks : List Disk) (number : ℕ) (events : List Event) → Grounded h → CountedFrom tools w h disks number events (groups tools w h disks number events)
+counted-from : (tools : Tools) → Opens tools → (w : Schedule) (h : List Line) (disks : List Disk) (number : ℕ)
+    (events : List Event) → Grounded h
+    → CountedFrom tools w h disks number events (groups tools w h disks number events)
 unfolding groups
 counted-from tools opens w h disks number [] grounded = refl
 counted-from tools opens w h disks number (event ∷ events) grounded = (
@@ -17,24 +19,40 @@ counted-from tools opens w h disks number (event ∷ events) grounded = (
   more,
   ap (λ (g : Step). g.lines ++ more) (sym (step-is tools w h disks number event)),
   event-counted tools opens w h number event grounded.bridged,
-  subst (λ (g : Step). CountedFrom tools w (h ++ g.lines) g.disks (number + 1) events more) (sym (step-is tools w h disks number event))
-      (counted-from tools opens w (h ++ (step tools w h disks number event).lines) (step tools w h disks number event).disks (number + 1) events (event-grounded tools w h disks number event grounded)),
+  subst (λ (g : Step). CountedFrom tools w (h ++ g.lines) g.disks (number + 1) events more)
+      (sym (step-is tools w h disks number event))
+      (counted-from tools opens w (h ++ (step tools w h disks number event).lines)
+      (step tools w h disks number event).disks (number + 1) events
+      (event-grounded tools w h disks number event grounded)),
 )
   where
     more : List Line
-    more = groups tools w (h ++ (step tools w h disks number event).lines) (step tools w h disks number event).disks (number + 1) events
+    more = groups tools w (h ++ (step tools w h disks number event).lines) (step tools w h disks number event).disks
+        (number + 1) events
 
 pub counted : (tools : Tools) → Opens tools → (w : Schedule) → Counted tools w (transcript tools w)
 unfolding transcript run_lines
-counted tools opens w = (groups tools w (start w) [] 1 w.events, end_line tools (length w.events) (start w ++ groups tools w (start w) [] 1 w.events), refl, counted-from tools opens w (start w) [] 1 w.events (start-grounded w))
+counted tools opens w = (
+  groups tools w (start w) [] 1 w.events,
+  end_line tools (length w.events)
+      (start w ++ groups tools w (start w) [] 1 w.events),
+  refl,
+  counted-from tools opens w (start w) [] 1 w.events
+      (start-grounded w),
+)
 
 -- What is counted is what the run has.
-groups-same : (tools : Tools) → Opens tools → (w : Schedule) (h : List Line) (disks : List Disk) (number : ℕ) (events : List Event) (rest : List Line) → Grounded h → CountedFrom tools w h disks number events rest → rest ≡ groups tools w h disks number events
+groups-same : (tools : Tools) → Opens tools → (w : Schedule) (h : List Line) (disks : List Disk) (number : ℕ)
+    (events : List Event) (rest : List Line) → Grounded h → CountedFrom tools w h disks number events rest → rest
+    ≡ groups tools w h disks number events
 unfolding groups
 groups-same tools opens w h disks number [] rest grounded c = c
 groups-same tools opens w h disks number (event ∷ events) rest grounded c =
     c.2 ∙ ap (λ (g : Step). g.lines ++ c.1) same
-    ∙ ap (λ l. (step tools w h disks number event).lines ++ l) (groups-same tools opens w (h ++ (step tools w h disks number event).lines) (step tools w h disks number event).disks (number + 1) events c.1 (event-grounded tools w h disks number event grounded)
+    ∙ ap (λ l. (step tools w h disks number event).lines ++ l)
+    (groups-same tools opens w (h ++ (step tools w h disks number event).lines)
+    (step tools w h disks number event).disks (number + 1) events c.1
+    (event-grounded tools w h disks number event grounded)
     (subst (λ (g : Step). CountedFrom tools w (h ++ g.lines) g.disks (number + 1) events c.1) same c.4))
   where
     same : answered_with tools w h disks number event c.0 ≡ step tools w h disks number event
@@ -83,11 +101,17 @@ same-front xs ys x y e = sym (front-is xs x) ∙ ap front e ∙ front-is ys y
 same-last : (xs ys : List Line) (x y : Line) → xs ++ x ∷ [] ≡ ys ++ y ∷ [] → x ≡ y
 same-last xs ys x y e = sym (last-is x xs x) ∙ ap (λ l. last x l) e ∙ last-is x ys y
 
-pub unique : (tools : Tools) → Opens tools → (w : Schedule) (lines : List Line) → Lawful tools w lines → Counted tools w lines → lines ≡ transcript tools w
+pub unique : (tools : Tools) → Opens tools → (w : Schedule) (lines : List Line) → Lawful tools w lines
+    → Counted tools w lines → lines ≡ transcript tools w
 unfolding transcript run_lines
 unique tools opens w lines l c =
-    c.2 ∙ ap (λ x. (start w ++ c.0) ++ x ∷ []) (same-last (start w ++ c.0) (start w ++ l.0) c.1 (end_line tools (length w.events) (start w ++ l.0)) joined ∙ ap (λ h. end_line tools (length w.events) h) (sym (same-front (start w ++ c.0) (start w ++ l.0) c.1 (end_line tools (length w.events) (start w ++ l.0)) joined)))
-    ∙ ap (λ g. (start w ++ g) ++ end_line tools (length w.events) (start w ++ g) ∷ []) (groups-same tools opens w (start w) [] 1 w.events c.0 (start-grounded w) c.3)
+    c.2 ∙ ap (λ x. (start w ++ c.0) ++ x ∷ [])
+    (same-last (start w ++ c.0) (start w ++ l.0) c.1 (end_line tools (length w.events) (start w ++ l.0)) joined ∙
+    ap (λ h. end_line tools (length w.events) h)
+    (sym (same-front (start w ++ c.0) (start w ++ l.0) c.1 (end_line tools (length w.events) (start w ++ l.0))
+    joined)))
+    ∙ ap (λ g. (start w ++ g) ++ end_line tools (length w.events) (start w ++ g) ∷ [])
+    (groups-same tools opens w (start w) [] 1 w.events c.0 (start-grounded w) c.3)
   where
     joined : (start w ++ c.0) ++ c.1 ∷ [] ≡ (start w ++ l.0) ++ end_line tools (length w.events) (start w ++ l.0) ∷ []
     joined = sym c.2 ∙ l.1

@@ -19,7 +19,8 @@ IsActive Nwk base s = s.active ≡ Some base
 IsActive Aps base s = ⊤
 
 abbrev pub TakesCounter : List Line → Line → Type 0
-TakesCounter h (Seal e n t) = (t.counter ≡ next_counter t.layer (state_of h n)) × IsActive t.layer t.base (state_of h n)
+TakesCounter h (Seal e n t) = (t.counter ≡ next_counter t.layer (state_of h n))
+    × IsActive t.layer t.base (state_of h n)
 TakesCounter h _ = ⊤
 
 -- Reserves
@@ -31,15 +32,18 @@ block_reserved w s n layer = min (next_counter layer s + (setting_of w n).me.out
 
 abbrev pub reserve_line : Schedule → NodeState → ℕ → ℕ → Layer → List Line
 reserve_line w s e n layer =
-    if nat_eq (next_counter layer s) (stored_limit layer s) then Changed e n (Reserve layer (block_reserved w s n layer)) ∷ [] else []
+    if nat_eq (next_counter layer s) (stored_limit layer s)
+    then Changed e n (Reserve layer (block_reserved w s n layer)) ∷ [] else []
 
 abbrev pub reserve_called : Schedule → List Line → Layer → Line → List Line
-reserve_called w h layer (Seal e n t) = if same_layer t.layer layer then reserve_line w (state_of h n) e n layer else []
+reserve_called w h layer (Seal e n t) = if same_layer t.layer layer then reserve_line w (state_of h n) e n layer
+    else []
 reserve_called w h layer _ = []
 
 -- the reserve lines of a layer
 abbrev pub reserve_there : Layer → Line → List Line
-reserve_there layer (Changed e n (Reserve l limit)) = if same_layer l layer then Changed e n (Reserve l limit) ∷ [] else []
+reserve_there layer (Changed e n (Reserve l limit)) = if same_layer l layer then Changed e n (Reserve l limit) ∷ []
+    else []
 reserve_there layer _ = []
 
 -- Floors
@@ -49,7 +53,8 @@ reserve_there layer _ = []
 abbrev pub floor_called : Schedule → List Line → Line → List Line
 floor_called w h (Accept e n t) =
     if nat_le (stored_floor t (state_of h n)) t.counter
-    then Changed e n (Floor t.layer t.base t.source (min (t.counter + (setting_of w n).me.in_block) greatest_counter)) ∷ [] else []
+    then Changed e n (Floor t.layer t.base t.source (min (t.counter + (setting_of w n).me.in_block) greatest_counter))
+    ∷ [] else []
 floor_called w h _ = []
 
 abbrev pub floor_there : Line → List Line
@@ -73,7 +78,8 @@ abbrev pub start_value : NodeState → ℕ
 start_value s = if nat_le half (next_counter Nwk s) then 0 else next_counter Nwk s
 
 abbrev pub start_called : List Line → Line → List Line
-start_called h (Changed e n (Moved (Active key))) = if has_started h n key then [] else Changed e n (Start key (start_value (state_of h n))) ∷ []
+start_called h (Changed e n (Moved (Active key))) = if has_started h n key then []
+    else Changed e n (Start key (start_value (state_of h n))) ∷ []
 start_called h _ = []
 
 abbrev pub start_there : Line → List Line
@@ -99,10 +105,13 @@ whole_group tools w h number event k = (answered_with tools w h [] number event 
 abbrev pub CountedFrom : Tools → Schedule → List Line → List Disk → ℕ → List Event → List Line → Type 0
 CountedFrom tools w h disks number [] rest = rest ≡ []
 CountedFrom tools w h disks number (event ∷ events) rest =
-    (k : Counting) × (more : List Line) × (rest ≡ (answered_with tools w h disks number event k).lines ++ more) × IsCounted w h (whole_group tools w h number event k)
-    × CountedFrom tools w (h ++ (answered_with tools w h disks number event k).lines) (answered_with tools w h disks number event k).disks (number + 1) events more
+    (k : Counting) × (more : List Line) × (rest ≡ (answered_with tools w h disks number event k).lines ++ more)
+    × IsCounted w h (whole_group tools w h number event k)
+    × CountedFrom tools w (h ++ (answered_with tools w h disks number event k).lines)
+    (answered_with tools w h disks number event k).disks (number + 1) events more
 
 -- Between the start lines and the last line, the group of each event is counted.
 abbrev pub Counted : Tools → Schedule → List Line → Type 0
 Counted tools w lines =
-    (groups : List Line) × (last : Line) × (lines ≡ (start w ++ groups) ++ last ∷ []) × CountedFrom tools w (start w) [] 1 w.events groups
+    (groups : List Line) × (last : Line) × (lines ≡ (start w ++ groups) ++ last ∷ [])
+    × CountedFrom tools w (start w) [] 1 w.events groups

@@ -10,7 +10,8 @@ use Rattle.zb_model.specs.Play.{Schedule, setting_of}
 -- cut short by a stop or failure, and nothing of it is accepted.
 abbrev pub IsFor : Schedule → ℕ → ℕ → Layer → Bytes → ℕ → ℕ → Line → Type 0
 IsFor w e n layer base source value (Accept d m t) =
-    (d ≡ e) × (m ≡ n) × (t.layer ≡ layer) × (t.base ≡ base) × (t.source ≡ source) × (value ≤ t.counter + (setting_of w n).me.in_block)
+    (d ≡ e) × (m ≡ n) × (t.layer ≡ layer) × (t.base ≡ base) × (t.source ≡ source)
+    × (value ≤ t.counter + (setting_of w n).me.in_block)
 IsFor w e n layer base source value (Stopped d m) = (d ≡ e) × (m ≡ n)
 IsFor w e n layer base source value (DownDisk d m) = (d ≡ e) × (m ≡ n)
 IsFor w e n layer base source value _ = ⊥
@@ -27,7 +28,8 @@ FloorsAreFor w (l ∷ ls) = FloorLine w l ls × FloorsAreFor w ls
 -- A floor that an answer stores is for a term that it accepts: of the floor's layer, base key and source, and the
 -- floor is at most a block above its counter.
 abbrev pub IsOfTerm : ℕ → Layer → Bytes → ℕ → ℕ → Term → Type 0
-IsOfTerm block layer base source value t = (t.layer ≡ layer) × (t.base ≡ base) × (t.source ≡ source) × (value ≤ t.counter + block)
+IsOfTerm block layer base source value t = (t.layer ≡ layer) × (t.base ≡ base) × (t.source ≡ source)
+    × (value ≤ t.counter + block)
 
 abbrev pub FloorOf : ℕ → List Term → Edit → Type 0
 FloorOf block accepts (Floor layer base source value) = Any (IsOfTerm block layer base source value) accepts

@@ -26,7 +26,8 @@ use Rattle.zb_trace.specs.Text.{MayStand, refusal_words, term_words, words}
 abbrev Stands : List Station → log.Line → Type 0
 Stands known m = trace.IsProper (line_for known m)
 
-refusal_stands : (at : Place) (why : model.Reason) → AllByRecursion MayBe (refusal_words (refusal_for at why)) → AllByRecursion MayStand (refusal_words (refusal_for at why))
+refusal_stands : (at : Place) (why : model.Reason) → AllByRecursion MayBe (refusal_words (refusal_for at why))
+    → AllByRecursion MayStand (refusal_words (refusal_for at why))
 unfolding refusal_words
 refusal_stands at model.Down is = is
 refusal_stands at model.Malformed is = is
@@ -51,7 +52,8 @@ refusal_stands at model.NoFrame is = is
 abbrev IsSpelled : List Station → ℕ → Type 0
 IsSpelled known n = is_name (name_of known n) ≡ true
 
-edit_stands : (known : List Station) (event n : ℕ) (e : model.Edit) → IsSpelled known n → IsWide (log.Changed event n e) → Stands known (log.Changed event n e)
+edit_stands : (known : List Station) (event n : ℕ) (e : model.Edit) → IsSpelled known n
+    → IsWide (log.Changed event n e) → Stands known (log.Changed event n e)
 unfolding IsWide line_for
 edit_stands known event n (model.Reserve l limit) s w = (w.0, (w.1.0, (s, w.1.1.1)))
 edit_stands known event n (model.Floor l key from value) s w = (w.0, (w.1.0, (s, w.1.1.1)))
@@ -70,34 +72,61 @@ edit_stands known event n (model.Moved (model.Roll b)) s w = (w.0, (w.1.0, (s, w
 edit_stands known event n (model.Moved (model.Told d)) s w = w
 edit_stands known event n (model.Moved (model.Untold d)) s w = w
 
-pub line_stands : (known : List Station) → AreNamed known → (m : log.Line) → IsOfSchedule known m → IsWide m → Stands known m
+pub line_stands : (known : List Station) → AreNamed known → (m : log.Line) → IsOfSchedule known m → IsWide m
+    → Stands known m
 unfolding IsWide line_for term_words
-line_stands known fits (log.Declared p) is w = (w.0, (w.1.0, (is.1 (λ (q : Station). is_name q.name) fits.names, w.1.1.1)))
-line_stands known fits (log.GivenNet n key sequence) is w = (w.0, (w.1.0, (each_name (λ name. is_name name ≡ true) known n fits.names is.0, w.1.1.1)))
-line_stands known fits (log.GivenLink n partner key) is w = (w.0, (w.1.0, (each_name (λ name. is_name name ≡ true) known n fits.names is.0, w.1.1.1)))
-line_stands known fits (log.Counter n l limit) is w = (w.0, (w.1.0, (each_name (λ name. is_name name ≡ true) known n fits.names is.0, w.1.1.1)))
-line_stands known fits (log.Changed event n e) is w = edit_stands known event n e (each_name (λ name. is_name name ≡ true) known n fits.names is.0.0) w
-line_stands known fits (log.Commit event n) is w = (w.0, (w.1.0, (each_name (λ name. is_name name ≡ true) known n fits.names is.0, w.1.1.1)))
-line_stands known fits (log.Accept event n t) is w = (w.0, (w.1.0, (each_name (λ name. is_name name ≡ true) known n fits.names is.0, w.1.1.1)))
-line_stands known fits (log.Refuse event n at why) is w =
-    (w.0, (w.1.0, (each_name (λ name. is_name name ≡ true) known n fits.names is.0, refusal_stands (place_for at) why w.1.1.1)))
-line_stands known fits (log.Seal event n t) is w = (w.0, (w.1.0, (each_name (λ name. is_name name ≡ true) known n fits.names is.0, w.1.1.1)))
+line_stands known fits (log.Declared p) is w =
+    (w.0, (w.1.0, (is.1 (λ (q : Station). is_name q.name) fits.names, w.1.1.1)))
+line_stands known fits (log.GivenNet n key sequence) is w =
+    (w.0, (w.1.0, (each_name (λ name. is_name name ≡ true) known n fits.names is.0, w.1.1.1)))
+line_stands known fits (log.GivenLink n partner key) is w =
+    (w.0, (w.1.0, (each_name (λ name. is_name name ≡ true) known n fits.names is.0, w.1.1.1)))
+line_stands known fits (log.Counter n l limit) is w =
+    (w.0, (w.1.0, (each_name (λ name. is_name name ≡ true) known n fits.names is.0, w.1.1.1)))
+line_stands known fits (log.Changed event n e) is w =
+    edit_stands known event n e (each_name (λ name. is_name name ≡ true) known n fits.names is.0.0) w
+line_stands known fits (log.Commit event n) is w =
+    (w.0, (w.1.0, (each_name (λ name. is_name name ≡ true) known n fits.names is.0, w.1.1.1)))
+line_stands known fits (log.Accept event n t) is w =
+    (w.0, (w.1.0, (each_name (λ name. is_name name ≡ true) known n fits.names is.0, w.1.1.1)))
+line_stands known fits (log.Refuse event n at why) is w = (
+  w.0,
+  (
+    w.1.0,
+    (each_name (λ name. is_name name ≡ true) known n fits.names is.0, refusal_stands (place_for at) why w.1.1.1),
+  ),
+)
+line_stands known fits (log.Seal event n t) is w =
+    (w.0, (w.1.0, (each_name (λ name. is_name name ≡ true) known n fits.names is.0, w.1.1.1)))
 line_stands known fits (log.Forge event t) is w = w
 line_stands known fits (log.Send event None frame bytes) is w = (w.0, (w.1.0, (inr refl, w.1.1.1)))
-line_stands known fits (log.Send event (Some n) frame bytes) is w = (w.0, (w.1.0, (inl (each_name (λ name. is_name name ≡ true) known n fits.names is.0), w.1.1.1)))
+line_stands known fits (log.Send event (Some n) frame bytes) is w =
+    (w.0, (w.1.0, (inl (each_name (λ name. is_name name ≡ true) known n fits.names is.0), w.1.1.1)))
 line_stands known fits (log.Inject event frame bytes) is w = w
-line_stands known fits (log.Stopped event n) is w = (w.0, (w.1.0, (each_name (λ name. is_name name ≡ true) known n fits.names is.0, w.1.1.1)))
-line_stands known fits (log.DownReset event n) is w = (w.0, (w.1.0, (each_name (λ name. is_name name ≡ true) known n fits.names is.0, w.1.1.1)))
-line_stands known fits (log.DownDisk event n) is w = (w.0, (w.1.0, (each_name (λ name. is_name name ≡ true) known n fits.names is.0, w.1.1.1)))
-line_stands known fits (log.Boot event n) is w = (w.0, (w.1.0, (each_name (λ name. is_name name ≡ true) known n fits.names is.0, w.1.1.1)))
-line_stands known fits (log.Dump event n bytes) is w = (w.0, (w.1.0, (each_name (λ name. is_name name ≡ true) known n fits.names is.0, w.1.1.1)))
+line_stands known fits (log.Stopped event n) is w =
+    (w.0, (w.1.0, (each_name (λ name. is_name name ≡ true) known n fits.names is.0, w.1.1.1)))
+line_stands known fits (log.DownReset event n) is w =
+    (w.0, (w.1.0, (each_name (λ name. is_name name ≡ true) known n fits.names is.0, w.1.1.1)))
+line_stands known fits (log.DownDisk event n) is w =
+    (w.0, (w.1.0, (each_name (λ name. is_name name ≡ true) known n fits.names is.0, w.1.1.1)))
+line_stands known fits (log.Boot event n) is w =
+    (w.0, (w.1.0, (each_name (λ name. is_name name ≡ true) known n fits.names is.0, w.1.1.1)))
+line_stands known fits (log.Dump event n bytes) is w =
+    (w.0, (w.1.0, (each_name (λ name. is_name name ≡ true) known n fits.names is.0, w.1.1.1)))
 line_stands known fits (log.End events seals accepts refusals ideal private) is w = w
 
-all_stand : (known : List Station) → AreNamed known → (lines : List log.Line) → AllByRecursion (IsOfSchedule known) lines → AllByRecursion IsWide lines → AreProper known lines
+all_stand : (known : List Station) → AreNamed known → (lines : List log.Line)
+    → AllByRecursion (IsOfSchedule known) lines → AllByRecursion IsWide lines → AreProper known lines
 all_stand known fits [] is w = tt
-all_stand known fits (m ∷ lines) is w = (record { node = is.0.0; words = line_stands known fits m is.0 w.0 }, all_stand known fits lines is.1 w.1)
+all_stand known fits (m ∷ lines) is w =
+    (record { node = is.0.0; words = line_stands known fits m is.0 w.0 }, all_stand known fits lines is.1 w.1)
 
-pub stand_alone : (tools : Tools) (w : Schedule) → IsSchedule w → OneCentre w → AreNamed (stations w) → AreWide tools w → StandAlone tools w
+pub stand_alone : (tools : Tools) (w : Schedule) → IsSchedule w → OneCentre w → AreNamed (stations w)
+    → AreWide tools w → StandAlone tools w
 stand_alone tools w is one fits wide =
     let proper = all_stand (stations w) fits (transcript tools w) (are_of_nodes tools w is one) wide in
-    record { proper = proper; alone = λ lines their same. text_fixes (stations w) fits lines (transcript tools w) their proper same }
+    record {
+      proper = proper;
+      alone = λ lines their same. text_fixes (stations w) fits lines (transcript tools w)
+          their proper same;
+    }

@@ -14,4 +14,5 @@ AreWide tools w = AllByRecursion IsWide (transcript tools w)
 -- The lines of a run are proper, so that the text of them is the text of no other proper lines.
 pub record StandAlone (tools : Tools) (w : Schedule) : Type 0 where
   pub proper : AreProper (stations w) (transcript tools w)
-  pub alone : (lines : List Line) → AreProper (stations w) lines → text_of (stations w) lines ≡ text_of (stations w) (transcript tools w) → lines ≡ transcript tools w
+  pub alone : (lines : List Line) → AreProper (stations w) lines → text_of (stations w) lines
+      ≡ text_of (stations w) (transcript tools w) → lines ≡ transcript tools w

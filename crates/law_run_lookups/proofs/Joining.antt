@@ -41,7 +41,8 @@ edit-state (Moved (Roll b)) a s = refl
 edit-state (Moved (Told d)) a s = refl
 edit-state (Moved (Untold d)) a s = refl
 
-pub edits-state : (es : List Edit) → AllByRecursion KeepsStateEdit es → (s : NodeState) → (applied_all es s).state ≡ s.state
+pub edits-state : (es : List Edit) → AllByRecursion KeepsStateEdit es → (s : NodeState) → (applied_all es s).state
+    ≡ s.state
 unfolding applied_all
 edits-state [] a s = refl
 edits-state (e ∷ es) a s = edits-state es a.1 (applied e s) ∙ edit-state e a.0 s
@@ -65,15 +66,19 @@ move-keeps kk (Roll b) a = (tt, tt)
 move-keeps kk (Told d) a = (tt, tt)
 move-keeps kk (Untold d) a = (tt, tt)
 
-kept-keeps : (kk : Counting) (s0 : NodeState) (ms : List Move) → AllByRecursion KeepsState ms → AllByRecursion KeepsStateEdit (kept_edits kk s0 ms)
+kept-keeps : (kk : Counting) (s0 : NodeState) (ms : List Move) → AllByRecursion KeepsState ms
+    → AllByRecursion KeepsStateEdit (kept_edits kk s0 ms)
 kept-keeps kk s0 [] a = tt
 kept-keeps kk s0 (m ∷ ms) a = by-test (changes s0 m) (kept-keeps kk s0 ms a.1)
   where
-    by-test : (b : Bool) → AllByRecursion KeepsStateEdit (kept_edits kk s0 ms) → AllByRecursion KeepsStateEdit (flat_map (move_edits kk) (cond b (m ∷ filter (changes s0) ms) (filter (changes s0) ms)))
+    by-test : (b : Bool) → AllByRecursion KeepsStateEdit (kept_edits kk s0 ms)
+        → AllByRecursion KeepsStateEdit
+        (flat_map (move_edits kk) (cond b (m ∷ filter (changes s0) ms) (filter (changes s0) ms)))
     by-test true more = all-append KeepsStateEdit (move_edits kk m) (kept_edits kk s0 ms) (move-keeps kk m a.0) more
     by-test false more = more
 
-moves-state : (kk : Counting) (s0 : NodeState) (ms : List Move) → AllByRecursion KeepsState ms → (s : NodeState) → (applied_all (kept_edits kk s0 ms) s).state ≡ s.state
+moves-state : (kk : Counting) (s0 : NodeState) (ms : List Move) → AllByRecursion KeepsState ms → (s : NodeState)
+    → (applied_all (kept_edits kk s0 ms) s).state ≡ s.state
 moves-state kk s0 ms a s = edits-state (kept_edits kk s0 ms) (kept-keeps kk s0 ms a) s
 
 still-keeps : (ms : List Move) → AllByRecursion Still ms → AllByRecursion KeepsState ms
@@ -114,21 +119,34 @@ became : (g : State) (s : NodeState) → (applied (Moved (Became g)) s).state �
 unfolding applied
 became g s = refl
 
-last-state : (kk : Counting) (s s1 : NodeState) (before : List Move) (g : State) → AllByRecursion KeepsState before → s1.state ≡ s.state
-    → ((applied_all (kept_edits kk s (before ++ (Became g ∷ []))) s1).state ≡ g) ⊎ (((applied_all (kept_edits kk s (before ++ (Became g ∷ []))) s1).state ≡ s.state) × (nat_eq (state_byte s.state) (state_byte g) ≡ true))
+last-state : (kk : Counting) (s s1 : NodeState) (before : List Move) (g : State) → AllByRecursion KeepsState before
+    → s1.state ≡ s.state
+    → ((applied_all (kept_edits kk s (before ++ (Became g ∷ []))) s1).state ≡ g)
+    ⊎ (((applied_all (kept_edits kk s (before ++ (Became g ∷ []))) s1).state ≡ s.state)
+    × (nat_eq (state_byte s.state) (state_byte g) ≡ true))
 unfolding applied_all
 last-state kk s s1 before g a same = by-test (changes s (Became g)) refl
   where
     sb : NodeState
     sb = applied_all (kept_edits kk s before) s1
 
-    first : (applied_all (kept_edits kk s (before ++ (Became g ∷ []))) s1).state ≡ (applied_all (kept_edits kk s (Became g ∷ [])) sb).state
+    first : (applied_all (kept_edits kk s (before ++ (Became g ∷ []))) s1).state
+        ≡ (applied_all (kept_edits kk s (Became g ∷ [])) sb).state
     first = ap (λ (x : NodeState). x.state) (kept-appended kk s before (Became g ∷ []) s1)
 
     by-test : (b : Bool) → changes s (Became g) ≡ b
-        → ((applied_all (kept_edits kk s (before ++ (Became g ∷ []))) s1).state ≡ g) ⊎ (((applied_all (kept_edits kk s (before ++ (Became g ∷ []))) s1).state ≡ s.state) × (nat_eq (state_byte s.state) (state_byte g) ≡ true))
-    by-test true e = inl (first ∙ ap (λ b. (applied_all (flat_map (move_edits kk) (cond b (Became g ∷ []) [])) sb).state) e ∙ became g sb)
-    by-test false e = inr (first ∙ ap (λ b. (applied_all (flat_map (move_edits kk) (cond b (Became g ∷ []) [])) sb).state) e ∙ moves-state kk s before a s1 ∙ same, not-false (nat_eq (state_byte s.state) (state_byte g)) e)
+        → ((applied_all (kept_edits kk s (before ++ (Became g ∷ []))) s1).state ≡ g)
+        ⊎ (((applied_all (kept_edits kk s (before ++ (Became g ∷ []))) s1).state ≡ s.state)
+        × (nat_eq (state_byte s.state) (state_byte g) ≡ true))
+    by-test true e =
+        inl (first ∙ ap (λ b. (applied_all (flat_map (move_edits kk) (cond b (Became g ∷ []) [])) sb).state) e ∙
+        became g sb)
+    by-test false e =
+        inr (
+          first ∙ ap (λ b. (applied_all (flat_map (move_edits kk) (cond b (Became g ∷ []) [])) sb).state) e ∙
+              moves-state kk s before a s1 ∙ same,
+          not-false (nat_eq (state_byte s.state) (state_byte g)) e,
+        )
 
 offered-alone : (g : State) → nat_eq 3 (state_byte g) ≡ true → g ≡ Offered
 offered-alone Offered e = refl
@@ -141,7 +159,8 @@ offered-alone Gone e = absurd (false≢true e)
 
 -- The answers of a router or device
 
-still-last : (g : State) (before : List Move) (q : ℕ) (k : Bytes) → AllByRecursion (Spares q k) before → AllByRecursion (Spares q k) (before ++ (Became g ∷ []))
+still-last : (g : State) (before : List Move) (q : ℕ) (k : Bytes) → AllByRecursion (Spares q k) before
+    → AllByRecursion (Spares q k) (before ++ (Became g ∷ []))
 still-last g before q k a = all-append (Spares q k) before (Became g ∷ []) a (tt, tt)
 
 key-apart : (k : Bytes) (o : Option LinkKey) → has_key k o ≡ false → (r : LinkKey) → o ≡ Some r → r.key ≡ k → ⊥
@@ -150,23 +169,36 @@ key-apart k None e r f g = absurd (subst IsNone f tt)
     IsNone : Option LinkKey → Type 0
     IsNone None = Unit {0}
     IsNone (Some r) = ⊥
-key-apart k (Some x) e r f g = false≢true (sym e ∙ subst (λ j. Rattle.zb_model.specs.State.same_key x.key j ≡ true) (ap (λ (o : Option LinkKey). (Rattle.std.specs.Prelude.unwrap_or o x).key) f ∙ g) (same_key-refl x.key))
+key-apart k (Some x) e r f g =
+    false≢true
+    (sym e ∙ subst (λ j. Rattle.zb_model.specs.State.same_key x.key j ≡ true)
+    (ap (λ (o : Option LinkKey). (Rattle.std.specs.Prelude.unwrap_or o x).key) f ∙ g) (same_key-refl x.key))
 
-pub member-kept : (centre : ℕ) (s : NodeState) (moves : List Move) (kk : Counting) (s1 : NodeState) → same_rows s s1 → s1.state ≡ s.state → MemberDeed centre s moves → OfferHeld centre s → OfferHeld centre (applied_all (kept_edits kk s moves) s1)
-member-kept centre s moves kk s1 same at (still a) held e = forward (held (sym (moves-state kk s moves (still-keeps moves a) s1 ∙ at) ∙ e))
+pub member-kept : (centre : ℕ) (s : NodeState) (moves : List Move) (kk : Counting) (s1 : NodeState) → same_rows s s1
+    → s1.state ≡ s.state → MemberDeed centre s moves → OfferHeld centre s
+    → OfferHeld centre (applied_all (kept_edits kk s moves) s1)
+member-kept centre s moves kk s1 same at (still a) held e =
+    forward (held (sym (moves-state kk s moves (still-keeps moves a) s1 ∙ at) ∙ e))
   where
     forward : Offer centre s.links → Offer centre (rows_after kk s s1 moves)
     forward f = (f.0, (through kk s s1 same centre f.0 moves (still-spares centre f.0 moves a) true).0 f.1)
 member-kept centre s moves kk s1 same at (goes_on g before a has e) held f =
-    subst (λ ms. Offer centre (rows_after kk s s1 ms)) (sym e) (by-last (last-state kk s s1 before g (still-keeps before a) at))
+    subst (λ ms. Offer centre (rows_after kk s s1 ms)) (sym e)
+    (by-last (last-state kk s s1 before g (still-keeps before a) at))
   where
     forward : Offer centre s.links → Offer centre (rows_after kk s s1 (before ++ (Became g ∷ [])))
-    forward x = (x.0, (through kk s s1 same centre x.0 (before ++ (Became g ∷ [])) (still-last g before centre x.0 (still-spares centre x.0 before a)) true).0 x.1)
+    forward x = (
+      x.0,
+      (through kk s s1 same centre x.0 (before ++ (Became g ∷ []))
+          (still-last g before centre x.0 (still-spares centre x.0 before a)) true).0 x.1,
+    )
 
     now : (applied_all (kept_edits kk s (before ++ (Became g ∷ []))) s1).state ≡ Offered
     now = ap (λ ms. (applied_all (kept_edits kk s ms) s1).state) (sym e) ∙ f
 
-    by-last : ((applied_all (kept_edits kk s (before ++ (Became g ∷ []))) s1).state ≡ g) ⊎ (((applied_all (kept_edits kk s (before ++ (Became g ∷ []))) s1).state ≡ s.state) × (nat_eq (state_byte s.state) (state_byte g) ≡ true))
+    by-last : ((applied_all (kept_edits kk s (before ++ (Became g ∷ []))) s1).state ≡ g)
+        ⊎ (((applied_all (kept_edits kk s (before ++ (Became g ∷ []))) s1).state ≡ s.state)
+        × (nat_eq (state_byte s.state) (state_byte g) ≡ true))
         → Offer centre (rows_after kk s s1 (before ++ (Became g ∷ [])))
     by-last (inl q) = forward (offered-some s centre (offered s centre) refl (has (sym q ∙ now)))
     by-last (inr q) = forward (held (sym q.0 ∙ now))
@@ -175,14 +207,21 @@ member-kept centre s moves kk s1 same at (leaves g before ne a e) held f = by-la
     now : (applied_all (kept_edits kk s (before ++ (Became g ∷ []))) s1).state ≡ Offered
     now = ap (λ ms. (applied_all (kept_edits kk s ms) s1).state) (sym e) ∙ f
 
-    by-last : ((applied_all (kept_edits kk s (before ++ (Became g ∷ []))) s1).state ≡ g) ⊎ (((applied_all (kept_edits kk s (before ++ (Became g ∷ []))) s1).state ≡ s.state) × (nat_eq (state_byte s.state) (state_byte g) ≡ true))
+    by-last : ((applied_all (kept_edits kk s (before ++ (Became g ∷ []))) s1).state ≡ g)
+        ⊎ (((applied_all (kept_edits kk s (before ++ (Became g ∷ []))) s1).state ≡ s.state)
+        × (nat_eq (state_byte s.state) (state_byte g) ≡ true))
         → Offer centre (rows_after kk s s1 moves)
     by-last (inl q) = absurd (ne (sym q ∙ now))
-    by-last (inr q) = absurd (ne (offered-alone g (subst (λ x. nat_eq (state_byte x) (state_byte g) ≡ true) (sym q.0 ∙ now) q.1)))
+    by-last (inr q) =
+        absurd (ne (offered-alone g (subst (λ x. nat_eq (state_byte x) (state_byte g) ≡ true) (sym q.0 ∙ now) q.1)))
 member-kept centre s moves kk s1 same at (takes k none e) held f =
-    subst (λ ms. Offer centre (rows_after kk s s1 ms)) (sym e)
-    (k, settle kk s s1 same centre k Unverified (drop_row (offered s centre)) (Became Offered ∷ []) (row-spares centre k (offered s centre) (λ r x y z. key-apart k (offered s centre) none r x z)) (tt, tt))
-member-kept centre s moves kk s1 same at (shares p other a) held f = forward (held (sym (moves-state kk s moves (only-keeps p moves a) s1 ∙ at) ∙ f))
+    subst (λ ms. Offer centre (rows_after kk s s1 ms)) (sym e) (
+      k,
+      settle kk s s1 same centre k Unverified (drop_row (offered s centre)) (Became Offered ∷ [])
+          (row-spares centre k (offered s centre) (λ r x y z. key-apart k (offered s centre) none r x z)) (tt, tt),
+    )
+member-kept centre s moves kk s1 same at (shares p other a) held f =
+    forward (held (sym (moves-state kk s moves (only-keeps p moves a) s1 ∙ at) ∙ f))
   where
     forward : Offer centre s.links → Offer centre (rows_after kk s s1 moves)
     forward x = (x.0, (through kk s s1 same centre x.0 moves (only-spares p centre x.0 other moves a) true).0 x.1)

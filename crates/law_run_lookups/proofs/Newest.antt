@@ -29,11 +29,13 @@ live-newest : (s : NodeState) (r : NetKey) → In r s.nets → r.live ≡ true �
 unfolding newest
 live-newest s r i e = found-some (λ (x : NetKey). x.live) r (reverse s.nets) (in-onto r s.nets [] (inl i)) e
 
-by-row : (s : NodeState) (key : Bytes) (o : Option NetKey) → find (λ (r : NetKey). same_key r.key key) s.nets ≡ o → row_is_live o ≡ true → is_some (newest s) ≡ true
+by-row : (s : NodeState) (key : Bytes) (o : Option NetKey) → find (λ (r : NetKey). same_key r.key key) s.nets ≡ o
+    → row_is_live o ≡ true → is_some (newest s) ≡ true
 by-row s key None f e = absurd (false≢true e)
 by-row s key (Some r) f e = live-newest s r (found-element (λ (x : NetKey). same_key x.key key) s.nets r f).0 e
 
-by-active : (s : NodeState) (o : Option Bytes) → active_is_live (record s { active = o }) ≡ true → is_some (net_of_active o s) ≡ true → is_some (newest s) ≡ true
+by-active : (s : NodeState) (o : Option Bytes) → active_is_live (record s { active = o }) ≡ true
+    → is_some (net_of_active o s) ≡ true → is_some (newest s) ≡ true
 unfolding active_is_live
 by-active s None e f = absurd (false≢true f)
 by-active s (Some key) e f = by-row s key (find (λ (r : NetKey). same_key r.key key) s.nets) refl e
@@ -47,7 +49,9 @@ active-of s e =
     (and_parts (rows_have_room s) (keys_differ s && (at_most_two_live s && (active_is_live s && last))) e).1).1).1).0
   where
     last : Bool
-    last = partners_agree s && (links_are_marked s && (floors_are_kept s && (limits_are_started s && (role_is_kept s && pairs_are_kept s))))
+    last = partners_agree s
+        && (links_are_marked s
+        && (floors_are_kept s && (limits_are_started s && (role_is_kept s && pairs_are_kept s))))
 
 has-newest : (s : NodeState) → keeps_rules s ≡ true → is_some (active_row s) ≡ true → is_some (newest s) ≡ true
 unfolding active_row
@@ -64,8 +68,11 @@ of-node P Q k (ArmStop n calls torn) a = k n a
 of-node P Q k (ArmFail n call) a = k n a
 of-node P Q k _ a = tt
 
-pub newest-along : (tools : Tools) → OpensAsJudged tools → (w : Schedule) → IsSchedule w → euis_differ w ≡ true → NodesAllAlong HasNewest tools w
+pub newest-along : (tools : Tools) → OpensAsJudged tools → (w : Schedule) → IsSchedule w → euis_differ w ≡ true
+    → NodesAllAlong HasNewest tools w
 newest-along tools opens w i differ =
-    before-map (λ h event. OfNode (λ n. IsRuled (state_of h n) (setting_of w n) n) event) (λ h event. OfNode (λ n. HasNewest (state_of h n) (setting_of w n) n) event)
-    (λ h event a. of-node (λ n. IsRuled (state_of h n) (setting_of w n) n) (λ n. HasNewest (state_of h n) (setting_of w n) n) (λ n kept. has-newest (state_of h n) kept) event a)
+    before-map (λ h event. OfNode (λ n. IsRuled (state_of h n) (setting_of w n) n) event)
+    (λ h event. OfNode (λ n. HasNewest (state_of h n) (setting_of w n) n) event)
+    (λ h event a. of-node (λ n. IsRuled (state_of h n) (setting_of w n) n)
+    (λ n. HasNewest (state_of h n) (setting_of w n) n) (λ n kept. has-newest (state_of h n) kept) event a)
     tools w (start w) [] 1 w.events (ruled_along tools opens w i differ)

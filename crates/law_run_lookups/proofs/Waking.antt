@@ -102,8 +102,13 @@ kept k s0 ms = flat_map (move_edits k) (filter (changes s0) ms)
 abbrev Woken : Counting → NodeState → List Move → Type 0
 Woken k s0 ms = (s : NodeState) → is_some (applied_all (kept k s0 ms) s).active ≡ true
 
-by-either : (k : Counting) (s0 : NodeState) (m : Move) (ms : List Move) (b : Bool) → Woken k s0 ms → (s : NodeState) → is_some (applied_all (flat_map (move_edits k) (cond b (m ∷ filter (changes s0) ms) (filter (changes s0) ms))) s).active ≡ true
-by-either k s0 m ms true w s = subst (λ x. is_some x.active ≡ true) (sym (applied-all-append (move_edits k m) (kept k s0 ms) s)) (w (applied_all (move_edits k m) s))
+by-either : (k : Counting) (s0 : NodeState) (m : Move) (ms : List Move) (b : Bool) → Woken k s0 ms → (s : NodeState)
+    → is_some
+    (applied_all (flat_map (move_edits k) (cond b (m ∷ filter (changes s0) ms) (filter (changes s0) ms))) s).active
+    ≡ true
+by-either k s0 m ms true w s =
+    subst (λ x. is_some x.active ≡ true) (sym (applied-all-append (move_edits k m) (kept k s0 ms) s))
+    (w (applied_all (move_edits k m) s))
 by-either k s0 m ms false w s = w s
 
 -- the key that is made active isn't the active one
@@ -111,20 +116,28 @@ is-new : (o : Option Bytes) (key : Bytes) → is_some o ≡ false → not (is_ac
 is-new None key e = refl
 is-new (Some a) key e = absurd (false≢true (sym e))
 
-active-kept : (k : Counting) (s0 : NodeState) (key : Bytes) (ms : List Move) (b : Bool) → b ≡ true → (s : NodeState) → is_some (applied_all (flat_map (move_edits k) (cond b (Active key ∷ filter (changes s0) ms) (filter (changes s0) ms))) s).active ≡ true
+active-kept : (k : Counting) (s0 : NodeState) (key : Bytes) (ms : List Move) (b : Bool) → b ≡ true → (s : NodeState)
+    → is_some
+    (applied_all (flat_map (move_edits k) (cond b (Active key ∷ filter (changes s0) ms) (filter (changes s0) ms)))
+    s).active ≡ true
 unfolding applied_all applied
-active-kept k s0 key ms true e s = edits-active (start_edit key k.start ++ kept k s0 ms) (record s { active = Some key }) refl
+active-kept k s0 key ms true e s = edits-active (start_edit key k.start ++ kept k s0 ms)
+    (record s { active = Some key }) refl
 active-kept k s0 key ms false e s = absurd (false≢true e)
 
 woken : (k : Counting) (s0 : NodeState) → is_some s0.active ≡ false → (ms : List Move) → Wakes ms → Woken k s0 ms
 woken k s0 none [] w s = absurd w
-woken k s0 none (Active key ∷ ms) w s = active-kept k s0 key ms (not (is_active_key s0.active key)) (is-new s0.active key none) s
+woken k s0 none (Active key ∷ ms) w s = active-kept k s0 key ms (not (is_active_key s0.active key))
+    (is-new s0.active key none) s
 woken k s0 none (Draw j ∷ ms) w s = by-either k s0 (Draw j) ms (changes s0 (Draw j)) (woken k s0 none ms w) s
 woken k s0 none (DropNet j ∷ ms) w s = by-either k s0 (DropNet j) ms (changes s0 (DropNet j)) (woken k s0 none ms w) s
-woken k s0 none (DropLink p j ∷ ms) w s = by-either k s0 (DropLink p j) ms (changes s0 (DropLink p j)) (woken k s0 none ms w) s
-woken k s0 none (Install j q ∷ ms) w s = by-either k s0 (Install j q) ms (changes s0 (Install j q)) (woken k s0 none ms w) s
+woken k s0 none (DropLink p j ∷ ms) w s = by-either k s0 (DropLink p j) ms (changes s0 (DropLink p j))
+    (woken k s0 none ms w) s
+woken k s0 none (Install j q ∷ ms) w s = by-either k s0 (Install j q) ms (changes s0 (Install j q))
+    (woken k s0 none ms w) s
 woken k s0 none (Row p j t ∷ ms) w s = by-either k s0 (Row p j t) ms (changes s0 (Row p j t)) (woken k s0 none ms w) s
-woken k s0 none (Pair a b j ∷ ms) w s = by-either k s0 (Pair a b j) ms (changes s0 (Pair a b j)) (woken k s0 none ms w) s
+woken k s0 none (Pair a b j ∷ ms) w s = by-either k s0 (Pair a b j) ms (changes s0 (Pair a b j))
+    (woken k s0 none ms w) s
 woken k s0 none (Became g ∷ ms) w s = by-either k s0 (Became g) ms (changes s0 (Became g)) (woken k s0 none ms w) s
 woken k s0 none (Live d ∷ ms) w s = by-either k s0 (Live d) ms (changes s0 (Live d)) (woken k s0 none ms w) s
 woken k s0 none (Removed d ∷ ms) w s = by-either k s0 (Removed d) ms (changes s0 (Removed d)) (woken k s0 none ms w) s
@@ -157,43 +170,60 @@ idle-bare k (Untold d) i s b = record { active = b.active; nets = b.nets }
 abbrev Calms : Counting → NodeState → List Move → Type 0
 Calms k s0 ms = (s : NodeState) → Bare s → Rests (applied_all (kept k s0 ms) s)
 
-idle-either : (k : Counting) (s0 : NodeState) (m : Move) (ms : List Move) (b : Bool) → Idle m → Calms k s0 ms → (s : NodeState) → Bare s → Rests (applied_all (flat_map (move_edits k) (cond b (m ∷ filter (changes s0) ms) (filter (changes s0) ms))) s)
-idle-either k s0 m ms true i c s b = subst Rests (sym (applied-all-append (move_edits k m) (kept k s0 ms) s)) (c (applied_all (move_edits k m) s) (idle-bare k m i s b))
+idle-either : (k : Counting) (s0 : NodeState) (m : Move) (ms : List Move) (b : Bool) → Idle m → Calms k s0 ms
+    → (s : NodeState) → Bare s
+    → Rests (applied_all (flat_map (move_edits k) (cond b (m ∷ filter (changes s0) ms) (filter (changes s0) ms))) s)
+idle-either k s0 m ms true i c s b = subst Rests (sym (applied-all-append (move_edits k m) (kept k s0 ms) s))
+    (c (applied_all (move_edits k m) s) (idle-bare k m i s b))
 idle-either k s0 m ms false i c s b = c s b
 
 calm : (k : Counting) (s0 : NodeState) → is_some s0.active ≡ false → (ms : List Move) → Leads ms → Calms k s0 ms
 unfolding applied_all
 calm k s0 none [] l s b = λ e. b.nets
-calm k s0 none (Active key ∷ ms) l s b = awake-rests (applied_all (kept k s0 (Active key ∷ ms)) s) (woken k s0 none (Active key ∷ ms) tt s)
-calm k s0 none (Install j q ∷ ms) l s b = awake-rests (applied_all (kept k s0 (Install j q ∷ ms)) s) (woken k s0 none (Install j q ∷ ms) l s)
+calm k s0 none (Active key ∷ ms) l s b = awake-rests (applied_all (kept k s0 (Active key ∷ ms)) s)
+    (woken k s0 none (Active key ∷ ms) tt s)
+calm k s0 none (Install j q ∷ ms) l s b = awake-rests (applied_all (kept k s0 (Install j q ∷ ms)) s)
+    (woken k s0 none (Install j q ∷ ms) l s)
 calm k s0 none (Draw j ∷ ms) l s b = idle-either k s0 (Draw j) ms (changes s0 (Draw j)) tt (calm k s0 none ms l) s b
-calm k s0 none (DropNet j ∷ ms) l s b = idle-either k s0 (DropNet j) ms (changes s0 (DropNet j)) tt (calm k s0 none ms l) s b
-calm k s0 none (DropLink p j ∷ ms) l s b = idle-either k s0 (DropLink p j) ms (changes s0 (DropLink p j)) tt (calm k s0 none ms l) s b
-calm k s0 none (Row p j t ∷ ms) l s b = idle-either k s0 (Row p j t) ms (changes s0 (Row p j t)) tt (calm k s0 none ms l) s b
-calm k s0 none (Pair x y j ∷ ms) l s b = idle-either k s0 (Pair x y j) ms (changes s0 (Pair x y j)) tt (calm k s0 none ms l) s b
-calm k s0 none (Became g ∷ ms) l s b = idle-either k s0 (Became g) ms (changes s0 (Became g)) tt (calm k s0 none ms l) s b
+calm k s0 none (DropNet j ∷ ms) l s b = idle-either k s0 (DropNet j) ms (changes s0 (DropNet j)) tt
+    (calm k s0 none ms l) s b
+calm k s0 none (DropLink p j ∷ ms) l s b = idle-either k s0 (DropLink p j) ms (changes s0 (DropLink p j)) tt
+    (calm k s0 none ms l) s b
+calm k s0 none (Row p j t ∷ ms) l s b = idle-either k s0 (Row p j t) ms (changes s0 (Row p j t)) tt
+    (calm k s0 none ms l) s b
+calm k s0 none (Pair x y j ∷ ms) l s b = idle-either k s0 (Pair x y j) ms (changes s0 (Pair x y j)) tt
+    (calm k s0 none ms l) s b
+calm k s0 none (Became g ∷ ms) l s b = idle-either k s0 (Became g) ms (changes s0 (Became g)) tt (calm k s0 none ms l)
+    s b
 calm k s0 none (Live d ∷ ms) l s b = idle-either k s0 (Live d) ms (changes s0 (Live d)) tt (calm k s0 none ms l) s b
-calm k s0 none (Removed d ∷ ms) l s b = idle-either k s0 (Removed d) ms (changes s0 (Removed d)) tt (calm k s0 none ms l) s b
+calm k s0 none (Removed d ∷ ms) l s b = idle-either k s0 (Removed d) ms (changes s0 (Removed d)) tt
+    (calm k s0 none ms l) s b
 calm k s0 none (Roll c ∷ ms) l s b = idle-either k s0 (Roll c) ms (changes s0 (Roll c)) tt (calm k s0 none ms l) s b
 calm k s0 none (Told d ∷ ms) l s b = idle-either k s0 (Told d) ms (changes s0 (Told d)) tt (calm k s0 none ms l) s b
-calm k s0 none (Untold d ∷ ms) l s b = idle-either k s0 (Untold d) ms (changes s0 (Untold d)) tt (calm k s0 none ms l) s b
+calm k s0 none (Untold d ∷ ms) l s b = idle-either k s0 (Untold d) ms (changes s0 (Untold d)) tt (calm k s0 none ms l)
+    s b
 
 -- a whole answer
 
-in-two : (s : NodeState) (k : Counting) (p : Plan) → applied_all (edits_of s k p) s ≡ applied_all (kept k s (moves_of p.outcome)) (applied_all (rest_edits k p.accepts) s)
-in-two s k p = ap (λ es. applied_all es s) (edits-parts s k p) ∙ applied-all-append (rest_edits k p.accepts) (kept k s (moves_of p.outcome)) s
+in-two : (s : NodeState) (k : Counting) (p : Plan) → applied_all (edits_of s k p) s
+    ≡ applied_all (kept k s (moves_of p.outcome)) (applied_all (rest_edits k p.accepts) s)
+in-two s k p = ap (λ es. applied_all es s) (edits-parts s k p) ∙ applied-all-append (rest_edits k p.accepts)
+    (kept k s (moves_of p.outcome)) s
 
-pub answer-rests : (s : NodeState) (k : Counting) (p : Plan) → (is_some s.active ≡ false → Leads (moves_of p.outcome)) → Rests s → Rests (applied_all (edits_of s k p) s)
+pub answer-rests : (s : NodeState) (k : Counting) (p : Plan) → (is_some s.active ≡ false → Leads (moves_of p.outcome))
+    → Rests s → Rests (applied_all (edits_of s k p) s)
 answer-rests s k p leads rests = by-test (is_some s.active) refl
   where
     by-test : (b : Bool) → is_some s.active ≡ b → Rests (applied_all (edits_of s k p) s)
     by-test true e = awake-rests (applied_all (edits_of s k p) s) (edits-active (edits_of s k p) s e)
     by-test false e = subst Rests (sym (in-two s k p))
-        (calm k s e (moves_of p.outcome) (leads e) (applied_all (rest_edits k p.accepts) s) (mere-bares (rest_edits k p.accepts) (rests-mere k p.accepts) s (record { active = e; nets = rests e })))
+        (calm k s e (moves_of p.outcome) (leads e) (applied_all (rest_edits k p.accepts) s)
+        (mere-bares (rest_edits k p.accepts) (rests-mere k p.accepts) s (record { active = e; nets = rests e })))
 
 -- Terms that are accepted and sealed, and boots
 
-heard-rests : (layer : Layer) (key : Bytes) (sender counter : ℕ) (s : NodeState) → Rests s → Rests (after_hearing layer key sender counter s)
+heard-rests : (layer : Layer) (key : Bytes) (sender counter : ℕ) (s : NodeState) → Rests s
+    → Rests (after_hearing layer key sender counter s)
 unfolding after_hearing
 heard-rests Nwk key sender counter s r = λ e. ap (at_net key (net_kept sender (counter + 1))) (r e)
 heard-rests Aps key sender counter s r = r
@@ -230,7 +260,8 @@ row-some : (o : Option NetKey) → row_is_started o ≡ true → is_some o ≡ t
 row-some None e = e
 row-some (Some r) e = refl
 
-awake-by : (s : NodeState) (o : Option Bytes) → s.active ≡ o → is_some o ≡ true → ActiveStarted s → is_some (net_of_active o s) ≡ true
+awake-by : (s : NodeState) (o : Option Bytes) → s.active ≡ o → is_some o ≡ true → ActiveStarted s
+    → is_some (net_of_active o s) ≡ true
 awake-by s None e f a = absurd (false≢true f)
 awake-by s (Some key) e f a = row-some (net_of_active (Some key) s) (a key e)
 

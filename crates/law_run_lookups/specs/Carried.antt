@@ -17,7 +17,8 @@ abbrev pub unsealed_command : Tools → Verdict Unsealed → Option Command
 unsealed_command tools (Not place reason) = None
 unsealed_command tools (Good u) = known (tools.read_command u.term.content)
 
-abbrev pub command_by : Tools → Setting → NodeState → NwkShown → Option Term → ApsShown → Option ApsAuxiliary → Option Command
+abbrev pub command_by : Tools → Setting → NodeState → NwkShown → Option Term → ApsShown → Option ApsAuxiliary
+    → Option Command
 command_by tools c s f nwk a None = known (tools.read_command a.body)
 command_by tools c s f nwk a (Some aux) = unsealed_command tools (judge_aps tools c s f (payload_of f nwk) aux)
 
@@ -29,7 +30,8 @@ command_in tools c s f nwk (Some a) = if a.is_command then command_by tools c s 
 -- a NWK command, in a secured frame, carries none of APS
 abbrev pub carried_by : Tools → Setting → NodeState → NwkShown → Option Term → Option Command
 carried_by tools c s f None = command_in tools c s f None (tools.read_aps f.body)
-carried_by tools c s f (Some term) = if f.is_command then None else command_in tools c s f (Some term) (tools.read_aps term.content)
+carried_by tools c s f (Some term) = if f.is_command then None
+    else command_in tools c s f (Some term) (tools.read_aps term.content)
 
 abbrev pub passed_command : Tools → Setting → NodeState → Verdict Carrier → Option Command
 passed_command tools c s (Not place reason) = None

@@ -65,4 +65,5 @@ has_layer layer layers = list_any (same_layer layer) layers
 
 abbrev pub SealedAt : List Layer → Option Sending → Type 0
 SealedAt layers None = ⊤
-SealedAt layers (Some send) = (seals_at Nwk (Some send) ≡ has_layer Nwk layers) × (seals_at Aps (Some send) ≡ has_layer Aps layers)
+SealedAt layers (Some send) = (seals_at Nwk (Some send) ≡ has_layer Nwk layers)
+    × (seals_at Aps (Some send) ≡ has_layer Aps layers)

@@ -21,4 +21,5 @@ abbrev pub outcome_of : Tools → Schedule → List Line → ℕ → Task → Ou
 outcome_of tools w h n task = (plan_of tools (setting_of w n) (state_of h n) task).outcome
 
 abbrev pub SendsSealable : Tools → Schedule → List Line → Type 0
-SendsSealable tools w h = (n : ℕ) (task : Task) → IsSealable tools (setting_of w n) (state_of h n) (sending_of (outcome_of tools w h n task))
+SendsSealable tools w h = (n : ℕ) (task : Task) → IsSealable tools (setting_of w n) (state_of h n)
+    (sending_of (outcome_of tools w h n task))

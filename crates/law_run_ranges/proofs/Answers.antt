@@ -29,14 +29,16 @@ if_count false x y p q = q
 reserve_in : (c : Setting) (s : NodeState) (send : Option Sending) (l : Layer) → IfSome (reserve_of c s send l) IsCount
 unfolding reserve_of
 reserve_in c s send l =
-    if_count (seals_at l send && (may_seal s send && nat_eq (next_counter l s) (stored_limit l s))) (Some (min (next_counter l s + c.me.out_block) greatest_counter)) None (omega arith) tt
+    if_count (seals_at l send && (may_seal s send && nat_eq (next_counter l s) (stored_limit l s)))
+    (Some (min (next_counter l s + c.me.out_block) greatest_counter)) None (omega arith) tt
 
 floor_in : (c : Setting) (s : NodeState) (ts : List Term) (l : Layer) → IfSome (floor_of c s ts l) IsCount
 unfolding floor_of
 floor_in c s [] l = tt
 floor_in c s (t ∷ ts) l =
     if_count (same_layer t.layer l) (floor_for c s t) (floor_of c s ts l)
-    (if_count (nat_le (stored_floor t s) t.counter) (Some (min (t.counter + c.me.in_block) greatest_counter)) None (omega arith) tt) (floor_in c s ts l)
+    (if_count (nat_le (stored_floor t s) t.counter) (Some (min (t.counter + c.me.in_block) greatest_counter)) None
+    (omega arith) tt) (floor_in c s ts l)
 
 half_in : (n : ℕ) (b : Bool) → nat_le half n ≡ b → IsCount (cond b 0 n)
 half_in n true e = omega arith
@@ -44,27 +46,34 @@ half_in n false e = omega (arith, leb-false half n e)
 
 start_in : (s : NodeState) (o : Option Bytes) → IfSome (start_for s o) IsCount
 start_in s None = tt
-start_in s (Some key) = if_count (is_started_key s key) None (Some (first_counter s)) tt (half_in (next_counter Nwk s) (nat_le half (next_counter Nwk s)) refl)
+start_in s (Some key) = if_count (is_started_key s key) None (Some (first_counter s)) tt
+    (half_in (next_counter Nwk s) (nat_le half (next_counter Nwk s)) refl)
 
 -- ---- what is stored
 
-reserve_list : (l : Layer) (o : Option ℕ) → IfSome o IsCount → AllByRecursion EditInRange (option_to_list (option_map (Reserve l) o))
+reserve_list : (l : Layer) (o : Option ℕ) → IfSome o IsCount
+    → AllByRecursion EditInRange (option_to_list (option_map (Reserve l) o))
 reserve_list l None is = tt
 reserve_list l (Some n) is = (is, tt)
 
-floor_list : (t : Term) (o : Option ℕ) → TermInRange t → IfSome o IsCount → AllByRecursion EditInRange (option_to_list (option_map (Floor t.layer t.base t.source) o))
+floor_list : (t : Term) (o : Option ℕ) → TermInRange t → IfSome o IsCount
+    → AllByRecursion EditInRange (option_to_list (option_map (Floor t.layer t.base t.source) o))
 floor_list t None is n = tt
 floor_list t (Some value) is n = ((is.base, is.source, n), tt)
 
-floors_in : (k : Counting) (ts : List Term) → ((l : Layer) → IfSome (k.floor l) IsCount) → AllByRecursion TermInRange ts → AllByRecursion EditInRange (flat_map (floor_edit k) ts)
+floors_in : (k : Counting) (ts : List Term) → ((l : Layer) → IfSome (k.floor l) IsCount)
+    → AllByRecursion TermInRange ts → AllByRecursion EditInRange (flat_map (floor_edit k) ts)
 floors_in k [] n all = tt
-floors_in k (t ∷ ts) n all = all-append EditInRange (floor_edit k t) (flat_map (floor_edit k) ts) (floor_list t (k.floor t.layer) all.0 (n t.layer)) (floors_in k ts n all.1)
+floors_in k (t ∷ ts) n all = all-append EditInRange (floor_edit k t) (flat_map (floor_edit k) ts)
+    (floor_list t (k.floor t.layer) all.0 (n t.layer)) (floors_in k ts n all.1)
 
-start_list : (key : Bytes) (o : Option ℕ) → IsKey key → IfSome o IsCount → AllByRecursion EditInRange (start_edit key o)
+start_list : (key : Bytes) (o : Option ℕ) → IsKey key → IfSome o IsCount
+    → AllByRecursion EditInRange (start_edit key o)
 start_list key None k n = tt
 start_list key (Some value) k n = ((k, n), tt)
 
-move_in : (k : Counting) (m : Move) → IfSome k.start IsCount → MoveInRange m → AllByRecursion EditInRange (move_edits k m)
+move_in : (k : Counting) (m : Move) → IfSome k.start IsCount → MoveInRange m
+    → AllByRecursion EditInRange (move_edits k m)
 move_in k (Active key) n m = (m, start_list key k.start m n)
 move_in k (Draw key) n m = (m, tt)
 move_in k (DropNet key) n m = (m, tt)
@@ -79,9 +88,11 @@ move_in k (Roll b) n m = (m, tt)
 move_in k (Told d) n m = (m, tt)
 move_in k (Untold d) n m = (m, tt)
 
-moves_in : (k : Counting) (ms : List Move) → IfSome k.start IsCount → AllByRecursion MoveInRange ms → AllByRecursion EditInRange (flat_map (move_edits k) ms)
+moves_in : (k : Counting) (ms : List Move) → IfSome k.start IsCount → AllByRecursion MoveInRange ms
+    → AllByRecursion EditInRange (flat_map (move_edits k) ms)
 moves_in k [] n all = tt
-moves_in k (m ∷ ms) n all = all-append EditInRange (move_edits k m) (flat_map (move_edits k) ms) (move_in k m n all.0) (moves_in k ms n all.1)
+moves_in k (m ∷ ms) n all = all-append EditInRange (move_edits k m) (flat_map (move_edits k) ms) (move_in k m n all.0)
+    (moves_in k ms n all.1)
 
 moves_of_in : (o : Outcome) → OutcomeInRange o → AllByRecursion MoveInRange (moves_of o)
 moves_of_in (Stop reason) is = tt
@@ -95,15 +106,21 @@ reason_in : (o : Outcome) → OutcomeInRange o → IfSome (reason_of o) ReasonIn
 reason_in (Stop reason) is = is
 reason_in (Does moves sending) is = tt
 
-edits_in : (c : Setting) (s : NodeState) (p : Plan) → PlanInRange p → AllByRecursion EditInRange (edits_of s (counting_of c s p) p)
+edits_in : (c : Setting) (s : NodeState) (p : Plan) → PlanInRange p
+    → AllByRecursion EditInRange (edits_of s (counting_of c s p) p)
 unfolding edits_of counting_of
 edits_in c s p is =
     let k = counting_of c s p in
     let send = sending_of p.outcome in
     all-append EditInRange (reserve_edit k Nwk ++ reserve_edit k Aps) _
-    (all-append EditInRange (reserve_edit k Nwk) (reserve_edit k Aps) (reserve_list Nwk (k.reserve Nwk) (reserve_in c s send Nwk)) (reserve_list Aps (k.reserve Aps) (reserve_in c s send Aps)))
-    (all-append EditInRange (flat_map (floor_edit k) p.accepts) _ (floors_in k p.accepts (λ l. floor_in c s p.accepts l) is.0)
-    (moves_in k (filter (changes s) (moves_of p.outcome)) (start_in s (activated s (filter (changes s) (moves_of p.outcome)))) (filtered MoveInRange (changes s) (moves_of p.outcome) (moves_of_in p.outcome is.1))))
+    (all-append EditInRange (reserve_edit k Nwk) (reserve_edit k Aps)
+    (reserve_list Nwk (k.reserve Nwk) (reserve_in c s send Nwk))
+    (reserve_list Aps (k.reserve Aps) (reserve_in c s send Aps)))
+    (all-append EditInRange (flat_map (floor_edit k) p.accepts) _
+    (floors_in k p.accepts (λ l. floor_in c s p.accepts l) is.0)
+    (moves_in k (filter (changes s) (moves_of p.outcome))
+    (start_in s (activated s (filter (changes s) (moves_of p.outcome))))
+    (filtered MoveInRange (changes s) (moves_of p.outcome) (moves_of_in p.outcome is.1))))
 
 -- ---- the answer
 
@@ -119,7 +136,8 @@ pub record AnswerInRange (a : Answer) : Type 0 where
   pub few_accepts : length a.accepts ≤ 2
   pub few_seals : length a.seals ≤ 2
 
-accepts_in : (ts : List Term) → AllByRecursion TermInRange ts → AllByRecursion (λ (t : Term). t.counter < greatest_counter) ts → AllByRecursion AcceptInRange ts
+accepts_in : (ts : List Term) → AllByRecursion TermInRange ts
+    → AllByRecursion (λ (t : Term). t.counter < greatest_counter) ts → AllByRecursion AcceptInRange ts
 accepts_in [] all below = tt
 accepts_in (t ∷ ts) all below = ((all.0, below.0), accepts_in ts all.1 below.1)
 
@@ -135,7 +153,8 @@ two_sealed c s (t ∷ []) is = omega arith
 two_sealed c s (t ∷ u ∷ []) is = omega arith
 two_sealed c s (t ∷ u ∷ v ∷ ts) is = absurd is
 
-pub answer_in : (tools : Tools) (c : Setting) (s : NodeState) (task : Task) → OpensAsJudged tools → KeepsRanges tools → SettingInRange c → StateInRange s → IsCount (length s.nets) → TaskInRange task
+pub answer_in : (tools : Tools) (c : Setting) (s : NodeState) (task : Task) → OpensAsJudged tools → KeepsRanges tools
+    → SettingInRange c → StateInRange s → IsCount (length s.nets) → TaskInRange task
     → AnswerInRange (answer_by tools c s (counting_of c s (plan_of tools c s task)) (plan_of tools c s task))
 unfolding answer answer_by counting_of
 answer_in tools c s task opens keeps at is few t =

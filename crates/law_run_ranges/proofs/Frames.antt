@@ -48,27 +48,38 @@ low_in n = omega arith
 pub header_in : (control to from sequence : ℕ) → IsByte sequence → AreBytes (nwk_header control to from sequence)
 header_in control to from sequence q =
     bytes_append (two_bytes control) (two_bytes to ++ (two_bytes from ++ 0x1e ∷ sequence ∷ [])) (two_in control)
-    (bytes_append (two_bytes to) (two_bytes from ++ 0x1e ∷ sequence ∷ []) (two_in to) (bytes_append (two_bytes from) (0x1e ∷ sequence ∷ []) (two_in from) (omega arith, (q, tt))))
+    (bytes_append (two_bytes to) (two_bytes from ++ 0x1e ∷ sequence ∷ []) (two_in to)
+    (bytes_append (two_bytes from) (0x1e ∷ sequence ∷ []) (two_in from) (omega arith, (q, tt))))
 
 pub header_length : (control to from sequence : ℕ) → length (nwk_header control to from sequence) ≡ 8
 header_length control to from sequence = refl
 
-nwk_front_in : (control to from sequence counter source : ℕ) → IsByte sequence → AreBytes (nwk_header control to from (low_byte counter) ++ nwk_auxiliary counter source sequence)
+nwk_front_in : (control to from sequence counter source : ℕ) → IsByte sequence
+    → AreBytes (nwk_header control to from (low_byte counter) ++ nwk_auxiliary counter source sequence)
 nwk_front_in control to from sequence counter source q =
-    bytes_append (nwk_header control to from (low_byte counter)) (nwk_auxiliary counter source sequence) (header_in control to from (low_byte counter) (low_in counter))
-    (omega arith, bytes_append (four_bytes counter) (eight_bytes source ++ sequence ∷ []) (four_in counter) (bytes_append (eight_bytes source) (sequence ∷ []) (eight_in source) (q, tt)))
+    bytes_append (nwk_header control to from (low_byte counter)) (nwk_auxiliary counter source sequence)
+    (header_in control to from (low_byte counter) (low_in counter)) (
+      omega arith,
+      bytes_append (four_bytes counter) (eight_bytes source ++ sequence ∷ []) (four_in counter)
+          (bytes_append (eight_bytes source) (sequence ∷ []) (eight_in source) (q, tt)),
+    )
 
-pub nwk_front_length : (control to from sequence counter source : ℕ) → length (nwk_header control to from (low_byte counter) ++ nwk_auxiliary counter source sequence) ≡ 22
+pub nwk_front_length : (control to from sequence counter source : ℕ)
+    → length (nwk_header control to from (low_byte counter) ++ nwk_auxiliary counter source sequence) ≡ 22
 nwk_front_length control to from sequence counter source = refl
 
-pub nwk_term_in : (control to from source : ℕ) (key : Bytes) (sequence counter : ℕ) (content : Bytes) → IsEui source → IsKey key → IsByte sequence → IsCount counter → IsShort content
+pub nwk_term_in : (control to from source : ℕ) (key : Bytes) (sequence counter : ℕ) (content : Bytes) → IsEui source
+    → IsKey key → IsByte sequence → IsCount counter → IsShort content
     → TermInRange (nwk_term control to from source key sequence counter content)
 nwk_term_in control to from source key sequence counter content e k q n b = record {
   base = k;
   source = e;
   counter = n;
   control = omega arith;
-  header = (nwk_front_in control to from sequence counter source q, omega (arith, nwk_front_length control to from sequence counter source));
+  header = (
+    nwk_front_in control to from sequence counter source q,
+    omega (arith, nwk_front_length control to from sequence counter source),
+  );
   content = b;
 }
 
@@ -78,17 +89,24 @@ control_in ForLoad = omega arith
 control_in ForData = omega arith
 control_in ForNetwork = omega arith
 
-aps_front_in : (front : Bytes) (l : Label) (counter source : ℕ) → AreBytes front → AreBytes (front ++ low_byte counter ∷ aps_auxiliary l counter source)
+aps_front_in : (front : Bytes) (l : Label) (counter source : ℕ) → AreBytes front
+    → AreBytes (front ++ low_byte counter ∷ aps_auxiliary l counter source)
 aps_front_in front l counter source f =
-    bytes_append front (low_byte counter ∷ aps_auxiliary l counter source) f (low_in counter, (control_in l, bytes_append (four_bytes counter) (eight_bytes source) (four_in counter) (eight_in source)))
+    bytes_append front (low_byte counter ∷ aps_auxiliary l counter source) f (
+      low_in counter,
+      (control_in l, bytes_append (four_bytes counter) (eight_bytes source) (four_in counter) (eight_in source)),
+    )
 
 auxiliary_length : (l : Label) (counter source : ℕ) → length (aps_auxiliary l counter source) ≡ 13
 auxiliary_length l counter source = refl
 
-pub aps_front_length : (front : Bytes) (l : Label) (counter source : ℕ) → length (front ++ low_byte counter ∷ aps_auxiliary l counter source) ≡ length front + 14
-aps_front_length front l counter source = length-append front (low_byte counter ∷ aps_auxiliary l counter source) ∙ ap (λ n. length front + suc n) (auxiliary_length l counter source)
+pub aps_front_length : (front : Bytes) (l : Label) (counter source : ℕ)
+    → length (front ++ low_byte counter ∷ aps_auxiliary l counter source) ≡ length front + 14
+aps_front_length front l counter source = length-append front (low_byte counter ∷ aps_auxiliary l counter source) ∙ ap
+    (λ n. length front + suc n) (auxiliary_length l counter source)
 
-pub aps_term_in : (front : Bytes) (l : Label) (key : Bytes) (source counter : ℕ) (content : Bytes) → AreBytes front → length front ≤ 7 → IsKey key → IsEui source → IsCount counter → IsShort content
+pub aps_term_in : (front : Bytes) (l : Label) (key : Bytes) (source counter : ℕ) (content : Bytes) → AreBytes front
+    → length front ≤ 7 → IsKey key → IsEui source → IsCount counter → IsShort content
     → TermInRange (aps_term front l key source counter content)
 aps_term_in front l key source counter content f le k e n b = record {
   base = k;
@@ -121,11 +139,14 @@ front_in control c = (c, (omega arith, (omega arith, (omega arith, (omega arith,
 to_control : (to : ℕ) → IsByte (data_control to)
 to_control to = if_then IsByte (nat_le 0xfff8 to) 0x08 0x00 (omega arith) (omega arith)
 
-part_in : (tools : Tools) (me to nwk aps : ℕ) (secured : Bool) (body : Body) → KeepsRanges tools → IsEui me → BodyInRange secured body → (has_aps_seal body ≡ true → IsCount aps) → PartInRange secured (part_of tools me to nwk aps body)
+part_in : (tools : Tools) (me to nwk aps : ℕ) (secured : Bool) (body : Body) → KeepsRanges tools → IsEui me
+    → BodyInRange secured body → (has_aps_seal body ≡ true → IsCount aps)
+    → PartInRange secured (part_of tools me to nwk aps body)
 unfolding part_of
 part_in tools me to nwk aps secured (Saying bytes) keeps e b n = record {
   seals = tt;
-  bytes = bytes_append (data_front (data_control to)) (low_byte nwk ∷ bytes) (front_in (data_control to) (to_control to)) (low_in nwk, b.0);
+  bytes = bytes_append (data_front (data_control to)) (low_byte nwk ∷ bytes)
+      (front_in (data_control to) (to_control to)) (low_in nwk, b.0);
   fits = fits_both secured _ (omega (arith, b.1));
 }
 part_in tools me to nwk aps secured (Clear control command) keeps e b n = record {
@@ -137,33 +158,44 @@ part_in tools me to nwk aps secured (Secret label key command) keeps e b n =
     let content = tools.spelled command in
     let t = aps_term sealed_command label key me aps content in
     let small = keeps.plain command b.1 b.2 in
-    let is = aps_term_in sealed_command label key me aps content (omega arith, tt) (omega arith) b.0 e (n refl) (keeps.spelled command b.1, omega (arith, small)) in
+    let is = aps_term_in sealed_command label key me aps content (omega arith, tt) (omega arith) b.0 e (n refl)
+    (keeps.spelled command b.1, omega (arith, small)) in
     record {
       seals = (is, tt);
       bytes = keeps.wire t is;
-      fits = fits_both secured _ (omega (arith, small, keeps.wire_length t is, aps_front_length sealed_command label aps me));
+      fits = fits_both secured _
+          (omega (arith, small, keeps.wire_length t is, aps_front_length sealed_command label aps me));
     }
 part_in tools me to nwk aps secured (Tunnelled device key command) keeps e b n =
     let content = tools.spelled command in
     let t = aps_term sealed_command ForTransport key me aps content in
     let small = keeps.plain command b.2 b.3 in
-    let is = aps_term_in sealed_command ForTransport key me aps content (omega arith, tt) (omega arith) b.1 e (n refl) (keeps.spelled command b.2, omega (arith, small)) in
-    let long : length (tools.wire t) ≤ 54 = omega (arith, small, keeps.wire_length t is, aps_front_length sealed_command ForTransport aps me) in
+    let is = aps_term_in sealed_command ForTransport key me aps content (omega arith, tt) (omega arith) b.1 e (n refl)
+    (keeps.spelled command b.2, omega (arith, small)) in
+    let long : length (tools.wire t)
+    ≤ 54 = omega (arith, small, keeps.wire_length t is, aps_front_length sealed_command ForTransport aps me) in
     record {
       seals = (is, tt);
-      bytes = (omega arith, (low_in nwk, keeps.spelled (Tunnel device (tools.wire t)) (b.0, keeps.wire t is, omega (arith, long))));
+      bytes = (
+        omega arith,
+        (low_in nwk, keeps.spelled (Tunnel device (tools.wire t)) (b.0, keeps.wire t is, omega (arith, long))),
+      );
       fits = fits_both secured _ (omega (arith, long, keeps.tunnel device (tools.wire t)));
     }
 part_in tools me to nwk aps secured (Telling key bytes) keeps e b n =
     let t = aps_term (data_front sealed_data) ForData key me aps bytes in
-    let is = aps_term_in (data_front sealed_data) ForData key me aps bytes (front_in sealed_data (omega arith)) (omega arith) b.0 e (n refl) (b.1.0, omega (arith, b.1.1)) in
+    let is = aps_term_in (data_front sealed_data) ForData key me aps bytes (front_in sealed_data (omega arith))
+    (omega arith) b.0 e (n refl) (b.1.0, omega (arith, b.1.1)) in
     record {
       seals = (is, tt);
       bytes = keeps.wire t is;
-      fits = fits_both secured _ (omega (arith, b.1.1, keeps.wire_length t is, aps_front_length (data_front sealed_data) ForData aps me));
+      fits = fits_both secured _
+          (omega (arith, b.1.1, keeps.wire_length t is, aps_front_length (data_front sealed_data) ForData aps me));
     }
-part_in tools me to nwk aps secured Leaving keeps e b n = record { seals = tt; bytes = (omega arith, (omega arith, tt)); fits = fits_both secured 2 (omega arith) }
-part_in tools me to nwk aps false (Relayed bytes) keeps e b n = record { seals = tt; bytes = b.1; fits = omega (arith, b.2) }
+part_in tools me to nwk aps secured Leaving keeps e b n =
+    record { seals = tt; bytes = (omega arith, (omega arith, tt)); fits = fits_both secured 2 (omega arith) }
+part_in tools me to nwk aps false (Relayed bytes) keeps e b n =
+    record { seals = tt; bytes = b.1; fits = omega (arith, b.2) }
 part_in tools me to nwk aps true (Relayed bytes) keeps e b n = absurd (false≢true (sym b.0))
 
 -- ---- what goes out
@@ -172,28 +204,48 @@ pub record OutInRange (out : Outgoing) : Type 0 where
   pub seals : AllByRecursion TermInRange out.seals
   pub frame : IfSome out.frame IsShort
 
-secured_in : (tools : Tools) (c : Setting) (to nwk : ℕ) (row : NetKey) (part : Part) → KeepsRanges tools → SettingInRange c → NetInRange row → IsCount nwk → PartInRange true part → OutInRange (secured_out tools c to nwk row part)
+secured_in : (tools : Tools) (c : Setting) (to nwk : ℕ) (row : NetKey) (part : Part) → KeepsRanges tools
+    → SettingInRange c → NetInRange row → IsCount nwk → PartInRange true part
+    → OutInRange (secured_out tools c to nwk row part)
 secured_in tools c to nwk row part keeps at r n p =
     let t = nwk_term part.control to c.me.short c.me.eui row.key row.sequence nwk part.bytes in
-    let is = nwk_term_in part.control to c.me.short c.me.eui row.key row.sequence nwk part.bytes at.0 r.0 r.1 n (p.bytes, omega (arith, p.fits)) in
+    let is = nwk_term_in part.control to c.me.short c.me.eui row.key row.sequence nwk part.bytes at.0 r.0 r.1 n
+    (p.bytes, omega (arith, p.fits)) in
     record {
       seals = all-append TermInRange part.seals (t ∷ []) p.seals (is, tt);
-      frame = (keeps.wire t is, omega (arith, p.fits, keeps.wire_length t is, nwk_front_length part.control to c.me.short row.sequence nwk c.me.eui));
+      frame = (
+        keeps.wire t is,
+        omega (
+          arith,
+          p.fits,
+          keeps.wire_length t is,
+          nwk_front_length part.control to c.me.short row.sequence nwk
+              c.me.eui,
+        ),
+      );
     }
 
 plain_in : (c : Setting) (to : ℕ) (part : Part) → PartInRange false part → OutInRange (plain_out c to part)
 plain_in c to part p = record {
   seals = p.seals;
   frame = (
-    bytes_append (nwk_header plain_frame to c.me.short 0) part.bytes (header_in plain_frame to c.me.short 0 (omega arith)) p.bytes,
-    omega (arith, p.fits, length-append (nwk_header plain_frame to c.me.short 0) part.bytes, header_length plain_frame to c.me.short 0),
+    bytes_append (nwk_header plain_frame to c.me.short 0) part.bytes
+        (header_in plain_frame to c.me.short 0 (omega arith)) p.bytes,
+    omega (
+      arith,
+      p.fits,
+      length-append (nwk_header plain_frame to c.me.short 0) part.bytes,
+      header_length plain_frame to c.me.short 0,
+    ),
   );
 }
 
 nothing_in : OutInRange nothing_out
 nothing_in = record { seals = tt; frame = tt }
 
-framed_in : (tools : Tools) (c : Setting) (to nwk : ℕ) (secured : Bool) (row : Option NetKey) (part : Part) → KeepsRanges tools → SettingInRange c → IfSome row NetInRange → (secured ≡ true → IsCount nwk) → PartInRange secured part
+framed_in : (tools : Tools) (c : Setting) (to nwk : ℕ) (secured : Bool) (row : Option NetKey) (part : Part)
+    → KeepsRanges tools → SettingInRange c → IfSome row NetInRange → (secured ≡ true → IsCount nwk)
+    → PartInRange secured part
     → OutInRange (framed tools c to nwk secured row part)
 framed_in tools c to nwk false row part keeps at r n p = plain_in c to part p
 framed_in tools c to nwk true None part keeps at r n p = nothing_in
@@ -213,24 +265,34 @@ first_of : (a b : Bool) → (a && b) ≡ true → (a ≡ true) × (b ≡ true)
 first_of true b e = (refl, e)
 first_of false b e = absurd (false≢true e)
 
-out_by : (tools : Tools) (c : Setting) (s : NodeState) (k : Counting) (send : Sending) → KeepsRanges tools → SettingInRange c → StateInRange s → SendingInRange send → (send.secured ≡ true → IsCount (k.counter Nwk)) → (has_aps_seal send.body ≡ true → IsCount (k.counter Aps))
+out_by : (tools : Tools) (c : Setting) (s : NodeState) (k : Counting) (send : Sending) → KeepsRanges tools
+    → SettingInRange c → StateInRange s → SendingInRange send → (send.secured ≡ true → IsCount (k.counter Nwk))
+    → (has_aps_seal send.body ≡ true → IsCount (k.counter Aps))
     → OutInRange (sent tools c s k (Some send))
 out_by tools c s k send keeps at is b n a =
-    framed_in tools c send.to (k.counter Nwk) send.secured (active_row s) (part_of tools c.me.eui send.to (k.counter Nwk) (k.counter Aps) send.body) keeps at (active_in s is) n
+    framed_in tools c send.to (k.counter Nwk) send.secured (active_row s)
+    (part_of tools c.me.eui send.to (k.counter Nwk) (k.counter Aps) send.body) keeps at (active_in s is) n
     (part_in tools c.me.eui send.to (k.counter Nwk) (k.counter Aps) send.secured send.body keeps at.0 b a)
 
 -- the counters of an answer are the next ones
-pub out_in : (tools : Tools) (c : Setting) (s : NodeState) (k : Counting) (o : Option Sending) → KeepsRanges tools → SettingInRange c → StateInRange s → ((l : Layer) → k.counter l ≡ next_counter l s) → IfSome o SendingInRange → OutInRange (out_of tools c s k o)
+pub out_in : (tools : Tools) (c : Setting) (s : NodeState) (k : Counting) (o : Option Sending) → KeepsRanges tools
+    → SettingInRange c → StateInRange s → ((l : Layer) → k.counter l ≡ next_counter l s) → IfSome o SendingInRange
+    → OutInRange (out_of tools c s k o)
 unfolding out_of may_seal spent
-out_in tools c s k None keeps at is next b = if_then OutInRange (may_seal s None) nothing_out nothing_out nothing_in nothing_in
+out_in tools c s k None keeps at is next b = if_then OutInRange (may_seal s None) nothing_out nothing_out nothing_in
+    nothing_in
 out_in tools c s k (Some send) keeps at is next b = by_test (may_seal s (Some send)) refl
   where
     count : (l : Layer) → IsCount (next_counter l s) → IsCount (k.counter l)
     count l le = omega (arith, next l)
 
-    by_test : (may : Bool) → may_seal s (Some send) ≡ may → OutInRange (cond may (sent tools c s k (Some send)) nothing_out)
+    by_test : (may : Bool) → may_seal s (Some send) ≡ may
+        → OutInRange (cond may (sent tools c s k (Some send)) nothing_out)
     by_test true e =
-        let both = first_of (not send.secured || (is_some (active_row s) && not (nat_le greatest_counter (next_counter Nwk s)))) (not (has_aps_seal send.body) || not (nat_le greatest_counter (next_counter Aps s))) e in
+        let both =
+        first_of
+        (not send.secured || (is_some (active_row s) && not (nat_le greatest_counter (next_counter Nwk s))))
+        (not (has_aps_seal send.body) || not (nat_le greatest_counter (next_counter Aps s))) e in
         out_by tools c s k send keeps at is b
         (λ secured. count Nwk (sealed_count send.secured (is_some (active_row s)) (next_counter Nwk s) both.0 secured))
         (λ sealed. count Aps (sealed_count (has_aps_seal send.body) true (next_counter Aps s) both.1 sealed))

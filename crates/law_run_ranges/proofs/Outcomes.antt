@@ -12,7 +12,8 @@ abbrev pub BodyInRange : Bool → Body → Type 0
 BodyInRange secured (Saying bytes) = IsSmall bytes
 BodyInRange secured (Clear control command) = IsByte control × CommandInRange command × IsPlain command
 BodyInRange secured (Secret label key command) = IsKey key × CommandInRange command × IsPlain command
-BodyInRange secured (Tunnelled device key command) = IsEui device × IsKey key × CommandInRange command × IsPlain command
+BodyInRange secured (Tunnelled device key command) = IsEui device × IsKey key × CommandInRange command
+    × IsPlain command
 BodyInRange secured (Telling key bytes) = IsKey key × IsSmall bytes
 BodyInRange secured Leaving = ⊤
 BodyInRange secured (Relayed bytes) = (secured ≡ false) × AreBytes bytes × (length bytes ≤ 118)
@@ -31,17 +32,21 @@ StationHasEui p = IsEui p.eui
 abbrev pub SettingInRange : Setting → Type 0
 SettingInRange c = IsEui c.me.eui × IsEui (centre_of c.stations) × AllByRecursion StationHasEui c.stations
 
-pub unless_in : (b : Bool) (reason : Reason) (rest : Outcome) → ReasonInRange reason → (b ≡ false → OutcomeInRange rest) → OutcomeInRange (unless b reason rest)
+pub unless_in : (b : Bool) (reason : Reason) (rest : Outcome) → ReasonInRange reason
+    → (b ≡ false → OutcomeInRange rest) → OutcomeInRange (unless b reason rest)
 unfolding unless
 unless_in true reason rest r k = r
 unless_in false reason rest r k = k refl
 
-pub found_in : {A : Type 0} (P : A → Type 0) (o : Option A) (reason : Reason) (rest : A → Outcome) → ReasonInRange reason → IfSome o P → ((a : A) → P a → OutcomeInRange (rest a)) → OutcomeInRange (found_or o reason rest)
+pub found_in : {A : Type 0} (P : A → Type 0) (o : Option A) (reason : Reason) (rest : A → Outcome)
+    → ReasonInRange reason → IfSome o P → ((a : A) → P a → OutcomeInRange (rest a))
+    → OutcomeInRange (found_or o reason rest)
 unfolding found_or
 found_in P None reason rest r is k = r
 found_in P (Some a) reason rest r is k = k a is
 
-pub any_in : {A : Type 0} (o : Option A) (reason : Reason) (rest : A → Outcome) → ReasonInRange reason → ((a : A) → OutcomeInRange (rest a)) → OutcomeInRange (found_or o reason rest)
+pub any_in : {A : Type 0} (o : Option A) (reason : Reason) (rest : A → Outcome) → ReasonInRange reason
+    → ((a : A) → OutcomeInRange (rest a)) → OutcomeInRange (found_or o reason rest)
 unfolding found_or
 any_in None reason rest r k = r
 any_in (Some a) reason rest r k = k a

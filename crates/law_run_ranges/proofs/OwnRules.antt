@@ -16,13 +16,18 @@ use Rattle.law_run_ranges.proofs.States.{NetInRange, LinkInRange, PairInRange, S
 
 say_in : (s : NodeState) (to : ℕ) (bytes : Bytes) → IsSmall bytes → OutcomeInRange (say s to bytes)
 unfolding say
-say_in s to bytes b = any_in (usable_active s) _ _ tt (λ net. unless_in _ _ _ tt (λ e. unless_in _ _ _ tt (λ f. (tt, b))))
+say_in s to bytes b =
+    any_in (usable_active s) _ _ tt (λ net. unless_in _ _ _ tt (λ e. unless_in _ _ _ tt (λ f. (tt, b))))
 
 knock_in : (c : Setting) (s : NodeState) → StateInRange s → OutcomeInRange (knock c s)
 unfolding knock
 knock_in c s is =
-    found_in LinkInRange (code_row s (centre_of c.stations)) _ _ tt (code_row_in s (centre_of c.stations) is) (λ row r.
-    (all-append MoveInRange (drop_others s row.partner row.key) _ (drop_others_in s row.partner row.key is) ((r.0, r.1), (tt, tt)), tt))
+    found_in LinkInRange (code_row s (centre_of c.stations)) _ _ tt (code_row_in s (centre_of c.stations) is)
+    (λ row r. (
+      all-append MoveInRange (drop_others s row.partner row.key) _ (drop_others_in s row.partner row.key is)
+          ((r.0, r.1), (tt, tt)),
+      tt,
+    ))
 
 rejoin_in : (s : NodeState) → OutcomeInRange (rejoin s)
 unfolding rejoin
@@ -31,31 +36,38 @@ rejoin_in s = unless_in _ _ _ tt (λ e. ((tt, tt), tt))
 request_key_in : (c : Setting) (s : NodeState) → StateInRange s → OutcomeInRange (request_key c s)
 unfolding request_key
 request_key_in c s is =
-    found_in LinkInRange (current s (centre_of c.stations)) _ _ tt (current_in s (centre_of c.stations) is) (λ row r. unless_in _ _ _ tt (λ e. (tt, (r.1, tt, tt))))
+    found_in LinkInRange (current s (centre_of c.stations)) _ _ tt (current_in s (centre_of c.stations) is)
+    (λ row r. unless_in _ _ _ tt (λ e. (tt, (r.1, tt, tt))))
 
-verify_key_in : (tools : Tools) (c : Setting) (s : NodeState) → KeepsRanges tools → SettingInRange c → StateInRange s → OutcomeInRange (verify_key tools c s)
+verify_key_in : (tools : Tools) (c : Setting) (s : NodeState) → KeepsRanges tools → SettingInRange c → StateInRange s
+    → OutcomeInRange (verify_key tools c s)
 unfolding verify_key
 verify_key_in tools c s keeps at is =
     found_in LinkInRange (offered s (centre_of c.stations)) _ _ tt (offered_in s (centre_of c.stations) is) (λ row r.
     unless_in _ _ _ tt (λ e. (tt, (omega arith, (omega arith, at.0, keeps.keyed row.key 3 r.1 (omega arith)), tt))))
 
-timer_in_in : (state : State) (tools : Tools) (c : Setting) (s : NodeState) → KeepsRanges tools → SettingInRange c → StateInRange s → OutcomeInRange (timer_in state tools c s)
+timer_in_in : (state : State) (tools : Tools) (c : Setting) (s : NodeState) → KeepsRanges tools → SettingInRange c
+    → StateInRange s → OutcomeInRange (timer_in state tools c s)
 timer_in_in Joined tools c s keeps at is = request_key_in c s is
 timer_in_in Offered tools c s keeps at is = verify_key_in tools c s keeps at is
 timer_in_in _ tools c s keeps at is = tt
 
-member_timer_in : (tools : Tools) (c : Setting) (s : NodeState) → KeepsRanges tools → SettingInRange c → StateInRange s → OutcomeInRange (member_timer tools c s)
+member_timer_in : (tools : Tools) (c : Setting) (s : NodeState) → KeepsRanges tools → SettingInRange c
+    → StateInRange s → OutcomeInRange (member_timer tools c s)
 unfolding member_timer
-member_timer_in tools c s keeps at is = any_in (usable_active s) _ _ tt (λ net. timer_in_in s.state tools c s keeps at is)
+member_timer_in tools c s keeps at is =
+    any_in (usable_active s) _ _ tt (λ net. timer_in_in s.state tools c s keeps at is)
 
-ask_in : (c : Setting) (s : NodeState) (partner : ℕ) → StateInRange s → IsEui partner → OutcomeInRange (ask c s partner)
+ask_in : (c : Setting) (s : NodeState) (partner : ℕ) → StateInRange s → IsEui partner
+    → OutcomeInRange (ask c s partner)
 unfolding ask
 ask_in c s partner is p =
     any_in (usable_active s) _ _ tt (λ net.
     found_in LinkInRange (current s (centre_of c.stations)) _ _ tt (current_in s (centre_of c.stations) is) (λ row r.
     unless_in _ _ _ tt (λ e. unless_in _ _ _ tt (λ f. (tt, (r.1, p, tt))))))
 
-tell_in : (c : Setting) (s : NodeState) (partner : ℕ) (bytes : Bytes) → StateInRange s → IsSmall bytes → OutcomeInRange (tell c s partner bytes)
+tell_in : (c : Setting) (s : NodeState) (partner : ℕ) (bytes : Bytes) → StateInRange s → IsSmall bytes
+    → OutcomeInRange (tell c s partner bytes)
 unfolding tell
 tell_in c s partner bytes is b =
     any_in (usable_active s) _ _ tt (λ net.
@@ -66,16 +78,21 @@ status_in : (again : Bool) → IsByte (child_status again)
 status_in true = omega arith
 status_in false = omega arith
 
-report_in : (c : Setting) (s : NodeState) (child : ℕ) (again : Bool) (o : Option LinkKey) → IsEui child → IfSome o LinkInRange → OutcomeInRange (report_child c s child again o)
+report_in : (c : Setting) (s : NodeState) (child : ℕ) (again : Bool) (o : Option LinkKey) → IsEui child
+    → IfSome o LinkInRange → OutcomeInRange (report_child c s child again o)
 report_in c s child again None e is = unless_in _ _ _ tt (λ f. (tt, (omega arith, (e, status_in again), tt)))
 report_in c s child again (Some row) e is = unless_in _ _ _ tt (λ f. (tt, (is.1, (e, status_in again), tt)))
 
-child_of_router_in : (c : Setting) (s : NodeState) (child : ℕ) (again : Bool) → IsEui child → StateInRange s → OutcomeInRange (child_of_router c s child again)
+child_of_router_in : (c : Setting) (s : NodeState) (child : ℕ) (again : Bool) → IsEui child → StateInRange s
+    → OutcomeInRange (child_of_router c s child again)
 unfolding child_of_router
 child_of_router_in c s child again e is =
-    any_in (usable_active s) _ _ tt (λ net. unless_in _ _ _ tt (λ f. report_in c s child again (current s (centre_of c.stations)) e (current_in s (centre_of c.stations) is)))
+    any_in (usable_active s) _ _ tt
+    (λ net. unless_in _ _ _ tt
+    (λ f. report_in c s child again (current s (centre_of c.stations)) e (current_in s (centre_of c.stations) is)))
 
-child_of_centre_in : (c : Setting) (s : NodeState) (child : ℕ) → SettingInRange c → IsEui child → StateInRange s → OutcomeInRange (child_of_centre c s child)
+child_of_centre_in : (c : Setting) (s : NodeState) (child : ℕ) → SettingInRange c → IsEui child → StateInRange s
+    → OutcomeInRange (child_of_centre c s child)
 unfolding child_of_centre
 child_of_centre_in c s child at e is =
     found_in NetInRange (active_row s) _ _ tt (active_in s is) (λ net n.
@@ -92,30 +109,40 @@ centre_timer_in c s at is =
     found_in LinkInRange (current s device) _ _ tt (current_in s device is) (λ row r.
     unless_in _ _ _ tt (λ g. ((d, tt), (r.1, (n.0, n.1, d, at.0), tt))))))))
 
-provision_new_in : (s : NodeState) (device : ℕ) (key : Bytes) (o : Option LinkKey) → IsEui device → IsKey key → IfSome o LinkInRange → OutcomeInRange (provision_new s device key o)
+provision_new_in : (s : NodeState) (device : ℕ) (key : Bytes) (o : Option LinkKey) → IsEui device → IsKey key
+    → IfSome o LinkInRange → OutcomeInRange (provision_new s device key o)
 provision_new_in s device key (Some other) d k is = is.0
 provision_new_in s device key None d k is = (((d, k), (d, tt)), tt)
 
-provision_in : (s : NodeState) (device : ℕ) (key : Bytes) → IsEui device → IsKey key → StateInRange s → OutcomeInRange (provision s device key)
+provision_in : (s : NodeState) (device : ℕ) (key : Bytes) → IsEui device → IsKey key → StateInRange s
+    → OutcomeInRange (provision s device key)
 unfolding provision
 provision_in s device key d k is =
-    unless_in _ _ _ tt (λ e. unless_in _ _ _ tt (λ f. provision_new_in s device key (other_user s device key) d k (other_user_in s device key is)))
+    unless_in _ _ _ tt
+    (λ e. unless_in _ _ _ tt
+    (λ f. provision_new_in s device key (other_user s device key) d k (other_user_in s device key is)))
 
-if_sent : (b : Bool) (x y : Option Sending) → IfSome x SendingInRange → IfSome y SendingInRange → IfSome (cond b x y) SendingInRange
+if_sent : (b : Bool) (x y : Option Sending) → IfSome x SendingInRange → IfSome y SendingInRange
+    → IfSome (cond b x y) SendingInRange
 if_sent true x y p q = p
 if_sent false x y p q = q
 
-parent_in : (c : Setting) (s : NodeState) (device via : ℕ) (o : Option LinkKey) → IsEui device → IfSome o LinkInRange → IfSome (tell_parent c s device via o) SendingInRange
+parent_in : (c : Setting) (s : NodeState) (device via : ℕ) (o : Option LinkKey) → IsEui device → IfSome o LinkInRange
+    → IfSome (tell_parent c s device via o) SendingInRange
 parent_in c s device via None d is = tt
 parent_in c s device via (Some row) d is =
-    if_sent (is_some (active_row s) && not (both_spent s)) (sends (short_of c via) true (Secret ForData row.key (RemoveDevice device))) None (is.1, d, tt) tt
+    if_sent (is_some (active_row s) && not (both_spent s))
+    (sends (short_of c via) true (Secret ForData row.key (RemoveDevice device))) None (is.1, d, tt) tt
 
-remove_in : (c : Setting) (s : NodeState) (device via : ℕ) → IsEui device → StateInRange s → OutcomeInRange (remove_device c s device via)
+remove_in : (c : Setting) (s : NodeState) (device via : ℕ) → IsEui device → StateInRange s
+    → OutcomeInRange (remove_device c s device via)
 unfolding remove_device
 remove_in c s device via d is =
     unless_in _ _ _ tt (λ e. (
       all-append MoveInRange (drop_partner s device) _ (drop_partner_in s device is) (d, tt),
-      if_sent (nat_eq via c.me.eui) (tell_leave c s device) (tell_parent c s device via (current s via)) (if_sent (is_some (active_row s) && not (spent Nwk s)) (sends (short_of c device) true Leaving) None tt tt) (parent_in c s device via (current s via) d (current_in s via is)),
+      if_sent (nat_eq via c.me.eui) (tell_leave c s device) (tell_parent c s device via (current s via))
+          (if_sent (is_some (active_row s) && not (spent Nwk s)) (sends (short_of c device) true Leaving) None tt tt)
+          (parent_in c s device via (current s via) d (current_in s via is)),
     ))
 
 roll_in : (s : NodeState) (draw : Option Bytes) → IfSome draw IsKey → StateInRange s → OutcomeInRange (roll s draw)
@@ -126,7 +153,8 @@ roll_in s draw d is =
     found_in IsKey (unless_held s draw) _ _ tt (held_in s draw d) (λ key k.
     ((k, all-append MoveInRange (drop_old s) _ (drop_old_in s is) ((k, omega arith), (tt, tt))), tt)))))
 
-switch_to_in : (net : NetKey) (moves : List Move) → NetInRange net → AllByRecursion MoveInRange moves → OutcomeInRange (switch_to net moves)
+switch_to_in : (net : NetKey) (moves : List Move) → NetInRange net → AllByRecursion MoveInRange moves
+    → OutcomeInRange (switch_to net moves)
 switch_to_in net moves n m = (m, (omega arith, n.1, tt))
 
 switch_in : (s : NodeState) → StateInRange s → OutcomeInRange (switch_over s)
@@ -135,14 +163,16 @@ switch_in s is =
     found_in NetInRange (active_row s) _ _ tt (active_in s is) (λ net n.
     unless_in _ _ _ tt (λ e. unless_in _ _ _ tt (λ f.
     choose_in s.sending _ _
-    (found_in NetInRange (newest s) _ _ tt (newest_in s is) (λ new m. switch_to_in new (Active new.key ∷ Roll false ∷ []) m (m.0, (tt, tt))))
+    (found_in NetInRange (newest s) _ _ tt (newest_in s is)
+    (λ new m. switch_to_in new (Active new.key ∷ Roll false ∷ []) m (m.0, (tt, tt))))
     (switch_to_in net [] n tt))))
 
 again_in : (s : NodeState) (device : ℕ) → IsEui device → OutcomeInRange (again s device)
 unfolding again
 again_in s device d = unless_in _ _ _ tt (λ e. unless_in _ _ _ tt (λ f. ((d, tt), tt)))
 
-share_in : (c : Setting) (s : NodeState) (device partner : ℕ) → IsEui partner → StateInRange s → OutcomeInRange (share c s device partner)
+share_in : (c : Setting) (s : NodeState) (device partner : ℕ) → IsEui partner → StateInRange s
+    → OutcomeInRange (share c s device partner)
 unfolding share
 share_in c s device partner p is =
     any_in (active_row s) _ _ tt (λ net.
@@ -153,7 +183,8 @@ share_in c s device partner p is =
 
 -- ---- the rule of each event
 
-module _ (tools : Tools) (c : Setting) (s : NodeState) (keeps : KeepsRanges tools) (at : SettingInRange c) (is : StateInRange s) where
+module _ (tools : Tools) (c : Setting) (s : NodeState) (keeps : KeepsRanges tools) (at : SettingInRange c)
+    (is : StateInRange s) where
   at_centre : (task : Task) → TaskInRange task → OutcomeInRange (own_at_centre c s task)
   at_centre (SayTo to bytes) t = say_in s to bytes t
   at_centre DoTimer t = centre_timer_in c s at is
@@ -176,7 +207,9 @@ module _ (tools : Tools) (c : Setting) (s : NodeState) (keeps : KeepsRanges tool
   at_member (HasChild child again) t = child_of_router_in c s child again t is
   at_member _ t = tt
 
-pub own_in : (tools : Tools) (c : Setting) (s : NodeState) (task : Task) → KeepsRanges tools → SettingInRange c → StateInRange s → TaskInRange task → OutcomeInRange (own tools c s task)
+pub own_in : (tools : Tools) (c : Setting) (s : NodeState) (task : Task) → KeepsRanges tools → SettingInRange c
+    → StateInRange s → TaskInRange task → OutcomeInRange (own tools c s task)
 unfolding own
 own_in tools c s task keeps at is t =
-    if_then OutcomeInRange (is_centre c.me.role) _ _ (at_centre tools c s keeps at is task t) (at_member tools c s keeps at is task t)
+    if_then OutcomeInRange (is_centre c.me.role) _ _ (at_centre tools c s keeps at is task t)
+    (at_member tools c s keeps at is task t)

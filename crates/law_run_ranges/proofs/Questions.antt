@@ -36,22 +36,27 @@ live_of_in s sequence is = last_found NetInRange (λ (r : NetKey). r.live && nat
 
 pub current_in : (s : NodeState) (partner : ℕ) → StateInRange s → IfSome (current s partner) LinkInRange
 unfolding current
-current_in s partner is = found LinkInRange (λ (r : LinkKey). is_live_of partner r && not (is_unverified r.attribute)) s.links is.1
+current_in s partner is = found LinkInRange (λ (r : LinkKey). is_live_of partner r && not (is_unverified r.attribute))
+    s.links is.1
 
 pub offered_in : (s : NodeState) (partner : ℕ) → StateInRange s → IfSome (offered s partner) LinkInRange
 unfolding offered
-offered_in s partner is = found LinkInRange (λ (r : LinkKey). is_live_of partner r && is_unverified r.attribute) s.links is.1
+offered_in s partner is = found LinkInRange (λ (r : LinkKey). is_live_of partner r && is_unverified r.attribute)
+    s.links is.1
 
-pub live_link_in : (s : NodeState) (partner : ℕ) → StateInRange s → IfSome (find (is_live_of partner) s.links) LinkInRange
+pub live_link_in : (s : NodeState) (partner : ℕ) → StateInRange s
+    → IfSome (find (is_live_of partner) s.links) LinkInRange
 live_link_in s partner is = found LinkInRange (is_live_of partner) s.links is.1
 
 pub code_row_in : (s : NodeState) (centre : ℕ) → StateInRange s → IfSome (code_row s centre) LinkInRange
 unfolding code_row
 code_row_in s centre is = found LinkInRange (λ (r : LinkKey). nat_eq r.partner centre && r.code) s.links is.1
 
-pub other_user_in : (s : NodeState) (partner : ℕ) (key : Bytes) → StateInRange s → IfSome (other_user s partner key) LinkInRange
+pub other_user_in : (s : NodeState) (partner : ℕ) (key : Bytes) → StateInRange s
+    → IfSome (other_user s partner key) LinkInRange
 unfolding other_user
-other_user_in s partner key is = found LinkInRange (λ (r : LinkKey). same_key r.key key && not (nat_eq r.partner partner)) s.links is.1
+other_user_in s partner key is =
+    found LinkInRange (λ (r : LinkKey). same_key r.key key && not (nat_eq r.partner partner)) s.links is.1
 
 pub pair_in : (s : NodeState) (a b : ℕ) → StateInRange s → IfSome (pair_of s a b) PairInRange
 unfolding pair_of
@@ -69,13 +74,17 @@ pub drops_in : (rs : List LinkKey) → AllByRecursion LinkInRange rs → AllByRe
 drops_in [] all = tt
 drops_in (r ∷ rs) all = ((all.0.0, all.0.1), drops_in rs all.1)
 
-pub drop_partner_in : (s : NodeState) (partner : ℕ) → StateInRange s → AllByRecursion MoveInRange (drop_partner s partner)
+pub drop_partner_in : (s : NodeState) (partner : ℕ) → StateInRange s
+    → AllByRecursion MoveInRange (drop_partner s partner)
 unfolding drop_partner
-drop_partner_in s partner is = drops_in (filter (is_live_of partner) s.links) (filtered LinkInRange (is_live_of partner) s.links is.1)
+drop_partner_in s partner is = drops_in (filter (is_live_of partner) s.links)
+    (filtered LinkInRange (is_live_of partner) s.links is.1)
 
-pub drop_others_in : (s : NodeState) (partner : ℕ) (key : Bytes) → StateInRange s → AllByRecursion MoveInRange (drop_others s partner key)
+pub drop_others_in : (s : NodeState) (partner : ℕ) (key : Bytes) → StateInRange s
+    → AllByRecursion MoveInRange (drop_others s partner key)
 unfolding drop_others
-drop_others_in s partner key is = drops_in _ (filtered LinkInRange (λ (r : LinkKey). is_live_of partner r && not (same_key r.key key)) s.links is.1)
+drop_others_in s partner key is =
+    drops_in _ (filtered LinkInRange (λ (r : LinkKey). is_live_of partner r && not (same_key r.key key)) s.links is.1)
 
 pub drop_row_in : (o : Option LinkKey) → IfSome o LinkInRange → AllByRecursion MoveInRange (drop_row o)
 drop_row_in None is = tt
@@ -89,7 +98,8 @@ pub drop_old_in : (s : NodeState) → StateInRange s → AllByRecursion MoveInRa
 unfolding drop_old
 drop_old_in s is =
     if_then (λ (l : List Move). AllByRecursion MoveInRange l) (nat_le 2 (length (live_nets s))) _ []
-    (first_in _ (filtered NetInRange (λ (r : NetKey). not (is_active_key s.active r.key)) (live_nets s) (live_in s is))) tt
+    (first_in _
+    (filtered NetInRange (λ (r : NetKey). not (is_active_key s.active r.key)) (live_nets s) (live_in s is))) tt
 
 -- ---- whom a rollover reaches next
 
@@ -97,7 +107,8 @@ least_in : (o : Option ℕ) (n : ℕ) → IfSome o IsEui → IsEui n → IfSome 
 least_in None n is e = e
 least_in (Some m) n is e = omega arith
 
-least_of : (rs : List LinkKey) (o : Option ℕ) → IfSome o IsEui → AllByRecursion LinkInRange rs → IfSome (fold (λ (best : Option ℕ) (r : LinkKey). least best r.partner) o rs) IsEui
+least_of : (rs : List LinkKey) (o : Option ℕ) → IfSome o IsEui → AllByRecursion LinkInRange rs
+    → IfSome (fold (λ (best : Option ℕ) (r : LinkKey). least best r.partner) o rs) IsEui
 least_of [] o is all = is
 least_of (r ∷ rs) o is all = least_of rs (least o r.partner) (least_in o r.partner is all.0.0) all.1
 

@@ -23,23 +23,41 @@ right false b e = absurd (false≢true e)
 
 pub few_nets : (s : NodeState) → keeps_rules s ≡ true → IsCount (length s.nets)
 unfolding keeps_rules rows_have_room
-few_nets s e = omega (arith, leb-true (length s.nets) most_nets (left (nat_le (length s.nets) most_nets) _ (left _ _ e)))
+few_nets s e =
+    omega (arith, leb-true (length s.nets) most_nets (left (nat_le (length s.nets) most_nets) _ (left _ _ e)))
 
 abbrev HasFew : NetKey → Type 0
 HasFew r = IsByte (length r.floors)
 
-each_few : (rs : List NetKey) → list_all (λ (r : NetKey). nat_le (length r.floors) most_senders && (list_all (λ (f : SenderFloor). nat_lt 0 f.stored) r.floors && senders_ascend r.floors)) rs ≡ true → AllByRecursion HasFew rs
+each_few : (rs : List NetKey)
+    → list_all
+    (λ (r : NetKey). nat_le (length r.floors) most_senders
+    && (list_all (λ (f : SenderFloor). nat_lt 0 f.stored) r.floors && senders_ascend r.floors)) rs ≡ true
+    → AllByRecursion HasFew rs
 each_few [] e = tt
-each_few (r ∷ rs) e = (omega (arith, leb-true (length r.floors) most_senders (left (nat_le (length r.floors) most_senders) _ (left _ _ e))), each_few rs (right _ _ e))
+each_few (r ∷ rs) e = (
+  omega (
+    arith,
+    leb-true (length r.floors) most_senders
+        (left (nat_le (length r.floors) most_senders) _ (left _ _ e)),
+  ),
+  each_few rs (right _ _ e),
+)
 
 few_floors : (s : NodeState) → keeps_rules s ≡ true → AllByRecursion HasFew s.nets
 unfolding keeps_rules floors_are_kept
 few_floors s e =
-    each_few s.nets (left _ _ (right (links_are_marked s) _ (right (partners_agree s) _ (right (active_is_live s) _ (right (at_most_two_live s) _ (right (keys_differ s) _ (right (rows_have_room s) _ e)))))))
+    each_few s.nets
+    (left _ _
+    (right (links_are_marked s) _
+    (right (partners_agree s) _
+    (right (active_is_live s) _
+    (right (at_most_two_live s) _ (right (keys_differ s) _ (right (rows_have_room s) _ e)))))))
 
 -- ---- bytes
 
-bytes_of : {X : Type 0} (P : X → Type 0) (f : X → Bytes) → ((x : X) → P x → AreBytes (f x)) → (xs : List X) → AllByRecursion P xs → AreBytes (flat_map f xs)
+bytes_of : {X : Type 0} (P : X → Type 0) (f : X → Bytes) → ((x : X) → P x → AreBytes (f x)) → (xs : List X)
+    → AllByRecursion P xs → AreBytes (flat_map f xs)
 bytes_of P f each [] all = tt
 bytes_of P f each (x ∷ xs) all = bytes_append (f x) (flat_map f xs) (each x all.0) (bytes_of P f each xs all.1)
 
@@ -67,7 +85,8 @@ attribute_in Unverified = omega arith
 attribute_in Verified = omega arith
 
 net_in : (r : NetKey) → NetInRange r → AreBytes (net_bytes r)
-net_in r x = bytes_append r.key (r.sequence ∷ (worth 1 r.live + worth 2 r.started) ∷ four_bytes r.limit) x.0.0 (x.1, (omega (arith, worth_in 1 r.live (omega arith), worth_in 2 r.started (omega arith)), four_in r.limit))
+net_in r x = bytes_append r.key (r.sequence ∷ (worth 1 r.live + worth 2 r.started) ∷ four_bytes r.limit) x.0.0
+    (x.1, (omega (arith, worth_in 1 r.live (omega arith), worth_in 2 r.started (omega arith)), four_in r.limit))
 
 sender_in : (f : SenderFloor) → FloorInRange f → AreBytes (sender_bytes f)
 sender_in f x = bytes_append (eight_bytes f.sender) (four_bytes f.stored) (eight_in f.sender) (four_in f.stored)
@@ -81,12 +100,27 @@ floors_in r x = (x.1, bytes_of FloorInRange sender_bytes sender_in r.floors x.0.
 link_in : (r : LinkKey) → LinkInRange r → AreBytes (link_bytes r)
 link_in r x =
     bytes_append (eight_bytes r.partner) _ (eight_in r.partner)
-    (bytes_append r.key (attribute_byte r.attribute ∷ (worth 1 r.live + (worth 2 r.code + worth 4 r.told)) ∷ four_bytes r.stored) x.1.0 (attribute_in r.attribute, (omega (arith, worth_in 1 r.live (omega arith), worth_in 2 r.code (omega arith), worth_in 4 r.told (omega arith)), four_in r.stored)))
+    (bytes_append r.key (attribute_byte r.attribute ∷ (worth 1 r.live + (worth 2 r.code + worth 4 r.told))
+    ∷ four_bytes r.stored) x.1.0 (
+      attribute_in r.attribute,
+      (
+        omega (
+          arith,
+          worth_in 1 r.live (omega arith),
+          worth_in 2 r.code (omega arith),
+          worth_in 4 r.told (omega arith),
+        ),
+        four_in r.stored,
+      ),
+    ))
 
 pair_in : (p : PairKey) → PairInRange p → AreBytes (pair_bytes p)
-pair_in p x = bytes_append (eight_bytes p.first) (eight_bytes p.second ++ (p.key ++ 1 ∷ [])) (eight_in p.first) (bytes_append (eight_bytes p.second) (p.key ++ 1 ∷ []) (eight_in p.second) (bytes_append p.key (1 ∷ []) x.0 (omega arith, tt)))
+pair_in p x = bytes_append (eight_bytes p.first) (eight_bytes p.second ++ (p.key ++ 1 ∷ [])) (eight_in p.first)
+    (bytes_append (eight_bytes p.second) (p.key ++ 1 ∷ []) (eight_in p.second)
+    (bytes_append p.key (1 ∷ []) x.0 (omega arith, tt)))
 
-both_of : (rs : List NetKey) → AllByRecursion NetInRange rs → AllByRecursion HasFew rs → AllByRecursion FloorsInRange rs
+both_of : (rs : List NetKey) → AllByRecursion NetInRange rs → AllByRecursion HasFew rs
+    → AllByRecursion FloorsInRange rs
 both_of [] all few = tt
 both_of (r ∷ rs) all few = ((all.0, few.0), both_of rs all.1 few.1)
 
@@ -100,20 +134,27 @@ record_in s e is =
     let nets = flat_map net_bytes s.nets ++ floored in
     let placed = two_bytes (active_place s) ++ nets in
     let all = two_bytes (length s.nets) ++ placed in
-    let pairs_in : AreBytes pairs = bytes_append (two_bytes (length s.pairs)) (flat_map pair_bytes s.pairs) (two_in (length s.pairs)) (bytes_of PairInRange pair_bytes pair_in s.pairs is.2) in
-    let links_in : AreBytes links = bytes_append (flat_map link_bytes s.links) pairs (bytes_of LinkInRange link_bytes link_in s.links is.1) pairs_in in
+    let pairs_in : AreBytes pairs = bytes_append (two_bytes (length s.pairs)) (flat_map pair_bytes s.pairs)
+    (two_in (length s.pairs)) (bytes_of PairInRange pair_bytes pair_in s.pairs is.2) in
+    let links_in : AreBytes links = bytes_append (flat_map link_bytes s.links) pairs
+    (bytes_of LinkInRange link_bytes link_in s.links is.1) pairs_in in
     let floored_in : AreBytes floored =
-    bytes_append (flat_map floors_bytes (live_nets s)) (two_bytes (length s.links) ++ links) (bytes_of FloorsInRange floors_bytes floors_in (live_nets s) floors)
+    bytes_append (flat_map floors_bytes (live_nets s)) (two_bytes (length s.links) ++ links)
+    (bytes_of FloorsInRange floors_bytes floors_in (live_nets s) floors)
     (bytes_append (two_bytes (length s.links)) links (two_in (length s.links)) links_in) in
-    let nets_in : AreBytes nets = bytes_append (flat_map net_bytes s.nets) floored (bytes_of NetInRange net_bytes net_in s.nets is.0) floored_in in
-    let all_in : AreBytes all = bytes_append (two_bytes (length s.nets)) placed (two_in (length s.nets)) (bytes_append (two_bytes (active_place s)) nets (two_in (active_place s)) nets_in) in (
+    let nets_in : AreBytes nets = bytes_append (flat_map net_bytes s.nets) floored
+    (bytes_of NetInRange net_bytes net_in s.nets is.0) floored_in in
+    let all_in : AreBytes all = bytes_append (two_bytes (length s.nets)) placed (two_in (length s.nets))
+    (bytes_append (two_bytes (active_place s)) nets (two_in (active_place s)) nets_in) in (
       omega arith,
       (
         role_in s.role,
         (
           state_in s.state,
-          bytes_append (four_bytes s.declared) (four_bytes s.aps_limit ++ (worth 1 s.sending ∷ all)) (four_in s.declared)
-              (bytes_append (four_bytes s.aps_limit) (worth 1 s.sending ∷ all) (four_in s.aps_limit) (omega (arith, worth_in 1 s.sending (omega arith)), all_in)),
+          bytes_append (four_bytes s.declared) (four_bytes s.aps_limit ++ (worth 1 s.sending ∷ all))
+              (four_in s.declared)
+              (bytes_append (four_bytes s.aps_limit) (worth 1 s.sending ∷ all) (four_in s.aps_limit)
+              (omega (arith, worth_in 1 s.sending (omega arith)), all_in)),
         ),
       ),
     )

@@ -41,10 +41,12 @@ TaskInRange (Received bytes draw) = IsShort bytes × IfSome draw IsKey
 abbrev pub EventInRange : Event → Type 0
 EventInRange (Own n task) = TaskInRange task
 EventInRange (InjectBytes bytes) = IsShort bytes
-EventInRange (ForgeNet to from source key sequence counter content) = IsEui source × IsKey key × IsByte sequence × IsCount counter × IsSmall content
+EventInRange (ForgeNet to from source key sequence counter content) = IsEui source × IsKey key × IsByte sequence
+    × IsCount counter × IsSmall content
 EventInRange (ForgeNetAps to from source key sequence counter label base aps_counter command) =
     IsEui source × IsKey key × IsByte sequence × IsCount counter × IsKey base × IsCount aps_counter × IsSmall command
-EventInRange (ForgeOpen to from source label base aps_counter command) = IsEui source × IsKey base × IsCount aps_counter × IsSmall command
+EventInRange (ForgeOpen to from source label base aps_counter command) = IsEui source × IsKey base
+    × IsCount aps_counter × IsSmall command
 EventInRange _ = ⊤
 
 -- The values of a schedule are in their ranges; it has a centre, and at most 100,000 events.
@@ -58,7 +60,8 @@ pub record ScheduleInRange (w : Schedule) : Type 0 where
 -- ---- the tools
 
 abbrev pub CommandInRange : Command → Type 0
-CommandInRange (TransportNet key sequence destination source) = IsKey key × IsByte sequence × IsEui destination × IsEui source
+CommandInRange (TransportNet key sequence destination source) = IsKey key × IsByte sequence × IsEui destination
+    × IsEui source
 CommandInRange (TransportApp key partner initiator) = IsKey key × IsEui partner × IsByte initiator
 CommandInRange (TransportLink key destination source) = IsKey key × IsEui destination × IsEui source
 CommandInRange (UpdateDevice device short status) = IsEui device × IsByte status
@@ -96,7 +99,8 @@ pub record KeepsRanges (tools : Tools) : Type 0 where
   pub read_nwk : (bytes : Bytes) → IsShort bytes → IfSome (tools.read_nwk bytes) (λ (f : NwkShown). IsShort f.body)
   pub open_nwk : (bytes key : Bytes) → IsShort bytes → IsKey key → IfSome (tools.open_nwk bytes key) TermInRange
   pub read_aps : (bytes : Bytes) → IsShort bytes → IfSome (tools.read_aps bytes) ApsInRange
-  pub open_aps : (bytes key : Bytes) (source : ℕ) → IsShort bytes → IsKey key → IsEui source → IfSome (tools.open_aps bytes key source) TermInRange
+  pub open_aps : (bytes key : Bytes) (source : ℕ) → IsShort bytes → IsKey key → IsEui source
+      → IfSome (tools.open_aps bytes key source) TermInRange
   pub read_command : (bytes : Bytes) → IsShort bytes → ShownInRange (tools.read_command bytes)
 
 -- The values of each line are in their ranges.

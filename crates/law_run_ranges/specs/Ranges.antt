@@ -87,4 +87,5 @@ LineInRange (DownReset event n) = IsCount event
 LineInRange (DownDisk event n) = IsCount event
 LineInRange (Boot event n) = IsCount event
 LineInRange (Dump event n bytes) = IsCount event × AreBytes bytes
-LineInRange (End events seals accepts refusals ideal private) = IsCount events × IsCount seals × IsCount accepts × IsCount refusals
+LineInRange (End events seals accepts refusals ideal private) = IsCount events × IsCount seals × IsCount accepts
+    × IsCount refusals

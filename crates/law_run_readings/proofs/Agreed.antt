@@ -44,10 +44,12 @@ pub record Stands (tools : Tools) (w : Schedule) (before : List (List Line)) : T
   pub inv : Inv tools (flat before)
 
 -- the node of an event is ready
-ready_node : (w : Schedule) (h : List Line) (event : Event) → OfNode (λ n. IsRuled (state_of h n) (setting_of w n) n) event → OfNode (λ n. IsAsDeclared (state_of h n) (setting_of w n) n) event → OfNode (IsReady w h) event
+ready_node : (w : Schedule) (h : List Line) (event : Event) → OfNode (λ n. IsRuled (state_of h n) (setting_of w n) n)
+    event → OfNode (λ n. IsAsDeclared (state_of h n) (setting_of w n) n) event → OfNode (IsReady w h) event
 ready_node w h event ruled declared = by_event event ruled declared
   where
-    by_event : (event : Event) → OfNode (λ n. IsRuled (state_of h n) (setting_of w n) n) event → OfNode (λ n. IsAsDeclared (state_of h n) (setting_of w n) n) event → OfNode (IsReady w h) event
+    by_event : (event : Event) → OfNode (λ n. IsRuled (state_of h n) (setting_of w n) n) event
+        → OfNode (λ n. IsAsDeclared (state_of h n) (setting_of w n) n) event → OfNode (IsReady w h) event
     by_event (Rattle.zb_model.specs.Play.Event.Own n task) r d = record { ruled = r; declared = d }
     by_event (Rattle.zb_model.specs.Play.Event.RollOver n) r d = record { ruled = r; declared = d }
     by_event (Rattle.zb_model.specs.Play.Event.Deliver frame n) r d = record { ruled = r; declared = d }
@@ -58,16 +60,21 @@ ready_node w h event ruled declared = by_event event ruled declared
     by_event (Rattle.zb_model.specs.Play.Event.ArmFail n call) r d = record { ruled = r; declared = d }
     by_event (Rattle.zb_model.specs.Play.Event.InjectBytes bytes) r d = tt
     by_event (Rattle.zb_model.specs.Play.Event.ForgeNet to from source key sequence counter content) r d = tt
-    by_event (Rattle.zb_model.specs.Play.Event.ForgeNetAps to from source key sequence counter label base aps_counter command) r d = tt
+    by_event
+        (Rattle.zb_model.specs.Play.Event.ForgeNetAps to from source key sequence counter label base aps_counter
+        command) r d = tt
     by_event (Rattle.zb_model.specs.Play.Event.ForgeOpen to from source label base aps_counter command) r d = tt
 
-ready_fits : (tools : Tools) → OpensAsJudged tools → (w : Schedule) (before : List (List Line)) → Stands tools w before → (event : Event) → NamesNode w event → OfNode (IsReady w (flat before)) event → OfNode (AnswersFit tools w before) event
+ready_fits : (tools : Tools) → OpensAsJudged tools → (w : Schedule) (before : List (List Line))
+    → Stands tools w before → (event : Event) → NamesNode w event → OfNode (IsReady w (flat before)) event
+    → OfNode (AnswersFit tools w before) event
 ready_fits tools opens w before s event named ready = by_event event named ready
   where
     one : (n : ℕ) → Names w n → IsReady w (flat before) n → AnswersFit tools w before n
     one n its r = answers_fit tools opens w before n r (s.grounded.active n) (s.said n its)
 
-    by_event : (event : Event) → NamesNode w event → OfNode (IsReady w (flat before)) event → OfNode (AnswersFit tools w before) event
+    by_event : (event : Event) → NamesNode w event → OfNode (IsReady w (flat before)) event
+        → OfNode (AnswersFit tools w before) event
     by_event (Rattle.zb_model.specs.Play.Event.Own n task) its r = one n its r
     by_event (Rattle.zb_model.specs.Play.Event.RollOver n) its r = one n its r
     by_event (Rattle.zb_model.specs.Play.Event.Deliver frame n) its r = one n its r
@@ -78,10 +85,14 @@ ready_fits tools opens w before s event named ready = by_event event named ready
     by_event (Rattle.zb_model.specs.Play.Event.ArmFail n call) its r = one n its r
     by_event (Rattle.zb_model.specs.Play.Event.InjectBytes bytes) its r = tt
     by_event (Rattle.zb_model.specs.Play.Event.ForgeNet to from source key sequence counter content) its r = tt
-    by_event (Rattle.zb_model.specs.Play.Event.ForgeNetAps to from source key sequence counter label base aps_counter command) its r = tt
+    by_event
+        (Rattle.zb_model.specs.Play.Event.ForgeNetAps to from source key sequence counter label base aps_counter
+        command) its r = tt
     by_event (Rattle.zb_model.specs.Play.Event.ForgeOpen to from source label base aps_counter command) its r = tt
 
-pub stands_more : (tools : Tools) → Opens tools → OpensAsJudged tools → (w : Schedule) → IsSchedule w → (before : List (List Line)) (disks : List Disk) (number : ℕ) (event : Event) → NamesNode w event → OfNode (IsReady w (flat before)) event
+pub stands_more : (tools : Tools) → Opens tools → OpensAsJudged tools → (w : Schedule) → IsSchedule w
+    → (before : List (List Line)) (disks : List Disk) (number : ℕ) (event : Event) → NamesNode w event
+    → OfNode (IsReady w (flat before)) event
     → Stands tools w before → Stands tools w (before ++ (step tools w (flat before) disks number event).lines ∷ [])
 stands_more tools opens judged w i before disks number event named ready s =
     let h = flat before in
@@ -89,28 +100,40 @@ stands_more tools opens judged w i before disks number event named ready s =
     let all = before ++ ls ∷ [] in
     let same : h ++ ls ≡ flat all = sym (flat_snoc before ls) in
     let fits = ready_fits tools judged w before s event named ready in
-    let counted : IsCounted w h (step tools w h [] number event).lines = subst (λ g. IsCounted w h g.lines) (step-is tools w h [] number event) (event-counted tools opens w h number event s.grounded.bridged) in
-    let own = own_evens tools w before disks number event counted (to_node (λ n. RecallsAt before [] n) w s.said event named) fits (to_node (EvensAt h) w s.evens event named) in
+    let counted : IsCounted w h (step tools w h [] number event).lines =
+    subst (λ g. IsCounted w h g.lines) (step-is tools w h [] number event)
+    (event-counted tools opens w h number event s.grounded.bridged) in
+    let own = own_evens tools w before disks number event counted
+    (to_node (λ n. RecallsAt before [] n) w s.said event named) fits (to_node (EvensAt h) w s.evens event named) in
     record {
       said = λ n its. step_recalls tools w i before disks number event named s.inv fits n (s.said n its);
       evens = λ n its. subst (λ x. EvensAt x n) same (by_node n its (is_of n event) refl own);
       grounded = subst Grounded same (event-grounded tools w h disks number event s.grounded);
-      inv = subst (Inv tools) same (inv-lines tools h ls (step-fits tools w i h disks number event named s.inv.commanded) s.inv);
+      inv = subst (Inv tools) same
+          (inv-lines tools h ls (step-fits tools w i h disks number event named s.inv.commanded) s.inv);
     }
   where
-    by_node : (n : ℕ) → Names w n → (b : Bool) → is_of n event ≡ b → OfNode (EvensAt (flat before ++ (step tools w (flat before) disks number event).lines)) event → EvensAt (flat before ++ (step tools w (flat before) disks number event).lines) n
-    by_node n its true is own = of_node (EvensAt (flat before ++ (step tools w (flat before) disks number event).lines)) event n is own
+    by_node : (n : ℕ) → Names w n → (b : Bool) → is_of n event ≡ b
+        → OfNode (EvensAt (flat before ++ (step tools w (flat before) disks number event).lines)) event
+        → EvensAt (flat before ++ (step tools w (flat before) disks number event).lines) n
+    by_node n its true is own =
+        of_node (EvensAt (flat before ++ (step tools w (flat before) disks number event).lines)) event n is own
     by_node n its false is own = other_evens tools w (flat before) disks number event n is (s.evens n its)
 
 -- ---- the start
 
-found_as : {C : Type 0} (n : ℕ) (ms : List Node) → is_some (find (λ (p : Station). nat_eq p.eui n) (map (λ (m : Node). m.station) ms)) ≡ true → ((m : Node) → find (has_eui n) ms ≡ Some m → has_eui n m ≡ true → C) → C
+found_as : {C : Type 0} (n : ℕ) (ms : List Node)
+    → is_some (find (λ (p : Station). nat_eq p.eui n) (map (λ (m : Node). m.station) ms)) ≡ true
+    → ((m : Node) → find (has_eui n) ms ≡ Some m → has_eui n m ≡ true → C) → C
 found_as n [] named k = absurd (false≢true named)
 found_as {C} n (m ∷ ms) named k = by_test (has_eui n m) refl named k (λ more j. found_as n ms more j)
   where
-    by_test : (b : Bool) → has_eui n m ≡ b → is_some (cond b (Some m.station) (find (λ (p : Station). nat_eq p.eui n) (map (λ (x : Node). x.station) ms))) ≡ true
+    by_test : (b : Bool) → has_eui n m ≡ b
+        → is_some
+        (cond b (Some m.station) (find (λ (p : Station). nat_eq p.eui n) (map (λ (x : Node). x.station) ms))) ≡ true
         → ((x : Node) → cond b (Some m) (find (has_eui n) ms) ≡ Some x → has_eui n x ≡ true → C)
-        → (is_some (find (λ (p : Station). nat_eq p.eui n) (map (λ (x : Node). x.station) ms)) ≡ true → ((x : Node) → find (has_eui n) ms ≡ Some x → has_eui n x ≡ true → C) → C) → C
+        → (is_some (find (λ (p : Station). nat_eq p.eui n) (map (λ (x : Node). x.station) ms)) ≡ true
+        → ((x : Node) → find (has_eui n) ms ≡ Some x → has_eui n x ≡ true → C) → C) → C
     by_test true is named k more = k m refl is
     by_test false is named k more = more named k
 
@@ -145,12 +168,14 @@ none_said : {A : Type 0} (n : ℕ) (f : Line → Option A) → last_said n f [] 
 unfolding last_said
 none_said n f = refl
 
-plainly : (before : List (List Line)) (n : ℕ) → RecallsAt before [] n → Recalls (said_at before n) (state_of (flat before) n)
+plainly : (before : List (List Line)) (n : ℕ) → RecallsAt before [] n
+    → Recalls (said_at before n) (state_of (flat before) n)
 plainly before n is =
     let same = append-nil' (flat before) in
     subst (Recalls (said_at before n)) (ap (λ x. state_of x n) same)
     (alike_recalls (said_of before [] n) (said_at before n) (state_of (flat before ++ []) n) (record {
-      lim = λ key. ap (λ o. option_or o (limit_from n key [] before)) (none_said n (Rattle.law_run_readings.specs.LastLines.limit_in key (was_active before n key)));
+      lim = λ key. ap (λ o. option_or o (limit_from n key [] before))
+          (none_said n (Rattle.law_run_readings.specs.LastLines.limit_in key (was_active before n key)));
       sealed = λ key. ap (sealed_since n Nwk key) same;
       aps = ap (sealed_since n Aps []) same;
       given = ap (last_said n given_in) same;
@@ -161,11 +186,14 @@ plainly before n is =
     }) is)
 
 -- the row of the active key, which has started
-row_says : (s : NodeState) (key : Bytes) (lim sealed : Option ℕ) (d : ℕ) → RowIs lim sealed d (row_at key s.nets) → started key s.nets ≡ true → (sealed ≡ None → Even key s)
-    → (is_on : Bool) → (limit_of s.declared (row_at key s.nets) ≡ unwrap_or lim d) × (next_of s.declared (row_at key s.nets) ≡ unwrap_or sealed (unwrap_or lim d))
+row_says : (s : NodeState) (key : Bytes) (lim sealed : Option ℕ) (d : ℕ) → RowIs lim sealed d (row_at key s.nets)
+    → started key s.nets ≡ true → (sealed ≡ None → Even key s)
+    → (is_on : Bool) → (limit_of s.declared (row_at key s.nets) ≡ unwrap_or lim d)
+    × (next_of s.declared (row_at key s.nets) ≡ unwrap_or sealed (unwrap_or lim d))
 row_says s key lim sealed d is on even is_on = by_row (row_at key s.nets) refl is on
   where
-    by_row : (o : Option NetKey) → row_at key s.nets ≡ o → RowIs lim sealed d o → row_is_started o ≡ true → (limit_of s.declared o ≡ unwrap_or lim d) × (next_of s.declared o ≡ unwrap_or sealed (unwrap_or lim d))
+    by_row : (o : Option NetKey) → row_at key s.nets ≡ o → RowIs lim sealed d o → row_is_started o ≡ true
+        → (limit_of s.declared o ≡ unwrap_or lim d) × (next_of s.declared o ≡ unwrap_or sealed (unwrap_or lim d))
     by_row None e is on = absurd (false≢true on)
     by_row (Some r) e is on = (is.limit on, by_sealed sealed refl)
       where
@@ -173,14 +201,17 @@ row_says s key lim sealed d is on even is_on = by_row (row_at key s.nets) refl i
         by_sealed None f = subst (IfRow EvenRow) e (even f) ∙ is.limit on
         by_sealed (Some v) f = is.next v f
 
-limit_says : (s : NodeState) (key : Bytes) (lim sealed : Option ℕ) (d : ℕ) → RowIs lim sealed d (row_at key s.nets) → started key s.nets ≡ true → limit_of s.declared (row_at key s.nets) ≡ unwrap_or lim d
+limit_says : (s : NodeState) (key : Bytes) (lim sealed : Option ℕ) (d : ℕ) → RowIs lim sealed d (row_at key s.nets)
+    → started key s.nets ≡ true → limit_of s.declared (row_at key s.nets) ≡ unwrap_or lim d
 limit_says s key lim sealed d is on = by_row (row_at key s.nets) is on
   where
-    by_row : (o : Option NetKey) → RowIs lim sealed d o → row_is_started o ≡ true → limit_of s.declared o ≡ unwrap_or lim d
+    by_row : (o : Option NetKey) → RowIs lim sealed d o → row_is_started o ≡ true → limit_of s.declared o
+        ≡ unwrap_or lim d
     by_row None is on = absurd (false≢true on)
     by_row (Some r) is on = is.limit on
 
-nwk_limit : (before : List (List Line)) (n : ℕ) → Recalls (said_at before n) (state_of (flat before) n) → ActiveStarted (state_of (flat before) n) → active (flat before) n ≡ (state_of (flat before) n).active
+nwk_limit : (before : List (List Line)) (n : ℕ) → Recalls (said_at before n) (state_of (flat before) n)
+    → ActiveStarted (state_of (flat before) n) → active (flat before) n ≡ (state_of (flat before) n).active
     → limit before n Nwk ≡ stored_limit Nwk (state_of (flat before) n)
 unfolding limit stored_limit active_row declared
 nwk_limit before n is on same = ap (limit_of_key before n) same ∙ by_active s.active refl
@@ -191,55 +222,74 @@ nwk_limit before n is on same = ap (limit_of_key before n) same ∙ by_active s.
     by_active : (o : Option Bytes) → s.active ≡ o → limit_of_key before n o ≡ limit_of s.declared (net_of_active o s)
     by_active None e = sym is.declared
     by_active (Some key) e =
-        ap (unwrap_or (limit_from n key [] before)) (sym is.declared) ∙ sym (limit_says s key (limit_from n key [] before) (sealed_since n Nwk key (flat before)) s.declared (is.rows key) (on key e))
+        ap (unwrap_or (limit_from n key [] before)) (sym is.declared) ∙ sym
+        (limit_says s key (limit_from n key [] before) (sealed_since n Nwk key (flat before)) s.declared
+        (is.rows key) (on key e))
 
-nwk_next : (before : List (List Line)) (n : ℕ) → Recalls (said_at before n) (state_of (flat before) n) → ActiveStarted (state_of (flat before) n) → active (flat before) n ≡ (state_of (flat before) n).active → Evens (flat before) n
-    → limit before n Nwk ≡ stored_limit Nwk (state_of (flat before) n) → next before n Nwk ≡ next_counter Nwk (state_of (flat before) n)
+nwk_next : (before : List (List Line)) (n : ℕ) → Recalls (said_at before n) (state_of (flat before) n)
+    → ActiveStarted (state_of (flat before) n) → active (flat before) n ≡ (state_of (flat before) n).active
+    → Evens (flat before) n
+    → limit before n Nwk ≡ stored_limit Nwk (state_of (flat before) n) → next before n Nwk
+    ≡ next_counter Nwk (state_of (flat before) n)
 unfolding next next_counter stored_limit active_row
-nwk_next before n is on same evens limits = ap (λ o. unwrap_or (sealed_of_key before n o) (limit before n Nwk)) same ∙ ap (unwrap_or (sealed_of_key before n s.active)) limits ∙ by_active s.active refl
+nwk_next before n is on same evens limits = ap (λ o. unwrap_or (sealed_of_key before n o) (limit before n Nwk)) same ∙
+    ap (unwrap_or (sealed_of_key before n s.active)) limits ∙ by_active s.active refl
   where
     s : NodeState
     s = state_of (flat before) n
 
-    by_active : (o : Option Bytes) → s.active ≡ o → unwrap_or (sealed_of_key before n o) (limit_of s.declared (net_of_active o s)) ≡ next_of s.declared (net_of_active o s)
+    by_active : (o : Option Bytes) → s.active ≡ o
+        → unwrap_or (sealed_of_key before n o) (limit_of s.declared (net_of_active o s))
+        ≡ next_of s.declared (net_of_active o s)
     by_active None e = refl
     by_active (Some key) e =
-        let both = row_says s key (limit_from n key [] before) (sealed_since n Nwk key (flat before)) s.declared (is.rows key) (on key e) (evens.nwk key) true in
+        let both = row_says s key (limit_from n key [] before) (sealed_since n Nwk key (flat before)) s.declared
+        (is.rows key) (on key e) (evens.nwk key) true in
         ap (unwrap_or (sealed_since n Nwk key (flat before))) both.0 ∙ sym both.1
 
-aps_next : (sealed : Option ℕ) (s : NodeState) → ((v : ℕ) → sealed ≡ Some v → s.aps_next ≡ v) → (sealed ≡ None → EvenAps s) → unwrap_or sealed s.aps_limit ≡ s.aps_next
+aps_next : (sealed : Option ℕ) (s : NodeState) → ((v : ℕ) → sealed ≡ Some v → s.aps_next ≡ v)
+    → (sealed ≡ None → EvenAps s) → unwrap_or sealed s.aps_limit ≡ s.aps_next
 aps_next sealed s some none = by_sealed sealed refl
   where
     by_sealed : (o : Option ℕ) → sealed ≡ o → unwrap_or o s.aps_limit ≡ s.aps_next
     by_sealed None e = sym (none e)
     by_sealed (Some v) e = sym (some v e)
 
-aps_limit_is : (before : List (List Line)) (n : ℕ) → Recalls (said_at before n) (state_of (flat before) n) → limit before n Aps ≡ (state_of (flat before) n).aps_limit
+aps_limit_is : (before : List (List Line)) (n : ℕ) → Recalls (said_at before n) (state_of (flat before) n)
+    → limit before n Aps ≡ (state_of (flat before) n).aps_limit
 unfolding limit declared
 aps_limit_is before n is = sym is.aps_limit
 
-aps_next_is : (before : List (List Line)) (n : ℕ) → Recalls (said_at before n) (state_of (flat before) n) → Evens (flat before) n → next before n Aps ≡ (state_of (flat before) n).aps_next
+aps_next_is : (before : List (List Line)) (n : ℕ) → Recalls (said_at before n) (state_of (flat before) n)
+    → Evens (flat before) n → next before n Aps ≡ (state_of (flat before) n).aps_next
 unfolding next
-aps_next_is before n is evens = ap (unwrap_or (sealed_since n Aps [] (flat before))) (aps_limit_is before n is) ∙ aps_next (sealed_since n Aps [] (flat before)) (state_of (flat before) n) is.aps_next evens.aps
+aps_next_is before n is evens = ap (unwrap_or (sealed_since n Aps [] (flat before))) (aps_limit_is before n is) ∙
+    aps_next (sealed_since n Aps [] (flat before)) (state_of (flat before) n) is.aps_next evens.aps
 
-limits_are : (before : List (List Line)) (n : ℕ) → Recalls (said_at before n) (state_of (flat before) n) → ActiveStarted (state_of (flat before) n) → active (flat before) n ≡ (state_of (flat before) n).active
+limits_are : (before : List (List Line)) (n : ℕ) → Recalls (said_at before n) (state_of (flat before) n)
+    → ActiveStarted (state_of (flat before) n) → active (flat before) n ≡ (state_of (flat before) n).active
     → (layer : Layer) → limit before n layer ≡ stored_limit layer (state_of (flat before) n)
 unfolding stored_limit
 limits_are before n is on same Nwk = nwk_limit before n is on same
 limits_are before n is on same Aps = aps_limit_is before n is
 
-nexts_are : (before : List (List Line)) (n : ℕ) → Recalls (said_at before n) (state_of (flat before) n) → ActiveStarted (state_of (flat before) n) → active (flat before) n ≡ (state_of (flat before) n).active → Evens (flat before) n
+nexts_are : (before : List (List Line)) (n : ℕ) → Recalls (said_at before n) (state_of (flat before) n)
+    → ActiveStarted (state_of (flat before) n) → active (flat before) n ≡ (state_of (flat before) n).active
+    → Evens (flat before) n
     → (layer : Layer) → next before n layer ≡ next_counter layer (state_of (flat before) n)
 unfolding next_counter
 nexts_are before n is on same evens Nwk = nwk_next before n is on same evens (nwk_limit before n is on same)
 nexts_are before n is on same evens Aps = aps_next_is before n is evens
 
-floors_are : (before : List (List Line)) (n : ℕ) → Recalls (said_at before n) (state_of (flat before) n) → (layer : Layer) (key : Bytes) (sender : ℕ) → stored (flat before) n layer key sender ≡ floor_at layer key sender (state_of (flat before) n)
+floors_are : (before : List (List Line)) (n : ℕ) → Recalls (said_at before n) (state_of (flat before) n)
+    → (layer : Layer) (key : Bytes) (sender : ℕ) → stored (flat before) n layer key sender
+    ≡ floor_at layer key sender (state_of (flat before) n)
 unfolding stored
 floors_are before n is Nwk key sender = sym (is.net_floors key sender)
 floors_are before n is Aps key sender = sym (is.link_floors key sender)
 
-pub stands_agree : (tools : Tools) (w : Schedule) (before : List (List Line)) → Stands tools w before → (n : ℕ) → Names w n → Agrees before n
+pub stands_agree : (tools : Tools) (w : Schedule) (before : List (List Line)) → Stands tools w before → (n : ℕ)
+    → Names w n → Agrees before n
 stands_agree tools w before s n named =
     let is = plainly before n (s.said n named) in
     let same = active_said before n (s.said n named) in
@@ -253,25 +303,36 @@ stands_agree tools w before s n named =
 
 -- ---- along the run
 
-agree_from : (tools : Tools) → Opens tools → OpensAsJudged tools → (w : Schedule) → IsSchedule w → (before : List (List Line)) (disks : List Disk) (number : ℕ) (events : List Event) → AllByRecursion (NamesNode w) events
-    → BeforeEach (λ h event. OfNode (λ n. IsRuled (state_of h n) (setting_of w n) n) event) tools w (flat before) disks number events
-    → BeforeEach (λ h event. OfNode (λ n. IsAsDeclared (state_of h n) (setting_of w n) n) event) tools w (flat before) disks number events
+agree_from : (tools : Tools) → Opens tools → OpensAsJudged tools → (w : Schedule) → IsSchedule w
+    → (before : List (List Line)) (disks : List Disk) (number : ℕ) (events : List Event)
+    → AllByRecursion (NamesNode w) events
+    → BeforeEach (λ h event. OfNode (λ n. IsRuled (state_of h n) (setting_of w n) n) event) tools w (flat before)
+    disks number events
+    → BeforeEach (λ h event. OfNode (λ n. IsAsDeclared (state_of h n) (setting_of w n) n) event) tools w (flat before)
+    disks number events
     → Stands tools w before → AgreeFrom tools w before disks number events
-agree_from tools opens judged w i before disks number [] named ruled declared s = λ n its. stands_agree tools w before s n its
+agree_from tools opens judged w i before disks number [] named ruled declared s =
+    λ n its. stands_agree tools w before s n its
 agree_from tools opens judged w i before disks number (event ∷ events) named ruled declared s =
     let g = step tools w (flat before) disks number event in
     let same : flat before ++ g.lines ≡ flat (before ++ g.lines ∷ []) = sym (flat_snoc before g.lines) in (
       λ n its. stands_agree tools w before s n its,
       agree_from tools opens judged w i (before ++ g.lines ∷ []) g.disks (number + 1) events named.1
-          (subst (λ h. BeforeEach (λ h event. OfNode (λ n. IsRuled (state_of h n) (setting_of w n) n) event) tools w h g.disks (number + 1) events) same ruled.1)
-          (subst (λ h. BeforeEach (λ h event. OfNode (λ n. IsAsDeclared (state_of h n) (setting_of w n) n) event) tools w h g.disks (number + 1) events) same declared.1)
-          (stands_more tools opens judged w i before disks number event named.0 (ready_node w (flat before) event ruled.0 declared.0) s),
+          (subst (λ h. BeforeEach (λ h event. OfNode (λ n. IsRuled (state_of h n) (setting_of w n) n) event) tools w h
+          g.disks (number + 1) events) same ruled.1)
+          (subst (λ h. BeforeEach (λ h event. OfNode (λ n. IsAsDeclared (state_of h n) (setting_of w n) n) event)
+          tools w h g.disks (number + 1) events) same declared.1)
+          (stands_more tools opens judged w i before disks number event named.0
+          (ready_node w (flat before) event ruled.0 declared.0) s),
     )
 
-pub run_agrees : (tools : Tools) → Opens tools → OpensAsJudged tools → (w : Schedule) → IsSchedule w → euis_differ w ≡ true → Rattle.law_run_readings.specs.Agreeing.RunAgrees tools w
+pub run_agrees : (tools : Tools) → Opens tools → OpensAsJudged tools → (w : Schedule) → IsSchedule w → euis_differ w
+    ≡ true → Rattle.law_run_readings.specs.Agreeing.RunAgrees tools w
 run_agrees tools opens judged w i differ =
     let same : start w ≡ flat (start w ∷ []) = sym (append-nil' (start w)) in
     agree_from tools opens judged w i (start w ∷ []) [] 1 w.events i.events
-    (subst (λ h. BeforeEach (λ h event. OfNode (λ n. IsRuled (state_of h n) (setting_of w n) n) event) tools w h [] 1 w.events) same (ruled_along tools judged w i differ))
-    (subst (λ h. BeforeEach (λ h event. OfNode (λ n. IsAsDeclared (state_of h n) (setting_of w n) n) event) tools w h [] 1 w.events) same (declared_along tools w i differ))
+    (subst (λ h. BeforeEach (λ h event. OfNode (λ n. IsRuled (state_of h n) (setting_of w n) n) event) tools w h [] 1
+    w.events) same (ruled_along tools judged w i differ))
+    (subst (λ h. BeforeEach (λ h event. OfNode (λ n. IsAsDeclared (state_of h n) (setting_of w n) n) event) tools w h
+    [] 1 w.events) same (declared_along tools w i differ))
     (start_stands tools w differ)

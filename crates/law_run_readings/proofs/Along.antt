@@ -32,7 +32,8 @@ power_snoc : (h : List Line) (l : Line) (n : ℕ) → is_up (h ++ l ∷ []) n �
 unfolding is_up
 power_snoc h l n = fold-append (power_line n) true h (l ∷ [])
 
-refused_up : (h : List Line) (number n m : ℕ) (place : Place) (reason : Reason) → is_up (h ++ Refuse number n place reason ∷ []) m ≡ is_up h m
+refused_up : (h : List Line) (number n m : ℕ) (place : Place) (reason : Reason)
+    → is_up (h ++ Refuse number n place reason ∷ []) m ≡ is_up h m
 unfolding speaker
 refused_up h number n m place reason = power_snoc h (Refuse number n place reason) m ∙ by_test (nat_eq n m)
   where
@@ -40,17 +41,22 @@ refused_up h number n m place reason = power_snoc h (Refuse number n place reaso
     by_test true = refl
     by_test false = refl
 
-fallen_down : (h : List Line) (armed : Armed) (calls : Calls) (number n : ℕ) → falls armed calls ≡ true → is_up (h ++ fallen_line armed number n) n ≡ false
+fallen_down : (h : List Line) (armed : Armed) (calls : Calls) (number n : ℕ) → falls armed calls ≡ true
+    → is_up (h ++ fallen_line armed number n) n ≡ false
 unfolding speaker
 fallen_down h NotArmed calls number n e = absurd (false≢true e)
-fallen_down h (StopAfter k torn) calls number n e = power_snoc h (Stopped number n) n ∙ ap (λ b. cond b false (is_up h n)) (nat_eq-refl n)
-fallen_down h (FailAt k) calls number n e = power_snoc h (DownDisk number n) n ∙ ap (λ b. cond b false (is_up h n)) (nat_eq-refl n)
+fallen_down h (StopAfter k torn) calls number n e =
+    power_snoc h (Stopped number n) n ∙ ap (λ b. cond b false (is_up h n)) (nat_eq-refl n)
+fallen_down h (FailAt k) calls number n e = power_snoc h (DownDisk number n) n ∙ ap (λ b. cond b false (is_up h n))
+    (nat_eq-refl n)
 
-cut_down : (h : List Line) (armed : Armed) (calls : Calls) (number n : ℕ) (a : Answer) → falls armed calls ≡ true → is_up (h ++ cut_of armed calls number n a) n ≡ false
+cut_down : (h : List Line) (armed : Armed) (calls : Calls) (number n : ℕ) (a : Answer) → falls armed calls ≡ true
+    → is_up (h ++ cut_of armed calls number n a) n ≡ false
 unfolding cut_of
 cut_down h armed calls number n a e =
     let some = cond (stands armed calls) (stored_lines number n a) [] in
-    ap (λ x. is_up x n) (sym (append_assoc h some (fallen_line armed number n))) ∙ fallen_down (h ++ some) armed calls number n e
+    ap (λ x. is_up x n) (sym (append_assoc h some (fallen_line armed number n))) ∙ fallen_down (h ++ some) armed calls
+    number n e
 
 -- ---- what holds of a node with power
 
@@ -63,7 +69,9 @@ abbrev pub EvensAt : List Line → ℕ → Type 0
 EvensAt h n = is_up h n ≡ true → Evens h n
 
 -- lines that change nothing of it
-same_evens : (h k : List Line) (n : ℕ) → state_of k n ≡ state_of h n → ((layer : Layer) (key : Bytes) → sealed_since n layer key k ≡ sealed_since n layer key h) → is_up k n ≡ is_up h n → EvensAt h n → EvensAt k n
+same_evens : (h k : List Line) (n : ℕ) → state_of k n ≡ state_of h n
+    → ((layer : Layer) (key : Bytes) → sealed_since n layer key k ≡ sealed_since n layer key h) → is_up k n
+    ≡ is_up h n → EvensAt h n → EvensAt k n
 same_evens h k n state sealed up e on =
     let was = e (sym up ∙ on) in
     record {
@@ -71,11 +79,14 @@ same_evens h k n state sealed up e on =
       aps = λ none. subst EvenAps (sym state) (was.aps (sym (sealed Aps []) ∙ none));
     }
 
-refused_evens : (h : List Line) (number n m : ℕ) (place : Place) (reason : Reason) → EvensAt h m → EvensAt (h ++ Refuse number n place reason ∷ []) m
+refused_evens : (h : List Line) (number n m : ℕ) (place : Place) (reason : Reason) → EvensAt h m
+    → EvensAt (h ++ Refuse number n place reason ∷ []) m
 unfolding Rattle.zb_model.specs.Readings.heard_line speaker Rattle.zb_model.specs.Readings.after
 refused_evens h number n m place reason e =
-    same_evens h (h ++ Refuse number n place reason ∷ []) m (state-snoc h (Refuse number n place reason) m ∙ by_state (nat_eq n m))
-    (λ layer key. sealed_snoc m layer key h (Refuse number n place reason) ∙ by_sealed (nat_eq n m) (sealed_since m layer key h)) (refused_up h number n m place reason) e
+    same_evens h (h ++ Refuse number n place reason ∷ []) m
+    (state-snoc h (Refuse number n place reason) m ∙ by_state (nat_eq n m))
+    (λ layer key. sealed_snoc m layer key h (Refuse number n place reason) ∙ by_sealed (nat_eq n m)
+    (sealed_since m layer key h)) (refused_up h number n m place reason) e
   where
     by_state : (b : Bool) → cond b (state_of h m) (state_of h m) ≡ state_of h m
     by_state true = refl
@@ -89,7 +100,8 @@ dump_evens : (h : List Line) (number n m : ℕ) (bytes : Bytes) → EvensAt h m 
 unfolding Rattle.zb_model.specs.Readings.heard_line speaker Rattle.zb_model.specs.Readings.after
 dump_evens h number n m bytes e =
     same_evens h (h ++ Dump number n bytes ∷ []) m (state-snoc h (Dump number n bytes) m ∙ by_state (nat_eq n m))
-    (λ layer key. sealed_snoc m layer key h (Dump number n bytes) ∙ by_sealed (nat_eq n m) (sealed_since m layer key h)) (power_snoc h (Dump number n bytes) m ∙ by_up (nat_eq n m)) e
+    (λ layer key. sealed_snoc m layer key h (Dump number n bytes) ∙ by_sealed (nat_eq n m)
+    (sealed_since m layer key h)) (power_snoc h (Dump number n bytes) m ∙ by_up (nat_eq n m)) e
   where
     by_state : (b : Bool) → cond b (state_of h m) (state_of h m) ≡ state_of h m
     by_state true = refl
@@ -109,8 +121,13 @@ nothing_evens h m e = subst (λ x. EvensAt x m) (sym (append-nil' h)) e
 boot_evens : (h : List Line) (number n : ℕ) → EvensAt (h ++ Boot number n ∷ []) n
 unfolding Rattle.zb_model.specs.Readings.heard_line speaker Rattle.zb_model.specs.Readings.after
 boot_evens h number n on =
-    let state_is = state-snoc h (Boot number n) n ∙ ap (λ b. cond b (Rattle.zb_model.specs.State.after_boot (state_of h n)) (state_of h n)) (nat_eq-refl n) in
-    record { nwk = λ key none. subst (Even key) (sym state_is) (boot_even key (state_of h n)); aps = λ none. subst EvenAps (sym state_is) (boot_aps (state_of h n)) }
+    let state_is =
+    state-snoc h (Boot number n) n ∙ ap
+    (λ b. cond b (Rattle.zb_model.specs.State.after_boot (state_of h n)) (state_of h n)) (nat_eq-refl n) in
+    record {
+      nwk = λ key none. subst (Even key) (sym state_is) (boot_even key (state_of h n));
+      aps = λ none. subst EvenAps (sym state_is) (boot_aps (state_of h n));
+    }
 
 down_evens : (h : List Line) (n : ℕ) → is_up h n ≡ false → EvensAt h n
 down_evens h n off on = absurd (false≢true (sym off ∙ on))
@@ -133,11 +150,13 @@ unboot_seals : (number n : ℕ) (ts : List Term) → AllByRecursion NoBoot (map 
 unboot_seals number n [] = tt
 unboot_seals number n (t ∷ ts) = (tt, unboot_seals number n ts)
 
-unboot_refuse : (number n : ℕ) (place : Place) (o : Option Reason) → AllByRecursion NoBoot (refuse_lines number n place o)
+unboot_refuse : (number n : ℕ) (place : Place) (o : Option Reason)
+    → AllByRecursion NoBoot (refuse_lines number n place o)
 unboot_refuse number n place None = tt
 unboot_refuse number n place (Some r) = (tt, tt)
 
-unboot_send : (number : ℕ) (n : Option ℕ) (frame : ℕ) (o : Option Bytes) → AllByRecursion NoBoot (send_lines number n frame o)
+unboot_send : (number : ℕ) (n : Option ℕ) (frame : ℕ) (o : Option Bytes)
+    → AllByRecursion NoBoot (send_lines number n frame o)
 unboot_send number n frame None = tt
 unboot_send number n frame (Some b) = (tt, tt)
 
@@ -145,10 +164,12 @@ unboot_group : (h0 : List Line) (number n : ℕ) (a : Answer) → AllByRecursion
 unfolding group_of stored_lines told_lines
 unboot_group h0 number n a =
     all-append NoBoot (map (Changed number n) a.edits ++ commit_lines number n a.edits) _
-    (all-append NoBoot (map (Changed number n) a.edits) (commit_lines number n a.edits) (unboot_changes number n a.edits) (unboot_commit number n a.edits))
+    (all-append NoBoot (map (Changed number n) a.edits) (commit_lines number n a.edits)
+    (unboot_changes number n a.edits) (unboot_commit number n a.edits))
     (all-append NoBoot (map (Accept number n) a.accepts) _ (unboot_accepts number n a.accepts)
     (all-append NoBoot (refuse_lines number n a.place a.refusal) _ (unboot_refuse number n a.place a.refusal)
-    (all-append NoBoot (map (Seal number n) a.seals) _ (unboot_seals number n a.seals) (unboot_send number (Some n) (length (air h0) + 1) a.frame))))
+    (all-append NoBoot (map (Seal number n) a.seals) _ (unboot_seals number n a.seals)
+    (unboot_send number (Some n) (length (air h0) + 1) a.frame))))
 
 of_commit : (number n : ℕ) (es : List Edit) → AllByRecursion (SealsOf n) (commit_lines number n es)
 of_commit number n [] = tt
@@ -166,11 +187,13 @@ of_seals : (number n : ℕ) (ts : List Term) → AllByRecursion (SealsOf n) (map
 of_seals number n [] = tt
 of_seals number n (t ∷ ts) = (refl, of_seals number n ts)
 
-of_refuse : (number n : ℕ) (place : Place) (o : Option Reason) → AllByRecursion (SealsOf n) (refuse_lines number n place o)
+of_refuse : (number n : ℕ) (place : Place) (o : Option Reason)
+    → AllByRecursion (SealsOf n) (refuse_lines number n place o)
 of_refuse number n place None = tt
 of_refuse number n place (Some r) = (tt, tt)
 
-of_send : (number n : ℕ) (m : Option ℕ) (frame : ℕ) (o : Option Bytes) → AllByRecursion (SealsOf n) (send_lines number m frame o)
+of_send : (number n : ℕ) (m : Option ℕ) (frame : ℕ) (o : Option Bytes)
+    → AllByRecursion (SealsOf n) (send_lines number m frame o)
 of_send number n m frame None = tt
 of_send number n m frame (Some b) = (tt, tt)
 
@@ -178,48 +201,66 @@ of_group : (h0 : List Line) (number n : ℕ) (a : Answer) → AllByRecursion (Se
 unfolding group_of stored_lines told_lines
 of_group h0 number n a =
     all-append (SealsOf n) (map (Changed number n) a.edits ++ commit_lines number n a.edits) _
-    (all-append (SealsOf n) (map (Changed number n) a.edits) (commit_lines number n a.edits) (of_changes number n a.edits) (of_commit number n a.edits))
+    (all-append (SealsOf n) (map (Changed number n) a.edits) (commit_lines number n a.edits)
+    (of_changes number n a.edits) (of_commit number n a.edits))
     (all-append (SealsOf n) (map (Accept number n) a.accepts) _ (of_accepts number n a.accepts)
     (all-append (SealsOf n) (refuse_lines number n a.place a.refusal) _ (of_refuse number n a.place a.refusal)
-    (all-append (SealsOf n) (map (Seal number n) a.seals) _ (of_seals number n a.seals) (of_send number n (Some n) (length (air h0) + 1) a.frame))))
+    (all-append (SealsOf n) (map (Seal number n) a.seals) _ (of_seals number n a.seals)
+    (of_send number n (Some n) (length (air h0) + 1) a.frame))))
 
 some_key : (o : Option Bytes) (key : Bytes) → is_active_key o key ≡ true → o ≡ Some key
 some_key None key e = absurd (false≢true e)
 some_key (Some a) key e = ap Some (Rattle.law_run.proofs.Basics.same_key-eq a key e)
 
-group_evens : (w : Schedule) (before : List (List Line)) (n : ℕ) (g : List Line) → RecallsAt before [] n → FitsChanges before n [] g → IsCounted w (flat before) g → AllByRecursion NoBoot g → AllByRecursion (SealsOf n) g
+group_evens : (w : Schedule) (before : List (List Line)) (n : ℕ) (g : List Line) → RecallsAt before [] n
+    → FitsChanges before n [] g → IsCounted w (flat before) g → AllByRecursion NoBoot g → AllByRecursion (SealsOf n) g
     → Evens (flat before) n → Evens (flat before ++ g) n
 group_evens w before n g said fits counted free own was = record {
   nwk = λ key none.
       let p = none_sealed n Nwk key (flat before) g free none in
       evens_more before n key [] g fits
-      (λ active. nwk_unreserved w (flat before) n key g counted (sym (active_said before n said) ∙ some_key (Rattle.law_run_readings.specs.LastLines.active (flat before) n) key active) own p.1)
+      (λ active. nwk_unreserved w (flat before) n key g counted
+      (sym (active_said before n said) ∙ some_key (Rattle.law_run_readings.specs.LastLines.active (flat before) n)
+      key active) own p.1)
       p.1 (subst (λ x. Even key (state_of x n)) (sym (append-nil' (flat before))) (was.nwk key p.0));
   aps = λ none.
       let p = none_sealed n Aps [] (flat before) g free none in
-      aps_more before n [] g fits (aps_unreserved w (flat before) n g counted own p.1) p.1 (subst (λ x. EvenAps (state_of x n)) (sym (append-nil' (flat before))) (was.aps p.0));
+      aps_more before n [] g fits (aps_unreserved w (flat before) n g counted own p.1) p.1
+      (subst (λ x. EvenAps (state_of x n)) (sym (append-nil' (flat before))) (was.aps p.0));
 }
 
 -- ---- the event's own node
 
-either_evens : (h : List Line) (n : ℕ) (b : Bool) (x y : Step) → (b ≡ true → EvensAt (h ++ x.lines) n) → (b ≡ false → EvensAt (h ++ y.lines) n) → EvensAt (h ++ (cond b x y).lines) n
+either_evens : (h : List Line) (n : ℕ) (b : Bool) (x y : Step) → (b ≡ true → EvensAt (h ++ x.lines) n)
+    → (b ≡ false → EvensAt (h ++ y.lines) n) → EvensAt (h ++ (cond b x y).lines) n
 either_evens h n true x y p q = p refl
 either_evens h n false x y p q = q refl
 
-counted_group : (tools : Tools) (w : Schedule) (h : List Line) (number n : ℕ) (task : Task) → is_up h n ≡ true → IsCounted w h (task_step tools counting_of w h [] number n task).lines → IsCounted w h (group_of h number n (answer_to tools w h n task))
+counted_group : (tools : Tools) (w : Schedule) (h : List Line) (number n : ℕ) (task : Task) → is_up h n ≡ true
+    → IsCounted w h (task_step tools counting_of w h [] number n task).lines
+    → IsCounted w h (group_of h number n (answer_to tools w h n task))
 unfolding task_step disk_of
 counted_group tools w h number n task up counted =
-    subst (λ b. IsCounted w h (cond b (record { lines = group_of h number n (answer_to tools w h n task); disks = [] }) (refused_step [] number n Down)).lines) up counted
+    subst (λ b. IsCounted w h
+    (cond b (record { lines = group_of h number n (answer_to tools w h n task); disks = [] })
+    (refused_step [] number n Down)).lines) up counted
 
-stepped : (tools : Tools) (w : Schedule) (h : List Line) (ds : List Disk) (number n : ℕ) (task : Task) → (is_up h n ≡ true → EvensAt (h ++ (answer_step h ds number n (answer_to tools w h n task)).lines) n)
-    → (is_up h n ≡ false → EvensAt (h ++ (refused_step ds number n Down).lines) n) → EvensAt (h ++ (task_step tools counting_of w h ds number n task).lines) n
+stepped : (tools : Tools) (w : Schedule) (h : List Line) (ds : List Disk) (number n : ℕ) (task : Task)
+    → (is_up h n ≡ true → EvensAt (h ++ (answer_step h ds number n (answer_to tools w h n task)).lines) n)
+    → (is_up h n ≡ false → EvensAt (h ++ (refused_step ds number n Down).lines) n)
+    → EvensAt (h ++ (task_step tools counting_of w h ds number n task).lines) n
 unfolding task_step
-stepped tools w h ds number n task p q = either_evens h n (is_up h n) (answer_step h ds number n (answer_to tools w h n task)) (refused_step ds number n Down) p q
+stepped tools w h ds number n task p q =
+    either_evens h n (is_up h n) (answer_step h ds number n (answer_to tools w h n task))
+    (refused_step ds number n Down) p q
 
-task_evens : (tools : Tools) (w : Schedule) (before : List (List Line)) (ds : List Disk) (number n : ℕ) (task : Task) → RecallsAt before [] n → AnswersFit tools w before n
-    → IsCounted w (flat before) (task_step tools counting_of w (flat before) [] number n task).lines → EvensAt (flat before) n
+task_evens : (tools : Tools) (w : Schedule) (before : List (List Line)) (ds : List Disk) (number n : ℕ) (task : Task)
+    → RecallsAt before [] n → AnswersFit tools w before n
+    → IsCounted w (flat before) (task_step tools counting_of w (flat before) [] number n task).lines
+    → EvensAt (flat before) n
     → EvensAt (flat before ++ (task_step tools counting_of w (flat before) ds number n task).lines) n
-task_evens tools w before ds number n task said fits counted e = by_power (counted_group tools w (flat before) number n task)
+task_evens tools w before ds number n task said fits counted e =
+    by_power (counted_group tools w (flat before) number n task)
   where
     h : List Line
     h = flat before
@@ -231,58 +272,97 @@ task_evens tools w before ds number n task said fits counted e = by_power (count
     calls = calls_for h n a.edits
 
     whole : IsCounted w h (group_of h number n a) → is_up h n ≡ true → Evens (h ++ group_of h number n a) n
-    whole c up = group_evens w before n (group_of h number n a) said (group_changes before h number n n a (fits task)) c (unboot_group h number n a) (of_group h number n a) (e up)
+    whole c up = group_evens w before n (group_of h number n a) said (group_changes before h number n n a (fits task))
+        c (unboot_group h number n a) (of_group h number n a) (e up)
 
-    answered : IsCounted w h (group_of h number n a) → is_up h n ≡ true → EvensAt (h ++ (answer_step h ds number n a).lines) n
+    answered : IsCounted w h (group_of h number n a) → is_up h n ≡ true
+        → EvensAt (h ++ (answer_step h ds number n a).lines) n
     answered c up =
         either_evens h n (falls (disk_of ds n).armed calls)
-        (record { lines = cut_of (disk_of ds n).armed calls number n a; disks = with_disk ds n (record { armed = NotArmed; both_open = leaves_both (disk_of ds n).armed calls }) })
+        (record {
+          lines = cut_of (disk_of ds n).armed calls number n a;
+          disks = with_disk ds n (record { armed = NotArmed; both_open = leaves_both (disk_of ds n).armed calls });
+        })
         (record { lines = group_of h number n a; disks = ds })
-        (λ fell. down_evens (h ++ cut_of (disk_of ds n).armed calls number n a) n (cut_down h (disk_of ds n).armed calls number n a fell))
+        (λ fell. down_evens (h ++ cut_of (disk_of ds n).armed calls number n a) n
+        (cut_down h (disk_of ds n).armed calls number n a fell))
         (λ missed on. whole c up)
 
-    by_power : (is_up h n ≡ true → IsCounted w h (task_step tools counting_of w h [] number n task).lines → IsCounted w h (group_of h number n a)) → EvensAt (h ++ (task_step tools counting_of w h ds number n task).lines) n
-    by_power k = stepped tools w h ds number n task (λ up. answered (k up counted) up) (λ down. refused_evens h number n n AtEvent Down e)
+    by_power : (is_up h n ≡ true → IsCounted w h (task_step tools counting_of w h [] number n task).lines
+        → IsCounted w h (group_of h number n a))
+        → EvensAt (h ++ (task_step tools counting_of w h ds number n task).lines) n
+    by_power k = stepped tools w h ds number n task (λ up. answered (k up counted) up)
+        (λ down. refused_evens h number n n AtEvent Down e)
 
-deliver_evens : (tools : Tools) (w : Schedule) (before : List (List Line)) (ds : List Disk) (number n : ℕ) (o : Option Bytes) → RecallsAt before [] n → AnswersFit tools w before n
-    → IsCounted w (flat before) (deliver_step tools counting_of w (flat before) [] number n o).lines → EvensAt (flat before) n
+deliver_evens : (tools : Tools) (w : Schedule) (before : List (List Line)) (ds : List Disk) (number n : ℕ)
+    (o : Option Bytes) → RecallsAt before [] n → AnswersFit tools w before n
+    → IsCounted w (flat before) (deliver_step tools counting_of w (flat before) [] number n o).lines
+    → EvensAt (flat before) n
     → EvensAt (flat before ++ (deliver_step tools counting_of w (flat before) ds number n o).lines) n
-deliver_evens tools w before ds number n None said fits counted e = refused_evens (flat before) number n n AtEvent (cond (is_up (flat before) n) NoFrame Down) e
-deliver_evens tools w before ds number n (Some bytes) said fits counted e = task_evens tools w before ds number n (Received bytes (supply w (flat before))) said fits counted e
+deliver_evens tools w before ds number n None said fits counted e = refused_evens (flat before) number n n AtEvent
+    (cond (is_up (flat before) n) NoFrame Down) e
+deliver_evens tools w before ds number n (Some bytes) said fits counted e =
+    task_evens tools w before ds number n (Received bytes (supply w (flat before))) said fits counted e
 
-reset_evens : (h : List Line) (ds : List Disk) (number n : ℕ) → EvensAt h n → EvensAt (h ++ (cond (is_up h n) (record { lines = DownReset number n ∷ []; disks = ds }) (refused_step ds number n Down)).lines) n
+reset_evens : (h : List Line) (ds : List Disk) (number n : ℕ) → EvensAt h n
+    → EvensAt
+    (h ++ (cond (is_up h n) (record { lines = DownReset number n ∷ []; disks = ds })
+    (refused_step ds number n Down)).lines) n
 unfolding speaker
 reset_evens h ds number n e =
-    either_evens h n (is_up h n) (record { lines = DownReset number n ∷ []; disks = ds }) (refused_step ds number n Down)
-    (λ up. down_evens (h ++ DownReset number n ∷ []) n (power_snoc h (DownReset number n) n ∙ ap (λ b. cond b false (is_up h n)) (nat_eq-refl n)))
+    either_evens h n (is_up h n) (record { lines = DownReset number n ∷ []; disks = ds })
+    (refused_step ds number n Down)
+    (λ up. down_evens (h ++ DownReset number n ∷ []) n
+    (power_snoc h (DownReset number n) n ∙ ap (λ b. cond b false (is_up h n)) (nat_eq-refl n)))
     (λ down. refused_evens h number n n AtEvent Down e)
 
-power_evens : (h : List Line) (ds : List Disk) (number n : ℕ) → EvensAt h n → EvensAt (h ++ (cond (is_up h n) (refused_step ds number n WrongState) (boot_step ds number n)).lines) n
+power_evens : (h : List Line) (ds : List Disk) (number n : ℕ) → EvensAt h n
+    → EvensAt (h ++ (cond (is_up h n) (refused_step ds number n WrongState) (boot_step ds number n)).lines) n
 power_evens h ds number n e =
-    either_evens h n (is_up h n) (refused_step ds number n WrongState) (boot_step ds number n) (λ up. refused_evens h number n n AtEvent WrongState e)
+    either_evens h n (is_up h n) (refused_step ds number n WrongState) (boot_step ds number n)
+    (λ up. refused_evens h number n n AtEvent WrongState e)
     (λ down. either_evens h n (falls (disk_of ds n).armed (BootCalls (disk_of ds n).both_open))
-    (record { lines = fallen_line (disk_of ds n).armed number n; disks = with_disk ds n (record { armed = NotArmed; both_open = leaves_both (disk_of ds n).armed (BootCalls (disk_of ds n).both_open) }) })
-    (record { lines = Boot number n ∷ []; disks = with_disk ds n (record { armed = (disk_of ds n).armed; both_open = false }) })
-    (λ fell. down_evens (h ++ fallen_line (disk_of ds n).armed number n) n (fallen_down h (disk_of ds n).armed (BootCalls (disk_of ds n).both_open) number n fell))
+    (record {
+      lines = fallen_line (disk_of ds n).armed number n;
+      disks =
+          with_disk ds n
+          (record
+          { armed = NotArmed; both_open = leaves_both (disk_of ds n).armed (BootCalls (disk_of ds n).both_open) });
+    })
+    (record {
+      lines = Boot number n
+          ∷ [];
+      disks = with_disk ds n (record { armed = (disk_of ds n).armed; both_open = false });
+    })
+    (λ fell. down_evens (h ++ fallen_line (disk_of ds n).armed number n) n
+    (fallen_down h (disk_of ds n).armed (BootCalls (disk_of ds n).both_open) number n fell))
     (λ missed. boot_evens h number n))
 
 abbrev CountedStep : Tools → Schedule → List Line → ℕ → Event → Type 0
 CountedStep tools w h number event = IsCounted w h (step tools w h [] number event).lines
 
-pub own_evens : (tools : Tools) (w : Schedule) (before : List (List Line)) (ds : List Disk) (number : ℕ) (event : Event) → CountedStep tools w (flat before) number event → OfNode (λ n. RecallsAt before [] n) event → OfNode (AnswersFit tools w before) event
-    → OfNode (EvensAt (flat before)) event → OfNode (EvensAt (flat before ++ (step tools w (flat before) ds number event).lines)) event
+pub own_evens : (tools : Tools) (w : Schedule) (before : List (List Line)) (ds : List Disk) (number : ℕ)
+    (event : Event) → CountedStep tools w (flat before) number event → OfNode (λ n. RecallsAt before [] n) event
+    → OfNode (AnswersFit tools w before) event
+    → OfNode (EvensAt (flat before)) event
+    → OfNode (EvensAt (flat before ++ (step tools w (flat before) ds number event).lines)) event
 unfolding step step_by
-own_evens tools w before ds number (Own n task) counted said fits e = task_evens tools w before ds number n task said fits counted e
-own_evens tools w before ds number (RollOver n) counted said fits e = task_evens tools w before ds number n (DoRoll (supply w (flat before))) said fits counted e
-own_evens tools w before ds number (Deliver frame n) counted said fits e = deliver_evens tools w before ds number n (frame_at (flat before) frame) said fits counted e
+own_evens tools w before ds number (Own n task) counted said fits e = task_evens tools w before ds number n task said
+    fits counted e
+own_evens tools w before ds number (RollOver n) counted said fits e =
+    task_evens tools w before ds number n (DoRoll (supply w (flat before))) said fits counted e
+own_evens tools w before ds number (Deliver frame n) counted said fits e = deliver_evens tools w before ds number n
+    (frame_at (flat before) frame) said fits counted e
 own_evens tools w before ds number (Reset n) counted said fits e = reset_evens (flat before) ds number n e
 own_evens tools w before ds number (PowerOn n) counted said fits e = power_evens (flat before) ds number n e
-own_evens tools w before ds number (ShowRecord n) counted said fits e = dump_evens (flat before) number n n (record_of (state_of (flat before) n)) e
+own_evens tools w before ds number (ShowRecord n) counted said fits e =
+    dump_evens (flat before) number n n (record_of (state_of (flat before) n)) e
 own_evens tools w before ds number (ArmStop n calls torn) counted said fits e = nothing_evens (flat before) n e
 own_evens tools w before ds number (ArmFail n call) counted said fits e = nothing_evens (flat before) n e
 own_evens tools w before ds number (InjectBytes bytes) counted said fits e = tt
 own_evens tools w before ds number (ForgeNet to from source key sequence counter content) counted said fits e = tt
-own_evens tools w before ds number (ForgeNetAps to from source key sequence counter label base aps_counter command) counted said fits e = tt
+own_evens tools w before ds number (ForgeNetAps to from source key sequence counter label base aps_counter command)
+    counted said fits e = tt
 own_evens tools w before ds number (ForgeOpen to from source label base aps_counter command) counted said fits e = tt
 
 -- ---- other nodes
@@ -297,7 +377,8 @@ both_same : (b : Bool) (o : Option ℕ) → cond b o o ≡ o
 both_same true o = refl
 both_same false o = refl
 
-deaf_line : (m : ℕ) (layer : Layer) (key : Bytes) (o : Option ℕ) (l : Line) → Deaf m l → cond (nat_eq (speaker l) m) (sealed_in layer key o l) o ≡ o
+deaf_line : (m : ℕ) (layer : Layer) (key : Bytes) (o : Option ℕ) (l : Line) → Deaf m l
+    → cond (nat_eq (speaker l) m) (sealed_in layer key o l) o ≡ o
 unfolding speaker
 deaf_line m layer key o (Seal e n t) d = ap (λ b. cond b (sealed_in layer key o (Seal e n t)) o) d
 deaf_line m layer key o (Boot e n) d = ap (λ b. cond b (sealed_in layer key o (Boot e n)) o) d
@@ -316,9 +397,11 @@ deaf_line m layer key o (Dump n k bytes) d = both_same (nat_eq k m) o
 deaf_line m layer key o (Forge n t) d = both_same (nat_eq Rattle.zb_model.specs.Data.nobody m) o
 deaf_line m layer key o (Send n k frame bytes) d = both_same (nat_eq Rattle.zb_model.specs.Data.nobody m) o
 deaf_line m layer key o (Inject n frame bytes) d = both_same (nat_eq Rattle.zb_model.specs.Data.nobody m) o
-deaf_line m layer key o (End events seals accepts refusals ideal private) d = both_same (nat_eq Rattle.zb_model.specs.Data.nobody m) o
+deaf_line m layer key o (End events seals accepts refusals ideal private) d =
+    both_same (nat_eq Rattle.zb_model.specs.Data.nobody m) o
 
-deaf_lines : (m : ℕ) (layer : Layer) (key : Bytes) (h ls : List Line) → AllByRecursion (Deaf m) ls → sealed_since m layer key (h ++ ls) ≡ sealed_since m layer key h
+deaf_lines : (m : ℕ) (layer : Layer) (key : Bytes) (h ls : List Line) → AllByRecursion (Deaf m) ls
+    → sealed_since m layer key (h ++ ls) ≡ sealed_since m layer key h
 deaf_lines m layer key h [] d = ap (sealed_since m layer key) (append-nil' h)
 deaf_lines m layer key h (l ∷ ls) d =
     ap (sealed_since m layer key) (sym (append_assoc h (l ∷ []) ls)) ∙ deaf_lines m layer key (h ++ l ∷ []) ls d.1
@@ -340,11 +423,13 @@ deaf_seals : (m number n : ℕ) (ts : List Term) → nat_eq n m ≡ false → Al
 deaf_seals m number n [] other = tt
 deaf_seals m number n (t ∷ ts) other = (other, deaf_seals m number n ts other)
 
-deaf_refuse : (m number n : ℕ) (place : Place) (o : Option Reason) → AllByRecursion (Deaf m) (refuse_lines number n place o)
+deaf_refuse : (m number n : ℕ) (place : Place) (o : Option Reason)
+    → AllByRecursion (Deaf m) (refuse_lines number n place o)
 deaf_refuse m number n place None = tt
 deaf_refuse m number n place (Some r) = (tt, tt)
 
-deaf_send : (m number : ℕ) (n : Option ℕ) (frame : ℕ) (o : Option Bytes) → AllByRecursion (Deaf m) (send_lines number n frame o)
+deaf_send : (m number : ℕ) (n : Option ℕ) (frame : ℕ) (o : Option Bytes)
+    → AllByRecursion (Deaf m) (send_lines number n frame o)
 deaf_send m number n frame None = tt
 deaf_send m number n frame (Some b) = (tt, tt)
 
@@ -355,68 +440,99 @@ deaf_fallen m (FailAt call) number n = (tt, tt)
 
 deaf_stored : (m number n : ℕ) (a : Answer) → AllByRecursion (Deaf m) (stored_lines number n a)
 unfolding stored_lines
-deaf_stored m number n a = all-append (Deaf m) (map (Changed number n) a.edits) (commit_lines number n a.edits) (deaf_changes m number n a.edits) (deaf_commit m number n a.edits)
+deaf_stored m number n a = all-append (Deaf m) (map (Changed number n) a.edits) (commit_lines number n a.edits)
+    (deaf_changes m number n a.edits) (deaf_commit m number n a.edits)
 
-deaf_group : (m : ℕ) (h0 : List Line) (number n : ℕ) (a : Answer) → nat_eq n m ≡ false → AllByRecursion (Deaf m) (group_of h0 number n a)
+deaf_group : (m : ℕ) (h0 : List Line) (number n : ℕ) (a : Answer) → nat_eq n m ≡ false
+    → AllByRecursion (Deaf m) (group_of h0 number n a)
 unfolding group_of told_lines
 deaf_group m h0 number n a other =
     all-append (Deaf m) (stored_lines number n a) _ (deaf_stored m number n a)
     (all-append (Deaf m) (map (Accept number n) a.accepts) _ (deaf_accepts m number n a.accepts)
     (all-append (Deaf m) (refuse_lines number n a.place a.refusal) _ (deaf_refuse m number n a.place a.refusal)
-    (all-append (Deaf m) (map (Seal number n) a.seals) _ (deaf_seals m number n a.seals other) (deaf_send m number (Some n) (length (air h0) + 1) a.frame))))
+    (all-append (Deaf m) (map (Seal number n) a.seals) _ (deaf_seals m number n a.seals other)
+    (deaf_send m number (Some n) (length (air h0) + 1) a.frame))))
 
-deaf_cut : (m : ℕ) (armed : Armed) (calls : Calls) (number n : ℕ) (a : Answer) → AllByRecursion (Deaf m) (cut_of armed calls number n a)
+deaf_cut : (m : ℕ) (armed : Armed) (calls : Calls) (number n : ℕ) (a : Answer)
+    → AllByRecursion (Deaf m) (cut_of armed calls number n a)
 unfolding cut_of
-deaf_cut m armed calls number n a = all-append (Deaf m) (cond (stands armed calls) (stored_lines number n a) []) (fallen_line armed number n) (by_test (stands armed calls)) (deaf_fallen m armed number n)
+deaf_cut m armed calls number n a = all-append (Deaf m) (cond (stands armed calls) (stored_lines number n a) [])
+    (fallen_line armed number n) (by_test (stands armed calls)) (deaf_fallen m armed number n)
   where
     by_test : (b : Bool) → AllByRecursion (Deaf m) (cond b (stored_lines number n a) [])
     by_test true = deaf_stored m number n a
     by_test false = tt
 
-either_deaf : (m : ℕ) (b : Bool) (x y : Step) → AllByRecursion (Deaf m) x.lines → AllByRecursion (Deaf m) y.lines → AllByRecursion (Deaf m) (cond b x y).lines
+either_deaf : (m : ℕ) (b : Bool) (x y : Step) → AllByRecursion (Deaf m) x.lines → AllByRecursion (Deaf m) y.lines
+    → AllByRecursion (Deaf m) (cond b x y).lines
 either_deaf m true x y p q = p
 either_deaf m false x y p q = q
 
-deaf_task : (tools : Tools) (w : Schedule) (m : ℕ) (h : List Line) (ds : List Disk) (number n : ℕ) (task : Task) → nat_eq n m ≡ false → AllByRecursion (Deaf m) (task_step tools counting_of w h ds number n task).lines
+deaf_task : (tools : Tools) (w : Schedule) (m : ℕ) (h : List Line) (ds : List Disk) (number n : ℕ) (task : Task)
+    → nat_eq n m ≡ false → AllByRecursion (Deaf m) (task_step tools counting_of w h ds number n task).lines
 unfolding task_step
 deaf_task tools w m h ds number n task other =
     let a = answer_to tools w h n task in
     let calls = calls_for h n a.edits in
     either_deaf m (is_up h n) (answer_step h ds number n a) (refused_step ds number n Down)
     (either_deaf m (falls (disk_of ds n).armed calls)
-    (record { lines = cut_of (disk_of ds n).armed calls number n a; disks = with_disk ds n (record { armed = NotArmed; both_open = leaves_both (disk_of ds n).armed calls }) })
+    (record {
+      lines = cut_of (disk_of ds n).armed calls number n a;
+      disks = with_disk ds n (record { armed = NotArmed; both_open = leaves_both (disk_of ds n).armed calls });
+    })
     (record { lines = group_of h number n a; disks = ds })
     (deaf_cut m (disk_of ds n).armed calls number n a) (deaf_group m h number n a other))
     (tt, tt)
 
-deaf_deliver : (tools : Tools) (w : Schedule) (m : ℕ) (h : List Line) (ds : List Disk) (number n : ℕ) (o : Option Bytes) → nat_eq n m ≡ false → AllByRecursion (Deaf m) (deliver_step tools counting_of w h ds number n o).lines
+deaf_deliver : (tools : Tools) (w : Schedule) (m : ℕ) (h : List Line) (ds : List Disk) (number n : ℕ)
+    (o : Option Bytes) → nat_eq n m ≡ false
+    → AllByRecursion (Deaf m) (deliver_step tools counting_of w h ds number n o).lines
 deaf_deliver tools w m h ds number n None other = (tt, tt)
-deaf_deliver tools w m h ds number n (Some bytes) other = deaf_task tools w m h ds number n (Received bytes (supply w h)) other
+deaf_deliver tools w m h ds number n (Some bytes) other =
+    deaf_task tools w m h ds number n (Received bytes (supply w h)) other
 
-deaf_event : (tools : Tools) (w : Schedule) (m : ℕ) (h : List Line) (ds : List Disk) (number : ℕ) (event : Event) → is_of m event ≡ false → AllByRecursion (Deaf m) (step tools w h ds number event).lines
+deaf_event : (tools : Tools) (w : Schedule) (m : ℕ) (h : List Line) (ds : List Disk) (number : ℕ) (event : Event)
+    → is_of m event ≡ false → AllByRecursion (Deaf m) (step tools w h ds number event).lines
 unfolding step step_by forged_net forged_both forged_open
 deaf_event tools w m h ds number (Own n task) other = deaf_task tools w m h ds number n task other
 deaf_event tools w m h ds number (RollOver n) other = deaf_task tools w m h ds number n (DoRoll (supply w h)) other
-deaf_event tools w m h ds number (Deliver frame n) other = deaf_deliver tools w m h ds number n (frame_at h frame) other
-deaf_event tools w m h ds number (Reset n) other = either_deaf m (is_up h n) (record { lines = DownReset number n ∷ []; disks = ds }) (refused_step ds number n Down) (tt, tt) (tt, tt)
+deaf_event tools w m h ds number (Deliver frame n) other = deaf_deliver tools w m h ds number n (frame_at h frame)
+    other
+deaf_event tools w m h ds number (Reset n) other =
+    either_deaf m (is_up h n) (record { lines = DownReset number n ∷ []; disks = ds }) (refused_step ds number n Down)
+    (tt, tt) (tt, tt)
 deaf_event tools w m h ds number (PowerOn n) other =
     either_deaf m (is_up h n) (refused_step ds number n WrongState) (boot_step ds number n) (tt, tt)
     (either_deaf m (falls (disk_of ds n).armed (BootCalls (disk_of ds n).both_open))
-    (record { lines = fallen_line (disk_of ds n).armed number n; disks = with_disk ds n (record { armed = NotArmed; both_open = leaves_both (disk_of ds n).armed (BootCalls (disk_of ds n).both_open) }) })
-    (record { lines = Boot number n ∷ []; disks = with_disk ds n (record { armed = (disk_of ds n).armed; both_open = false }) })
+    (record {
+      lines = fallen_line (disk_of ds n).armed number n;
+      disks =
+          with_disk ds n
+          (record
+          { armed = NotArmed; both_open = leaves_both (disk_of ds n).armed (BootCalls (disk_of ds n).both_open) });
+    })
+    (record {
+      lines = Boot number n
+          ∷ [];
+      disks = with_disk ds n (record { armed = (disk_of ds n).armed; both_open = false });
+    })
     (deaf_fallen m (disk_of ds n).armed number n) (other, tt))
 deaf_event tools w m h ds number (ShowRecord n) other = (tt, tt)
 deaf_event tools w m h ds number (ArmStop n calls torn) other = tt
 deaf_event tools w m h ds number (ArmFail n call) other = tt
 deaf_event tools w m h ds number (InjectBytes bytes) other = (tt, tt)
 deaf_event tools w m h ds number (ForgeNet to from source key sequence counter content) other = (tt, (tt, tt))
-deaf_event tools w m h ds number (ForgeNetAps to from source key sequence counter label base aps_counter command) other = (tt, (tt, (tt, tt)))
+deaf_event tools w m h ds number (ForgeNetAps to from source key sequence counter label base aps_counter command)
+    other = (tt, (tt, (tt, tt)))
 deaf_event tools w m h ds number (ForgeOpen to from source label base aps_counter command) other = (tt, (tt, tt))
 
-pub other_evens : (tools : Tools) (w : Schedule) (h : List Line) (ds : List Disk) (number : ℕ) (event : Event) (m : ℕ) → is_of m event ≡ false → EvensAt h m → EvensAt (h ++ (step tools w h ds number event).lines) m
+pub other_evens : (tools : Tools) (w : Schedule) (h : List Line) (ds : List Disk) (number : ℕ) (event : Event) (m : ℕ)
+    → is_of m event ≡ false → EvensAt h m → EvensAt (h ++ (step tools w h ds number event).lines) m
 other_evens tools w h ds number event m other e =
     let same = spared tools w h ds number event m other in
-    same_evens h (h ++ (step tools w h ds number event).lines) m (ap (λ (x : Condition). x.state) same) (λ layer key. deaf_lines m layer key h (step tools w h ds number event).lines (deaf_event tools w m h ds number event other))
+    same_evens h (h ++ (step tools w h ds number event).lines) m (ap (λ (x : Condition). x.state) same)
+    (λ layer key. deaf_lines m layer key h (step tools w h ds number event).lines
+    (deaf_event tools w m h ds number event other))
     (ap (λ (x : Condition). x.up) same) e
 
 -- what holds of an event's node
@@ -431,11 +547,13 @@ of_node P (ArmStop n calls torn) m is p = subst P (eqb-true n m is) p
 of_node P (ArmFail n call) m is p = subst P (eqb-true n m is) p
 of_node P (InjectBytes bytes) m is p = absurd (false≢true is)
 of_node P (ForgeNet to from source key sequence counter content) m is p = absurd (false≢true is)
-of_node P (ForgeNetAps to from source key sequence counter label base aps_counter command) m is p = absurd (false≢true is)
+of_node P (ForgeNetAps to from source key sequence counter label base aps_counter command) m is p =
+    absurd (false≢true is)
 of_node P (ForgeOpen to from source label base aps_counter command) m is p = absurd (false≢true is)
 
 -- what holds of each declared node holds of the event's
-pub to_node : (P : ℕ → Type 0) (w : Schedule) → ((n : ℕ) → Names w n → P n) → (event : Event) → NamesNode w event → OfNode P event
+pub to_node : (P : ℕ → Type 0) (w : Schedule) → ((n : ℕ) → Names w n → P n) → (event : Event) → NamesNode w event
+    → OfNode P event
 to_node P w each (Own n task) named = each n named
 to_node P w each (RollOver n) named = each n named
 to_node P w each (Deliver frame n) named = each n named

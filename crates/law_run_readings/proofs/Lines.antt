@@ -33,8 +33,10 @@ pub alike_recalls : (x y : Said) (s : NodeState) → Alike x y → Recalls x s �
 alike_recalls x y s a is = record {
   declared = is.declared ∙ ap (λ o. unwrap_or o 0) (a.counter Nwk);
   active = is.active ∙ ap (λ o. option_or o x.given) a.active ∙ ap (λ o. option_or y.active o) a.given;
-  rows = λ key. subst (λ o. RowIs o (y.sealed key) s.declared (row_at key s.nets)) (a.lim key) (subst (λ o. RowIs (x.lim key) o s.declared (row_at key s.nets)) (a.sealed key) (is.rows key));
-  aps_limit = is.aps_limit ∙ ap (λ o. unwrap_or o (unwrap_or (x.counter Aps) 0)) a.reserve ∙ ap (λ o. unwrap_or y.reserve (unwrap_or o 0)) (a.counter Aps);
+  rows = λ key. subst (λ o. RowIs o (y.sealed key) s.declared (row_at key s.nets)) (a.lim key)
+      (subst (λ o. RowIs (x.lim key) o s.declared (row_at key s.nets)) (a.sealed key) (is.rows key));
+  aps_limit = is.aps_limit ∙ ap (λ o. unwrap_or o (unwrap_or (x.counter Aps) 0)) a.reserve ∙ ap
+      (λ o. unwrap_or y.reserve (unwrap_or o 0)) (a.counter Aps);
   aps_next = λ v e. is.aps_next v (a.aps ∙ e);
   net_floors = λ key sender. is.net_floors key sender ∙ ap (λ o. unwrap_or o 0) (a.floor Nwk key sender);
   link_floors = λ key sender. is.link_floors key sender ∙ ap (λ o. unwrap_or o 0) (a.floor Aps key sender);
@@ -42,13 +44,17 @@ alike_recalls x y s a is = record {
 
 -- ---- a line more
 
-pub last_snoc : {A : Type 0} (n : ℕ) (f : Line → Option A) (h : List Line) (l : Line) → last_said n f (h ++ l ∷ []) ≡ option_or (said_by n f l) (last_said n f h)
+pub last_snoc : {A : Type 0} (n : ℕ) (f : Line → Option A) (h : List Line) (l : Line) → last_said n f (h ++ l ∷ [])
+    ≡ option_or (said_by n f l) (last_said n f h)
 unfolding last_said
 last_snoc n f h l = fold-append (λ found x. option_or (said_by n f x) found) None h (l ∷ [])
 
-pub sealed_snoc : (n : ℕ) (layer : Layer) (key : Bytes) (h : List Line) (l : Line) → sealed_since n layer key (h ++ l ∷ []) ≡ cond (nat_eq (speaker l) n) (sealed_in layer key (sealed_since n layer key h) l) (sealed_since n layer key h)
+pub sealed_snoc : (n : ℕ) (layer : Layer) (key : Bytes) (h : List Line) (l : Line)
+    → sealed_since n layer key (h ++ l ∷ [])
+    ≡ cond (nat_eq (speaker l) n) (sealed_in layer key (sealed_since n layer key h) l) (sealed_since n layer key h)
 unfolding sealed_since
-sealed_snoc n layer key h l = fold-append (λ found x. cond (nat_eq (speaker x) n) (sealed_in layer key found x) found) None h (l ∷ [])
+sealed_snoc n layer key h l = fold-append (λ found x. cond (nat_eq (speaker x) n) (sealed_in layer key found x) found)
+    None h (l ∷ [])
 
 abbrev pub was_active : List (List Line) → ℕ → Bytes → Bool
 was_active before n key = is_active_key (active (flat before) n) key
@@ -73,23 +79,33 @@ or_assoc : {A : Type 0} (a b c : Option A) → option_or a (option_or b c) ≡ o
 or_assoc None b c = refl
 or_assoc (Some x) b c = refl
 
-own_said : {A : Type 0} (n : ℕ) (f : Line → Option A) (h front : List Line) (l : Line) → nat_eq (speaker l) n ≡ true → option_or (f l) (last_said n f (h ++ front)) ≡ last_said n f (h ++ (front ++ l ∷ []))
-own_said n f h front l e = ap (λ b. option_or (cond b (f l) None) (last_said n f (h ++ front))) (sym e) ∙ sym (last_snoc n f (h ++ front) l) ∙ ap (last_said n f) (append_assoc h front (l ∷ []))
+own_said : {A : Type 0} (n : ℕ) (f : Line → Option A) (h front : List Line) (l : Line) → nat_eq (speaker l) n ≡ true
+    → option_or (f l) (last_said n f (h ++ front)) ≡ last_said n f (h ++ (front ++ l ∷ []))
+own_said n f h front l e = ap (λ b. option_or (cond b (f l) None) (last_said n f (h ++ front))) (sym e) ∙ sym
+    (last_snoc n f (h ++ front) l) ∙ ap (last_said n f) (append_assoc h front (l ∷ []))
 
-other_said : {A : Type 0} (n : ℕ) (f : Line → Option A) (h front : List Line) (l : Line) → nat_eq (speaker l) n ≡ false → last_said n f (h ++ front) ≡ last_said n f (h ++ (front ++ l ∷ []))
-other_said n f h front l e = ap (λ b. option_or (cond b (f l) None) (last_said n f (h ++ front))) (sym e) ∙ sym (last_snoc n f (h ++ front) l) ∙ ap (last_said n f) (append_assoc h front (l ∷ []))
+other_said : {A : Type 0} (n : ℕ) (f : Line → Option A) (h front : List Line) (l : Line) → nat_eq (speaker l) n
+    ≡ false → last_said n f (h ++ front) ≡ last_said n f (h ++ (front ++ l ∷ []))
+other_said n f h front l e = ap (λ b. option_or (cond b (f l) None) (last_said n f (h ++ front))) (sym e) ∙ sym
+    (last_snoc n f (h ++ front) l) ∙ ap (last_said n f) (append_assoc h front (l ∷ []))
 
-own_sealed : (n : ℕ) (layer : Layer) (key : Bytes) (h front : List Line) (l : Line) (b : Bool) → nat_eq (speaker l) n ≡ b
-    → cond b (sealed_in layer key (sealed_since n layer key (h ++ front)) l) (sealed_since n layer key (h ++ front)) ≡ sealed_since n layer key (h ++ (front ++ l ∷ []))
+own_sealed : (n : ℕ) (layer : Layer) (key : Bytes) (h front : List Line) (l : Line) (b : Bool) → nat_eq (speaker l) n
+    ≡ b
+    → cond b (sealed_in layer key (sealed_since n layer key (h ++ front)) l) (sealed_since n layer key (h ++ front))
+    ≡ sealed_since n layer key (h ++ (front ++ l ∷ []))
 own_sealed n layer key h front l b e =
-    ap (λ c. cond c (sealed_in layer key (sealed_since n layer key (h ++ front)) l) (sealed_since n layer key (h ++ front))) (sym e)
+    ap (λ c. cond c (sealed_in layer key (sealed_since n layer key (h ++ front)) l)
+    (sealed_since n layer key (h ++ front))) (sym e)
     ∙ sym (sealed_snoc n layer key (h ++ front) l) ∙ ap (sealed_since n layer key) (append_assoc h front (l ∷ []))
 
-pub own_alike : (before : List (List Line)) (front : List Line) (l : Line) (n : ℕ) → nat_eq (speaker l) n ≡ true → Alike (with_line (was_active before n) l (said_of before front n)) (said_of before (front ++ l ∷ []) n)
+pub own_alike : (before : List (List Line)) (front : List Line) (l : Line) (n : ℕ) → nat_eq (speaker l) n ≡ true
+    → Alike (with_line (was_active before n) l (said_of before front n)) (said_of before (front ++ l ∷ []) n)
 own_alike before front l n e = record {
   lim = λ key.
-      or_assoc (limit_in key (was_active before n key) l) (last_said n (limit_in key (was_active before n key)) front) (limit_from n key [] before)
-      ∙ ap (λ o. option_or o (limit_from n key [] before)) (own_said n (limit_in key (was_active before n key)) [] front l e);
+      or_assoc (limit_in key (was_active before n key) l) (last_said n (limit_in key (was_active before n key)) front)
+      (limit_from n key [] before)
+      ∙ ap (λ o. option_or o (limit_from n key [] before))
+      (own_said n (limit_in key (was_active before n key)) [] front l e);
   sealed = λ key. own_sealed n Nwk key (flat before) front l true e;
   aps = own_sealed n Aps [] (flat before) front l true e;
   given = own_said n given_in (flat before) front l e;
@@ -99,9 +115,11 @@ own_alike before front l n e = record {
   floor = λ layer key sender. own_said n (floor_in layer key sender) (flat before) front l e;
 }
 
-other_alike : (before : List (List Line)) (front : List Line) (l : Line) (n : ℕ) → nat_eq (speaker l) n ≡ false → Alike (said_of before front n) (said_of before (front ++ l ∷ []) n)
+other_alike : (before : List (List Line)) (front : List Line) (l : Line) (n : ℕ) → nat_eq (speaker l) n ≡ false
+    → Alike (said_of before front n) (said_of before (front ++ l ∷ []) n)
 other_alike before front l n e = record {
-  lim = λ key. ap (λ o. option_or o (limit_from n key [] before)) (other_said n (limit_in key (was_active before n key)) [] front l e);
+  lim = λ key. ap (λ o. option_or o (limit_from n key [] before))
+      (other_said n (limit_in key (was_active before n key)) [] front l e);
   sealed = λ key. own_sealed n Nwk key (flat before) front l false e;
   aps = own_sealed n Aps [] (flat before) front l false e;
   given = other_said n given_in (flat before) front l e;
@@ -111,12 +129,16 @@ other_alike before front l n e = record {
   floor = λ layer key sender. other_said n (floor_in layer key sender) (flat before) front l e;
 }
 
-pub heard_as : (n : ℕ) (h front : List Line) (l : Line) (b : Bool) → nat_eq (speaker l) n ≡ b → cond b (after l (state_of (h ++ front) n)) (state_of (h ++ front) n) ≡ state_of (h ++ (front ++ l ∷ [])) n
+pub heard_as : (n : ℕ) (h front : List Line) (l : Line) (b : Bool) → nat_eq (speaker l) n ≡ b
+    → cond b (after l (state_of (h ++ front) n)) (state_of (h ++ front) n) ≡ state_of (h ++ (front ++ l ∷ [])) n
 unfolding heard_line
 heard_as n h front l b e =
-    ap (λ c. cond c (after l (state_of (h ++ front) n)) (state_of (h ++ front) n)) (sym e) ∙ sym (state-snoc (h ++ front) l n) ∙ ap (λ x. state_of x n) (append_assoc h front (l ∷ []))
+    ap (λ c. cond c (after l (state_of (h ++ front) n)) (state_of (h ++ front) n)) (sym e) ∙ sym
+    (state-snoc (h ++ front) l n) ∙ ap (λ x. state_of x n) (append_assoc h front (l ∷ []))
 
-line_more : (before : List (List Line)) (front : List Line) (l : Line) (n : ℕ) → (nat_eq (speaker l) n ≡ true → FitsLine (was_active before n) l (state_of (flat before ++ front) n)) → RecallsAt before front n → RecallsAt before (front ++ l ∷ []) n
+line_more : (before : List (List Line)) (front : List Line) (l : Line) (n : ℕ)
+    → (nat_eq (speaker l) n ≡ true → FitsLine (was_active before n) l (state_of (flat before ++ front) n))
+    → RecallsAt before front n → RecallsAt before (front ++ l ∷ []) n
 line_more before front l n fits is = by_speaker (nat_eq (speaker l) n) refl
   where
     x : Said
@@ -131,8 +153,10 @@ line_more before front l n fits is = by_speaker (nat_eq (speaker l) n) refl
     by_speaker : (b : Bool) → nat_eq (speaker l) n ≡ b → RecallsAt before (front ++ l ∷ []) n
     by_speaker true e =
         subst (Recalls y) (heard_as n (flat before) front l true e)
-        (alike_recalls (with_line (was_active before n) l x) y (after l s) (own_alike before front l n e) (line_says (was_active before n) l x s (fits e) is))
-    by_speaker false e = subst (Recalls y) (heard_as n (flat before) front l false e) (alike_recalls x y s (other_alike before front l n e) is)
+        (alike_recalls (with_line (was_active before n) l x) y (after l s) (own_alike before front l n e)
+        (line_says (was_active before n) l x s (fits e) is))
+    by_speaker false e = subst (Recalls y) (heard_as n (flat before) front l false e)
+        (alike_recalls x y s (other_alike before front l n e) is)
 
 -- ---- the lines of a group
 
@@ -167,17 +191,25 @@ both_fit was (End events seals accepts refusals ideal private) s c f = tt
 
 abbrev pub FitsChanges : List (List Line) → ℕ → List Line → List Line → Type 0
 FitsChanges before n front [] = Unit {0}
-FitsChanges before n front (l ∷ ls) = (nat_eq (speaker l) n ≡ true → FitsChange (was_active before n) l (state_of (flat before ++ front) n)) × FitsChanges before n (front ++ l ∷ []) ls
+FitsChanges before n front (l ∷ ls) =
+    (nat_eq (speaker l) n ≡ true → FitsChange (was_active before n) l (state_of (flat before ++ front) n))
+    × FitsChanges before n (front ++ l ∷ []) ls
 
-own_fits : (h front : List Line) (l : Line) (n : ℕ) → nat_eq (speaker l) n ≡ true → LineFits (h ++ front) l → StateFits l (state_of (h ++ front) n)
-own_fits h front l n e f = subst (λ m. StateFits l (state_of (h ++ front) m)) (Rattle.std.proofs.Common.eqb-true (speaker l) n e) f
+own_fits : (h front : List Line) (l : Line) (n : ℕ) → nat_eq (speaker l) n ≡ true → LineFits (h ++ front) l
+    → StateFits l (state_of (h ++ front) n)
+own_fits h front l n e f = subst (λ m. StateFits l (state_of (h ++ front) m))
+    (Rattle.std.proofs.Common.eqb-true (speaker l) n e) f
 
-pub lines_more : (before : List (List Line)) (front ls : List Line) (n : ℕ) → FitsChanges before n front ls → Each LineFits (flat before ++ front) ls → RecallsAt before front n → RecallsAt before (front ++ ls) n
+pub lines_more : (before : List (List Line)) (front ls : List Line) (n : ℕ) → FitsChanges before n front ls
+    → Each LineFits (flat before ++ front) ls → RecallsAt before front n → RecallsAt before (front ++ ls) n
 lines_more before front [] n changes fits is = subst (λ x. RecallsAt before x n) (sym (append-nil' front)) is
 lines_more before front (l ∷ ls) n changes fits is =
     subst (λ x. RecallsAt before x n) (append_assoc front (l ∷ []) ls)
-    (lines_more before (front ++ l ∷ []) ls n changes.1 (subst (λ x. Each LineFits x ls) (append_assoc (flat before) front (l ∷ [])) fits.1)
-    (line_more before front l n (λ e. both_fit (was_active before n) l (state_of (flat before ++ front) n) (changes.0 e) (own_fits (flat before) front l n e fits.0)) is))
+    (lines_more before (front ++ l ∷ []) ls n changes.1
+    (subst (λ x. Each LineFits x ls) (append_assoc (flat before) front (l ∷ [])) fits.1)
+    (line_more before front l n
+    (λ e. both_fit (was_active before n) l (state_of (flat before ++ front) n) (changes.0 e)
+    (own_fits (flat before) front l n e fits.0)) is))
 
 -- ---- the next group
 
@@ -186,13 +218,19 @@ or_none None = refl
 or_none (Some x) = refl
 
 pub limit_snoc : (n : ℕ) (key : Bytes) (h : List Line) (gs : List (List Line)) (g : List Line)
-    → limit_from n key h (gs ++ g ∷ []) ≡ option_or (last_said n (limit_in key (is_active_key (active (h ++ flat gs) n) key)) g) (limit_from n key h gs)
+    → limit_from n key h (gs ++ g ∷ [])
+    ≡ option_or (last_said n (limit_in key (is_active_key (active (h ++ flat gs) n) key)) g)
+    (limit_from n key h gs)
 unfolding limit_from
-limit_snoc n key h [] g = ap (λ x. last_said n (limit_in key (is_active_key (active x n) key)) g) (sym (append-nil' h)) ∙ or_none (last_said n (limit_in key (is_active_key (active (h ++ []) n) key)) g)
+limit_snoc n key h [] g = ap (λ x. last_said n (limit_in key (is_active_key (active x n) key)) g)
+    (sym (append-nil' h)) ∙ or_none (last_said n (limit_in key (is_active_key (active (h ++ []) n) key)) g)
 limit_snoc n key h (k ∷ gs) g =
     let first = last_said n (limit_in key (is_active_key (active h n) key)) k in
     let rest = limit_from n key (h ++ k) gs in
-    ap (λ o. option_or o first) (limit_snoc n key (h ++ k) gs g ∙ ap (λ x. option_or (last_said n (limit_in key (is_active_key (active x n) key)) g) rest) (append_assoc h k (flat gs)))
+    ap (λ o. option_or o first)
+    (limit_snoc n key (h ++ k) gs g ∙ ap
+    (λ x. option_or (last_said n (limit_in key (is_active_key (active x n) key)) g) rest)
+    (append_assoc h k (flat gs)))
     ∙ sym (or_assoc (last_said n (limit_in key (is_active_key (active (h ++ (k ++ flat gs)) n) key)) g) rest first)
 
 pub flat_snoc : (gs : List (List Line)) (g : List Line) → flat (gs ++ g ∷ []) ≡ flat gs ++ g
@@ -205,13 +243,15 @@ none_last : {A : Type 0} (n : ℕ) (f : Line → Option A) → last_said n f [] 
 unfolding last_said
 none_last n f = refl
 
-pub group_more : (before : List (List Line)) (g : List Line) (n : ℕ) → RecallsAt before g n → RecallsAt (before ++ g ∷ []) [] n
+pub group_more : (before : List (List Line)) (g : List Line) (n : ℕ) → RecallsAt before g n
+    → RecallsAt (before ++ g ∷ []) [] n
 group_more before g n is =
     subst (Recalls (said_of (before ++ g ∷ []) [] n)) (ap (λ x. state_of x n) (sym (whole_is before g)))
     (alike_recalls (said_of before g n) (said_of (before ++ g ∷ []) [] n) (state_of (flat before ++ g) n) (record {
       lim = λ key.
           sym (limit_snoc n key [] before g)
-          ∙ ap (λ o. option_or o (limit_from n key [] (before ++ g ∷ []))) (sym (none_last n (limit_in key (was_active (before ++ g ∷ []) n key))));
+          ∙ ap (λ o. option_or o (limit_from n key [] (before ++ g ∷ [])))
+          (sym (none_last n (limit_in key (was_active (before ++ g ∷ []) n key))));
       sealed = λ key. ap (sealed_since n Nwk key) (sym (whole_is before g));
       aps = ap (sealed_since n Aps []) (sym (whole_is before g));
       given = ap (last_said n given_in) (sym (whole_is before g));
@@ -240,25 +280,44 @@ none_changes was (Counter n layer v) s c = absurd c
 none_changes was (Changed e n edit) s c = absurd c
 none_changes was _ s c = tt
 
-pub unchanged : (before : List (List Line)) (n : ℕ) (front ls : List Line) → AllByRecursion NoChange ls → FitsChanges before n front ls
+pub unchanged : (before : List (List Line)) (n : ℕ) (front ls : List Line) → AllByRecursion NoChange ls
+    → FitsChanges before n front ls
 unchanged before n front [] a = tt
-unchanged before n front (l ∷ ls) a = (λ e. none_changes (was_active before n) l (state_of (flat before ++ front) n) a.0, unchanged before n (front ++ l ∷ []) ls a.1)
+unchanged before n front (l ∷ ls) a = (
+  λ e. none_changes (was_active before n) l (state_of (flat before ++ front) n) a.0,
+  unchanged before n (front ++ l ∷ []) ls a.1,
+)
 
-pub changes_append : (before : List (List Line)) (n : ℕ) (front xs ys : List Line) → FitsChanges before n front xs → FitsChanges before n (front ++ xs) ys → FitsChanges before n front (xs ++ ys)
+pub changes_append : (before : List (List Line)) (n : ℕ) (front xs ys : List Line) → FitsChanges before n front xs
+    → FitsChanges before n (front ++ xs) ys → FitsChanges before n front (xs ++ ys)
 changes_append before n front [] ys a b = subst (λ x. FitsChanges before n x ys) (append-nil' front) b
-changes_append before n front (x ∷ xs) ys a b = (a.0, changes_append before n (front ++ x ∷ []) xs ys a.1 (subst (λ z. FitsChanges before n z ys) (sym (append_assoc front (x ∷ []) xs)) b))
+changes_append before n front (x ∷ xs) ys a b = (
+  a.0,
+  changes_append before n (front ++ x ∷ []) xs ys a.1
+      (subst (λ z. FitsChanges before n z ys) (sym (append_assoc front (x ∷ []) xs)) b),
+)
 
-pub own_changes : (before : List (List Line)) (number n : ℕ) (front : List Line) (es : List Edit) → FitEdits (was_active before n) es (state_of (flat before ++ front) n) → FitsChanges before n front (map (Changed number n) es)
+pub own_changes : (before : List (List Line)) (number n : ℕ) (front : List Line) (es : List Edit)
+    → FitEdits (was_active before n) es (state_of (flat before ++ front) n)
+    → FitsChanges before n front (map (Changed number n) es)
 own_changes before number n front [] fits = tt
 own_changes before number n front (e ∷ es) fits = (
   λ own. fits.0,
-  own_changes before number n (front ++ Changed number n e ∷ []) es (subst (FitEdits (was_active before n) es) (sym state_is) fits.1),
+  own_changes before number n (front ++ Changed number n e ∷ []) es
+      (subst (FitEdits (was_active before n) es) (sym state_is) fits.1),
 )
   where
-    state_is : state_of (flat before ++ (front ++ Changed number n e ∷ [])) n ≡ applied e (state_of (flat before ++ front) n)
-    state_is = ap (λ x. state_of x n) (sym (append_assoc (flat before) front (Changed number n e ∷ []))) ∙ state-snoc (flat before ++ front) (Changed number n e) n ∙ changed-line number n e (state_of (flat before ++ front) n)
+    state_is : state_of (flat before ++ (front ++ Changed number n e ∷ [])) n
+        ≡ applied e (state_of (flat before ++ front) n)
+    state_is = ap (λ x. state_of x n) (sym (append_assoc (flat before) front (Changed number n e ∷ []))) ∙ state-snoc
+        (flat before ++ front) (Changed number n e) n ∙ changed-line number n e (state_of (flat before ++ front) n)
 
-pub others_changes : (before : List (List Line)) (number n m : ℕ) (front : List Line) (es : List Edit) → nat_eq n m ≡ false → FitsChanges before m front (map (Changed number n) es)
+pub others_changes : (before : List (List Line)) (number n m : ℕ) (front : List Line) (es : List Edit) → nat_eq n m
+    ≡ false → FitsChanges before m front (map (Changed number n) es)
 unfolding speaker
 others_changes before number n m front [] other = tt
-others_changes before number n m front (e ∷ es) other = (λ own. absurd (Rattle.std.proofs.lemmas.Bool.false≢true (sym other ∙ own)), others_changes before number n m (front ++ Changed number n e ∷ []) es other)
+others_changes before number n m front (e ∷ es) other = (
+  λ own. absurd (Rattle.std.proofs.lemmas.Bool.false≢true (sym other ∙ own)),
+  others_changes before number n m
+      (front ++ Changed number n e ∷ []) es other,
+)

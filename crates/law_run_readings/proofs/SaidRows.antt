@@ -27,7 +27,8 @@ pub record LeavesRow (f : NetKey → NetKey) : Type 0 where
   pub limit : (r : NetKey) → (f r).limit ≡ r.limit
   pub next : (r : NetKey) → (f r).next ≡ r.next
 
-pub left_row : (f : NetKey → NetKey) → LeavesRow f → (lim sealed : Option ℕ) (d : ℕ) (o : Option NetKey) → RowIs lim sealed d o → RowIs lim sealed d (option_map f o)
+pub left_row : (f : NetKey → NetKey) → LeavesRow f → (lim sealed : Option ℕ) (d : ℕ) (o : Option NetKey)
+    → RowIs lim sealed d o → RowIs lim sealed d (option_map f o)
 left_row f k lim sealed d None is = is
 left_row f k lim sealed d (Some r) is = record {
   limit = λ e. k.limit r ∙ is.limit (sym (k.started r) ∙ e);
@@ -36,7 +37,13 @@ left_row f k lim sealed d (Some r) is = record {
 }
 
 only_row : (f : NetKey → NetKey) (a : Bytes) → LeavesRow f → LeavesRow (λ r. cond (same_key r.key a) (f r) r)
-only_row f a k = record { key = λ r. key_ (same_key r.key a) r; started = λ r. started_ (same_key r.key a) r; limit = λ r. limit_ (same_key r.key a) r; next = λ r. next_ (same_key r.key a) r }
+only_row f a k =
+    record {
+      key = λ r. key_ (same_key r.key a) r;
+      started = λ r. started_ (same_key r.key a) r;
+      limit = λ r. limit_ (same_key r.key a) r;
+      next = λ r. next_ (same_key r.key a) r;
+    }
   where
     key_ : (b : Bool) (r : NetKey) → (cond b (f r) r).key ≡ r.key
     key_ true r = k.key r
@@ -54,15 +61,21 @@ only_row f a k = record { key = λ r. key_ (same_key r.key a) r; started = λ r.
     next_ true r = k.next r
     next_ false r = refl
 
-pub left_map : (f : NetKey → NetKey) → LeavesRow f → (lim sealed : Option ℕ) (d : ℕ) (key : Bytes) (nets : List NetKey) → RowIs lim sealed d (row_at key nets) → RowIs lim sealed d (row_at key (map f nets))
+pub left_map : (f : NetKey → NetKey) → LeavesRow f
+    → (lim sealed : Option ℕ) (d : ℕ) (key : Bytes) (nets : List NetKey) → RowIs lim sealed d (row_at key nets)
+    → RowIs lim sealed d (row_at key (map f nets))
 left_map f k lim sealed d key nets is =
-    subst (RowIs lim sealed d) (sym (find-map (at_key key) f (λ r. ap (λ x. same_key x key) (k.key r)) nets)) (left_row f k lim sealed d (row_at key nets) is)
+    subst (RowIs lim sealed d) (sym (find-map (at_key key) f (λ r. ap (λ x. same_key x key) (k.key r)) nets))
+    (left_row f k lim sealed d (row_at key nets) is)
 
-pub left_at : (f : NetKey → NetKey) → LeavesRow f → (lim sealed : Option ℕ) (d : ℕ) (a key : Bytes) (nets : List NetKey) → RowIs lim sealed d (row_at key nets) → RowIs lim sealed d (row_at key (at_net a f nets))
-left_at f k lim sealed d a key nets is = left_map (λ r. cond (same_key r.key a) (f r) r) (only_row f a k) lim sealed d key nets is
+pub left_at : (f : NetKey → NetKey) → LeavesRow f → (lim sealed : Option ℕ) (d : ℕ) (a key : Bytes)
+    (nets : List NetKey) → RowIs lim sealed d (row_at key nets) → RowIs lim sealed d (row_at key (at_net a f nets))
+left_at f k lim sealed d a key nets is = left_map (λ r. cond (same_key r.key a) (f r) r) (only_row f a k) lim sealed d
+    key nets is
 
 -- a reserve of the active key
-pub reserved_row : (v : ℕ) (lim sealed : Option ℕ) (d : ℕ) (r : NetKey) → r.started ≡ true → r.limit ≤ v → v ≤ greatest_counter → SaysRow lim sealed d r → SaysRow (Some v) sealed d (reserved v r)
+pub reserved_row : (v : ℕ) (lim sealed : Option ℕ) (d : ℕ) (r : NetKey) → r.started ≡ true → r.limit ≤ v → v
+    ≤ greatest_counter → SaysRow lim sealed d r → SaysRow (Some v) sealed d (reserved v r)
 reserved_row v lim sealed d r started below small is = record {
   limit = λ e. omega (arith, below, small);
   fresh = λ e. absurd (false≢true (sym e));
@@ -70,7 +83,8 @@ reserved_row v lim sealed d r started below small is = record {
 }
 
 -- the first counter of a key
-pub start_row : (v : ℕ) (lim sealed : Option ℕ) (d : ℕ) (r : NetKey) → r.started ≡ false → r.limit ≤ v → v ≤ greatest_counter → SaysRow lim sealed d r → SaysRow (Some v) sealed d (started_at v r)
+pub start_row : (v : ℕ) (lim sealed : Option ℕ) (d : ℕ) (r : NetKey) → r.started ≡ false → r.limit ≤ v → v
+    ≤ greatest_counter → SaysRow lim sealed d r → SaysRow (Some v) sealed d (started_at v r)
 start_row v lim sealed d r unstarted below small is = record {
   limit = λ e. omega (arith, below, small);
   fresh = λ e. absurd (false≢true (sym e));
@@ -85,7 +99,8 @@ start_row v lim sealed d r unstarted below small is = record {
     none-is x e = subst is-none e tt
 
 -- a term was sealed under the key
-pub sealed_row : (c : ℕ) (lim sealed : Option ℕ) (d : ℕ) (r : NetKey) → r.started ≡ true → SaysRow lim sealed d r → SaysRow lim (Some (c + 1)) d (next_at (c + 1) r)
+pub sealed_row : (c : ℕ) (lim sealed : Option ℕ) (d : ℕ) (r : NetKey) → r.started ≡ true → SaysRow lim sealed d r
+    → SaysRow lim (Some (c + 1)) d (next_at (c + 1) r)
 sealed_row c lim sealed d r started is = record {
   limit = is.limit;
   fresh = λ e. absurd (false≢true (sym e ∙ started));
@@ -93,7 +108,8 @@ sealed_row c lim sealed d r started is = record {
 }
 
 -- a boot
-pub booted_row : (lim sealed : Option ℕ) (d : ℕ) (o : Option NetKey) → RowIs lim sealed d o → RowIs lim None d (option_map booted_net o)
+pub booted_row : (lim sealed : Option ℕ) (d : ℕ) (o : Option NetKey) → RowIs lim sealed d o
+    → RowIs lim None d (option_map booted_net o)
 booted_row lim sealed d None is = (is.0, refl)
 booted_row lim sealed d (Some r) is = record {
   limit = is.limit;
@@ -123,7 +139,9 @@ new_says k q d = record {
     none-is x e = subst is-none e tt
 
 -- a new row
-pub installed_row : (k : Bytes) (q : ℕ) (lim sealed : Option ℕ) (d : ℕ) (key : Bytes) (nets : List NetKey) → RowIs lim sealed d (row_at key nets) → RowIs lim sealed d (row_at key (cond (has_net k nets) nets (nets ++ new_net k q ∷ [])))
+pub installed_row : (k : Bytes) (q : ℕ) (lim sealed : Option ℕ) (d : ℕ) (key : Bytes) (nets : List NetKey)
+    → RowIs lim sealed d (row_at key nets)
+    → RowIs lim sealed d (row_at key (cond (has_net k nets) nets (nets ++ new_net k q ∷ [])))
 installed_row k q lim sealed d key nets is = by_has (has_net k nets) refl
   where
     by_has : (b : Bool) → has_net k nets ≡ b → RowIs lim sealed d (row_at key (cond b nets (nets ++ new_net k q ∷ [])))
@@ -136,25 +154,34 @@ installed_row k q lim sealed d key nets is = by_has (has_net k nets) refl
             let at : k ≡ key = same_key-eq k key same in
             let none : row_at key nets ≡ None = absent_row key nets (ap (λ x. has_net x nets) (sym at) ∙ e) in
             let says : RowIs lim sealed d None = subst (RowIs lim sealed d) none is in
-            subst (RowIs lim sealed d) (ap (λ x. Some (new_net k q)) at ∙ sym (ap (λ x. row_at x (nets ++ new_net k q ∷ [])) (sym at) ∙ new_row_own (new_net k q) nets e))
-            (subst (λ o. SaysRow o sealed d (new_net k q)) (sym says.0) (subst (λ o. SaysRow None o d (new_net k q)) (sym says.1) (new_says k q d)))
+            subst (RowIs lim sealed d)
+            (ap (λ x. Some (new_net k q)) at ∙ sym
+            (ap (λ x. row_at x (nets ++ new_net k q ∷ [])) (sym at) ∙ new_row_own (new_net k q) nets e))
+            (subst (λ o. SaysRow o sealed d (new_net k q)) (sym says.0)
+            (subst (λ o. SaysRow None o d (new_net k q)) (sym says.1) (new_says k q d)))
 
-by_own : (f : NetKey → NetKey) (lim lim' sealed sealed' : Option ℕ) (d : ℕ) (o : Option NetKey) → (o ≡ None → ⊥) → ((r : NetKey) → o ≡ Some r → SaysRow lim sealed d r → SaysRow lim' sealed' d (f r))
+by_own : (f : NetKey → NetKey) (lim lim' sealed sealed' : Option ℕ) (d : ℕ) (o : Option NetKey) → (o ≡ None → ⊥)
+    → ((r : NetKey) → o ≡ Some r → SaysRow lim sealed d r → SaysRow lim' sealed' d (f r))
     → RowIs lim sealed d o → RowIs lim' sealed' d (option_map f o)
 by_own f lim lim' sealed sealed' d None there k is = absurd (there refl)
 by_own f lim lim' sealed sealed' d (Some r) there k is = k r refl is
 
 -- a change of the row of one key, and what is said of each
-pub at_own : (f : NetKey → NetKey) → ((r : NetKey) → (f r).key ≡ r.key) → (lim lim' sealed sealed' : Option ℕ) (d : ℕ) (a key : Bytes) (nets : List NetKey) → (row_at a nets ≡ None → ⊥)
+pub at_own : (f : NetKey → NetKey) → ((r : NetKey) → (f r).key ≡ r.key)
+    → (lim lim' sealed sealed' : Option ℕ) (d : ℕ) (a key : Bytes) (nets : List NetKey) → (row_at a nets ≡ None → ⊥)
     → ((r : NetKey) → row_at a nets ≡ Some r → SaysRow lim sealed d r → SaysRow lim' sealed' d (f r))
-    → (same_key key a ≡ false → (lim' ≡ lim) × (sealed' ≡ sealed)) → RowIs lim sealed d (row_at key nets) → RowIs lim' sealed' d (row_at key (at_net a f nets))
+    → (same_key key a ≡ false → (lim' ≡ lim) × (sealed' ≡ sealed)) → RowIs lim sealed d (row_at key nets)
+    → RowIs lim' sealed' d (row_at key (at_net a f nets))
 at_own f same lim lim' sealed sealed' d a key nets there k stays is = by_key (same_key key a) refl
   where
     by_key : (b : Bool) → same_key key a ≡ b → RowIs lim' sealed' d (row_at key (at_net a f nets))
     by_key false other =
         subst (RowIs lim' sealed' d) (sym (other_row f same a key nets other))
-        (subst (λ o. RowIs o sealed' d (row_at key nets)) (sym (stays other).0) (subst (λ o. RowIs lim o d (row_at key nets)) (sym (stays other).1) is))
+        (subst (λ o. RowIs o sealed' d (row_at key nets)) (sym (stays other).0)
+        (subst (λ o. RowIs lim o d (row_at key nets)) (sym (stays other).1) is))
     by_key true own =
         let at : key ≡ a = same_key-eq key a own in
         subst (λ x. RowIs lim' sealed' d (row_at x (at_net a f nets))) (sym at)
-        (subst (RowIs lim' sealed' d) (sym (own_row f same a nets)) (by_own f lim lim' sealed sealed' d (row_at a nets) there k (subst (λ x. RowIs lim sealed d (row_at x nets)) at is)))
+        (subst (RowIs lim' sealed' d) (sym (own_row f same a nets))
+        (by_own f lim lim' sealed sealed' d (row_at a nets) there k
+        (subst (λ x. RowIs lim sealed d (row_at x nets)) at is)))

@@ -21,8 +21,10 @@ floor_at Aps key sender s = link_stored (find (is_link sender key) s.links)
 pub record Agrees (before : List (List Line)) (n : ℕ) : Type 0 where
   pub active_is : active (flat before) n ≡ (state_of (flat before) n).active
   pub limits : (layer : Layer) → limit before n layer ≡ stored_limit layer (state_of (flat before) n)
-  pub nexts : is_up (flat before) n ≡ true → (layer : Layer) → next before n layer ≡ next_counter layer (state_of (flat before) n)
-  pub floors : (layer : Layer) (key : Bytes) (sender : ℕ) → stored (flat before) n layer key sender ≡ floor_at layer key sender (state_of (flat before) n)
+  pub nexts : is_up (flat before) n ≡ true → (layer : Layer) → next before n layer
+      ≡ next_counter layer (state_of (flat before) n)
+  pub floors : (layer : Layer) (key : Bytes) (sender : ℕ) → stored (flat before) n layer key sender
+      ≡ floor_at layer key sender (state_of (flat before) n)
 
 abbrev pub AllAgree : Schedule → List (List Line) → Type 0
 AllAgree w before = (n : ℕ) → Names w n → Agrees before n

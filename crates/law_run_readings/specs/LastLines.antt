@@ -47,7 +47,8 @@ limit_in key was _ = None
 
 unfoldable pub limit_from : ℕ → Bytes → List Line → List (List Line) → Option ℕ
 limit_from n key h [] = None
-limit_from n key h (g ∷ gs) = option_or (limit_from n key (h ++ g) gs) (last_said n (limit_in key (is_active_key (active h n) key)) g)
+limit_from n key h (g ∷ gs) = option_or (limit_from n key (h ++ g) gs)
+    (last_said n (limit_in key (is_active_key (active h n) key)) g)
 
 -- the lines of groups
 abbrev pub flat : List (List Line) → List Line
@@ -68,11 +69,13 @@ is_under Aps key base = true
 
 abbrev pub sealed_in : Layer → Bytes → Option ℕ → Line → Option ℕ
 sealed_in layer key found (Boot e n) = None
-sealed_in layer key found (Seal e n t) = if same_layer t.layer layer && is_under layer key t.base then Some (t.counter + 1) else found
+sealed_in layer key found (Seal e n t) = if same_layer t.layer layer && is_under layer key t.base
+    then Some (t.counter + 1) else found
 sealed_in layer key found _ = found
 
 unfoldable pub sealed_since : ℕ → Layer → Bytes → List Line → Option ℕ
-sealed_since n layer key h = fold (λ found l. if nat_eq (speaker l) n then sealed_in layer key found l else found) None h
+sealed_since n layer key h = fold (λ found l. if nat_eq (speaker l) n then sealed_in layer key found l else found)
+    None h
 
 -- The next counter: after the last one that was sealed since the last boot, or else the stored limit.
 abbrev pub sealed_of_key : List (List Line) → ℕ → Option Bytes → Option ℕ
@@ -85,7 +88,8 @@ next before n Nwk = unwrap_or (sealed_of_key before n (active (flat before) n)) 
 
 -- the stored floor of a sender under a base key: that of the last `floor` line
 abbrev pub floor_in : Layer → Bytes → ℕ → Line → Option ℕ
-floor_in layer key sender (Changed e n (Floor l k from value)) = if same_layer l layer && (same_key k key && nat_eq from sender) then Some value else None
+floor_in layer key sender (Changed e n (Floor l k from value)) = if same_layer l layer
+    && (same_key k key && nat_eq from sender) then Some value else None
 floor_in layer key sender _ = None
 
 unfoldable pub stored : List Line → ℕ → Layer → Bytes → ℕ → ℕ

@@ -22,7 +22,15 @@ start-power w n = fold-left (power_line n) true (start w) (start-all (λ l. powe
 
 pub start-commits : (w : Schedule) (n : ℕ) → commits_of (start w) n ≡ 0
 unfolding commits_of
-start-commits w n = fold-left (commit_line n) 0 (start w) (start-all (λ l. commit_line n 0 l ≡ 0) (record { declared = λ p. refl; net = λ m key sequence. refl; link = λ m partner key. refl; counter = λ m layer limit. refl }) w)
+start-commits w n =
+    fold-left (commit_line n) 0 (start w)
+    (start-all (λ l. commit_line n 0 l ≡ 0)
+    (record {
+      declared = λ p. refl;
+      net = λ m key sequence. refl;
+      link = λ m partner key. refl;
+      counter = λ m layer limit. refl;
+    }) w)
 
 -- No line of a step declares a node.
 
@@ -37,7 +45,12 @@ node-declares known ds number n = record {
   lines = record {
     changed = λ e. refl;
     commit = refl;
-    told = record { accept = λ t. refl; refuse = λ place reason. refl; seal = λ t. refl; send = λ o frame bytes. refl };
+    told = record {
+      accept = λ t. refl;
+      refuse = λ place reason. refl;
+      seal = λ t. refl;
+      send = λ o frame bytes. refl;
+    };
     stopped = refl;
     failed = refl;
     reset = refl;
@@ -48,9 +61,11 @@ node-declares known ds number n = record {
 }
 
 outside-declares : (known : List Station) (number : ℕ) → OfOutside (DeclaresNone known) number
-outside-declares known number = record { forge = λ t. refl; send = λ o frame bytes. refl; inject = λ frame bytes. refl }
+outside-declares known number =
+    record { forge = λ t. refl; send = λ o frame bytes. refl; inject = λ frame bytes. refl }
 
-asked : (known : List Station) (ds : List Disk) (number : ℕ) (act : Event) → Asked (DeclaresNone known) Any ds number act
+asked : (known : List Station) (ds : List Disk) (number : ℕ) (act : Event)
+    → Asked (DeclaresNone known) Any ds number act
 asked known ds number (Own n task) = node-declares known ds number n
 asked known ds number (RollOver n) = node-declares known ds number n
 asked known ds number (Deliver frame n) = node-declares known ds number n
@@ -61,28 +76,41 @@ asked known ds number (ArmStop n calls torn) = node-declares known ds number n
 asked known ds number (ArmFail n call) = node-declares known ds number n
 asked known ds number (InjectBytes bytes) = outside-declares known number
 asked known ds number (ForgeNet to from source key sequence counter content) = outside-declares known number
-asked known ds number (ForgeNetAps to from source key sequence counter label base aps_counter command) = outside-declares known number
+asked known ds number (ForgeNetAps to from source key sequence counter label base aps_counter command) =
+    outside-declares known number
 asked known ds number (ForgeOpen to from source label base aps_counter command) = outside-declares known number
 
-pub step-stations : (tools : Tools) (w : Schedule) (h : List Line) (ds : List Disk) (number : ℕ) (act : Event) → stations_of (h ++ (step tools w h ds number act).lines) ≡ stations_of h
+pub step-stations : (tools : Tools) (w : Schedule) (h : List Line) (ds : List Disk) (number : ℕ) (act : Event)
+    → stations_of (h ++ (step tools w h ds number act).lines) ≡ stations_of h
 unfolding stations_of
 step-stations tools w h ds number act =
     fold-append station_line [] h (step tools w h ds number act).lines
     ∙ fold-left station_line (fold station_line [] h) (step tools w h ds number act).lines
-    (step-has (DeclaresNone (fold station_line [] h)) Any tools w h ds number act (asked (fold station_line [] h) ds number act) tt).0
+    (step-has (DeclaresNone (fold station_line [] h)) Any tools w h ds number act
+    (asked (fold station_line [] h) ds number act) tt).0
 
 -- The lines of all events
 
-pub group-first : (tools : Tools) (w : Schedule) (h : List Line) (ds : List Disk) (number : ℕ) (act : Event) (acts : List Event)
-    → groups tools w h ds number (act ∷ acts) ≡ (step tools w h ds number act).lines ++ groups tools w (h ++ (step tools w h ds number act).lines) (step tools w h ds number act).disks (number + 1) acts
+pub group-first : (tools : Tools) (w : Schedule) (h : List Line) (ds : List Disk) (number : ℕ) (act : Event)
+    (acts : List Event)
+    → groups tools w h ds number (act ∷ acts) ≡ (step tools w h ds number act).lines
+    ++ groups tools w (h ++ (step tools w h ds number act).lines) (step tools w h ds number act).disks
+    (number + 1) acts
 unfolding groups
 group-first tools w h ds number act acts = refl
 
-pub run-goes-on : (tools : Tools) (w : Schedule) (h : List Line) (ds : List Disk) (number : ℕ) (act : Event) (acts : List Event)
-    → h ++ groups tools w h ds number (act ∷ acts) ≡ (h ++ (step tools w h ds number act).lines) ++ groups tools w (h ++ (step tools w h ds number act).lines) (step tools w h ds number act).disks (number + 1) acts
+pub run-goes-on : (tools : Tools) (w : Schedule) (h : List Line) (ds : List Disk) (number : ℕ) (act : Event)
+    (acts : List Event)
+    → h ++ groups tools w h ds number (act ∷ acts) ≡ (h ++ (step tools w h ds number act).lines)
+    ++ groups tools w (h ++ (step tools w h ds number act).lines) (step tools w h ds number act).disks
+    (number + 1) acts
 unfolding groups
-run-goes-on tools w h ds number act acts = sym (append_assoc h (step tools w h ds number act).lines (groups tools w (h ++ (step tools w h ds number act).lines) (step tools w h ds number act).disks (number + 1) acts))
+run-goes-on tools w h ds number act acts =
+    sym (append_assoc h (step tools w h ds number act).lines
+    (groups tools w (h ++ (step tools w h ds number act).lines) (step tools w h ds number act).disks (number + 1)
+    acts))
 
-pub run-ends : (tools : Tools) (w : Schedule) (h : List Line) (ds : List Disk) (number : ℕ) → h ++ groups tools w h ds number [] ≡ h
+pub run-ends : (tools : Tools) (w : Schedule) (h : List Line) (ds : List Disk) (number : ℕ) → h
+    ++ groups tools w h ds number [] ≡ h
 unfolding groups
 run-ends tools w h ds number = append-nil' h

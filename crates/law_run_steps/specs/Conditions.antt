@@ -18,7 +18,14 @@ pub record Condition : Type 0 where
 
 -- the condition of the node of this EUI after these lines, with these disks
 abbrev pub condition_of : Schedule → List Line → List Disk → ℕ → Condition
-condition_of w h ds n = record { setting = setting_of w n; state = state_of h n; commits = commits_of h n; up = is_up h n; disk = disk_of ds n }
+condition_of w h ds n =
+    record {
+      setting = setting_of w n;
+      state = state_of h n;
+      commits = commits_of h n;
+      up = is_up h n;
+      disk = disk_of ds n;
+    }
 
 -- the device calls of an event with these changes, after so many commits
 abbrev pub calls_by : ℕ → List Edit → Calls
@@ -58,7 +65,8 @@ after_reset x = record x { up = false }
 
 -- after a boot, and after one on which what was armed fell
 abbrev pub after_power_on : Condition → Condition
-after_power_on x = record x { up = true; state = after_boot x.state; disk = record { armed = x.disk.armed; both_open = false } }
+after_power_on x =
+    record x { up = true; state = after_boot x.state; disk = record { armed = x.disk.armed; both_open = false } }
 
 abbrev pub after_cut_boot : Condition → Condition
 after_cut_boot x = record x { disk = disk_left (leaves_both x.disk.armed (BootCalls x.disk.both_open)) }

@@ -8,9 +8,10 @@ use Rattle.zb_model.specs.Readings.{air}
 use Rattle.law_run_steps.specs.Conditions.{Condition, condition_of, calls_by, after_whole, after_cut, after_power_on, after_cut_boot}
 
 -- The step after these lines has those lines, and leaves the node in this condition.
-pub record ComesTo (w : Schedule) (h : List Line) (n : ℕ) (g : Step) (wanted : List Line) (x : Condition) : Type 0 where
-  pub lines : g.lines ≡ wanted
-  pub condition : condition_of w (h ++ g.lines) g.disks n ≡ x
+pub record ComesTo (w : Schedule) (h : List Line) (n : ℕ) (g : Step) (wanted : List Line) (x : Condition) : Type 0
+  where
+    pub lines : g.lines ≡ wanted
+    pub condition : condition_of w (h ++ g.lines) g.disks n ≡ x
 
 -- the lines of an answer that is stored: its changes and their commit; and of one that is handed out too
 abbrev pub storing_lines : ℕ → ℕ → Answer → List Line
@@ -33,9 +34,10 @@ abbrev pub falls_at_boot : Condition → Bool
 falls_at_boot x = falls x.disk.armed (BootCalls x.disk.both_open)
 
 -- The step of an event that the node answers so in this condition.
-pub record IsAnswered (w : Schedule) (h : List Line) (number n : ℕ) (a : Answer) (x : Condition) (g : Step) : Type 0 where
-  pub whole : falls_on a x ≡ false → ComesTo w h n g (whole_lines h number n a) (after_whole a x)
-  pub cut : falls_on a x ≡ true → ComesTo w h n g (cut_lines x number n a) (after_cut a x)
+pub record IsAnswered (w : Schedule) (h : List Line) (number n : ℕ) (a : Answer) (x : Condition) (g : Step) : Type 0
+  where
+    pub whole : falls_on a x ≡ false → ComesTo w h n g (whole_lines h number n a) (after_whole a x)
+    pub cut : falls_on a x ≡ true → ComesTo w h n g (cut_lines x number n a) (after_cut a x)
 
 -- The step of a boot in this condition.
 pub record IsBooted (w : Schedule) (h : List Line) (number n : ℕ) (x : Condition) (g : Step) : Type 0 where

@@ -38,16 +38,19 @@ all_proper known (m ∷ ms) proper = (proper.0.words, all_proper known ms proper
 abbrev all_said : List Station → List (List Word) → List log.Line
 all_said known ws = map (λ w. said known w) ws
 
-said_back : (known : List Station) → AreNamed known → (ms : List log.Line) → AreProper known ms → all_said known (map words (printed known ms)) ≡ ms
+said_back : (known : List Station) → AreNamed known → (ms : List log.Line) → AreProper known ms
+    → all_said known (map words (printed known ms)) ≡ ms
 said_back known fits [] proper = refl
 said_back known fits (m ∷ ms) proper =
-    ap (λ first. first ∷ all_said known (map words (printed known ms))) (words_read known (line_for known m) ∙ said_again known fits m proper.0.node)
+    ap (λ first. first ∷ all_said known (map words (printed known ms)))
+    (words_read known (line_for known m) ∙ said_again known fits m proper.0.node)
     ∙ ap (λ rest. m ∷ rest) (said_back known fits ms proper.1)
 
 all_logged : (known : List Station) (ls : List Line) → map (λ l. logged known l) ls ≡ all_said known (map words ls)
 all_logged known [] = refl
 all_logged known (l ∷ ls) =
-    ap (λ first. first ∷ map (λ l. logged known l) ls) (sym (words_read known l)) ∙ ap (λ rest. said known (words l) ∷ rest) (all_logged known ls)
+    ap (λ first. first ∷ map (λ l. logged known l) ls) (sym (words_read known l)) ∙ ap
+    (λ rest. said known (words l) ∷ rest) (all_logged known ls)
 
 pub reads_back : (p : Schedule) → IsSchedule p → ReadsBack (schedule_of p)
 reads_back p is =
@@ -62,13 +65,20 @@ reads_back p is =
       text = texts_are known h;
       only = λ ls all same.
           let words_same = one_text ls (printed known h) all proper (same ∙ sym (texts_are known h)) in
-          record { printed_so = words_same; logged_so = all_logged known ls ∙ (ap (all_said known) words_same ∙ said_back known fits h own) };
+          record {
+            printed_so = words_same;
+            logged_so = all_logged known ls ∙
+                (ap (all_said known) words_same ∙ said_back known fits h own);
+          };
     }
 
 -- what `read_lines` answers of this text
-pub is_read_back : (p : Schedule) (bytes : List ℕ) (result : Result (Vec Line Global) (OrMemory TraceError)) → IfOk result (λ lines. AllProper lines.items × (bytes ≡ texts lines.items))
-    → ((ls : List Line) → AllProper ls → bytes ≡ texts ls → IfErr result IsNoMemory) → IsSchedule p → bytes ≡ text_of_run (schedule_of p) → IsReadBack (schedule_of p) result
-is_read_back p bytes (Ok lines) found accepts is same = record { found = (reads_back p is).only lines.items found.0 (sym found.1 ∙ same); refused = tt }
+pub is_read_back : (p : Schedule) (bytes : List ℕ) (result : Result (Vec Line Global) (OrMemory TraceError))
+    → IfOk result (λ lines. AllProper lines.items × (bytes ≡ texts lines.items))
+    → ((ls : List Line) → AllProper ls → bytes ≡ texts ls → IfErr result IsNoMemory) → IsSchedule p → bytes
+    ≡ text_of_run (schedule_of p) → IsReadBack (schedule_of p) result
+is_read_back p bytes (Ok lines) found accepts is same =
+    record { found = (reads_back p is).only lines.items found.0 (sym found.1 ∙ same); refused = tt }
 is_read_back p bytes (Err e) found accepts is same =
     let back = reads_back p is in
     record { found = tt; refused = accepts (lines_of_run (schedule_of p)) back.proper (same ∙ sym back.text) }

@@ -88,7 +88,8 @@ bit_in : (b i : ℕ) → affine_bit b i < 2
 bit_in b i = mod-lt _ (omega arith)
 
 affine_in : (b : ℕ) → IsByte (affine b)
-affine_in b = omega (arith, bit_in b 0, bit_in b 1, bit_in b 2, bit_in b 3, bit_in b 4, bit_in b 5, bit_in b 6, bit_in b 7)
+affine_in b =
+    omega (arith, bit_in b 0, bit_in b 1, bit_in b 2, bit_in b 3, bit_in b 4, bit_in b 5, bit_in b 6, bit_in b 7)
 
 substitute_in : (a : ℕ) → IsByte (substitute a)
 unfolding substitute
@@ -99,7 +100,9 @@ word_in key i k = taken 4 (drop (4 * i) key) (dropped (4 * i) key k)
 
 turned_in : (constant : ℕ) (word : List ℕ) → IsByte constant → AreBytes (turned constant word)
 turned_in constant word c =
-    xored_in (map substitute (drop 1 word ++ take 1 word)) (constant ∷ 0 ∷ 0 ∷ 0 ∷ []) (each_byte substitute substitute_in (drop 1 word ++ take 1 word)) (c, (omega arith, (omega arith, (omega arith, tt))))
+    xored_in (map substitute (drop 1 word ++ take 1 word)) (constant ∷ 0 ∷ 0 ∷ 0 ∷ [])
+    (each_byte substitute substitute_in (drop 1 word ++ take 1 word))
+    (c, (omega arith, (omega arith, (omega arith, tt))))
 
 next_in : (constant : ℕ) (key : List ℕ) → IsByte constant → AreBytes key → AreBytes (next_key constant key)
 unfolding next_key
@@ -108,11 +111,13 @@ next_in constant key c k =
     let second = xored (word_of key 1) first in
     let third = xored (word_of key 2) second in
     let fourth = xored (word_of key 3) third in
-    let a : AreBytes first = xored_in (word_of key 0) (turned constant (word_of key 3)) (word_in key 0 k) (turned_in constant (word_of key 3) c) in
+    let a : AreBytes first = xored_in (word_of key 0) (turned constant (word_of key 3)) (word_in key 0 k)
+    (turned_in constant (word_of key 3) c) in
     let b : AreBytes second = xored_in (word_of key 1) first (word_in key 1 k) a in
     let d : AreBytes third = xored_in (word_of key 2) second (word_in key 2 k) b in
     let e : AreBytes fourth = xored_in (word_of key 3) third (word_in key 3 k) d in
-    bytes_append (first ++ second ++ third) fourth (bytes_append (first ++ second) third (bytes_append first second a b) d) e
+    bytes_append (first ++ second ++ third) fourth
+    (bytes_append (first ++ second) third (bytes_append first second a b) d) e
 
 last_key_in : (key : List ℕ) → AreBytes key → AreBytes (round_key key 10)
 unfolding round_key
@@ -133,28 +138,40 @@ unfolding enciphered last_round
 enciphered_in key block k =
     let state = map substitute (state_after key block 9) in
     xored_in (shift_rows state) (round_key key 10)
-    (each_byte (λ i. slice_index state ((i + 4 * (i % 4)) % 16)) (λ i. at_index state ((i + 4 * (i % 4)) % 16) (each_byte substitute substitute_in (state_after key block 9))) (range_with_len 0 16))
+    (each_byte (λ i. slice_index state ((i + 4 * (i % 4)) % 16))
+    (λ i. at_index state ((i + 4 * (i % 4)) % 16) (each_byte substitute substitute_in (state_after key block 9)))
+    (range_with_len 0 16))
     (last_key_in key k)
 
 -- ---- the hash
 
-mixed_in : (bytes value : List ℕ) (is : List ℕ) → AreBytes bytes → AreBytes value → AreBytes (fold mixed value (map (λ i. take 16 (drop (16 * i) bytes)) is))
+mixed_in : (bytes value : List ℕ) (is : List ℕ) → AreBytes bytes → AreBytes value
+    → AreBytes (fold mixed value (map (λ i. take 16 (drop (16 * i) bytes)) is))
 mixed_in bytes value [] b v = v
 mixed_in bytes value (i ∷ is) b v =
     let block = take 16 (drop (16 * i) bytes) in
-    mixed_in bytes (mixed value block) is b (xored_in (enciphered value block) block (enciphered_in value block v) (taken 16 (drop (16 * i) bytes) (dropped (16 * i) bytes b)))
+    mixed_in bytes (mixed value block) is b
+    (xored_in (enciphered value block) block (enciphered_in value block v)
+    (taken 16 (drop (16 * i) bytes) (dropped (16 * i) bytes b)))
 
 padding_in : (n : ℕ) → AreBytes (padding n)
-padding_in n = (omega arith, bytes_append (replicate (zeros n) 0) (to_be_bytes w16 (8 * n)) (zeros_in (zeros n)) (high_first 2 (8 * n)))
+padding_in n = (
+  omega arith,
+  bytes_append (replicate (zeros n) 0) (to_be_bytes w16 (8 * n)) (zeros_in (zeros n))
+      (high_first 2 (8 * n)),
+)
 
 hash_bytes : (bytes : List ℕ) → AreBytes bytes → AreBytes (hash bytes)
 unfolding hash blocks_of
-hash_bytes bytes b = mixed_in (padded bytes) (replicate 16 0) (range_with_len 0 (length (padded bytes) / 16)) (bytes_append bytes (padding (length bytes)) b (padding_in (length bytes))) (zeros_in 16)
+hash_bytes bytes b = mixed_in (padded bytes) (replicate 16 0) (range_with_len 0 (length (padded bytes) / 16))
+    (bytes_append bytes (padding (length bytes)) b (padding_in (length bytes))) (zeros_in 16)
 
 length-mixed : (value block : List ℕ) → length value ≡ 16 → 16 ≤ length block → length (mixed value block) ≡ 16
-length-mixed value block h le = length-xored (enciphered value block) block (omega (arith, length-enciphered value block h)) ∙ length-enciphered value block h
+length-mixed value block h le = length-xored (enciphered value block) block
+    (omega (arith, length-enciphered value block h)) ∙ length-enciphered value block h
 
-mixed_range : (bytes value : List ℕ) (a n : ℕ) → length value ≡ 16 → 16 * (a + n) ≤ length bytes → length (fold mixed value (map (λ i. take 16 (drop (16 * i) bytes)) (range_with_len a n))) ≡ 16
+mixed_range : (bytes value : List ℕ) (a n : ℕ) → length value ≡ 16 → 16 * (a + n) ≤ length bytes
+    → length (fold mixed value (map (λ i. take 16 (drop (16 * i) bytes)) (range_with_len a n))) ≡ 16
 mixed_range bytes value a zero h le = h
 mixed_range bytes value a (suc n) h le =
     let block : List ℕ = take 16 (drop (16 * a) bytes) in
@@ -177,7 +194,8 @@ unfolding keyed
 keyed_in key bytes k b =
     let inner = inner_pad key ++ bytes in
     let inner_in : AreBytes inner = bytes_append (inner_pad key) bytes (pads_in 0x36 key (omega arith) k) b in
-    hash_in (outer_pad key ++ hash inner) (bytes_append (outer_pad key) (hash inner) (pads_in 0x5c key (omega arith) k) (hash_bytes inner inner_in))
+    hash_in (outer_pad key ++ hash inner)
+    (bytes_append (outer_pad key) (hash inner) (pads_in 0x5c key (omega arith) k) (hash_bytes inner inner_in))
 
 pub sealing_in : (l : Label) (base : List ℕ) → IsKey base → IsKey (sealing_key l base)
 sealing_in label.Data base k = k
@@ -192,24 +210,30 @@ unfolding stream_block
 stream_from key nonce [] k = tt
 stream_from key nonce (i ∷ is) k =
     let block = 1 ∷ nonce ++ to_be_bytes w16 i in
-    bytes_append (enciphered key block) (flat_map (stream_block key nonce) is) (enciphered_in key block k) (stream_from key nonce is k)
+    bytes_append (enciphered key block) (flat_map (stream_block key nonce) is) (enciphered_in key block k)
+    (stream_from key nonce is k)
 
 pub crypted_in : (key nonce text : List ℕ) → AreBytes key → AreBytes text → AreBytes (crypted key nonce text)
 unfolding crypted stream
-crypted_in key nonce text k t = xored_in text (stream key nonce (block_count (length text))) t (stream_from key nonce (range_with_len 1 (block_count (length text))) k)
+crypted_in key nonce text k t = xored_in text (stream key nonce (block_count (length text))) t
+    (stream_from key nonce (range_with_len 1 (block_count (length text))) k)
 
 length-stream : (key nonce : List ℕ) (n : ℕ) → length key ≡ 16 → length (stream key nonce n) ≡ 16 * n
 unfolding stream stream_block
 length-stream key nonce zero h = refl
 length-stream key nonce (suc n) h =
-    let more : stream key nonce (suc n) ≡ stream key nonce n ++ stream_block key nonce (suc n) = rw add-one at (stream-more key nonce n) in
-    ap (length {A = ℕ}) more ∙ length-append (stream key nonce n) (stream_block key nonce (suc n)) ∙ omega (arith, length-stream key nonce n h, length-enciphered key (1 ∷ nonce ++ to_be_bytes w16 (suc n)) h)
+    let more : stream key nonce (suc n) ≡ stream key nonce n ++ stream_block key nonce (suc n) =
+    rw add-one at (stream-more key nonce n) in
+    ap (length {A = ℕ}) more ∙ length-append (stream key nonce n) (stream_block key nonce (suc n)) ∙ omega
+    (arith, length-stream key nonce n h, length-enciphered key (1 ∷ nonce ++ to_be_bytes w16 (suc n)) h)
 
 pub crypted_length : (key nonce text : List ℕ) → length key ≡ 16 → length (crypted key nonce text) ≡ length text
 unfolding crypted
-crypted_length key nonce text h = length-xored text (stream key nonce (block_count (length text))) (omega (arith, length-stream key nonce (block_count (length text)) h))
+crypted_length key nonce text h = length-xored text (stream key nonce (block_count (length text)))
+    (omega (arith, length-stream key nonce (block_count (length text)) h))
 
-chain_in : (key value : List ℕ) (blocks : List (List ℕ)) → AreBytes key → AreBytes value → AreBytes (chain key value blocks)
+chain_in : (key value : List ℕ) (blocks : List (List ℕ)) → AreBytes key → AreBytes value
+    → AreBytes (chain key value blocks)
 chain_in key value [] k v = v
 chain_in key value (b ∷ bs) k v = chain_in key (chained key value b) bs k (enciphered_in key (xored value b) k)
 
@@ -217,4 +241,7 @@ pub mic_in : (key nonce a message : List ℕ) → AreBytes key → AreBytes (mic
 unfolding mic_of stream_block
 mic_in key nonce a message k =
     let value = chain key (replicate 16 0) (authenticated_blocks nonce a message 4) in
-    taken 4 (xored value (stream_block key nonce 0)) (xored_in value (stream_block key nonce 0) (chain_in key (replicate 16 0) (authenticated_blocks nonce a message 4) k (zeros_in 16)) (enciphered_in key (1 ∷ nonce ++ to_be_bytes w16 0) k))
+    taken 4 (xored value (stream_block key nonce 0))
+    (xored_in value (stream_block key nonce 0)
+    (chain_in key (replicate 16 0) (authenticated_blocks nonce a message 4) k (zeros_in 16))
+    (enciphered_in key (1 ∷ nonce ++ to_be_bytes w16 0) k))

@@ -46,7 +46,8 @@ small_in bytes le is = (from_index bytes is, le)
 abbrev HasEui : Node → Type 0
 HasEui m = IsEui m.eui
 
-code_of_node : (m : Node) (o : Option Bytes) → IfSome o (λ code. sched.FitsNodeCode m code) → IfSome (option_map code_key o) IsKey
+code_of_node : (m : Node) (o : Option Bytes) → IfSome o (λ code. sched.FitsNodeCode m code)
+    → IfSome (option_map code_key o) IsKey
 code_of_node m None is = tt
 code_of_node m (Some code) is = code_in code is.0
 
@@ -72,32 +73,59 @@ euis_in [] all = tt
 euis_in (m ∷ ms) all = (all.0.0.1.0, euis_in ms all.1)
 
 -- a name that has a part represents an EUI
-by_name : (name : Bytes) (m : Node) (ms : List Node) (b : Bool) → HasEui m → (is_some (role_named name (map seated ms)) ≡ true → IsEui (named (map station_for ms) name))
-    → is_some (option_map (λ (seat : Seat). seat.node.role) (cond b (Some (seated m)) (find (λ seat. has_name name seat) (map seated ms)))) ≡ true
-    → IsEui (eui_or nobody (cond b (Some (station_for m)) (find (λ (s : Station). bytes_eq s.name name) (map station_for ms))))
+by_name : (name : Bytes) (m : Node) (ms : List Node) (b : Bool) → HasEui m
+    → (is_some (role_named name (map seated ms)) ≡ true → IsEui (named (map station_for ms) name))
+    → is_some
+    (option_map (λ (seat : Seat). seat.node.role)
+    (cond b (Some (seated m)) (find (λ seat. has_name name seat) (map seated ms)))) ≡ true
+    → IsEui
+    (eui_or nobody
+    (cond b (Some (station_for m)) (find (λ (s : Station). bytes_eq s.name name) (map station_for ms))))
 by_name name m ms true e more found = e
 by_name name m ms false e more found = more found
 
-named_in : (name : Bytes) (ms : List Node) → AllByRecursion HasEui ms → is_some (role_named name (map seated ms)) ≡ true → IsEui (named (map station_for ms) name)
+named_in : (name : Bytes) (ms : List Node) → AllByRecursion HasEui ms → is_some (role_named name (map seated ms))
+    ≡ true → IsEui (named (map station_for ms) name)
 named_in name [] all found = absurd (false≢true found)
 named_in name (m ∷ ms) all found = by_name name m ms (bytes_eq m.name name) all.0 (named_in name ms all.1) found
 
-same_role : (r : Role) → is_centre_role (station_for (record { name = []; role = r; eui = 0; short = 0; out_block = 0; in_block = 0; code = None; network = None; start_nwk = 0; start_aps = 0 })).role ≡ is_centre r
+same_role : (r : Role)
+    → is_centre_role
+    (station_for
+    (record {
+      name = [];
+      role = r;
+      eui = 0;
+      short = 0;
+      out_block = 0;
+      in_block = 0;
+      code = None;
+      network = None;
+      start_nwk = 0;
+      start_aps = 0;
+    })).role ≡ is_centre r
 same_role role.Centre = refl
 same_role role.Router = refl
 same_role role.Device = refl
 
-by_role : (m : Node) (ms : List Node) (b c : Bool) → b ≡ c → HasEui m → (list_any (λ (n : Node). is_centre n.role) ms ≡ true → IsEui (eui_or 18446744073709551616 (find (λ (s : Station). is_centre_role s.role) (map station_for ms))))
-    → (b || list_any (λ (n : Node). is_centre n.role) ms) ≡ true → IsEui (eui_or 18446744073709551616 (cond c (Some (station_for m)) (find (λ (s : Station). is_centre_role s.role) (map station_for ms))))
+by_role : (m : Node) (ms : List Node) (b c : Bool) → b ≡ c → HasEui m
+    → (list_any (λ (n : Node). is_centre n.role) ms ≡ true
+    → IsEui (eui_or 18446744073709551616 (find (λ (s : Station). is_centre_role s.role) (map station_for ms))))
+    → (b || list_any (λ (n : Node). is_centre n.role) ms) ≡ true
+    → IsEui
+    (eui_or 18446744073709551616
+    (cond c (Some (station_for m)) (find (λ (s : Station). is_centre_role s.role) (map station_for ms))))
 by_role m ms true true same e more found = e
 by_role m ms true false same e more found = absurd (false≢true (sym same))
 by_role m ms false true same e more found = e
 by_role m ms false false same e more found = more found
 
-centre_in : (ms : List Node) → AllByRecursion HasEui ms → list_any (λ (n : Node). is_centre n.role) ms ≡ true → IsEui (centre_of (map station_for ms))
+centre_in : (ms : List Node) → AllByRecursion HasEui ms → list_any (λ (n : Node). is_centre n.role) ms ≡ true
+    → IsEui (centre_of (map station_for ms))
 unfolding centre_of
 centre_in [] all found = absurd (false≢true found)
-centre_in (m ∷ ms) all found = by_role m ms (is_centre m.role) (is_centre_role (station_for m).role) (sym (same_role m.role)) all.0 (centre_in ms all.1) found
+centre_in (m ∷ ms) all found = by_role m ms (is_centre m.role) (is_centre_role (station_for m).role)
+    (sym (same_role m.role)) all.0 (centre_in ms all.1) found
 
 -- ---- events
 
@@ -115,18 +143,26 @@ module _ (ms : List Node) (all : AllByRecursion HasEui ms) where
   joins : (name : Bytes) → is_joiner (role_named name (map seated ms)) ≡ true → IsEui (named (map station_for ms) name)
   joins name e = named_in name ms all (joiner_is (role_named name (map seated ms)) e)
 
-  child : (name parent : Bytes) → are_child_and_parent name parent (map seated ms) ≡ true → IsEui (named (map station_for ms) name)
+  child : (name parent : Bytes) → are_child_and_parent name parent (map seated ms) ≡ true
+      → IsEui (named (map station_for ms) name)
   child name parent e =
-      joins name (second_of (not (bytes_eq name parent)) (is_joiner (role_named name (map seated ms))) (first_of (not (bytes_eq name parent) && is_joiner (role_named name (map seated ms))) (is_parent (role_named parent (map seated ms))) e))
+      joins name
+      (second_of (not (bytes_eq name parent)) (is_joiner (role_named name (map seated ms)))
+      (first_of (not (bytes_eq name parent) && is_joiner (role_named name (map seated ms)))
+      (is_parent (role_named parent (map seated ms))) e))
 
-  event_in : (event : Event) → FitsEvent event → has_its_nodes event (map seated ms) ≡ true → EventInRange (event_for (map station_for ms) event)
+  event_in : (event : Event) → FitsEvent event → has_its_nodes event (map seated ms) ≡ true
+      → EventInRange (event_for (map station_for ms) event)
   unfolding event_for
   event_in (Says name to bytes) f e = small_in bytes f.2.0 f.2.1
   event_in (Delivers frame name) f e = tt
   event_in (Ticks name) f e = tt
   event_in (Knocks name) f e = tt
   event_in (Rejoins name) f e = tt
-  event_in (Asks name partner) f e = joins partner (second_of (not (bytes_eq name partner) && is_joiner (role_named name (map seated ms))) (is_joiner (role_named partner (map seated ms))) e)
+  event_in (Asks name partner) f e =
+      joins partner
+      (second_of (not (bytes_eq name partner) && is_joiner (role_named name (map seated ms)))
+      (is_joiner (role_named partner (map seated ms))) e)
   event_in (Tells name partner bytes) f e = small_in bytes f.2.0 f.2.1
   event_in (Adopts parent name rejoin) f e = child name parent e
   event_in (Provisions name code) f e = (joins name e, code_in code f.1)
@@ -135,8 +171,13 @@ module _ (ms : List Node) (all : AllByRecursion HasEui ms) where
   event_in Switches f e = tt
   event_in (Repeats name) f e = joins name e
   event_in (Shares name partner) f e = (
-    joins name (second_of (not (bytes_eq name partner)) (is_joiner (role_named name (map seated ms))) (first_of (not (bytes_eq name partner) && is_joiner (role_named name (map seated ms))) (is_joiner (role_named partner (map seated ms))) e)),
-    joins partner (second_of (not (bytes_eq name partner) && is_joiner (role_named name (map seated ms))) (is_joiner (role_named partner (map seated ms))) e),
+    joins name
+        (second_of (not (bytes_eq name partner)) (is_joiner (role_named name (map seated ms)))
+        (first_of (not (bytes_eq name partner) && is_joiner (role_named name (map seated ms)))
+        (is_joiner (role_named partner (map seated ms))) e)),
+    joins partner
+        (second_of (not (bytes_eq name partner) && is_joiner (role_named name (map seated ms)))
+        (is_joiner (role_named partner (map seated ms))) e),
   )
   event_in (Resets name) f e = tt
   event_in (Boots name) f e = tt
@@ -144,16 +185,20 @@ module _ (ms : List Node) (all : AllByRecursion HasEui ms) where
   event_in (Stops name calls torn) f e = tt
   event_in (Fails name call) f e = tt
   event_in (Injects bytes) f e = (from_index bytes f.2, f.1)
-  event_in (ForgesNet to from source key sequence counter content) f e = (f.2.0, key_in key f.3, omega (arith, f.4), f.5, small_in content f.6.1 f.6.2)
+  event_in (ForgesNet to from source key sequence counter content) f e =
+      (f.2.0, key_in key f.3, omega (arith, f.4), f.5, small_in content f.6.1 f.6.2)
   event_in (ForgesBoth to from source key sequence counter label base aps_counter command) f e =
       (f.2.0, key_in key f.3, omega (arith, f.4), f.5, key_in base f.6.1, f.6.2, small_in command f.6.3.1 f.6.3.2)
-  event_in (ForgesOpen to from source label base aps_counter command) f e = (f.2.0, key_in base f.3.1, f.3.2, small_in command f.3.3.1 f.3.3.2)
+  event_in (ForgesOpen to from source label base aps_counter command) f e =
+      (f.2.0, key_in base f.3.1, f.3.2, small_in command f.3.3.1 f.3.3.2)
 
-events_in : (p : Schedule) (events : List Event) → AllByRecursion HasEui p.nodes → AllByRecursion (FitsSchedule p) events → AllByRecursion EventInRange (map (event_for (stations_for p)) events)
+events_in : (p : Schedule) (events : List Event) → AllByRecursion HasEui p.nodes
+    → AllByRecursion (FitsSchedule p) events → AllByRecursion EventInRange (map (event_for (stations_for p)) events)
 events_in p [] all is = tt
 events_in p (event ∷ events) all is = (event_in p.nodes all event is.0.0 is.0.1, events_in p events all is.1)
 
-draws_in : (nodes : List Node) (draws : List Bytes) → AllByRecursion (IsNewKey nodes) draws → AllByRecursion IsKey draws
+draws_in : (nodes : List Node) (draws : List Bytes) → AllByRecursion (IsNewKey nodes) draws
+    → AllByRecursion IsKey draws
 draws_in nodes [] is = tt
 draws_in nodes (draw ∷ draws) is = (key_in draw is.0.0, draws_in nodes draws is.1)
 
@@ -182,7 +227,8 @@ unlike : (a b : Bytes) (t : Bool) → bytes_eq a b ≡ t → (a ≡ b → ⊥) �
 unlike a b true e apart = absurd (apart ((bytes_eq-Decides a b).0 e))
 unlike a b false e apart = e
 
-others_in : (m : Node) (ms : List Node) → AllByRecursion (Apart m) ms → AllByRecursion (λ (q : Station). bytes_eq m.name q.name ≡ false) (map station_for ms)
+others_in : (m : Node) (ms : List Node) → AllByRecursion (Apart m) ms
+    → AllByRecursion (λ (q : Station). bytes_eq m.name q.name ≡ false) (map station_for ms)
 others_in m [] all = tt
 others_in m (n ∷ ms) all = (unlike m.name n.name (bytes_eq m.name n.name) refl all.0.0, others_in m ms all.1)
 
@@ -191,4 +237,6 @@ differ_in [] apart = tt
 differ_in (m ∷ ms) apart = (others_in m ms apart.0, differ_in ms apart.1)
 
 pub are_named : (p : Schedule) → sched.IsSchedule p → AreNamed (model.stations (schedule_of p))
-are_named p is = subst AreNamed (sym (same_stations p)) (record { names = names_in p.nodes is.so_far.nodes; differ = differ_in p.nodes is.so_far.apart })
+are_named p is =
+    subst AreNamed (sym (same_stations p))
+    (record { names = names_in p.nodes is.so_far.nodes; differ = differ_in p.nodes is.so_far.apart })

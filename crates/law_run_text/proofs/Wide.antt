@@ -28,10 +28,28 @@ use Rattle.zb_trace.specs.Text.{term_words, refusal_words}
 
 term_wide : (t : Term) → TermInRange t → AllByRecursion MayBe (term_words (term_of t))
 unfolding term_words
-term_wide t is =
-    (tt, (tt, ((by_index t.base is.base.0, is.base.1), (is.source, (is.counter, (is.control, ((by_index t.header is.header.0, is.header.1), ((by_index t.content is.content.0, is.content.1), tt))))))))
+term_wide t is = (
+  tt,
+  (
+    tt,
+    (
+      (by_index t.base is.base.0, is.base.1),
+      (
+        is.source,
+        (
+          is.counter,
+          (
+            is.control,
+            ((by_index t.header is.header.0, is.header.1), ((by_index t.content is.content.0, is.content.1), tt)),
+          ),
+        ),
+      ),
+    ),
+  ),
+)
 
-reason_wide : (place : Place) (why : Reason) → ReasonInRange why → AllByRecursion MayBe (refusal_words (refusal_for (place_for place) why))
+reason_wide : (place : Place) (why : Reason) → ReasonInRange why
+    → AllByRecursion MayBe (refusal_words (refusal_for (place_for place) why))
 unfolding refusal_words
 reason_wide place (Stale floor) r = (tt, (tt, (r, tt)))
 reason_wide place (KeyOld row) r = (tt, (tt, (r, tt)))
@@ -67,7 +85,8 @@ change_wide event n (Start key value) c r = (c, (tt, (tt, (key_wide key r.0, (r.
 change_wide event n (Moved (Draw key)) c r = (c, (tt, (key_wide key r, tt)))
 change_wide event n (Moved (DropNet key)) c r = (c, (tt, (tt, (tt, (key_wide key r, tt)))))
 change_wide event n (Moved (DropLink partner key)) c r = (c, (tt, (tt, (tt, (r.0, (key_wide key r.1, tt))))))
-change_wide event n (Moved (Install key sequence)) c r = (c, (tt, (tt, (key_wide key r.0, (sequence_in sequence r.1, tt)))))
+change_wide event n (Moved (Install key sequence)) c r =
+    (c, (tt, (tt, (key_wide key r.0, (sequence_in sequence r.1, tt)))))
 change_wide event n (Moved (Active key)) c r = (c, (tt, (tt, (key_wide key r, tt))))
 change_wide event n (Moved (Row partner key a)) c r = (c, (tt, (tt, (r.0, (key_wide key r.1, (tt, tt))))))
 change_wide event n (Moved (Pair first second key)) c r = (c, (tt, (tt, (r.0, (r.1, (key_wide key r.2, tt))))))
@@ -81,7 +100,8 @@ change_wide event n (Moved (Untold device)) c r = (c, (tt, (r, tt)))
 line_wide : (m : Line) → LineInRange m → IsWide m
 unfolding IsWide line_for
 line_wide (log.Declared p) r = (omega arith, (tt, (tt, (tt, (r.eui, (r.short, (r.out_block, (r.in_block, tt))))))))
-line_wide (log.GivenNet n key sequence) r = (omega arith, (tt, (tt, (tt, (key_wide key r.0, (sequence_in sequence r.1, tt))))))
+line_wide (log.GivenNet n key sequence) r =
+    (omega arith, (tt, (tt, (tt, (key_wide key r.0, (sequence_in sequence r.1, tt))))))
 line_wide (log.GivenLink n partner key) r = (omega arith, (tt, (tt, (tt, (r.0, (key_wide key r.1, tt))))))
 line_wide (log.Counter n l limit) r = (omega arith, (tt, (tt, (tt, (r, tt)))))
 line_wide (log.Changed event n e) r = change_wide event n e r.0 r.1
@@ -107,5 +127,7 @@ pub are_their_own : (p : Schedule) → sched.IsSchedule p → AreTheirOwn (sched
 are_their_own p is =
     let w = schedule_of p in
     let asked = premises p is in
-    let wide : AreWide real w = all_wide (transcript real w) (in_range real opens_as_judged real_keeps w asked.schedule (different p is) (schedule_in_range p is)) in
+    let wide : AreWide real w =
+    all_wide (transcript real w)
+    (in_range real opens_as_judged real_keeps w asked.schedule (different p is) (schedule_in_range p is)) in
     record { wide = wide; alone = stand_alone real w asked.schedule asked.one_centre (are_named p is) wide }

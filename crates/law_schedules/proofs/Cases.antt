@@ -36,15 +36,20 @@ x text = pairs_of (codes text)
 -- The centre isn't the first node, so that what is the centre's is seen to be.
 abbrev text : List ℕ
 text =
-    codes "# each form of line\n" ++ (codes "node r router 00124B0000000003 2B3C 5 2\n" ++ (codes "node c centre 00124B0000000001 0000 16 4\n"
+    codes "# each form of line\n"
+    ++ (codes "node r router 00124B0000000003 2B3C 5 2\n" ++ (codes "node c centre 00124B0000000001 0000 16 4\n"
     ++ (codes "node d device 00124B0000000002 1A2B 8 3\n" ++ (codes "node e device 00124B0000000004 5E6F 4 1\n"
     ++ (codes "code d 83FED3407A939723A5C639B26916D505C3B5\n" ++ (codes "netkey c 000102030405060708090A0B0C0D0E0F 6\n"
-    ++ (codes "netkey r 000102030405060708090A0B0C0D0E0F 7\n" ++ (codes "counter c nwk 7\n" ++ (codes "counter d aps 9\n"
+    ++ (codes "netkey r 000102030405060708090A0B0C0D0E0F 7\n"
+    ++ (codes "counter c nwk 7\n" ++ (codes "counter d aps 9\n"
     ++ (codes "draw A0A1A2A3A4A5A6A7A8A9AAABACADAEAF\n" ++ (codes "draw 303132333435363738393A3B3C3D3E3F\n"
-    ++ (codes "provision d 83FED3407A939723A5C639B26916D505C3B5\nknock d\nchild c d join\nchild r e rejoin\ndeliver 3 d\ntimer d\ntimer c\n"
-    ++ (codes "say d FFFF 0102\nrejoin d\nagain d\nroll\nswitch\nremove d via r\nreset d\nboot e\ndump r\nstop d 3 A5\nfail e 4\ninject 00FF\n"
+    ++ (codes
+    "provision d 83FED3407A939723A5C639B26916D505C3B5\nknock d\nchild c d join\nchild r e rejoin\ndeliver 3 d\ntimer d\ntimer c\n"
+    ++ (codes
+    "say d FFFF 0102\nrejoin d\nagain d\nroll\nswitch\nremove d via r\nreset d\nboot e\ndump r\nstop d 3 A5\nfail e 4\ninject 00FF\n"
     ++ (codes "forge 1A2B 0000 00124B0000000001 net 000102030405060708090A0B0C0D0E0F 6 50 0001\n"
-    ++ (codes "forge 0000 1A2B 00124B0000000002 net 000102030405060708090A0B0C0D0E0F 6 51 aps load A0A1A2A3A4A5A6A7A8A9AAABACADAEAF 52 0804\n"
+    ++ (codes
+    "forge 0000 1A2B 00124B0000000002 net 000102030405060708090A0B0C0D0E0F 6 51 aps load A0A1A2A3A4A5A6A7A8A9AAABACADAEAF 52 0804\n"
     ++ (codes "forge 1A2B 0000 00124B0000000001 open aps transport A0A1A2A3A4A5A6A7A8A9AAABACADAEAF 53 0901\n"
     ++ codes "ask d e\nshare e d\ntell d e 55\n"))))))))))))))))
 
@@ -101,10 +106,54 @@ e_name = codes "e"
 
 abbrev read_nodes : List Node
 read_nodes =
-    record { name = r_name; role = role.Router; eui = r; short = 11068; out_block = 5; in_block = 2; code = None; network = Some (key, 7); start_nwk = 0; start_aps = 0 } ∷
-    record { name = c_name; role = role.Centre; eui = c; short = 0; out_block = 16; in_block = 4; code = None; network = Some (key, 6); start_nwk = 7; start_aps = 0 } ∷
-    record { name = d_name; role = role.Device; eui = d; short = 6699; out_block = 8; in_block = 3; code = Some code; network = None; start_nwk = 0; start_aps = 9 } ∷
-    record { name = e_name; role = role.Device; eui = e; short = 24175; out_block = 4; in_block = 1; code = None; network = None; start_nwk = 0; start_aps = 0 } ∷
+    record {
+      name = r_name;
+      role = role.Router;
+      eui = r;
+      short = 11068;
+      out_block = 5;
+      in_block = 2;
+      code = None;
+      network = Some (key, 7);
+      start_nwk = 0;
+      start_aps = 0;
+    } ∷
+    record {
+      name = c_name;
+      role = role.Centre;
+      eui = c;
+      short = 0;
+      out_block = 16;
+      in_block = 4;
+      code = None;
+      network = Some (key, 6);
+      start_nwk = 7;
+      start_aps = 0;
+    } ∷
+    record {
+      name = d_name;
+      role = role.Device;
+      eui = d;
+      short = 6699;
+      out_block = 8;
+      in_block = 3;
+      code = Some code;
+      network = None;
+      start_nwk = 0;
+      start_aps = 9;
+    } ∷
+    record {
+      name = e_name;
+      role = role.Device;
+      eui = e;
+      short = 24175;
+      out_block = 4;
+      in_block = 1;
+      code = None;
+      network = None;
+      start_nwk = 0;
+      start_aps = 0;
+    } ∷
     []
 
 abbrev read_events : List Event
@@ -140,7 +189,8 @@ abbrev read_schedule : Schedule
 read_schedule = record { nodes = read_nodes; draws = other ∷ third ∷ []; events = read_events }
 
 text_reads_as_schedule : result_ok (schedule_in text) ≡ Some read_schedule
-unfolding code_of crc remainder added divided message_bits decode_pairs hash blocks_of xored enciphered last_round round_key next_key state_after round mix_column substitute times
+unfolding code_of crc remainder added divided message_bits decode_pairs hash blocks_of xored enciphered last_round
+    round_key next_key state_after round mix_column substitute times
 text_reads_as_schedule = refl
 
 -- what it is in the model

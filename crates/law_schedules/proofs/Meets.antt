@@ -44,31 +44,42 @@ same_centre Centre = refl
 same_centre Router = refl
 same_centre Device = refl
 
-related_map : {X Y : Type 0} (R : X → X → Type 0) (S : Y → Y → Type 0) (f : X → Y) → ((a b : X) → R a b → S (f a) (f b)) → (xs : List X) → Pairwise R xs → Pairwise S (map f xs)
+related_map : {X Y : Type 0} (R : X → X → Type 0) (S : Y → Y → Type 0) (f : X → Y)
+    → ((a b : X) → R a b → S (f a) (f b)) → (xs : List X) → Pairwise R xs → Pairwise S (map f xs)
 related_map R S f each [] pairs = tt
-related_map R S f each (x ∷ xs) pairs = (mapped_all (R x) (S (f x)) f (each x) xs pairs.0, related_map R S f each xs pairs.1)
+related_map R S f each (x ∷ xs) pairs =
+    (mapped_all (R x) (S (f x)) f (each x) xs pairs.0, related_map R S f each xs pairs.1)
 
-unmapped_all : {X Y : Type 0} (Q : Y → Type 0) (f : X → Y) (xs : List X) → AllByRecursion Q (map f xs) → AllByRecursion (λ x. Q (f x)) xs
+unmapped_all : {X Y : Type 0} (Q : Y → Type 0) (f : X → Y) (xs : List X) → AllByRecursion Q (map f xs)
+    → AllByRecursion (λ x. Q (f x)) xs
 unmapped_all Q f [] all = tt
 unmapped_all Q f (x ∷ xs) all = (all.0, unmapped_all Q f xs all.1)
 
 names_apart : (name : Bytes) (m n : Node) → Apart m n → NotBoth (has_that_name name) (station_for m) (station_for n)
-names_apart name m n apart e f = apart.0 ((bytes_eq-Decides m.name name).0 e ∙ sym ((bytes_eq-Decides n.name name).0 f))
+names_apart name m n apart e f =
+    apart.0 ((bytes_eq-Decides m.name name).0 e ∙ sym ((bytes_eq-Decides n.name name).0 f))
 
 -- each node of a name is the one for which the name stands
-pub of_that_name : (name : Bytes) (ms : List Node) → Pairwise Apart ms → AllByRecursion (λ (m : Node). bytes_eq m.name name ≡ true → m.eui ≡ named (map station_for ms) name) ms
+pub of_that_name : (name : Bytes) (ms : List Node) → Pairwise Apart ms
+    → AllByRecursion (λ (m : Node). bytes_eq m.name name ≡ true → m.eui ≡ named (map station_for ms) name) ms
 of_that_name name ms apart =
-    unmapped_all (λ (s : Station). has_that_name name s ≡ true → s.eui ≡ named (map station_for ms) name) station_for ms
-    (the_one (has_that_name name) (map station_for ms) (related_map Apart (NotBoth (has_that_name name)) station_for (names_apart name) ms apart))
+    unmapped_all (λ (s : Station). has_that_name name s ≡ true → s.eui ≡ named (map station_for ms) name) station_for
+    ms
+    (the_one (has_that_name name) (map station_for ms)
+    (related_map Apart (NotBoth (has_that_name name)) station_for (names_apart name) ms apart))
 
 some_role : (name : Bytes) (m : Node) (ms : List Node) (b : Bool) → bytes_eq m.name name ≡ b
-    → (is_some (role_named name (map seated ms)) ≡ true → is_some (find (has_that_name name) (map station_for ms)) ≡ true)
-    → is_some (option_map (λ (seat : Seat). seat.node.role) (cond b (Some (seated m)) (find (λ seat. has_name name seat) (map seated ms)))) ≡ true
+    → (is_some (role_named name (map seated ms)) ≡ true → is_some (find (has_that_name name) (map station_for ms))
+    ≡ true)
+    → is_some
+    (option_map (λ (seat : Seat). seat.node.role)
+    (cond b (Some (seated m)) (find (λ seat. has_name name seat) (map seated ms)))) ≡ true
     → is_some (cond b (Some (station_for m)) (find (has_that_name name) (map station_for ms))) ≡ true
 some_role name m ms true e more found = refl
 some_role name m ms false e more found = more found
 
-found_name : (name : Bytes) (ms : List Node) → is_some (role_named name (map seated ms)) ≡ true → is_some (find (has_that_name name) (map station_for ms)) ≡ true
+found_name : (name : Bytes) (ms : List Node) → is_some (role_named name (map seated ms)) ≡ true
+    → is_some (find (has_that_name name) (map station_for ms)) ≡ true
 found_name name [] found = found
 found_name name (m ∷ ms) found = some_role name m ms (bytes_eq m.name name) refl (found_name name ms) found
 
@@ -85,8 +96,11 @@ pub names : (p : Schedule) (n : ℕ) → is_some (model_station (stations_for p)
 names p n found = subst (λ ps. is_some (model_station ps n) ≡ true) (sym (same_stations p)) found
 
 -- a name that has a part is declared
-a_node : (p : Schedule) (name : Bytes) → is_some (role_named name (map seated p.nodes)) ≡ true → Names (schedule_of p) (named (stations_for p) name)
-a_node p name found = names p (named (stations_for p) name) (declared (has_that_name name) (stations_for p) (found_name name p.nodes found))
+a_node : (p : Schedule) (name : Bytes) → is_some (role_named name (map seated p.nodes)) ≡ true
+    → Names (schedule_of p) (named (stations_for p) name)
+a_node p name found =
+    names p (named (stations_for p) name)
+    (declared (has_that_name name) (stations_for p) (found_name name p.nodes found))
 
 joiner_is : (o : Option Role) → is_joiner o ≡ true → is_some o ≡ true
 joiner_is None e = e
@@ -96,23 +110,29 @@ parent_is : (o : Option Role) → is_parent o ≡ true → is_some o ≡ true
 parent_is None e = e
 parent_is (Some r) e = refl
 
-a_joiner : (p : Schedule) (name : Bytes) → is_joiner (role_named name (map seated p.nodes)) ≡ true → Names (schedule_of p) (named (stations_for p) name)
+a_joiner : (p : Schedule) (name : Bytes) → is_joiner (role_named name (map seated p.nodes)) ≡ true
+    → Names (schedule_of p) (named (stations_for p) name)
 a_joiner p name found = a_node p name (joiner_is (role_named name (map seated p.nodes)) found)
 
-found_centre_by : (m : Node) (ms : List Node) (b c : Bool) → b ≡ c → (list_any (λ (n : Node). is_centre n.role) ms ≡ true → is_some (find is_a_centre (map station_for ms)) ≡ true)
-    → (b || list_any (λ (n : Node). is_centre n.role) ms) ≡ true → is_some (cond c (Some (station_for m)) (find is_a_centre (map station_for ms))) ≡ true
+found_centre_by : (m : Node) (ms : List Node) (b c : Bool) → b ≡ c
+    → (list_any (λ (n : Node). is_centre n.role) ms ≡ true → is_some (find is_a_centre (map station_for ms)) ≡ true)
+    → (b || list_any (λ (n : Node). is_centre n.role) ms) ≡ true
+    → is_some (cond c (Some (station_for m)) (find is_a_centre (map station_for ms))) ≡ true
 found_centre_by m ms true true e more found = refl
 found_centre_by m ms true false e more found = absurd (false≢true (sym e))
 found_centre_by m ms false true e more found = refl
 found_centre_by m ms false false e more found = more found
 
-found_centre : (ms : List Node) → list_any (λ (n : Node). is_centre n.role) ms ≡ true → is_some (find is_a_centre (map station_for ms)) ≡ true
+found_centre : (ms : List Node) → list_any (λ (n : Node). is_centre n.role) ms ≡ true
+    → is_some (find is_a_centre (map station_for ms)) ≡ true
 found_centre [] found = found
-found_centre (m ∷ ms) found = found_centre_by m ms (is_centre m.role) (is_centre_role (model_role m.role)) (sym (same_centre m.role)) (found_centre ms) found
+found_centre (m ∷ ms) found = found_centre_by m ms (is_centre m.role) (is_centre_role (model_role m.role))
+    (sym (same_centre m.role)) (found_centre ms) found
 
 the_centre : (p : Schedule) → sched.IsSchedule p → Names (schedule_of p) (centre_of (stations_for p))
 unfolding centre_of
-the_centre p is = names p (first_by is_a_centre (stations_for p)) (declared is_a_centre (stations_for p) (found_centre p.nodes is.centre))
+the_centre p is = names p (first_by is_a_centre (stations_for p))
+    (declared is_a_centre (stations_for p) (found_centre p.nodes is.centre))
 
 -- Each event is of a declared node.
 
@@ -122,7 +142,8 @@ joiner_of_two a b o e = (and_parts a (is_joiner o) (and_parts (a && is_joiner o)
 second_of : (a b : Bool) → (a && b) ≡ true → b ≡ true
 second_of a b e = (and_parts a b e).1
 
-event_names : (p : Schedule) → sched.IsSchedule p → (event : Event) → has_its_nodes event (map seated p.nodes) ≡ true → NamesNode (schedule_of p) (event_for (stations_for p) event)
+event_names : (p : Schedule) → sched.IsSchedule p → (event : Event) → has_its_nodes event (map seated p.nodes) ≡ true
+    → NamesNode (schedule_of p) (event_for (stations_for p) event)
 unfolding event_for
 event_names p is (Says name to bytes) e = a_node p name e
 event_names p is (Delivers frame name) e = a_node p name e
@@ -130,7 +151,10 @@ event_names p is (Ticks name) e = a_node p name e
 event_names p is (Knocks name) e = a_joiner p name e
 event_names p is (Rejoins name) e = a_joiner p name e
 event_names p is (Adopts parent name rejoin) e =
-    a_node p parent (parent_is (role_named parent (map seated p.nodes)) (second_of (not (bytes_eq name parent) && is_joiner (role_named name (map seated p.nodes))) (is_parent (role_named parent (map seated p.nodes))) e))
+    a_node p parent
+    (parent_is (role_named parent (map seated p.nodes))
+    (second_of (not (bytes_eq name parent) && is_joiner (role_named name (map seated p.nodes)))
+    (is_parent (role_named parent (map seated p.nodes))) e))
 event_names p is (Provisions name code) e = the_centre p is
 event_names p is (Repeats name) e = the_centre p is
 event_names p is Rolls e = the_centre p is
@@ -146,17 +170,29 @@ event_names p is (ForgesNet to from source key sequence counter content) e = tt
 event_names p is (ForgesBoth to from source key sequence counter label base aps_counter command) e = tt
 event_names p is (ForgesOpen to from source label base aps_counter command) e = tt
 event_names p is (Asks name partner) e =
-    a_joiner p name (joiner_of_two (not (bytes_eq name partner)) (is_joiner (role_named partner (map seated p.nodes))) (role_named name (map seated p.nodes)) e)
+    a_joiner p name
+    (joiner_of_two (not (bytes_eq name partner)) (is_joiner (role_named partner (map seated p.nodes)))
+    (role_named name (map seated p.nodes)) e)
 event_names p is (Shares name partner) e = the_centre p is
 event_names p is (Tells name partner bytes) e =
-    a_joiner p name (joiner_of_two (not (bytes_eq name partner)) (is_joiner (role_named partner (map seated p.nodes))) (role_named name (map seated p.nodes)) e)
+    a_joiner p name
+    (joiner_of_two (not (bytes_eq name partner)) (is_joiner (role_named partner (map seated p.nodes)))
+    (role_named name (map seated p.nodes)) e)
 
 is_member : (m : Node) → FitsNode m → IsMember (node_for m)
-is_member m f = record { eui = f.0.1.0; out_block = grind (arith, nat_tests, f.1); in_block = grind (arith, nat_tests, f.1); start_nwk = f.4; start_aps = f.5 }
+is_member m f =
+    record {
+      eui = f.0.1.0;
+      out_block = grind (arith, nat_tests, f.1);
+      in_block = grind (arith, nat_tests, f.1);
+      start_nwk = f.4;
+      start_aps = f.5;
+    }
 
 -- One centre
 
-not_both_centres : (m n : Node) → (is_centre m.role ≡ true → is_centre n.role ≡ true → ⊥) → NotBoth is_a_centre (station_for m) (station_for n)
+not_both_centres : (m n : Node) → (is_centre m.role ≡ true → is_centre n.role ≡ true → ⊥)
+    → NotBoth is_a_centre (station_for m) (station_for n)
 not_both_centres m n one e f = one (sym (same_centre m.role) ∙ e) (sym (same_centre n.role) ∙ f)
 
 abbrev CentreIs : List Station → ℕ → Type 0
@@ -167,31 +203,43 @@ unfolding centre_of
 one p is =
     subst (λ ps. CentreIs ps (first_by is_a_centre ps)) (sym (same_stations p))
     (the_one is_a_centre (stations_for p)
-    (related_map (λ (m n : Node). is_centre m.role ≡ true → is_centre n.role ≡ true → ⊥) (NotBoth is_a_centre) station_for not_both_centres p.nodes
+    (related_map (λ (m n : Node). is_centre m.role ≡ true → is_centre n.role ≡ true → ⊥) (NotBoth is_a_centre)
+    station_for not_both_centres p.nodes
     (one_centre p.nodes is.so_far.nodes is.so_far.apart)))
 
 euis_apart : (m n : Node) → Apart m n → EuisDiffer (station_for m) (station_for n)
 euis_apart m n apart = apart.1
 
-pub centre_alone : (p : Schedule) → sched.IsSchedule p → AllByRecursion (λ (s : Station). s.eui ≡ centre_of (stations_for p) → is_a_centre s ≡ true) (stations_for p)
+pub centre_alone : (p : Schedule) → sched.IsSchedule p
+    → AllByRecursion (λ (s : Station). s.eui ≡ centre_of (stations_for p) → is_a_centre s ≡ true) (stations_for p)
 unfolding centre_of
-centre_alone p is = passes is_a_centre (stations_for p) (related_map Apart EuisDiffer station_for euis_apart p.nodes is.so_far.apart) (found_centre p.nodes is.centre)
+centre_alone p is =
+    passes is_a_centre (stations_for p) (related_map Apart EuisDiffer station_for euis_apart p.nodes is.so_far.apart)
+    (found_centre p.nodes is.centre)
 
 -- what each declared node has, the one that is found has, and it passes the test
-found_role_by : (Q : Station → Type 0) (test : Station → Bool) (s : Station) (o : Option Station) (b : Bool) → test s ≡ b → Q s → (is_some o ≡ true → Q (model.station_or o) × (test (model.station_or o) ≡ true))
-    → is_some (cond b (Some s) o) ≡ true → Q (model.station_or (cond b (Some s) o)) × (test (model.station_or (cond b (Some s) o)) ≡ true)
+found_role_by : (Q : Station → Type 0) (test : Station → Bool) (s : Station) (o : Option Station) (b : Bool) → test s
+    ≡ b → Q s → (is_some o ≡ true → Q (model.station_or o) × (test (model.station_or o) ≡ true))
+    → is_some (cond b (Some s) o) ≡ true → Q (model.station_or (cond b (Some s) o))
+    × (test (model.station_or (cond b (Some s) o)) ≡ true)
 found_role_by Q test s o true e q more found = (q, e)
 found_role_by Q test s o false e q more found = more found
 
-found_has : (Q : Station → Type 0) (test : Station → Bool) (ss : List Station) → AllByRecursion Q ss → is_some (find test ss) ≡ true → Q (model.station_or (find test ss)) × (test (model.station_or (find test ss)) ≡ true)
+found_has : (Q : Station → Type 0) (test : Station → Bool) (ss : List Station) → AllByRecursion Q ss
+    → is_some (find test ss) ≡ true → Q (model.station_or (find test ss))
+    × (test (model.station_or (find test ss)) ≡ true)
 found_has Q test [] all found = absurd (false≢true found)
-found_has Q test (s ∷ ss) all found = found_role_by Q test s (find test ss) (test s) refl all.0 (found_has Q test ss all.1) found
+found_has Q test (s ∷ ss) all found = found_role_by Q test s (find test ss) (test s) refl all.0
+    (found_has Q test ss all.1) found
 
 -- a router or device isn't the centre
 
-not_centre_by : (c : ℕ) (name : Bytes) (m : Node) (ms : List Node) (b : Bool) → bytes_eq m.name name ≡ b → (m.eui ≡ c → is_a_centre (station_for m) ≡ true)
+not_centre_by : (c : ℕ) (name : Bytes) (m : Node) (ms : List Node) (b : Bool) → bytes_eq m.name name ≡ b
+    → (m.eui ≡ c → is_a_centre (station_for m) ≡ true)
     → (is_joiner (role_named name (map seated ms)) ≡ true → named (map station_for ms) name ≡ c → ⊥)
-    → is_joiner (option_map (λ (seat : Seat). seat.node.role) (cond b (Some (seated m)) (find (λ seat. has_name name seat) (map seated ms)))) ≡ true
+    → is_joiner
+    (option_map (λ (seat : Seat). seat.node.role)
+    (cond b (Some (seated m)) (find (λ seat. has_name name seat) (map seated ms)))) ≡ true
     → eui_or nobody (cond b (Some (station_for m)) (find (has_that_name name) (map station_for ms))) ≡ c → ⊥
 not_centre_by c name m ms true e alone more joins same = no_joiner m.role joins (sym (same_centre m.role) ∙ alone same)
   where
@@ -201,41 +249,56 @@ not_centre_by c name m ms true e alone more joins same = no_joiner m.role joins 
     no_joiner Device joins centre = false≢true centre
 not_centre_by c name m ms false e alone more joins same = more joins same
 
-not_centre : (c : ℕ) (name : Bytes) (ms : List Node) → AllByRecursion (λ (m : Node). m.eui ≡ c → is_a_centre (station_for m) ≡ true) ms
+not_centre : (c : ℕ) (name : Bytes) (ms : List Node)
+    → AllByRecursion (λ (m : Node). m.eui ≡ c → is_a_centre (station_for m) ≡ true) ms
     → is_joiner (role_named name (map seated ms)) ≡ true → named (map station_for ms) name ≡ c → ⊥
 not_centre c name [] alone joins same = false≢true joins
-not_centre c name (m ∷ ms) alone joins same = not_centre_by c name m ms (bytes_eq m.name name) refl alone.0 (not_centre c name ms alone.1) joins same
+not_centre c name (m ∷ ms) alone joins same = not_centre_by c name m ms (bytes_eq m.name name) refl alone.0
+    (not_centre c name ms alone.1) joins same
 
 -- Each event of a node's own is for its role.
 
 centre_by : (n : ℕ) (s : Station) → (s.eui ≡ n → is_a_centre s ≡ true) × (nat_eq s.eui n ≡ true) → is_a_centre s ≡ true
 centre_by n s f = f.0 (eqb-true s.eui n f.1)
 
-member_by : (n c : ℕ) (s : Station) (b : Bool) → is_a_centre s ≡ b → (is_a_centre s ≡ true → s.eui ≡ c) × (nat_eq s.eui n ≡ true) → (n ≡ c → ⊥) → b ≡ false
+member_by : (n c : ℕ) (s : Station) (b : Bool) → is_a_centre s ≡ b → (is_a_centre s ≡ true → s.eui ≡ c)
+    × (nat_eq s.eui n ≡ true) → (n ≡ c → ⊥) → b ≡ false
 member_by n c s true e f differ = absurd (differ (sym (eqb-true s.eui n f.1) ∙ f.0 e))
 member_by n c s false e f differ = refl
 
-centre_role : (p : Schedule) → sched.IsSchedule p → is_centre_role (model.setting_of (schedule_of p) (centre_of (stations_for p))).me.role ≡ true
+centre_role : (p : Schedule) → sched.IsSchedule p
+    → is_centre_role (model.setting_of (schedule_of p) (centre_of (stations_for p))).me.role ≡ true
 unfolding model.setting_of model_station
 centre_role p is =
-    centre_by (centre_of (stations_for p)) (model.station_or (model_station (model.stations (schedule_of p)) (centre_of (stations_for p))))
-    (found_has (λ (s : Station). s.eui ≡ centre_of (stations_for p) → is_a_centre s ≡ true) (λ (s : Station). nat_eq s.eui (centre_of (stations_for p))) (model.stations (schedule_of p))
-    (subst (λ ps. AllByRecursion (λ (s : Station). s.eui ≡ centre_of (stations_for p) → is_a_centre s ≡ true) ps) (sym (same_stations p)) (centre_alone p is)) (the_centre p is))
+    centre_by (centre_of (stations_for p))
+    (model.station_or (model_station (model.stations (schedule_of p)) (centre_of (stations_for p))))
+    (found_has (λ (s : Station). s.eui ≡ centre_of (stations_for p) → is_a_centre s ≡ true)
+    (λ (s : Station). nat_eq s.eui (centre_of (stations_for p))) (model.stations (schedule_of p))
+    (subst (λ ps. AllByRecursion (λ (s : Station). s.eui ≡ centre_of (stations_for p) → is_a_centre s ≡ true) ps)
+    (sym (same_stations p)) (centre_alone p is)) (the_centre p is))
 
-member_role : (p : Schedule) → sched.IsSchedule p → (n : ℕ) → Names (schedule_of p) n → (n ≡ centre_of (model.stations (schedule_of p)) → ⊥) → is_centre_role (model.setting_of (schedule_of p) n).me.role ≡ false
+member_role : (p : Schedule) → sched.IsSchedule p → (n : ℕ) → Names (schedule_of p) n
+    → (n ≡ centre_of (model.stations (schedule_of p)) → ⊥)
+    → is_centre_role (model.setting_of (schedule_of p) n).me.role ≡ false
 unfolding model.setting_of model_station
 member_role p is n named_ differ =
-    member_by n (centre_of (model.stations (schedule_of p))) (model.station_or (model_station (model.stations (schedule_of p)) n)) (is_a_centre (model.station_or (model_station (model.stations (schedule_of p)) n))) refl
-    (found_has (λ (s : Station). is_a_centre s ≡ true → s.eui ≡ centre_of (model.stations (schedule_of p))) (λ (s : Station). nat_eq s.eui n) (model.stations (schedule_of p)) (one p is) named_) differ
+    member_by n (centre_of (model.stations (schedule_of p)))
+    (model.station_or (model_station (model.stations (schedule_of p)) n))
+    (is_a_centre (model.station_or (model_station (model.stations (schedule_of p)) n))) refl
+    (found_has (λ (s : Station). is_a_centre s ≡ true → s.eui ≡ centre_of (model.stations (schedule_of p)))
+    (λ (s : Station). nat_eq s.eui n) (model.stations (schedule_of p)) (one p is) named_) differ
 
-joiner_role : (p : Schedule) → sched.IsSchedule p → (name : Bytes) → is_joiner (role_named name (map seated p.nodes)) ≡ true → not (is_centre_role (model.setting_of (schedule_of p) (named (stations_for p) name)).me.role) ≡ true
+joiner_role : (p : Schedule) → sched.IsSchedule p → (name : Bytes) → is_joiner (role_named name (map seated p.nodes))
+    ≡ true → not (is_centre_role (model.setting_of (schedule_of p) (named (stations_for p) name)).me.role) ≡ true
 joiner_role p is name joins =
     ap not (member_role p is (named (stations_for p) name) (a_joiner p name joins)
     (λ same. not_centre (centre_of (stations_for p)) name p.nodes
-    (unmapped_all (λ (s : Station). s.eui ≡ centre_of (stations_for p) → is_a_centre s ≡ true) station_for p.nodes (centre_alone p is)) joins
+    (unmapped_all (λ (s : Station). s.eui ≡ centre_of (stations_for p) → is_a_centre s ≡ true) station_for p.nodes
+    (centre_alone p is)) joins
     (same ∙ ap centre_of (same_stations p))))
 
-event_roles : (p : Schedule) → sched.IsSchedule p → (event : Event) → has_its_nodes event (map seated p.nodes) ≡ true → SuitsRole (schedule_of p) (event_for (stations_for p) event)
+event_roles : (p : Schedule) → sched.IsSchedule p → (event : Event) → has_its_nodes event (map seated p.nodes) ≡ true
+    → SuitsRole (schedule_of p) (event_for (stations_for p) event)
 unfolding event_for
 event_roles p is (Says name to bytes) e = refl
 event_roles p is (Delivers frame name) e = tt
@@ -258,10 +321,14 @@ event_roles p is (ForgesNet to from source key sequence counter content) e = tt
 event_roles p is (ForgesBoth to from source key sequence counter label base aps_counter command) e = tt
 event_roles p is (ForgesOpen to from source label base aps_counter command) e = tt
 event_roles p is (Asks name partner) e =
-    joiner_role p is name (joiner_of_two (not (bytes_eq name partner)) (is_joiner (role_named partner (map seated p.nodes))) (role_named name (map seated p.nodes)) e)
+    joiner_role p is name
+    (joiner_of_two (not (bytes_eq name partner)) (is_joiner (role_named partner (map seated p.nodes)))
+    (role_named name (map seated p.nodes)) e)
 event_roles p is (Shares name partner) e = centre_role p is
 event_roles p is (Tells name partner bytes) e =
-    joiner_role p is name (joiner_of_two (not (bytes_eq name partner)) (is_joiner (role_named partner (map seated p.nodes))) (role_named name (map seated p.nodes)) e)
+    joiner_role p is name
+    (joiner_of_two (not (bytes_eq name partner)) (is_joiner (role_named partner (map seated p.nodes)))
+    (role_named name (map seated p.nodes)) e)
 
 -- a call that fails is at least the first
 event_calls : (p : Schedule) (event : Event) → FitsEvent event → CountsCalls (event_for (stations_for p) event)
@@ -295,22 +362,27 @@ unfolding schedule_of
 is_schedule p is = record {
   few_nodes = subst (λ n. n ≤ 64) (sym (length-map p.nodes node_for)) is.so_far.few_nodes;
   nodes = mapped_all FitsNode IsMember node_for is_member p.nodes is.so_far.nodes;
-  events = mapped_all (FitsSchedule p) (NamesNode (schedule_of p)) (event_for (stations_for p)) (λ event f. event_names p is event f.1) p.events is.so_far.events;
-  roles = mapped_all (FitsSchedule p) (SuitsRole (schedule_of p)) (event_for (stations_for p)) (λ event f. event_roles p is event f.1) p.events is.so_far.events;
-  calls = mapped_all (FitsSchedule p) CountsCalls (event_for (stations_for p)) (λ event f. event_calls p event f.0) p.events is.so_far.events;
+  events = mapped_all (FitsSchedule p) (NamesNode (schedule_of p)) (event_for (stations_for p))
+      (λ event f. event_names p is event f.1) p.events is.so_far.events;
+  roles = mapped_all (FitsSchedule p) (SuitsRole (schedule_of p)) (event_for (stations_for p))
+      (λ event f. event_roles p is event f.1) p.events is.so_far.events;
+  calls = mapped_all (FitsSchedule p) CountsCalls (event_for (stations_for p)) (λ event f. event_calls p event f.0)
+      p.events is.so_far.events;
 }
 
 -- Keys
 
 all_differ : (ks : List Bytes) → Pairwise (λ (a b : Bytes). a ≡ b → ⊥) ks → AllDiffer ks
 all_differ [] apart = tt
-all_differ (k ∷ ks) apart = (all_map (λ j. k ≡ j → ⊥) (λ j. j ≡ k → ⊥) ks (λ j differ same. differ (sym same)) apart.0, all_differ ks apart.1)
+all_differ (k ∷ ks) apart =
+    (all_map (λ j. k ≡ j → ⊥) (λ j. j ≡ k → ⊥) ks (λ j differ same. differ (sym same)) apart.0, all_differ ks apart.1)
 
 none_of_both : (xs ys : List Bytes) (k : Bytes) → IsNoneOf xs k → IsNoneOf ys k → IsNoneOf (xs ++ ys) k
 none_of_both [] ys k a b = b
 none_of_both (x ∷ xs) ys k a b = (a.0, none_of_both xs ys k a.1 b)
 
-none_network : (o : Option (Bytes × ℕ)) (k : Bytes) → Differ (Some k) (option_map (λ (held : Bytes × ℕ). held.0) o) → IsNoneOf (network_key o) k
+none_network : (o : Option (Bytes × ℕ)) (k : Bytes) → Differ (Some k) (option_map (λ (held : Bytes × ℕ). held.0) o)
+    → IsNoneOf (network_key o) k
 none_network None k differ = tt
 none_network (Some held) k differ = (λ same. differ (sym same), tt)
 
@@ -318,19 +390,23 @@ none_code : (o : Option Bytes) (k : Bytes) → Differ (Some k) o → IsNoneOf (o
 none_code None k differ = tt
 none_code (Some key) k differ = (λ same. differ (sym same), tt)
 
-new_of : (m : Node) (k : Bytes) → Differ (Some k) (link_of m) × Differ (Some k) (network_of m) → IsNoneOf (given_keys (node_for m)) k
-new_of m k differ = none_of_both (option_to_list (link_of m)) (network_key m.network) k (none_code (link_of m) k differ.0) (none_network m.network k differ.1)
+new_of : (m : Node) (k : Bytes) → Differ (Some k) (link_of m) × Differ (Some k) (network_of m)
+    → IsNoneOf (given_keys (node_for m)) k
+new_of m k differ = none_of_both (option_to_list (link_of m)) (network_key m.network) k
+    (none_code (link_of m) k differ.0) (none_network m.network k differ.1)
 
 is_new : (p : Schedule) (k : Bytes) → sched.IsNewKey p.nodes k → IsNewKey (schedule_of p) k
 unfolding schedule_of
 is_new p k f = (
   f.1,
-  mapped_all (λ (m : Node). Differ (Some k) (link_of m) × Differ (Some k) (network_of m)) (λ (m : model.Node). IsNoneOf (given_keys m) k) node_for (λ m differ. new_of m k differ) p.nodes f.2,
+  mapped_all (λ (m : Node). Differ (Some k) (link_of m) × Differ (Some k) (network_of m))
+      (λ (m : model.Node). IsNoneOf (given_keys m) k) node_for (λ m differ. new_of m k differ) p.nodes f.2,
 )
 
 -- an entered code
 
-no_code_by : (m : Node) (o : Option Bytes) → IfSome o (λ code. sched.FitsNodeCode m code) → is_a_centre (station_for m) ≡ true → option_map code_key o ≡ None
+no_code_by : (m : Node) (o : Option Bytes) → IfSome o (λ code. sched.FitsNodeCode m code)
+    → is_a_centre (station_for m) ≡ true → option_map code_key o ≡ None
 no_code_by m None f e = refl
 no_code_by m (Some code) f e = absurd (false≢true (sym f.1 ∙ (sym (same_centre m.role) ∙ e)))
 
@@ -339,15 +415,18 @@ NoCode p m = m.eui ≡ centre_of (stations_for p) → option_map code_key m.code
 
 no_code : (p : Schedule) → sched.IsSchedule p → AllByRecursion (NoCode p) p.nodes
 no_code p is =
-    all_map2 (λ (m : Node). m.eui ≡ centre_of (stations_for p) → is_a_centre (station_for m) ≡ true) FitsNode (NoCode p) p.nodes
+    all_map2 (λ (m : Node). m.eui ≡ centre_of (stations_for p) → is_a_centre (station_for m) ≡ true) FitsNode
+    (NoCode p) p.nodes
     (λ m alone f same. no_code_by m m.code f.2 (alone same))
-    (unmapped_all (λ (s : Station). s.eui ≡ centre_of (stations_for p) → is_a_centre s ≡ true) station_for p.nodes (centre_alone p is)) is.so_far.nodes
+    (unmapped_all (λ (s : Station). s.eui ≡ centre_of (stations_for p) → is_a_centre s ≡ true) station_for p.nodes
+    (centre_alone p is)) is.so_far.nodes
 
 no_link_key : (key : Bytes) (o : Option Bytes) → is_key key o ≡ false → IsNoneOf (option_to_list o) key
 no_link_key key None e = tt
 no_link_key key (Some other) e = (unequal other key e, tt)
 
-no_network_key : (key : Bytes) (o : Option (Bytes × ℕ)) → is_key key (option_map (λ (held : Bytes × ℕ). held.0) o) ≡ false → IsNoneOf (network_key o) key
+no_network_key : (key : Bytes) (o : Option (Bytes × ℕ)) → is_key key (option_map (λ (held : Bytes × ℕ). held.0) o)
+    ≡ false → IsNoneOf (network_key o) key
 no_network_key key None e = tt
 no_network_key key (Some held) e = (unequal held.0 key e, tt)
 
@@ -360,10 +439,13 @@ not_other true true e f = f
 not_other true false e f = e
 not_other false b e f = refl
 
-code_of_other_by : (key name : Bytes) (device : ℕ) (m : Node) (b : Bool) → nat_eq m.eui device ≡ b → Other key name m → (bytes_eq m.name name ≡ true → m.eui ≡ device)
+code_of_other_by : (key name : Bytes) (device : ℕ) (m : Node) (b : Bool) → nat_eq m.eui device ≡ b → Other key name m
+    → (bytes_eq m.name name ≡ true → m.eui ≡ device)
     → IsNoneOf (cond b [] (option_to_list (link_of m))) key
 code_of_other_by key name device m true e other same = tt
-code_of_other_by key name device m false e other same = no_link_key key (link_of m) (not_other (is_key key (link_of m)) (bytes_eq m.name name) other (differs (bytes_eq m.name name) same))
+code_of_other_by key name device m false e other same =
+    no_link_key key (link_of m)
+    (not_other (is_key key (link_of m)) (bytes_eq m.name name) other (differs (bytes_eq m.name name) same))
   where
     differs : (b : Bool) → (b ≡ true → m.eui ≡ device) → b ≡ false
     differs true k = absurd (false≢true (sym e ∙ eq-eqb m.eui device (k refl)))
@@ -372,13 +454,15 @@ code_of_other_by key name device m false e other same = no_link_key key (link_of
 abbrev SeatFree : Bytes → Bytes → Node → Type 0
 SeatFree key name m = Other key name m × (is_key key (network_of m) ≡ false)
 
-others_free : (key name : Bytes) (device : ℕ) (m : Node) → SeatFree key name m → (bytes_eq m.name name ≡ true → m.eui ≡ device) → IsNoneOf (keys_of_others device (node_for m)) key
+others_free : (key name : Bytes) (device : ℕ) (m : Node) → SeatFree key name m
+    → (bytes_eq m.name name ≡ true → m.eui ≡ device) → IsNoneOf (keys_of_others device (node_for m)) key
 others_free key name device m free same =
     none_of_both (cond (nat_eq m.eui device) [] (option_to_list (link_of m))) (network_key m.network) key
     (code_of_other_by key name device m (nat_eq m.eui device) refl free.0 same) (no_network_key key m.network free.1)
 
 record Free (p : Schedule) (key name : Bytes) : Type 0 where
-  others : list_any (λ (seat : Seat). is_key key (link_of seat.node) && not (has_name name seat)) (map seated p.nodes) ≡ false
+  others : list_any (λ (seat : Seat). is_key key (link_of seat.node) && not (has_name name seat)) (map seated p.nodes)
+      ≡ false
   networks : list_any (λ (seat : Seat). is_key key (network_of seat.node)) (map seated p.nodes) ≡ false
   draws : list_any (λ draw. bytes_eq draw key) p.draws ≡ false
   known : bytes_eq key well_known ≡ false
@@ -401,36 +485,48 @@ free p key name e = record { others = third.0; networks = third.1; draws = secon
     third : (a ≡ false) × (b ≡ false)
     third = neither a b second.0
 
-enters : (p : Schedule) → sched.IsSchedule p → (name code : Bytes) → is_joiner (role_named name (map seated p.nodes)) ≡ true → clashes (code_key code) name (seen_of p) ≡ false
+enters : (p : Schedule) → sched.IsSchedule p → (name code : Bytes) → is_joiner (role_named name (map seated p.nodes))
+    ≡ true → clashes (code_key code) name (seen_of p) ≡ false
     → EntersOwn (schedule_of p) (event_for (stations_for p) (Provisions name code))
 unfolding schedule_of event_for
 enters p is name code joins clash = (
   λ same. not_centre (centre_of (stations_for p)) name p.nodes
-      (unmapped_all (λ (s : Station). s.eui ≡ centre_of (stations_for p) → is_a_centre s ≡ true) station_for p.nodes (centre_alone p is)) joins
+      (unmapped_all (λ (s : Station). s.eui ≡ centre_of (stations_for p) → is_a_centre s ≡ true) station_for p.nodes
+      (centre_alone p is)) joins
       (same ∙ ap centre_of (stations_map p.nodes)),
   unequal (code_key code) well_known f.known,
-  all_map (λ draw. bytes_eq draw (code_key code) ≡ false) (λ draw. draw ≡ code_key code → ⊥) p.draws (λ draw no_match. unequal draw (code_key code) no_match) (any_false (λ draw. bytes_eq draw (code_key code)) p.draws f.draws),
-  mapped_all (λ (m : Node). SeatFree (code_key code) name m × (bytes_eq m.name name ≡ true → m.eui ≡ named (stations_for p) name))
+  all_map (λ draw. bytes_eq draw (code_key code) ≡ false) (λ draw. draw ≡ code_key code → ⊥) p.draws
+      (λ draw no_match. unequal draw (code_key code) no_match)
+      (any_false (λ draw. bytes_eq draw (code_key code)) p.draws f.draws),
+  mapped_all
+      (λ (m : Node). SeatFree (code_key code) name m
+      × (bytes_eq m.name name ≡ true → m.eui ≡ named (stations_for p) name))
       (λ (m : model.Node). IsNoneOf (keys_of_others (named (stations_for p) name) m) (code_key code)) node_for
       (λ m both. others_free (code_key code) name (named (stations_for p) name) m both.0 both.1) p.nodes
-      (all_map2 (SeatFree (code_key code) name) (λ (m : Node). bytes_eq m.name name ≡ true → m.eui ≡ named (stations_for p) name)
-      (λ (m : Node). SeatFree (code_key code) name m × (bytes_eq m.name name ≡ true → m.eui ≡ named (stations_for p) name)) p.nodes (λ m a b. (a, b))
+      (all_map2 (SeatFree (code_key code) name)
+      (λ (m : Node). bytes_eq m.name name ≡ true → m.eui ≡ named (stations_for p) name)
+      (λ (m : Node). SeatFree (code_key code) name m
+      × (bytes_eq m.name name ≡ true → m.eui ≡ named (stations_for p) name)) p.nodes (λ m a b. (a, b))
       seats (of_that_name name p.nodes is.so_far.apart)),
 )
   where
     f : Free p (code_key code) name
     f = free p (code_key code) name clash
 
-    unseated : (P : Node → Bool) (ms : List Node) → list_any (λ (seat : Seat). P seat.node) (map seated ms) ≡ false → AllByRecursion (λ (m : Node). P m ≡ false) ms
+    unseated : (P : Node → Bool) (ms : List Node) → list_any (λ (seat : Seat). P seat.node) (map seated ms) ≡ false
+        → AllByRecursion (λ (m : Node). P m ≡ false) ms
     unseated P [] e = tt
-    unseated P (m ∷ ms) e = let both = neither (P m) (list_any (λ (seat : Seat). P seat.node) (map seated ms)) e in (both.0, unseated P ms both.1)
+    unseated P (m ∷ ms) e = let both = neither (P m) (list_any (λ (seat : Seat). P seat.node) (map seated ms)) e in
+        (both.0, unseated P ms both.1)
 
     seats : AllByRecursion (SeatFree (code_key code) name) p.nodes
-    seats = all_map2 (Other (code_key code) name) (λ (m : Node). is_key (code_key code) (network_of m) ≡ false) (SeatFree (code_key code) name) p.nodes (λ m a b. (a, b))
+    seats = all_map2 (Other (code_key code) name) (λ (m : Node). is_key (code_key code) (network_of m) ≡ false)
+        (SeatFree (code_key code) name) p.nodes (λ m a b. (a, b))
         (unseated (λ (m : Node). is_key (code_key code) (link_of m) && not (bytes_eq m.name name)) p.nodes f.others)
         (unseated (λ (m : Node). is_key (code_key code) (network_of m)) p.nodes f.networks)
 
-event_enters : (p : Schedule) → sched.IsSchedule p → (event : Event) → FitsSchedule p event → EntersOwn (schedule_of p) (event_for (stations_for p) event)
+event_enters : (p : Schedule) → sched.IsSchedule p → (event : Event) → FitsSchedule p event
+    → EntersOwn (schedule_of p) (event_for (stations_for p) event)
 unfolding event_for
 event_enters p is (Provisions name code) f = enters p is name code f.1 f.2
 event_enters p is (Says name to bytes) f = tt
@@ -460,9 +556,14 @@ pub keys_apart : (p : Schedule) → sched.IsSchedule p → KeysApart (schedule_o
 unfolding schedule_of
 keys_apart p is = record {
   draws_differ = all_differ p.draws is.so_far.draws_apart;
-  draws_new = all_map (sched.IsNewKey p.nodes) (IsNewKey (schedule_of p)) p.draws (λ k f. is_new p k f) is.so_far.draws;
-  entered = mapped_all (FitsSchedule p) (EntersOwn (schedule_of p)) (event_for (stations_for p)) (λ event f. event_enters p is event f) p.events is.so_far.events;
-  alone = subst (λ ps. AllByRecursion (λ (s : Station). s.eui ≡ centre_of ps → is_a_centre s ≡ true) ps) (sym (stations_map p.nodes)) (centre_alone p is);
-  no_code = mapped_all (NoCode p) (λ (m : model.Node). m.station.eui ≡ centre_of (model.stations (schedule_of p)) → m.code ≡ None) node_for
+  draws_new = all_map (sched.IsNewKey p.nodes) (IsNewKey (schedule_of p)) p.draws (λ k f. is_new p k f)
+      is.so_far.draws;
+  entered = mapped_all (FitsSchedule p) (EntersOwn (schedule_of p)) (event_for (stations_for p))
+      (λ event f. event_enters p is event f) p.events is.so_far.events;
+  alone = subst (λ ps. AllByRecursion (λ (s : Station). s.eui ≡ centre_of ps → is_a_centre s ≡ true) ps)
+      (sym (stations_map p.nodes)) (centre_alone p is);
+  no_code =
+      mapped_all (NoCode p) (λ (m : model.Node). m.station.eui ≡ centre_of (model.stations (schedule_of p)) → m.code
+      ≡ None) node_for
       (λ m k same. k (same ∙ ap centre_of (stations_map p.nodes))) p.nodes (no_code p is);
 }

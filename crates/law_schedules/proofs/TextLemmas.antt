@@ -60,15 +60,18 @@ no_none : {A : Type 0} (a : A) → None ≡ Some a → ⊥
 no_none {A} a e = subst (λ (o : Option A). IsNone o) e tt
 
 -- what a call answered of a line
-pub shown_fits : (r : Option Line) (line : List ℕ) → Shows sentence_of r (meaning_of line) → IfSome r (λ l. FitsSentence (sentence_of l)) → LineFits line
+pub shown_fits : (r : Option Line) (line : List ℕ) → Shows sentence_of r (meaning_of line)
+    → IfSome r (λ l. FitsSentence (sentence_of l)) → LineFits line
 shown_fits None line shows fits s says = absurd (no_none s (sym shows ∙ says))
 shown_fits (Some l) line shows fits s says = subst FitsSentence (some_same (sentence_of l) s (sym shows ∙ says)) fits
 
 -- one line more in front
-pub one_more : (line : List ℕ) (ls more : List (List ℕ)) → first_of ls ≡ Some (line, more) → LineFits line → AllByRecursion LineFits more → AllByRecursion LineFits ls
+pub one_more : (line : List ℕ) (ls more : List (List ℕ)) → first_of ls ≡ Some (line, more) → LineFits line
+    → AllByRecursion LineFits more → AllByRecursion LineFits ls
 one_more line [] more first fits all = absurd (no_none (line, more) first)
 one_more line (l ∷ ls) more first fits all =
-    subst (λ (x : List ℕ × List (List ℕ)). AllByRecursion LineFits (x.0 ∷ x.1)) (sym (some_same (l, ls) (line, more) first)) (fits, all)
+    subst (λ (x : List ℕ × List (List ℕ)). AllByRecursion LineFits (x.0 ∷ x.1))
+    (sym (some_same (l, ls) (line, more) first)) (fits, all)
 
 -- no line more
 pub no_more : (ls : List (List ℕ)) → first_of ls ≡ None → AllByRecursion LineFits ls
@@ -76,27 +79,37 @@ no_more [] first = tt
 no_more (l ∷ ls) first = absurd (no_none (l, ls) (sym first))
 
 -- a line that was taken keeps what every schedule keeps
-meant : (seen next : Seen) (line : List ℕ) (o : Option Sentence) → meaning_of line ≡ o → LineFits line → after_meaning seen o ≡ Ok next → IsSoFar (finished seen) → IsSoFar (finished next)
+meant : (seen next : Seen) (line : List ℕ) (o : Option Sentence) → meaning_of line ≡ o → LineFits line
+    → after_meaning seen o ≡ Ok next → IsSoFar (finished seen) → IsSoFar (finished next)
 meant seen next line None says fits step so_far = absurd (no_err Seen SchedCause Syntax next step)
 meant seen next line (Some s) says fits step so_far = kept seen next s (fits s says) step so_far
 
 abbrev at_end : ℕ → Seen → Bool → Result Schedule SchedError
 at_end number seen b = if b then Ok (finished seen) else Err (record { line = number; cause = NoCentre })
 
-ended : (number : ℕ) (seen : Seen) (p : Schedule) (b : Bool) → has_centre seen.seats ≡ b → at_end number seen b ≡ Ok p → IsSoFar (finished seen) → IsSchedule p
-ended number seen p true centre step so_far = is_schedule seen p (sym (ok_same Schedule SchedError (finished seen) p step)) so_far centre
-ended number seen p false centre step so_far = absurd (no_err Schedule SchedError (record { line = number; cause = NoCentre }) p step)
+ended : (number : ℕ) (seen : Seen) (p : Schedule) (b : Bool) → has_centre seen.seats ≡ b → at_end number seen b ≡ Ok p
+    → IsSoFar (finished seen) → IsSchedule p
+ended number seen p true centre step so_far =
+    is_schedule seen p (sym (ok_same Schedule SchedError (finished seen) p step)) so_far centre
+ended number seen p false centre step so_far =
+    absurd (no_err Schedule SchedError (record { line = number; cause = NoCentre }) p step)
 
-gone_on : (number : ℕ) (seen : Seen) (p : Schedule) (line : List ℕ) (more : List (List ℕ)) (r : Result Seen SchedCause) → after_line seen line ≡ r → LineFits line → IsSoFar (finished seen)
+gone_on : (number : ℕ) (seen : Seen) (p : Schedule) (line : List ℕ) (more : List (List ℕ))
+    (r : Result Seen SchedCause) → after_line seen line ≡ r → LineFits line → IsSoFar (finished seen)
     → ((next : Seen) → IsSoFar (finished next) → reads (number + 1) next more ≡ Ok p → IsSchedule p)
     → numbered number r (λ next. reads (number + 1) next more) ≡ Ok p → IsSchedule p
-gone_on number seen p line more (Err cause) e fits so_far later read = absurd (no_err Schedule SchedError (record { line = number; cause = cause }) p read)
-gone_on number seen p line more (Ok next) e fits so_far later read = later next (meant seen next line (meaning_of line) refl fits e so_far) read
+gone_on number seen p line more (Err cause) e fits so_far later read =
+    absurd (no_err Schedule SchedError (record { line = number; cause = cause }) p read)
+gone_on number seen p line more (Ok next) e fits so_far later read =
+    later next (meant seen next line (meaning_of line) refl fits e so_far) read
 
-whole : (ls : List (List ℕ)) → AllByRecursion LineFits ls → (number : ℕ) (seen : Seen) (p : Schedule) → IsSoFar (finished seen) → reads number seen ls ≡ Ok p → IsSchedule p
+whole : (ls : List (List ℕ)) → AllByRecursion LineFits ls → (number : ℕ) (seen : Seen) (p : Schedule)
+    → IsSoFar (finished seen) → reads number seen ls ≡ Ok p → IsSchedule p
 whole [] fits number seen p so_far read = ended number seen p (has_centre seen.seats) refl read so_far
 whole (line ∷ more) fits number seen p so_far read =
-    gone_on number seen p line more (after_line seen line) refl fits.0 so_far (λ next kept_so_far rest. whole more fits.1 (number + 1) next p kept_so_far rest) read
+    gone_on number seen p line more (after_line seen line) refl fits.0 so_far
+    (λ next kept_so_far rest. whole more fits.1 (number + 1) next p kept_so_far rest) read
 
-pub text_keeps : (text : List ℕ) → AllByRecursion LineFits (lines text) → (p : Schedule) → schedule_in text ≡ Ok p → IsSchedule p
+pub text_keeps : (text : List ℕ) → AllByRecursion LineFits (lines text) → (p : Schedule) → schedule_in text ≡ Ok p
+    → IsSchedule p
 text_keeps text fits p read = whole (lines text) fits 1 start p (start_keeps start refl) read

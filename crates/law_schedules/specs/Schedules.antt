@@ -16,7 +16,15 @@ use Rattle.zb_model_real.specs.Terms.{model_label}
 
 -- a node as it is declared
 abbrev pub station_for : Node → Station
-station_for m = record { name = m.name; eui = m.eui; short = m.short; role = model_role m.role; out_block = m.out_block; in_block = m.in_block }
+station_for m =
+    record {
+      name = m.name;
+      eui = m.eui;
+      short = m.short;
+      role = model_role m.role;
+      out_block = m.out_block;
+      in_block = m.in_block;
+    }
 
 abbrev pub stations_for : Schedule → List Station
 stations_for p = map station_for p.nodes
@@ -24,7 +32,14 @@ stations_for p = map station_for p.nodes
 -- A node with what it holds at the start: the link key of its install code, its network key with the sequence, and its
 -- stored outgoing limits.
 abbrev pub node_for : Node → model.Node
-node_for m = record { station = station_for m; code = option_map code_key m.code; network = m.network; start_nwk = m.start_nwk; start_aps = m.start_aps }
+node_for m =
+    record {
+      station = station_for m;
+      code = option_map code_key m.code;
+      network = m.network;
+      start_nwk = m.start_nwk;
+      start_aps = m.start_aps;
+    }
 
 -- the EUI of the node of a name
 abbrev pub named : List Station → Bytes → ℕ
@@ -59,10 +74,13 @@ event_for nodes (Stops name calls torn) = model.ArmStop (named nodes name) calls
 event_for nodes (Fails name call) = model.ArmFail (named nodes name) call
 -- of nobody: bytes on the air, and forged frames
 event_for nodes (Injects bytes) = model.InjectBytes bytes
-event_for nodes (ForgesNet to from source key sequence counter content) = model.ForgeNet to from source key sequence counter content
+event_for nodes (ForgesNet to from source key sequence counter content) = model.ForgeNet to from source key sequence
+    counter content
 event_for nodes (ForgesBoth to from source key sequence counter label base aps_counter command) =
     model.ForgeNetAps to from source key sequence counter (model_label label) base aps_counter command
-event_for nodes (ForgesOpen to from source label base aps_counter command) = model.ForgeOpen to from source (model_label label) base aps_counter command
+event_for nodes (ForgesOpen to from source label base aps_counter command) =
+    model.ForgeOpen to from source (model_label label) base aps_counter command
 
 unfoldable pub schedule_of : Schedule → model.Schedule
-schedule_of p = record { nodes = map node_for p.nodes; draws = p.draws; events = map (event_for (stations_for p)) p.events }
+schedule_of p =
+    record { nodes = map node_for p.nodes; draws = p.draws; events = map (event_for (stations_for p)) p.events }

@@ -26,25 +26,31 @@ may_seal_same : (s : NodeState) (send : Option Sending) → may_seal (shown s) s
 unfolding may_seal
 may_seal_same s send = rw (has_active_same s, spent_same Nwk s, spent_same Aps s) refl
 
-reserve_same : (c : Setting) (s : NodeState) (send : Option Sending) (layer : Layer) → reserve_of c (shown s) send layer ≡ reserve_of c s send layer
+reserve_same : (c : Setting) (s : NodeState) (send : Option Sending) (layer : Layer)
+    → reserve_of c (shown s) send layer ≡ reserve_of c s send layer
 unfolding reserve_of
 reserve_same c s send layer = rw (may_seal_same s send, next_same layer s, limit_same layer s) refl
 
 -- the floor under a live key is shown
-net_floor_same : (sender : ℕ) (o : Option NetKey) → row_is_live o ≡ true → net_stored sender (option_map shown_net o) ≡ net_stored sender o
+net_floor_same : (sender : ℕ) (o : Option NetKey) → row_is_live o ≡ true → net_stored sender (option_map shown_net o)
+    ≡ net_stored sender o
 net_floor_same sender None live = refl
 net_floor_same sender (Some r) live = ap (λ x. net_stored sender (Some x)) (live_stays r live)
 
-stored_same : (s : NodeState) (layer : Layer) (t : Term) → IsUnderLive s layer t → stored_at layer t (shown s) ≡ stored_at layer t s
+stored_same : (s : NodeState) (layer : Layer) (t : Term) → IsUnderLive s layer t → stored_at layer t (shown s)
+    ≡ stored_at layer t s
 unfolding shown
-stored_same s Nwk t live = ap (net_stored t.source) (net_same t.base s) ∙ net_floor_same t.source (net_of t.base s) live
+stored_same s Nwk t live = ap (net_stored t.source) (net_same t.base s) ∙ net_floor_same t.source (net_of t.base s)
+    live
 stored_same s Aps t live = refl
 
-floor_for_same : (c : Setting) (s : NodeState) (t : Term) → IsUnderLive s t.layer t → floor_for c (shown s) t ≡ floor_for c s t
+floor_for_same : (c : Setting) (s : NodeState) (t : Term) → IsUnderLive s t.layer t → floor_for c (shown s) t
+    ≡ floor_for c s t
 unfolding stored_floor
 floor_for_same c s t live = rw (stored_same s t.layer t live) refl
 
-floor_same : (c : Setting) (s : NodeState) (ts : List Term) (layer : Layer) → AreUnderLive s ts → floor_of c (shown s) ts layer ≡ floor_of c s ts layer
+floor_same : (c : Setting) (s : NodeState) (ts : List Term) (layer : Layer) → AreUnderLive s ts
+    → floor_of c (shown s) ts layer ≡ floor_of c s ts layer
 unfolding floor_of
 floor_same c s [] layer live = refl
 floor_same c s (t ∷ ts) layer live = rw (floor_for_same c s t live.0, floor_same c s ts layer live.1) refl
@@ -132,12 +138,16 @@ edits_alike k j same s p =
     rw (
       same.reserve Nwk,
       same.reserve Aps,
-      each_piece (floor_edit k) (floor_edit j) (λ t. ap (λ o. option_to_list (option_map (Rattle.zb_model.specs.Data.Edit.Floor t.layer t.base t.source) o)) (same.floor t.layer)) p.accepts,
+      each_piece (floor_edit k) (floor_edit j)
+          (λ t. ap
+          (λ o. option_to_list (option_map (Rattle.zb_model.specs.Data.Edit.Floor t.layer t.base t.source) o))
+          (same.floor t.layer)) p.accepts,
       made_same s (moves_of p.outcome),
       each_piece (move_edits k) (move_edits j) (moves_alike k j same) (filter (changes s) (moves_of p.outcome)),
     ) refl
 
-counting_alike : (c : Setting) (s : NodeState) (p : Plan) → AreUnderLive s p.accepts → AreAlike (counting_of c (shown s) p) (counting_of c s p)
+counting_alike : (c : Setting) (s : NodeState) (p : Plan) → AreUnderLive s p.accepts
+    → AreAlike (counting_of c (shown s) p) (counting_of c s p)
 unfolding counting_of
 counting_alike c s p live = record {
   counter = λ layer. next_same layer s;
@@ -148,29 +158,36 @@ counting_alike c s p live = record {
 
 -- ---- what goes out
 
-framed_shown : (tools : Tools) (c : Setting) (to nwk : ℕ) (secured : Bool) (o : Option NetKey) (part : Part) → framed tools c to nwk secured (option_map shown_net o) part ≡ framed tools c to nwk secured o part
+framed_shown : (tools : Tools) (c : Setting) (to nwk : ℕ) (secured : Bool) (o : Option NetKey) (part : Part)
+    → framed tools c to nwk secured (option_map shown_net o) part ≡ framed tools c to nwk secured o part
 framed_shown tools c to nwk false o part = refl
 framed_shown tools c to nwk true None part = refl
 framed_shown tools c to nwk true (Some r) part = refl
 
-sent_alike : (tools : Tools) (c : Setting) (k j : Counting) → AreAlike k j → (s : NodeState) (send : Option Sending) → sent tools c (shown s) k send ≡ sent tools c s j send
+sent_alike : (tools : Tools) (c : Setting) (k j : Counting) → AreAlike k j → (s : NodeState) (send : Option Sending)
+    → sent tools c (shown s) k send ≡ sent tools c s j send
 sent_alike tools c k j same s None = refl
 sent_alike tools c k j same s (Some send) =
     rw (same.counter Nwk, same.counter Aps, active_same s)
-    (framed_shown tools c send.to (j.counter Nwk) send.secured (active_row s) (part_of tools c.me.eui send.to (j.counter Nwk) (j.counter Aps) send.body))
+    (framed_shown tools c send.to (j.counter Nwk) send.secured (active_row s)
+    (part_of tools c.me.eui send.to (j.counter Nwk) (j.counter Aps) send.body))
 
-out_alike : (tools : Tools) (c : Setting) (k j : Counting) → AreAlike k j → (s : NodeState) (send : Option Sending) → out_of tools c (shown s) k send ≡ out_of tools c s j send
+out_alike : (tools : Tools) (c : Setting) (k j : Counting) → AreAlike k j → (s : NodeState) (send : Option Sending)
+    → out_of tools c (shown s) k send ≡ out_of tools c s j send
 unfolding out_of
 out_alike tools c k j same s send = rw (may_seal_same s send, sent_alike tools c k j same s send) refl
 
 -- ---- the answer
 
-by_alike : (tools : Tools) (c : Setting) (k j : Counting) → AreAlike k j → (s : NodeState) (p : Plan) → answer_by tools c (shown s) k p ≡ answer_by tools c s j p
+by_alike : (tools : Tools) (c : Setting) (k j : Counting) → AreAlike k j → (s : NodeState) (p : Plan)
+    → answer_by tools c (shown s) k p ≡ answer_by tools c s j p
 unfolding answer_by
 by_alike tools c k j same s p = rw (edits_alike k j same s p, out_alike tools c k j same s (sending_of p.outcome)) refl
 
-pub answer_same : (tools : Tools) (c : Setting) (s : NodeState) (task : Task) → AreUnderLive s (plan_of tools c s task).accepts → answer tools c (shown s) task ≡ answer tools c s task
+pub answer_same : (tools : Tools) (c : Setting) (s : NodeState) (task : Task)
+    → AreUnderLive s (plan_of tools c s task).accepts → answer tools c (shown s) task ≡ answer tools c s task
 unfolding answer
 answer_same tools c s task live =
     ap (λ p. answer_by tools c (shown s) (counting_of c (shown s) p) p) (plan_same tools c s task)
-    ∙ by_alike tools c (counting_of c (shown s) (plan_of tools c s task)) (counting_of c s (plan_of tools c s task)) (counting_alike c s (plan_of tools c s task) live) s (plan_of tools c s task)
+    ∙ by_alike tools c (counting_of c (shown s) (plan_of tools c s task)) (counting_of c s (plan_of tools c s task))
+    (counting_alike c s (plan_of tools c s task) live) s (plan_of tools c s task)

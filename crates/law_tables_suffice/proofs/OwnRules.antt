@@ -8,18 +8,24 @@ use Rattle.zb_model.specs.OwnEvents.{say, knock, rejoin, request_key, verify_key
 use Rattle.law_tables_suffice.proofs.Questions.{active_same, usable_active_same, newest_same, has_active_same, spent_same, both_spent_same, full_same, held_same, drop_old_same}
 
 -- the rest of a rule asks of a network row only what is shown of it
-pub row_shown : (o : Option NetKey) (reason : Reason) (rest more : NetKey → Outcome) → ((r : NetKey) → rest (shown_net r) ≡ more r) → found_or (option_map shown_net o) reason rest ≡ found_or o reason more
+pub row_shown : (o : Option NetKey) (reason : Reason) (rest more : NetKey → Outcome)
+    → ((r : NetKey) → rest (shown_net r) ≡ more r) → found_or (option_map shown_net o) reason rest
+    ≡ found_or o reason more
 unfolding found_or
 row_shown None reason rest more same = refl
 row_shown (Some r) reason rest more same = same r
 
-pub each_found : {A : Type 0} (o : Option A) (reason : Reason) (rest more : A → Outcome) → ((a : A) → rest a ≡ more a) → found_or o reason rest ≡ found_or o reason more
+pub each_found : {A : Type 0} (o : Option A) (reason : Reason) (rest more : A → Outcome) → ((a : A) → rest a ≡ more a)
+    → found_or o reason rest ≡ found_or o reason more
 unfolding found_or
 each_found None reason rest more same = refl
 each_found (Some a) reason rest more same = same a
 
-pub in_active : (s : NodeState) (reason : Reason) (rest more : NetKey → Outcome) → ((r : NetKey) → rest (shown_net r) ≡ more r) → found_or (active_row (shown s)) reason rest ≡ found_or (active_row s) reason more
-in_active s reason rest more same = ap (λ o. found_or o reason rest) (active_same s) ∙ row_shown (active_row s) reason rest more same
+pub in_active : (s : NodeState) (reason : Reason) (rest more : NetKey → Outcome)
+    → ((r : NetKey) → rest (shown_net r) ≡ more r) → found_or (active_row (shown s)) reason rest
+    ≡ found_or (active_row s) reason more
+in_active s reason rest more same = ap (λ o. found_or o reason rest) (active_same s) ∙ row_shown (active_row s) reason
+    rest more same
 
 -- ---- of every node, of routers and devices
 
@@ -45,7 +51,8 @@ verify_key_same : (tools : Tools) (c : Setting) (s : NodeState) → verify_key t
 unfolding shown verify_key offered
 verify_key_same tools c s = rw (spent_same Nwk s) refl
 
-timer_in_same : (state : State) (tools : Tools) (c : Setting) (s : NodeState) → timer_in state tools c (shown s) ≡ timer_in state tools c s
+timer_in_same : (state : State) (tools : Tools) (c : Setting) (s : NodeState) → timer_in state tools c (shown s)
+    ≡ timer_in state tools c s
 timer_in_same Fresh tools c s = refl
 timer_in_same Knocked tools c s = refl
 timer_in_same Joined tools c s = request_key_same c s
@@ -54,29 +61,37 @@ timer_in_same Confirmed tools c s = refl
 timer_in_same Rejoining tools c s = refl
 timer_in_same Gone tools c s = refl
 
-member_timer_same : (tools : Tools) (c : Setting) (s : NodeState) → member_timer tools c (shown s) ≡ member_timer tools c s
+member_timer_same : (tools : Tools) (c : Setting) (s : NodeState) → member_timer tools c (shown s)
+    ≡ member_timer tools c s
 unfolding shown member_timer
-member_timer_same tools c s = rw (usable_active_same s) (row_shown (usable_active s) NoKey _ _ (λ r. timer_in_same s.state tools c s))
+member_timer_same tools c s =
+    rw (usable_active_same s) (row_shown (usable_active s) NoKey _ _ (λ r. timer_in_same s.state tools c s))
 
 ask_same : (c : Setting) (s : NodeState) (partner : ℕ) → ask c (shown s) partner ≡ ask c s partner
 unfolding shown ask current
 ask_same c s partner = rw (usable_active_same s, both_spent_same s) (row_shown (usable_active s) NoKey _ _ (λ r. refl))
 
-tell_same : (c : Setting) (s : NodeState) (partner : ℕ) (bytes : Bytes) → tell c (shown s) partner bytes ≡ tell c s partner bytes
+tell_same : (c : Setting) (s : NodeState) (partner : ℕ) (bytes : Bytes) → tell c (shown s) partner bytes
+    ≡ tell c s partner bytes
 unfolding shown tell
-tell_same c s partner bytes = rw (usable_active_same s, both_spent_same s) (row_shown (usable_active s) NoKey _ _ (λ r. refl))
+tell_same c s partner bytes = rw (usable_active_same s, both_spent_same s)
+    (row_shown (usable_active s) NoKey _ _ (λ r. refl))
 
-report_same : (c : Setting) (s : NodeState) (child : ℕ) (again : Bool) (o : Option LinkKey) → report_child c (shown s) child again o ≡ report_child c s child again o
+report_same : (c : Setting) (s : NodeState) (child : ℕ) (again : Bool) (o : Option LinkKey)
+    → report_child c (shown s) child again o ≡ report_child c s child again o
 report_same c s child again None = rw (spent_same Nwk s) refl
 report_same c s child again (Some row) = rw (both_spent_same s) refl
 
-child_same : (c : Setting) (s : NodeState) (child : ℕ) (again : Bool) → child_of_router c (shown s) child again ≡ child_of_router c s child again
+child_same : (c : Setting) (s : NodeState) (child : ℕ) (again : Bool) → child_of_router c (shown s) child again
+    ≡ child_of_router c s child again
 unfolding shown child_of_router current
-child_same c s child again = rw (usable_active_same s, report_same c s child again (current s (centre_of c.stations))) (row_shown (usable_active s) NoKey _ _ (λ r. refl))
+child_same c s child again = rw (usable_active_same s, report_same c s child again (current s (centre_of c.stations)))
+    (row_shown (usable_active s) NoKey _ _ (λ r. refl))
 
 -- ---- of the centre
 
-child_of_centre_same : (c : Setting) (s : NodeState) (child : ℕ) → child_of_centre c (shown s) child ≡ child_of_centre c s child
+child_of_centre_same : (c : Setting) (s : NodeState) (child : ℕ) → child_of_centre c (shown s) child
+    ≡ child_of_centre c s child
 unfolding shown child_of_centre current
 child_of_centre_same c s child = rw (active_same s, spent_same Aps s) (row_shown (active_row s) NoKey _ _ (λ r. refl))
 
@@ -91,17 +106,20 @@ provision_same s device key = refl
 leave_same : (c : Setting) (s : NodeState) (device : ℕ) → tell_leave c (shown s) device ≡ tell_leave c s device
 leave_same c s device = rw (has_active_same s, spent_same Nwk s) refl
 
-parent_same : (c : Setting) (s : NodeState) (device via : ℕ) (o : Option LinkKey) → tell_parent c (shown s) device via o ≡ tell_parent c s device via o
+parent_same : (c : Setting) (s : NodeState) (device via : ℕ) (o : Option LinkKey)
+    → tell_parent c (shown s) device via o ≡ tell_parent c s device via o
 parent_same c s device via None = refl
 parent_same c s device via (Some row) = rw (has_active_same s, both_spent_same s) refl
 
-remove_same : (c : Setting) (s : NodeState) (device via : ℕ) → remove_device c (shown s) device via ≡ remove_device c s device via
+remove_same : (c : Setting) (s : NodeState) (device via : ℕ) → remove_device c (shown s) device via
+    ≡ remove_device c s device via
 unfolding shown remove_device is_live drop_partner current
 remove_same c s device via = rw (leave_same c s device, parent_same c s device via (current s via)) refl
 
 roll_same : (s : NodeState) (draw : Option Bytes) → roll (shown s) draw ≡ roll s draw
 unfolding shown roll
-roll_same s draw = rw (active_same s, full_same s, held_same s draw, drop_old_same s) (row_shown (active_row s) NoKey _ _ (λ r. refl))
+roll_same s draw = rw (active_same s, full_same s, held_same s draw, drop_old_same s)
+    (row_shown (active_row s) NoKey _ _ (λ r. refl))
 
 switch_same : (s : NodeState) → switch_over (shown s) ≡ switch_over s
 unfolding shown switch_over is_unfinished next_member
@@ -111,7 +129,8 @@ again_same : (s : NodeState) (device : ℕ) → again (shown s) device ≡ again
 unfolding shown again is_live is_told
 again_same s device = refl
 
-share_same : (c : Setting) (s : NodeState) (device partner : ℕ) → share c (shown s) device partner ≡ share c s device partner
+share_same : (c : Setting) (s : NodeState) (device partner : ℕ) → share c (shown s) device partner
+    ≡ share c s device partner
 unfolding shown share is_live pair_of current
 share_same c s device partner = rw (active_same s, both_spent_same s) (row_shown (active_row s) NoKey _ _ (λ r. refl))
 
@@ -133,7 +152,8 @@ centre_same c s DoRejoin = refl
 centre_same c s (AskFor partner) = refl
 centre_same c s (Received bytes draw) = refl
 
-member_same : (tools : Tools) (c : Setting) (s : NodeState) (task : Task) → own_at_member tools c (shown s) task ≡ own_at_member tools c s task
+member_same : (tools : Tools) (c : Setting) (s : NodeState) (task : Task) → own_at_member tools c (shown s) task
+    ≡ own_at_member tools c s task
 member_same tools c s (SayTo to bytes) = say_same s to bytes
 member_same tools c s (TellTo partner bytes) = tell_same c s partner bytes
 member_same tools c s DoKnock = knock_same c s
@@ -149,6 +169,7 @@ member_same tools c s (DoAgain device) = refl
 member_same tools c s (DoShare device partner) = refl
 member_same tools c s (Received bytes draw) = refl
 
-pub own_same : (tools : Tools) (c : Setting) (s : NodeState) (task : Task) → own tools c (shown s) task ≡ own tools c s task
+pub own_same : (tools : Tools) (c : Setting) (s : NodeState) (task : Task) → own tools c (shown s) task
+    ≡ own tools c s task
 unfolding own
 own_same tools c s task = rw (centre_same c s task, member_same tools c s task) refl

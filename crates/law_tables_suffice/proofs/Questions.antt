@@ -19,26 +19,35 @@ live_stays r is = by_live r.live is
     by_live true e = refl
     by_live false e = absurd (false≢true e)
 
-pub net_found : (key : Bytes) (nets : List NetKey) → find (λ (r : NetKey). same_key r.key key) (map shown_net nets) ≡ option_map shown_net (find (λ (r : NetKey). same_key r.key key) nets)
+pub net_found : (key : Bytes) (nets : List NetKey) → find (λ (r : NetKey). same_key r.key key) (map shown_net nets)
+    ≡ option_map shown_net (find (λ (r : NetKey). same_key r.key key) nets)
 net_found key [] = refl
 net_found key (r ∷ rs) = at_test (same_key r.key key) (net_found key rs)
   where
-    at_test : (b : Bool) → find (λ (x : NetKey). same_key x.key key) (map shown_net rs) ≡ option_map shown_net (find (λ (x : NetKey). same_key x.key key) rs)
-        → (if b then Some (shown_net r) else find (λ (x : NetKey). same_key x.key key) (map shown_net rs)) ≡ option_map shown_net (if b then Some r else find (λ (x : NetKey). same_key x.key key) rs)
+    at_test : (b : Bool) → find (λ (x : NetKey). same_key x.key key) (map shown_net rs)
+        ≡ option_map shown_net (find (λ (x : NetKey). same_key x.key key) rs)
+        → (if b then Some (shown_net r) else find (λ (x : NetKey). same_key x.key key) (map shown_net rs))
+        ≡ option_map shown_net (if b then Some r else find (λ (x : NetKey). same_key x.key key) rs)
     at_test true e = refl
     at_test false e = e
 
 -- live rows are shown as they are
-pub lives_same : (nets : List NetKey) → filter (λ (r : NetKey). r.live) (map shown_net nets) ≡ filter (λ (r : NetKey). r.live) nets
+pub lives_same : (nets : List NetKey) → filter (λ (r : NetKey). r.live) (map shown_net nets)
+    ≡ filter (λ (r : NetKey). r.live) nets
 lives_same [] = refl
 lives_same (r ∷ rs) = at_test r.live refl (lives_same rs)
   where
-    at_test : (b : Bool) → r.live ≡ b → filter (λ (x : NetKey). x.live) (map shown_net rs) ≡ filter (λ (x : NetKey). x.live) rs
-        → (if b then shown_net r ∷ filter (λ (x : NetKey). x.live) (map shown_net rs) else filter (λ (x : NetKey). x.live) (map shown_net rs)) ≡ (if b then r ∷ filter (λ (x : NetKey). x.live) rs else filter (λ (x : NetKey). x.live) rs)
-    at_test true is e = ap (λ x. x ∷ filter (λ (y : NetKey). y.live) (map shown_net rs)) (live_stays r is) ∙ ap (λ l. r ∷ l) e
+    at_test : (b : Bool) → r.live ≡ b → filter (λ (x : NetKey). x.live) (map shown_net rs)
+        ≡ filter (λ (x : NetKey). x.live) rs
+        → (if b then shown_net r ∷ filter (λ (x : NetKey). x.live) (map shown_net rs)
+        else filter (λ (x : NetKey). x.live) (map shown_net rs))
+        ≡ (if b then r ∷ filter (λ (x : NetKey). x.live) rs else filter (λ (x : NetKey). x.live) rs)
+    at_test true is e = ap (λ x. x ∷ filter (λ (y : NetKey). y.live) (map shown_net rs)) (live_stays r is) ∙ ap
+        (λ l. r ∷ l) e
     at_test false is e = e
 
-aux_shown : (xs ys : List NetKey) → reverse_aux (map shown_net xs) (map shown_net ys) ≡ map shown_net (reverse_aux xs ys)
+aux_shown : (xs ys : List NetKey) → reverse_aux (map shown_net xs) (map shown_net ys)
+    ≡ map shown_net (reverse_aux xs ys)
 aux_shown [] ys = refl
 aux_shown (x ∷ xs) ys = aux_shown xs (x ∷ ys)
 
@@ -46,15 +55,21 @@ reverse_shown : (nets : List NetKey) → reverse (map shown_net nets) ≡ map sh
 reverse_shown nets = aux_shown nets []
 
 -- what is found by a test that no dropped row passes
-live_found : (test : NetKey → Bool) → ((r : NetKey) → test (shown_net r) ≡ test r) → ((r : NetKey) → test r ≡ true → r.live ≡ true) → (nets : List NetKey) → find test (map shown_net nets) ≡ find test nets
+live_found : (test : NetKey → Bool) → ((r : NetKey) → test (shown_net r) ≡ test r)
+    → ((r : NetKey) → test r ≡ true → r.live ≡ true) → (nets : List NetKey) → find test (map shown_net nets)
+    ≡ find test nets
 live_found test same alive [] = refl
-live_found test same alive (r ∷ rs) = ap (λ b. if b then Some (shown_net r) else find test (map shown_net rs)) (same r) ∙ at_test (test r) refl (live_found test same alive rs)
+live_found test same alive (r ∷ rs) = ap (λ b. if b then Some (shown_net r) else find test (map shown_net rs))
+    (same r) ∙ at_test (test r) refl (live_found test same alive rs)
   where
-    at_test : (b : Bool) → test r ≡ b → find test (map shown_net rs) ≡ find test rs → (if b then Some (shown_net r) else find test (map shown_net rs)) ≡ (if b then Some r else find test rs)
+    at_test : (b : Bool) → test r ≡ b → find test (map shown_net rs) ≡ find test rs
+        → (if b then Some (shown_net r) else find test (map shown_net rs)) ≡ (if b then Some r else find test rs)
     at_test true is e = ap Some (live_stays r (alive r is))
     at_test false is e = e
 
-last_found : (test : NetKey → Bool) → ((r : NetKey) → test (shown_net r) ≡ test r) → ((r : NetKey) → test r ≡ true → r.live ≡ true) → (nets : List NetKey) → last_where test (map shown_net nets) ≡ last_where test nets
+last_found : (test : NetKey → Bool) → ((r : NetKey) → test (shown_net r) ≡ test r)
+    → ((r : NetKey) → test r ≡ true → r.live ≡ true) → (nets : List NetKey) → last_where test (map shown_net nets)
+    ≡ last_where test nets
 last_found test same alive nets = ap (find test) (reverse_shown nets) ∙ live_found test same alive (reverse nets)
 
 both_first : (a b : Bool) → (a && b) ≡ true → a ≡ true
@@ -78,13 +93,15 @@ active_same s = by_active s.active
     by_active None = refl
     by_active (Some key) = net_found key s.nets
 
-none_shown : (b : Bool) (o : Option NetKey) → (if b then option_map shown_net o else None) ≡ option_map shown_net (if b then o else None)
+none_shown : (b : Bool) (o : Option NetKey) → (if b then option_map shown_net o else None)
+    ≡ option_map shown_net (if b then o else None)
 none_shown true o = refl
 none_shown false o = refl
 
 pub usable_active_same : (s : NodeState) → usable_active (shown s) ≡ option_map shown_net (usable_active s)
 unfolding shown usable_active
-usable_active_same s = ap (λ (o : Option NetKey). if may_use s then o else None) (active_same s) ∙ none_shown (may_use s) (active_row s)
+usable_active_same s = ap (λ (o : Option NetKey). if may_use s then o else None) (active_same s) ∙ none_shown
+    (may_use s) (active_row s)
 
 pub live_nets_same : (s : NodeState) → live_nets (shown s) ≡ live_nets s
 unfolding shown
@@ -104,7 +121,8 @@ newest_same s = last_found (λ (r : NetKey). r.live) (λ r. refl) (λ r e. e) s.
 
 pub live_of_same : (s : NodeState) (sequence : ℕ) → live_of (shown s) sequence ≡ live_of s sequence
 unfolding shown live_of
-live_of_same s sequence = last_found (λ (r : NetKey). r.live && nat_eq r.sequence sequence) (λ r. refl) (λ r e. both_first r.live (nat_eq r.sequence sequence) e) s.nets
+live_of_same s sequence = last_found (λ (r : NetKey). r.live && nat_eq r.sequence sequence) (λ r. refl)
+    (λ r e. both_first r.live (nat_eq r.sequence sequence) e) s.nets
 
 next_shown : (declared : ℕ) (o : Option NetKey) → next_of declared (option_map shown_net o) ≡ next_of declared o
 next_shown declared None = refl
@@ -148,10 +166,14 @@ unfolding shown
 held_same s None = refl
 held_same s (Some key) = rw (has_same key s.nets) refl
 
-pub dropped_same : (place : ℕ) (key : Bytes) (nets : List NetKey) → dropped_at place key (map shown_net nets) ≡ dropped_at place key nets
+pub dropped_same : (place : ℕ) (key : Bytes) (nets : List NetKey) → dropped_at place key (map shown_net nets)
+    ≡ dropped_at place key nets
 dropped_same place key [] = refl
-dropped_same place key (r ∷ rs) = ap (λ (o : Option ℕ). if same_key r.key key && not r.live then Some place else o) (dropped_same (place + 1) key rs)
+dropped_same place key (r ∷ rs) = ap (λ (o : Option ℕ). if same_key r.key key && not r.live then Some place
+    else o) (dropped_same (place + 1) key rs)
 
 pub drop_old_same : (s : NodeState) → drop_old (shown s) ≡ drop_old s
 unfolding shown drop_old
-drop_old_same s = ap (λ (l : List NetKey). if nat_le 2 (length l) then first_drop (filter (λ (r : NetKey). not (is_active_key s.active r.key)) l) else []) (live_nets_same s)
+drop_old_same s =
+    ap (λ (l : List NetKey). if nat_le 2 (length l)
+    then first_drop (filter (λ (r : NetKey). not (is_active_key s.active r.key)) l) else []) (live_nets_same s)

@@ -22,10 +22,13 @@ use Rattle.law_tables_suffice.proofs.Memory.{nets_ruled}
 abbrev AreOf : ℕ → List Line → Type 0
 AreOf n ls = AllByRecursion (λ (l : Line). speaker l ≡ n) ls
 
-others_read : (n m : ℕ) → nat_eq m n ≡ false → (ls : List Line) → AreOf m ls → (s : NodeState) → fold (heard_line n) s ls ≡ s
+others_read : (n m : ℕ) → nat_eq m n ≡ false → (ls : List Line) → AreOf m ls → (s : NodeState)
+    → fold (heard_line n) s ls ≡ s
 unfolding heard_line
 others_read n m other [] own s = refl
-others_read n m other (l ∷ ls) own s = ap (λ (x : ℕ). fold (heard_line n) (if nat_eq x n then after l s else s) ls) own.0 ∙ ap (λ (b : Bool). fold (heard_line n) (if b then after l s else s) ls) other ∙ others_read n m other ls own.1 s
+others_read n m other (l ∷ ls) own s = ap (λ (x : ℕ). fold (heard_line n) (if nat_eq x n then after l s else s) ls)
+    own.0 ∙ ap (λ (b : Bool). fold (heard_line n) (if b then after l s else s) ls) other ∙ others_read n m other ls
+    own.1 s
 
 abbrev pub has_eui : ℕ → Node → Bool
 has_eui n m = nat_eq m.station.eui n
@@ -45,24 +48,33 @@ not_same a b n same other = by_test (nat_eq b n) refl
     by_test true is = absurd (false≢true (sym other ∙ eq-eqb a b (eqb-true a n same ∙ sym (eqb-true b n is))))
 
 module _ (f : Node → List Line) (own : (m : Node) → AreOf m.station.eui (f m)) (n : ℕ) where
-  none_read : (ms : List Node) → list_any (has_eui n) ms ≡ false → (s : NodeState) → fold (heard_line n) s (flat_map f ms) ≡ s
+  none_read : (ms : List Node) → list_any (has_eui n) ms ≡ false → (s : NodeState)
+      → fold (heard_line n) s (flat_map f ms) ≡ s
   none_read [] none s = refl
   none_read (m ∷ ms) none s =
       let parts = neither (has_eui n m) (list_any (has_eui n) ms) none in
-      fold-append (heard_line n) s (f m) (flat_map f ms) ∙ ap (λ t. fold (heard_line n) t (flat_map f ms)) (others_read n m.station.eui parts.0 (f m) (own m) s) ∙ none_read ms parts.1 s
+      fold-append (heard_line n) s (f m) (flat_map f ms) ∙ ap (λ t. fold (heard_line n) t (flat_map f ms))
+      (others_read n m.station.eui parts.0 (f m) (own m) s) ∙ none_read ms parts.1 s
 
-  one_read : (ms : List Node) → nodes_differ ms ≡ true → (s : NodeState) → fold (heard_line n) s (flat_map f ms) ≡ fold (heard_line n) s (lines_of f (find (has_eui n) ms))
+  one_read : (ms : List Node) → nodes_differ ms ≡ true → (s : NodeState) → fold (heard_line n) s (flat_map f ms)
+      ≡ fold (heard_line n) s (lines_of f (find (has_eui n) ms))
   one_read [] differ s = refl
   one_read (m ∷ ms) differ s =
-      let parts = both (not (list_any (λ (b : Node). nat_eq m.station.eui b.station.eui) ms)) (nodes_differ ms) differ in
-      fold-append (heard_line n) s (f m) (flat_map f ms) ∙ by_test (has_eui n m) refl (not-true _ parts.0) (one_read ms parts.1 s)
+      let parts = both (not (list_any (λ (b : Node). nat_eq m.station.eui b.station.eui) ms)) (nodes_differ ms) differ
+      in
+      fold-append (heard_line n) s (f m) (flat_map f ms) ∙ by_test (has_eui n m) refl (not-true _ parts.0)
+      (one_read ms parts.1 s)
     where
       by_test : (b : Bool) → has_eui n m ≡ b → list_any (λ (k : Node). nat_eq m.station.eui k.station.eui) ms ≡ false
           → fold (heard_line n) s (flat_map f ms) ≡ fold (heard_line n) s (lines_of f (find (has_eui n) ms))
-          → fold (heard_line n) (fold (heard_line n) s (f m)) (flat_map f ms) ≡ fold (heard_line n) s (lines_of f (if b then Some m else find (has_eui n) ms))
+          → fold (heard_line n) (fold (heard_line n) s (f m)) (flat_map f ms)
+          ≡ fold (heard_line n) s (lines_of f (if b then Some m else find (has_eui n) ms))
       by_test true is apart more =
-          none_read ms (none_where (λ (k : Node). nat_eq m.station.eui k.station.eui) (has_eui n) (λ k e. not_same m.station.eui k.station.eui n is e) ms apart) (fold (heard_line n) s (f m))
-      by_test false is apart more = ap (λ t. fold (heard_line n) t (flat_map f ms)) (others_read n m.station.eui is (f m) (own m) s) ∙ more
+          none_read ms
+          (none_where (λ (k : Node). nat_eq m.station.eui k.station.eui) (has_eui n)
+          (λ k e. not_same m.station.eui k.station.eui n is e) ms apart) (fold (heard_line n) s (f m))
+      by_test false is apart more = ap (λ t. fold (heard_line n) t (flat_map f ms))
+          (others_read n m.station.eui is (f m) (own m) s) ∙ more
 
 -- ---- the four kinds of start lines
 
@@ -106,7 +118,10 @@ own_limits : (m : Node) → AreOf m.station.eui (limit_lines m)
 unfolding speaker
 own_limits m = by_zeros (nat_eq m.start_nwk 0) (nat_eq m.start_aps 0)
   where
-    by_zeros : (a b : Bool) → AreOf m.station.eui ((if a then [] else Counter m.station.eui Nwk m.start_nwk ∷ []) ++ (if b then [] else Counter m.station.eui Aps m.start_aps ∷ []))
+    by_zeros : (a b : Bool)
+        → AreOf m.station.eui
+        ((if a then [] else Counter m.station.eui Nwk m.start_nwk ∷ [])
+        ++ (if b then [] else Counter m.station.eui Aps m.start_aps ∷ []))
     by_zeros true true = tt
     by_zeros true false = (refl, tt)
     by_zeros false true = (refl, tt)
@@ -126,47 +141,61 @@ abbrev with_limit : Layer → ℕ → NodeState → NodeState
 with_limit layer value s = if nat_eq value 0 then s else with_declared layer value s
 
 abbrev pub first_state : ℕ → Node → NodeState
-first_state centre m = with_limit Aps m.start_aps (with_limit Nwk m.start_nwk (with_code centre m.code (with_network m.network (new_node m.station.role))))
+first_state centre m =
+    with_limit Aps m.start_aps
+    (with_limit Nwk m.start_nwk (with_code centre m.code (with_network m.network (new_node m.station.role))))
 
 module _ (n : ℕ) (m : Node) (is : has_eui n m ≡ true) where
   declared_read : fold (heard_line n) (new_node Device) (declared_lines m) ≡ new_node m.station.role
   unfolding heard_line speaker after
   declared_read = rw is refl
 
-  net_read : (o : Option (Bytes × ℕ)) (s : NodeState) → fold (heard_line n) s (net_line m.station.eui o) ≡ with_network o s
+  net_read : (o : Option (Bytes × ℕ)) (s : NodeState) → fold (heard_line n) s (net_line m.station.eui o)
+      ≡ with_network o s
   unfolding heard_line speaker after
   net_read None s = refl
   net_read (Some given) s = rw is refl
 
-  link_read : (centre : ℕ) (o : Option Bytes) (s : NodeState) → fold (heard_line n) s (link_line centre m.station.eui o) ≡ with_code centre o s
+  link_read : (centre : ℕ) (o : Option Bytes) (s : NodeState)
+      → fold (heard_line n) s (link_line centre m.station.eui o) ≡ with_code centre o s
   unfolding heard_line speaker after
   link_read centre None s = refl
   link_read centre (Some key) s = rw is refl
 
-  limit_read : (layer : Layer) (value : ℕ) (s : NodeState) → fold (heard_line n) s (limit_line m.station.eui layer value) ≡ with_limit layer value s
+  limit_read : (layer : Layer) (value : ℕ) (s : NodeState)
+      → fold (heard_line n) s (limit_line m.station.eui layer value) ≡ with_limit layer value s
   unfolding heard_line speaker after
   limit_read layer value s = by_zero (nat_eq value 0)
     where
-      by_zero : (b : Bool) → fold (heard_line n) s (if b then [] else Counter m.station.eui layer value ∷ []) ≡ (if b then s else with_declared layer value s)
+      by_zero : (b : Bool) → fold (heard_line n) s (if b then [] else Counter m.station.eui layer value ∷ [])
+          ≡ (if b then s else with_declared layer value s)
       by_zero true = refl
       by_zero false = rw is refl
 
-  limits_read : (s : NodeState) → fold (heard_line n) s (limit_lines m) ≡ with_limit Aps m.start_aps (with_limit Nwk m.start_nwk s)
+  limits_read : (s : NodeState) → fold (heard_line n) s (limit_lines m)
+      ≡ with_limit Aps m.start_aps (with_limit Nwk m.start_nwk s)
   limits_read s =
-      fold-append (heard_line n) s (limit_line m.station.eui Nwk m.start_nwk) (limit_line m.station.eui Aps m.start_aps)
-      ∙ ap (λ t. fold (heard_line n) t (limit_line m.station.eui Aps m.start_aps)) (limit_read Nwk m.start_nwk s) ∙ limit_read Aps m.start_aps (with_limit Nwk m.start_nwk s)
+      fold-append (heard_line n) s (limit_line m.station.eui Nwk m.start_nwk)
+      (limit_line m.station.eui Aps m.start_aps)
+      ∙ ap (λ t. fold (heard_line n) t (limit_line m.station.eui Aps m.start_aps)) (limit_read Nwk m.start_nwk s) ∙
+      limit_read Aps m.start_aps (with_limit Nwk m.start_nwk s)
 
-pub start_read : (w : Schedule) → euis_differ w ≡ true → (n : ℕ) (m : Node) → find (has_eui n) w.nodes ≡ Some m → has_eui n m ≡ true → state_of (start w) n ≡ first_state (centre_of (stations w)) m
+pub start_read : (w : Schedule) → euis_differ w ≡ true → (n : ℕ) (m : Node) → find (has_eui n) w.nodes ≡ Some m
+    → has_eui n m ≡ true → state_of (start w) n ≡ first_state (centre_of (stations w)) m
 unfolding state_of start euis_differ
 start_read w differ n m found is =
     ap (λ ds. fold H new (ds ++ (nets ++ (links ++ limits)))) (all_declared w.nodes)
     ∙ fold-append H new (flat_map declared_lines w.nodes) (nets ++ (links ++ limits))
     ∙ ap (λ t. fold H t (nets ++ (links ++ limits))) (pass declared_lines own_declared new ∙ declared_read n m is)
     ∙ fold-append H (new_node m.station.role) nets (links ++ limits)
-    ∙ ap (λ t. fold H t (links ++ limits)) (pass net_lines own_nets (new_node m.station.role) ∙ net_read n m is m.network (new_node m.station.role))
+    ∙ ap (λ t. fold H t (links ++ limits))
+    (pass net_lines own_nets (new_node m.station.role) ∙ net_read n m is m.network (new_node m.station.role))
     ∙ fold-append H (with_network m.network (new_node m.station.role)) links limits
-    ∙ ap (λ t. fold H t limits) (pass (link_lines centre) (own_links centre) (with_network m.network (new_node m.station.role)) ∙ link_read n m is centre m.code (with_network m.network (new_node m.station.role)))
-    ∙ (pass limit_lines own_limits (with_code centre m.code (with_network m.network (new_node m.station.role))) ∙ limits_read n m is (with_code centre m.code (with_network m.network (new_node m.station.role))))
+    ∙ ap (λ t. fold H t limits)
+    (pass (link_lines centre) (own_links centre) (with_network m.network (new_node m.station.role)) ∙ link_read n
+    m is centre m.code (with_network m.network (new_node m.station.role)))
+    ∙ (pass limit_lines own_limits (with_code centre m.code (with_network m.network (new_node m.station.role))) ∙
+    limits_read n m is (with_code centre m.code (with_network m.network (new_node m.station.role))))
   where
     centre : ℕ
     centre = centre_of (stations w)
@@ -189,40 +218,55 @@ start_read w differ n m found is =
     nodes : nodes_differ w.nodes ≡ true
     nodes = sym (apart_seen (λ (a b : Station). nat_eq a.eui b.eui) (λ (m : Node). m.station) w.nodes) ∙ differ
 
-    pass : (f : Node → List Line) → ((m : Node) → AreOf m.station.eui (f m)) → (s : NodeState) → fold H s (flat_map f w.nodes) ≡ fold H s (f m)
+    pass : (f : Node → List Line) → ((m : Node) → AreOf m.station.eui (f m)) → (s : NodeState)
+        → fold H s (flat_map f w.nodes) ≡ fold H s (f m)
     pass f own s = one_read f own n w.nodes nodes s ∙ ap (λ o. fold H s (lines_of f o)) found
 
 -- a node's own start lines give the same state
 own_read : (centre n : ℕ) (m : Node) → has_eui n m ≡ true → state_of (own_start centre m) n ≡ first_state centre m
 unfolding state_of
 own_read centre n m is =
-    fold-append (heard_line n) (new_node Device) (declared_lines m) (net_lines m ++ (link_lines centre m ++ limit_lines m))
+    fold-append (heard_line n) (new_node Device) (declared_lines m)
+    (net_lines m ++ (link_lines centre m ++ limit_lines m))
     ∙ ap (λ t. fold (heard_line n) t (net_lines m ++ (link_lines centre m ++ limit_lines m))) (declared_read n m is)
     ∙ fold-append (heard_line n) (new_node m.station.role) (net_lines m) (link_lines centre m ++ limit_lines m)
-    ∙ ap (λ t. fold (heard_line n) t (link_lines centre m ++ limit_lines m)) (net_read n m is m.network (new_node m.station.role))
-    ∙ fold-append (heard_line n) (with_network m.network (new_node m.station.role)) (link_lines centre m) (limit_lines m)
-    ∙ ap (λ t. fold (heard_line n) t (limit_lines m)) (link_read n m is centre m.code (with_network m.network (new_node m.station.role)))
+    ∙ ap (λ t. fold (heard_line n) t (link_lines centre m ++ limit_lines m))
+    (net_read n m is m.network (new_node m.station.role))
+    ∙ fold-append (heard_line n) (with_network m.network (new_node m.station.role)) (link_lines centre m)
+    (limit_lines m)
+    ∙ ap (λ t. fold (heard_line n) t (limit_lines m))
+    (link_read n m is centre m.code (with_network m.network (new_node m.station.role)))
     ∙ limits_read n m is (with_code centre m.code (with_network m.network (new_node m.station.role)))
 
-nodes_alone : (w : Schedule) → euis_differ w ≡ true → (ms : List Node) → AllByRecursion (λ (m : Node). find (has_eui m.station.eui) w.nodes ≡ Some m) ms → AllByRecursion (StartsAlone w) ms
+nodes_alone : (w : Schedule) → euis_differ w ≡ true → (ms : List Node)
+    → AllByRecursion (λ (m : Node). find (has_eui m.station.eui) w.nodes ≡ Some m) ms
+    → AllByRecursion (StartsAlone w) ms
 nodes_alone w differ [] all = tt
-nodes_alone w differ (m ∷ ms) all =
-    (start_read w differ m.station.eui m all.0 (eq-eqb m.station.eui m.station.eui refl) ∙ sym (own_read (centre_of (stations w)) m.station.eui m (eq-eqb m.station.eui m.station.eui refl)), nodes_alone w differ ms all.1)
+nodes_alone w differ (m ∷ ms) all = (
+  start_read w differ m.station.eui m all.0 (eq-eqb m.station.eui m.station.eui refl) ∙ sym
+      (own_read (centre_of (stations w)) m.station.eui m (eq-eqb m.station.eui m.station.eui refl)),
+  nodes_alone w differ ms all.1,
+)
 
 pub starts_alone : (w : Schedule) → euis_differ w ≡ true → AllByRecursion (StartsAlone w) w.nodes
 unfolding euis_differ
 starts_alone w differ =
-    nodes_alone w differ w.nodes (each_first (λ (a b : Node). nat_eq a.station.eui b.station.eui) (λ m. eq-eqb m.station.eui m.station.eui refl) w.nodes
+    nodes_alone w differ w.nodes
+    (each_first (λ (a b : Node). nat_eq a.station.eui b.station.eui)
+    (λ m. eq-eqb m.station.eui m.station.eui refl) w.nodes
     (sym (apart_seen (λ (a b : Station). nat_eq a.eui b.eui) (λ (m : Node). m.station) w.nodes) ∙ differ))
 
 -- ---- it keeps the rules
 
 declared_unruled : (s : NodeState) (value : ℕ) → keeps_rules (record s { declared = value }) ≡ keeps_rules s
-unfolding keeps_rules rows_have_room keys_differ at_most_two_live active_is_live partners_agree links_are_marked floors_are_kept limits_are_started role_is_kept pairs_are_kept
+unfolding keeps_rules rows_have_room keys_differ at_most_two_live active_is_live partners_agree links_are_marked
+    floors_are_kept limits_are_started role_is_kept pairs_are_kept
 declared_unruled s value = refl
 
-aps_unruled : (s : NodeState) (limit next : ℕ) → keeps_rules (record s { aps_limit = limit; aps_next = next }) ≡ keeps_rules s
-unfolding keeps_rules rows_have_room keys_differ at_most_two_live active_is_live partners_agree links_are_marked floors_are_kept limits_are_started role_is_kept pairs_are_kept
+aps_unruled : (s : NodeState) (limit next : ℕ) → keeps_rules (record s { aps_limit = limit; aps_next = next })
+    ≡ keeps_rules s
+unfolding keeps_rules rows_have_room keys_differ at_most_two_live active_is_live partners_agree links_are_marked
+    floors_are_kept limits_are_started role_is_kept pairs_are_kept
 aps_unruled s limit next = refl
 
 -- a limit at the start is given to a started row
@@ -241,26 +285,36 @@ raised_floors : (b : Bool) (value : ℕ) (r : NetKey) → floors_rule (raised b 
 raised_floors true value r = refl
 raised_floors false value r = refl
 
-raised_limit : (b : Bool) (value : ℕ) (r : NetKey) → r.started ≡ b → limit_rule r ≡ true → limit_rule (raised b value r) ≡ true
+raised_limit : (b : Bool) (value : ℕ) (r : NetKey) → r.started ≡ b → limit_rule r ≡ true
+    → limit_rule (raised b value r) ≡ true
 raised_limit true value r is rule = ap (λ (c : Bool). c || nat_eq (max r.limit value) 0) is
 raised_limit false value r is rule = rule
 
-limit_ruled : (layer : Layer) (value : ℕ) (s : NodeState) → keeps_rules s ≡ true → keeps_rules (with_declared layer value s) ≡ true
+limit_ruled : (layer : Layer) (value : ℕ) (s : NodeState) → keeps_rules s ≡ true
+    → keeps_rules (with_declared layer value s) ≡ true
 unfolding with_declared
 limit_ruled Nwk value s kept =
     declared_unruled (record s { nets = map (declared_at value) s.nets }) value
-    ∙ nets_ruled (declared_at value) (record { key = λ r. raised_key r.started value r; live = λ r. raised_live r.started value r; limit = λ r e. raised_limit r.started value r refl e }) (λ r. raised_floors r.started value r) s kept
+    ∙ nets_ruled (declared_at value)
+    (record {
+      key = λ r. raised_key r.started value r;
+      live = λ r. raised_live r.started value r;
+      limit = λ r e. raised_limit r.started value r refl e;
+    }) (λ r. raised_floors r.started value r) s kept
 limit_ruled Aps value s kept = aps_unruled s (max s.aps_limit value) (max s.aps_next value) ∙ kept
 
-with_limit_ruled : (layer : Layer) (value : ℕ) (s : NodeState) → keeps_rules s ≡ true → keeps_rules (with_limit layer value s) ≡ true
+with_limit_ruled : (layer : Layer) (value : ℕ) (s : NodeState) → keeps_rules s ≡ true
+    → keeps_rules (with_limit layer value s) ≡ true
 with_limit_ruled layer value s kept = by_zero (nat_eq value 0)
   where
     by_zero : (b : Bool) → keeps_rules (if b then s else with_declared layer value s) ≡ true
     by_zero true = kept
     by_zero false = limit_ruled layer value s kept
 
-keys_ruled : (role : Role) (centre : ℕ) (network : Option (Bytes × ℕ)) (code : Option Bytes) → keeps_rules (with_code centre code (with_network network (new_node role))) ≡ true
-unfolding keeps_rules rows_have_room keys_differ at_most_two_live active_is_live partners_agree links_are_marked floors_are_kept limits_are_started role_is_kept pairs_are_kept with_given_net with_given_link
+keys_ruled : (role : Role) (centre : ℕ) (network : Option (Bytes × ℕ)) (code : Option Bytes)
+    → keeps_rules (with_code centre code (with_network network (new_node role))) ≡ true
+unfolding keeps_rules rows_have_room keys_differ at_most_two_live active_is_live partners_agree links_are_marked
+    floors_are_kept limits_are_started role_is_kept pairs_are_kept with_given_net with_given_link
 keys_ruled Centre centre None None = refl
 keys_ruled Router centre None None = refl
 keys_ruled Device centre None None = refl
@@ -276,8 +330,10 @@ keys_ruled Device centre (Some given) (Some key) = rw (same_key_of given.0 given
 
 pub first_ruled : (centre : ℕ) (m : Node) → keeps_rules (first_state centre m) ≡ true
 first_ruled centre m =
-    with_limit_ruled Aps m.start_aps (with_limit Nwk m.start_nwk (with_code centre m.code (with_network m.network (new_node m.station.role))))
-    (with_limit_ruled Nwk m.start_nwk (with_code centre m.code (with_network m.network (new_node m.station.role))) (keys_ruled m.station.role centre m.network m.code))
+    with_limit_ruled Aps m.start_aps
+    (with_limit Nwk m.start_nwk (with_code centre m.code (with_network m.network (new_node m.station.role))))
+    (with_limit_ruled Nwk m.start_nwk (with_code centre m.code (with_network m.network (new_node m.station.role)))
+    (keys_ruled m.station.role centre m.network m.code))
 
 -- ---- its role is the declared one
 
@@ -305,6 +361,8 @@ limit_role layer value s = by_zero (nat_eq value 0)
 
 pub first_role : (centre : ℕ) (m : Node) → (first_state centre m).role ≡ m.station.role
 first_role centre m =
-    limit_role Aps m.start_aps (with_limit Nwk m.start_nwk (with_code centre m.code (with_network m.network (new_node m.station.role))))
+    limit_role Aps m.start_aps
+    (with_limit Nwk m.start_nwk (with_code centre m.code (with_network m.network (new_node m.station.role))))
     ∙ limit_role Nwk m.start_nwk (with_code centre m.code (with_network m.network (new_node m.station.role)))
-    ∙ code_role centre m.code (with_network m.network (new_node m.station.role)) ∙ network_role m.network (new_node m.station.role)
+    ∙ code_role centre m.code (with_network m.network (new_node m.station.role)) ∙ network_role m.network
+    (new_node m.station.role)

@@ -10,16 +10,19 @@ use Rattle.law_change_fits.proofs.Tests.{apart_map, apart_snoc}
 use Rattle.law_tables_suffice.specs.Showing.{nets_differ}
 
 -- what each line of a node keeps, lines keep
-pub lines_keep : (P : NodeState → Type 0) → ((l : Line) (s : NodeState) → P s → P (after l s)) → (n : ℕ) (h : List Line) (s : NodeState) → P s → P (fold (heard_line n) s h)
+pub lines_keep : (P : NodeState → Type 0) → ((l : Line) (s : NodeState) → P s → P (after l s))
+    → (n : ℕ) (h : List Line) (s : NodeState) → P s → P (fold (heard_line n) s h)
 unfolding heard_line
 lines_keep P each n [] s p = p
-lines_keep P each n (l ∷ h) s p = lines_keep P each n h (if nat_eq (speaker l) n then after l s else s) (by_speaker (nat_eq (speaker l) n))
+lines_keep P each n (l ∷ h) s p = lines_keep P each n h (if nat_eq (speaker l) n then after l s
+    else s) (by_speaker (nat_eq (speaker l) n))
   where
     by_speaker : (b : Bool) → P (if b then after l s else s)
     by_speaker true = each l s p
     by_speaker false = p
 
-pub reading_keeps : (P : NodeState → Type 0) → P (new_node Device) → ((l : Line) (s : NodeState) → P s → P (after l s)) → (h : List Line) (n : ℕ) → P (state_of h n)
+pub reading_keeps : (P : NodeState → Type 0) → P (new_node Device)
+    → ((l : Line) (s : NodeState) → P s → P (after l s)) → (h : List Line) (n : ℕ) → P (state_of h n)
 unfolding state_of
 reading_keeps P new each h n = lines_keep P each n h (new_node Device) new
 
@@ -28,26 +31,33 @@ reading_keeps P new each h n = lines_keep P each n h (new_node Device) new
 abbrev Differ : List NetKey → Type 0
 Differ nets = all_apart (λ (a b : NetKey). same_key a.key b.key) nets ≡ true
 
-map_differ : (f : NetKey → NetKey) → ((r : NetKey) → (f r).key ≡ r.key) → (nets : List NetKey) → Differ nets → Differ (map f nets)
-map_differ f same nets d = apart_map (λ (a b : NetKey). same_key a.key b.key) (λ (a b : NetKey). same_key a.key b.key) f (λ x y e. ap (λ k. same_key k (f y).key) (same x) ∙ ap (same_key x.key) (same y) ∙ e) nets d
+map_differ : (f : NetKey → NetKey) → ((r : NetKey) → (f r).key ≡ r.key) → (nets : List NetKey) → Differ nets
+    → Differ (map f nets)
+map_differ f same nets d = apart_map (λ (a b : NetKey). same_key a.key b.key) (λ (a b : NetKey). same_key a.key b.key)
+    f (λ x y e. ap (λ k. same_key k (f y).key) (same x) ∙ ap (same_key x.key) (same y) ∙ e) nets d
 
-at_differ : (key : Bytes) (f : NetKey → NetKey) → ((r : NetKey) → (f r).key ≡ r.key) → (nets : List NetKey) → Differ nets → Differ (at_net key f nets)
-at_differ key f same nets d = map_differ (λ r. if same_key r.key key then f r else r) (λ r. by_test (same_key r.key key) r) nets d
+at_differ : (key : Bytes) (f : NetKey → NetKey) → ((r : NetKey) → (f r).key ≡ r.key) → (nets : List NetKey)
+    → Differ nets → Differ (at_net key f nets)
+at_differ key f same nets d = map_differ (λ r. if same_key r.key key then f r
+    else r) (λ r. by_test (same_key r.key key) r) nets d
   where
     by_test : (b : Bool) (r : NetKey) → (if b then f r else r).key ≡ r.key
     by_test true r = same r
     by_test false r = refl
 
-active_differ : (o : Option Bytes) (f : NetKey → NetKey) → ((r : NetKey) → (f r).key ≡ r.key) → (nets : List NetKey) → Differ nets → Differ (of_active f o nets)
+active_differ : (o : Option Bytes) (f : NetKey → NetKey) → ((r : NetKey) → (f r).key ≡ r.key) → (nets : List NetKey)
+    → Differ nets → Differ (of_active f o nets)
 active_differ None f same nets d = d
 active_differ (Some key) f same nets d = at_differ key f same nets d
 
-add_differ : (r : NetKey) (nets : List NetKey) → Differ nets → Differ (if has_net r.key nets then nets else nets ++ r ∷ [])
+add_differ : (r : NetKey) (nets : List NetKey) → Differ nets → Differ (if has_net r.key nets then nets
+    else nets ++ r ∷ [])
 add_differ r nets d = by_test (has_net r.key nets) refl
   where
     by_test : (b : Bool) → has_net r.key nets ≡ b → Differ (if b then nets else nets ++ r ∷ [])
     by_test true has = d
-    by_test false has = apart_snoc (λ (a b : NetKey). same_key a.key b.key) nets r ∙ ap (λ b. b && not (has_net r.key nets)) d ∙ ap not has
+    by_test false has = apart_snoc (λ (a b : NetKey). same_key a.key b.key) nets r ∙ ap
+        (λ b. b && not (has_net r.key nets)) d ∙ ap not has
 
 moved_differ : (m : Move) (s : NodeState) → Differ s.nets → Differ (moved m s).nets
 moved_differ (Draw key) s d = d
@@ -73,7 +83,8 @@ applied_differ (Floor Aps key sender value) s d = d
 applied_differ (Start key value) s d = at_differ key (started_at value) (λ r. refl) s.nets d
 applied_differ (Moved m) s d = moved_differ m s d
 
-heard_differ : (layer : Layer) (key : Bytes) (sender counter : ℕ) (s : NodeState) → Differ s.nets → Differ (after_hearing layer key sender counter s).nets
+heard_differ : (layer : Layer) (key : Bytes) (sender counter : ℕ) (s : NodeState) → Differ s.nets
+    → Differ (after_hearing layer key sender counter s).nets
 unfolding after_hearing
 heard_differ Nwk key sender counter s d = at_differ key (net_kept sender (counter + 1)) (λ r. refl) s.nets d
 heard_differ Aps key sender counter s d = d
@@ -82,11 +93,16 @@ sealed_differ : (layer : Layer) (t : Term) (s : NodeState) → Differ s.nets →
 sealed_differ Nwk t s d = at_differ t.base (next_at (t.counter + 1)) (λ r. refl) s.nets d
 sealed_differ Aps t s d = d
 
-declared_differ : (layer : Layer) (value : ℕ) (s : NodeState) → Differ s.nets → Differ (with_declared layer value s).nets
+declared_differ : (layer : Layer) (value : ℕ) (s : NodeState) → Differ s.nets
+    → Differ (with_declared layer value s).nets
 unfolding with_declared
 declared_differ Nwk value s d = map_differ (declared_at value) (λ r. by_started r.started r) s.nets d
   where
-    by_started : (b : Bool) (r : NetKey) → (if b then record r { limit = Rattle.std.specs.Prelude.max r.limit value; next = Rattle.std.specs.Prelude.max r.next value } else r).key ≡ r.key
+    by_started : (b : Bool) (r : NetKey)
+        → (if b
+        then record r
+        { limit = Rattle.std.specs.Prelude.max r.limit value; next = Rattle.std.specs.Prelude.max r.next value }
+        else r).key ≡ r.key
     by_started true r = refl
     by_started false r = refl
 declared_differ Aps value s d = d

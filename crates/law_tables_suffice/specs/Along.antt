@@ -11,7 +11,8 @@ use Rattle.law_run.specs.Events.{BeforeEach}
 use Rattle.zb_model.specs.Play.{Schedule, Node, Event, Own, RollOver, Deliver, Reset, PowerOn, ShowRecord, ArmStop, ArmFail, Disk, setting_of, stations, net_line, link_line, limit_line, start, step}
 
 -- What is carried along: it holds of the start; before an event it gives the claim, and it holds after that event.
-pub record IsCarried (tools : Tools) (w : Schedule) (Q : Event → Type 0) (I : List Line → List Disk → ℕ → Type 0) (P : List Line → Event → Type 0) : Type 0 where
+pub record IsCarried (tools : Tools) (w : Schedule) (Q : Event → Type 0) (I : List Line → List Disk → ℕ → Type 0)
+    (P : List Line → Event → Type 0) : Type 0 where
   pub begins : I (start w) [] 1
   pub gives : (h : List Line) (disks : List Disk) (number : ℕ) (event : Event) → Q event → I h disks number → P h event
   pub goes_on : (h : List Line) (disks : List Disk) (number : ℕ) (event : Event) → Q event → I h disks number
@@ -31,7 +32,8 @@ OfNode P _ = ⊤
 
 -- a claim on the node of each event, in its state before the event
 abbrev pub NodesAllAlong : (NodeState → Setting → ℕ → Type 0) → Tools → Schedule → Type 0
-NodesAllAlong P tools w = BeforeEach (λ h event. OfNode (λ n. P (state_of h n) (setting_of w n) n) event) tools w (start w) [] 1 w.events
+NodesAllAlong P tools w = BeforeEach (λ h event. OfNode (λ n. P (state_of h n) (setting_of w n) n) event) tools w
+    (start w) [] 1 w.events
 
 -- no two nodes of the schedule have the same EUI
 unfoldable pub euis_differ : Schedule → Bool

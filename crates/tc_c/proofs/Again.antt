@@ -34,10 +34,12 @@ record OfKey (key : Key) (t : Term) : Type 0 where
   is_term : IsNwkTerm t header aux
   base : t.base ≡ key
 
-layer_term : (bytes : List ℕ) (f : NwkFrame) (a : NwkAux) (key : Key) → Spells bytes f → f.aux ≡ Some a → OfKey key (term_of (nwk_layer f a) key a.source)
+layer_term : (bytes : List ℕ) (f : NwkFrame) (a : NwkAux) (key : Key) → Spells bytes f → f.aux ≡ Some a
+    → OfKey key (term_of (nwk_layer f a) key a.source)
 layer_term bytes f a key spells is =
     let c = a.control in
-    let shaped : IsAuxControl c = subst (λ (o : Option NwkAux). IfSome o (λ x. IsAuxControl x.control)) is spells.is_frame.shaped.aux in
+    let shaped : IsAuxControl c = subst (λ (o : Option NwkAux). IfSome o (λ x. IsAuxControl x.control)) is
+    spells.is_frame.shaped.aux in
     let range : AuxInRange a = subst (λ (o : Option NwkAux). IfSome o AuxInRange) is spells.is_frame.in_range.aux in
     record {
       header = f.header;
@@ -46,8 +48,18 @@ layer_term bytes f a key spells is =
         shaped = spells.is_frame.shaped.header;
         in_range = spells.is_frame.in_range.header;
         secured = sym spells.is_frame.shaped.secured ∙ ap (λ (o : Option NwkAux). is_some o) is;
-        aux_shaped = record { network_key = same_key_id (real_level c) c (zero_of_real c) ∙ shaped.network_key; extended = same_bit (real_level c) c (zero_of_real c) ∙ shaped.extended };
-        aux_in_range = record { control = same_range (real_level c) c (zero_of_real c) range.control; counter = range.counter; source = range.source; key_sequence = range.key_sequence };
+        aux_shaped =
+            record {
+              network_key = same_key_id (real_level c) c (zero_of_real c) ∙ shaped.network_key;
+              extended = same_bit (real_level c) c (zero_of_real c) ∙ shaped.extended;
+            };
+        aux_in_range =
+            record {
+              control = same_range (real_level c) c (zero_of_real c) range.control;
+              counter = range.counter;
+              source = range.source;
+              key_sequence = range.key_sequence;
+            };
         level = omega arith;
         layer = refl;
         label = refl;
@@ -59,21 +71,26 @@ layer_term bytes f a key spells is =
       base = refl;
     }
 
-of_aux : (bytes : List ℕ) (f : NwkFrame) (key : Key) (t : Term) → Spells bytes f → (o : Option NwkAux) → f.aux ≡ o → term_in key (nwk_envelope f o) ≡ Ok t → OfKey key t
+of_aux : (bytes : List ℕ) (f : NwkFrame) (key : Key) (t : Term) → Spells bytes f → (o : Option NwkAux) → f.aux ≡ o
+    → term_in key (nwk_envelope f o) ≡ Ok t → OfKey key t
 of_aux bytes f key t spells None is given = absurd cc
 of_aux bytes f key t spells (Some a) is given =
-    subst (λ (u : Term). OfKey key u) (term_ok_is (term_of (nwk_layer f a) key a.source) t given) (layer_term bytes f a key spells is)
+    subst (λ (u : Term). OfKey key u) (term_ok_is (term_of (nwk_layer f a) key a.source) t given)
+    (layer_term bytes f a key spells is)
 
-of_read : (bytes : List ℕ) (r : Result NwkFrame NwkError) (key : Key) (t : Term) → IsBytes bytes → frame_of bytes ≡ r → term_in key (nwk_seen r) ≡ Ok t → OfKey key t
+of_read : (bytes : List ℕ) (r : Result NwkFrame NwkError) (key : Key) (t : Term) → IsBytes bytes → frame_of bytes ≡ r
+    → term_in key (nwk_seen r) ≡ Ok t → OfKey key t
 of_read bytes (Ok f) key t fits is given = of_aux bytes f key t (read_is_spelled bytes fits f is) f.aux refl given
 of_read bytes (Err e) key t fits is given = absurd cc
 
 of_clear : (clear : List ℕ) (key : Key) (t : Term) → IsBytes clear → clear_term clear key ≡ Ok t → OfKey key t
 unfolding seen_nwk
 of_clear clear key t fits given =
-    of_read (clear ++ replicate 4 0) (frame_of (clear ++ replicate 4 0)) key t (bytes_append clear (replicate 4 0) fits (zeros_are_bytes 4)) refl given
+    of_read (clear ++ replicate 4 0) (frame_of (clear ++ replicate 4 0)) key t
+    (bytes_append clear (replicate 4 0) fits (zeros_are_bytes 4)) refl given
 
-pub opens_again : (clear : List ℕ) (key : Key) (t : Term) → IsBytes clear → length key.0 ≡ 16 → clear_term clear key ≡ Ok t → length (wire t) ≤ 127 → opened_nwk (wire t) key ≡ Ok t
+pub opens_again : (clear : List ℕ) (key : Key) (t : Term) → IsBytes clear → length key.0 ≡ 16 → clear_term clear key
+    ≡ Ok t → length (wire t) ≤ 127 → opened_nwk (wire t) key ≡ Ok t
 opens_again clear key t fits sixteen given room =
     let it : OfKey key t = of_clear clear key t fits given in
     let base16 : length t.base.0 ≡ 16 = subst (λ (k : Key). length k.0 ≡ 16) (sym it.base) sixteen in

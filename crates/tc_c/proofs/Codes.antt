@@ -13,7 +13,9 @@ no_length n long = grind (arith, nat_tests)
 pub long_code : (code : List ℕ) → 18 < length code → code_of code ≡ Err (Length (length code))
 unfolding code_of
 long_code code long =
-    ap (λ b. cond b (if crc_part code == crc (code_part code) then Ok code else Err (Crc (crc_part code) (crc (code_part code)))) (Err (Length (length code)))) (no_length (length code) long)
+    ap (λ b. cond b (if crc_part code == crc (code_part code) then Ok code
+    else Err (Crc (crc_part code) (crc (code_part code)))) (Err (Length (length code))))
+    (no_length (length code) long)
 
 pub no_long_code : {P : Type 0} (code v : List ℕ) → 18 < length code → code_of code ≡ Ok v → P
 no_long_code code v long ok = absurd (false≢true (ap is_err (sym ok ∙ long_code code long)))

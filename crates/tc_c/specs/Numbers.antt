@@ -40,7 +40,8 @@ longest_message = 8175
 
 abbrev pub keyed_number : (key message room : ℕ) → ℕ
 keyed_number key message room =
-    if key == 16 then (if room == 16 then (if nat_le message longest_message then 0 else 1) else wrong_room) else wrong_key
+    if key == 16 then (if room == 16 then (if nat_le message longest_message then 0 else 1) else wrong_room)
+    else wrong_key
 
 -- ---- opening: 1 no frame, 2 not secured, 3 no source, 4 a MIC that isn't that of a content under the key
 

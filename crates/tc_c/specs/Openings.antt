@@ -54,4 +54,5 @@ clear_term clear key = term_in key (seen_nwk (clear ++ replicate 4 0))
 
 -- whether there is room for its MIC of 4 bytes
 abbrev pub seal_number : List ℕ → Key → ℕ
-seal_number clear key = if nat_le (length clear + 4) longest_frame then sealed_number (clear_term clear key) else too_long
+seal_number clear key = if nat_le (length clear + 4) longest_frame then sealed_number (clear_term clear key)
+    else too_long

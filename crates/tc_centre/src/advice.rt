@@ -15,13 +15,13 @@ pub fn advise(rt: &HostRuntime, status: &Status) {
         Status::Usage => eprintln!(rt; "{USAGE}"),
         Status::ReadFault => eprintln!(rt; "tc_centre: standard input can't be read"),
         Status::WriteFault => eprintln!(rt;
-            "tc_centre: standard output can't be written; start again, and `list` shows whether the last event is stored"
+            "tc_centre: standard output can't be written; start again: `list` shows whether the last event is stored"
         ),
         Status::NoMemory => eprintln!(rt;
             "tc_centre: out of memory; start again, and `list` shows whether the last event is stored"
         ),
         Status::DiskFault => eprintln!(rt;
-            "tc_centre: the store can't be used: the system refused a call; start again, and `list` shows what is stored"
+            "tc_centre: the store can't be used: the system refused a call; start again: `list` shows what is stored"
         ),
         Status::NoStore => eprintln!(rt;
             "tc_centre: the file has bytes, and no store: it is another file, or an init was cut off"

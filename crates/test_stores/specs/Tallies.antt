@@ -42,7 +42,8 @@ next_after next None = next
 next_after next (Some sealed) = min (sealed + 1) 255
 
 abbrev pub IsAfter : Tally → Plan (Option ℕ) → Tally → Type 0
-IsAfter c p d = d ≡ record { next = next_after c.next p.out; limit = limit_after c.limit p.changes.items; block = c.block }
+IsAfter c p d = d
+    ≡ record { next = next_after c.next p.out; limit = limit_after c.limit p.changes.items; block = c.block }
 
 -- a record: the version 3, the role of the centre, and the limit
 abbrev pub spelled : ℕ → List ℕ

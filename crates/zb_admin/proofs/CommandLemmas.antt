@@ -47,29 +47,38 @@ on_ok_then (Err e) f p = tt
 pub no_setting : Setting
 no_setting = record { me = no_station; stations = [] }
 
-pub event_command : (tells : Telling) (old new : View) (host : Hosted CoreValue) (f : AdminFault) → ((c : Setting) → IsEventFault tells c old new host f) → IsCommandFault tells old (Some host) new f
+pub event_command : (tells : Telling) (old new : View) (host : Hosted CoreValue) (f : AdminFault)
+    → ((c : Setting) → IsEventFault tells c old new host f) → IsCommandFault tells old (Some host) new f
 event_command tells old new host Disk h = h no_setting
 event_command tells old new host NoStore h = λ told. h no_setting
 event_command tells old new host (BadStore at) h = λ told. h no_setting
 event_command tells old new host Worn h = λ told c before is. by_standing c before is told
   where
-    by_standing : (c : Setting) (before : Option NodeState) → Stands c before (Some host) old → IsTrue tells.content → (z : Standing) × (stands new.seen ≡ Some z) × IsWornOut z
+    by_standing : (c : Setting) (before : Option NodeState) → Stands c before (Some host) old → IsTrue tells.content
+        → (z : Standing) × (stands new.seen ≡ Some z) × IsWornOut z
     by_standing c None is told = absurd is
     by_standing c (Some s) is told = h c told s is
 event_command tells old new host Write h = h no_setting
 event_command tells old new host NoMemory h = absurd (h no_setting)
 
 -- a command whose lines found no memory
-pub short_command : (tells : Telling) (old new : View) (centre : Option (Hosted CoreValue)) (r : Result (Unit {0}) AdminFault)
+pub short_command : (tells : Telling) (old new : View) (centre : Option (Hosted CoreValue))
+    (r : Result (Unit {0}) AdminFault)
     → IsShort r → Unrisen old.faults new.faults → IfErr r (IsCommandFault tells old centre new)
 short_command tells old new centre (Ok x) short same = tt
 short_command tells old new centre (Err f) short same = subst (IsCommandFault tells old centre new) (sym short) same
 
-pub told_lines : (line : ℕ) (p : CorePlan) (a : Answer) → IsAnswer p a → outcome_lines line (option_map reason p.out.refused) (items_of p.out.frame) ≡ outcome_lines line a.refusal a.frame
-told_lines line p a is = ap (λ r. outcome_lines line r (items_of p.out.frame)) is.refusal ∙ ap (λ f. outcome_lines line a.refusal f) is.frame
+pub told_lines : (line : ℕ) (p : CorePlan) (a : Answer) → IsAnswer p a
+    → outcome_lines line (option_map reason p.out.refused) (items_of p.out.frame)
+    ≡ outcome_lines line a.refusal a.frame
+told_lines line p a is = ap (λ r. outcome_lines line r (items_of p.out.frame)) is.refusal ∙ ap
+    (λ f. outcome_lines line a.refusal f) is.frame
 
 -- a refused event of its own
-pub event_spared : (tells : Telling) (c : Setting) (line : ℕ) (task : Task) (s : NodeState) (before after : Hosted CoreValue) (old new : View) (p : CorePlan) → HasHandled tells c task before old (Ok p) after new → IsTrue tells.content → IsUp c s before old → is_own task ≡ true
+pub event_spared : (tells : Telling) (c : Setting) (line : ℕ) (task : Task) (s : NodeState)
+    (before after : Hosted CoreValue) (old new : View) (p : CorePlan)
+    → HasHandled tells c task before old (Ok p) after new → IsTrue tells.content → IsUp c s before old → is_own task
+    ≡ true
     → IsRefusal (handled c line task s) → IsStill old new × ((handled c line task s).after ≡ Some s)
 event_spared tells c line task s before after old new p h told up own refusal =
     let a = answer real c s task in
@@ -85,38 +94,55 @@ lays_some Lists s = refl
 lays_some Backup s = refl
 lays_some (Restore by bytes) s = refl
 
-pub carried_as : {c : Setting} {lays : Bool} {b : Option NodeState} {old : View} {front : List ℕ} {r : Result (Unit {0}) AdminFault} {centre : Option (Hosted CoreValue)} {new : View} {text : List ℕ} (d e : Done) → d ≡ e
+pub carried_as : {c : Setting} {lays : Bool} {b : Option NodeState} {old : View} {front : List ℕ}
+    {r : Result (Unit {0}) AdminFault} {centre : Option (Hosted CoreValue)} {new : View} {text : List ℕ} (d e : Done)
+    → d ≡ e
     → IsCarriedOut c lays b d old front r centre new text → IsCarriedOut c lays b e old front r centre new text
-carried_as {c} {lays} {b} {old} {front} {r} {centre} {new} {text} d e same h = subst (λ (x : Done). IsCarriedOut c lays b x old front r centre new text) same h
+carried_as {c} {lays} {b} {old} {front} {r} {centre} {new} {text} d e same h =
+    subst (λ (x : Done). IsCarriedOut c lays b x old front r centre new text) same h
 
-pub carried_some : (c : Setting) (step : Step) (b : Option NodeState) (was : Option (Hosted CoreValue)) (host : Hosted CoreValue) (old : View) (front : List ℕ) (r : Result (Unit {0}) AdminFault) (centre : Option (Hosted CoreValue)) (new : View) (text : List ℕ) → was ≡ Some host → Stands c b was old
-    → ((s : NodeState) → IsUp c s host old → IsCarriedOut c false (Some s) (on_store c step.line step.order s) old front r centre new text) → IsCarriedOut c (lays_out step.order b) b (done c step b) old front r centre new text
+pub carried_some : (c : Setting) (step : Step) (b : Option NodeState) (was : Option (Hosted CoreValue))
+    (host : Hosted CoreValue) (old : View) (front : List ℕ) (r : Result (Unit {0}) AdminFault)
+    (centre : Option (Hosted CoreValue)) (new : View) (text : List ℕ) → was ≡ Some host → Stands c b was old
+    → ((s : NodeState) → IsUp c s host old → IsCarriedOut c false (Some s) (on_store c step.line step.order s) old
+    front r centre new text) → IsCarriedOut c (lays_out step.order b) b (done c step b) old front r centre new text
 unfolding done
-carried_some c step None was host old front r centre new text is stood each = absurd (subst (λ (o : Option (Hosted CoreValue)). Stands c None o old) is stood)
+carried_some c step None was host old front r centre new text is stood each =
+    absurd (subst (λ (o : Option (Hosted CoreValue)). Stands c None o old) is stood)
 carried_some c step (Some s) was host old front r centre new text is stood each =
     let h = each s (subst (λ (o : Option (Hosted CoreValue)). Stands c (Some s) o old) is stood) in
     record { after = h.after; lines = h.lines; between = λ e. h.between refl; spared = h.spared }
 
-pub carried_none : (c : Setting) (step : Step) (b : Option NodeState) (was : Option (Hosted CoreValue)) (old : View) (front : List ℕ) (r : Result (Unit {0}) AdminFault) (centre : Option (Hosted CoreValue)) (new : View) (text : List ℕ) → was ≡ None → Stands c b was old
-    → (IsEmpty old → IsCarriedOut c (lays_out step.order None) None (on_empty step.line step.order) old front r centre new text) → IsCarriedOut c (lays_out step.order b) b (done c step b) old front r centre new text
+pub carried_none : (c : Setting) (step : Step) (b : Option NodeState) (was : Option (Hosted CoreValue)) (old : View)
+    (front : List ℕ) (r : Result (Unit {0}) AdminFault) (centre : Option (Hosted CoreValue)) (new : View)
+    (text : List ℕ) → was ≡ None → Stands c b was old
+    → (IsEmpty old → IsCarriedOut c (lays_out step.order None) None (on_empty step.line step.order) old front r centre
+    new text) → IsCarriedOut c (lays_out step.order b) b (done c step b) old front r centre new text
 unfolding done
-carried_none c step None was old front r centre new text is stood each = each (subst (λ (o : Option (Hosted CoreValue)). Stands c None o old) is stood)
-carried_none c step (Some s) was old front r centre new text is stood each = absurd (subst (λ (o : Option (Hosted CoreValue)). Stands c (Some s) o old) is stood)
+carried_none c step None was old front r centre new text is stood each =
+    each (subst (λ (o : Option (Hosted CoreValue)). Stands c None o old) is stood)
+carried_none c step (Some s) was old front r centre new text is stood each =
+    absurd (subst (λ (o : Option (Hosted CoreValue)). Stands c (Some s) o old) is stood)
 
 -- ---- commands that leave the disk as it is
 
-pub carried_still : (c : Setting) (lays : Bool) (b : Option NodeState) (centre : Option (Hosted CoreValue)) (v : View) (front : List ℕ) (r : Result (Unit {0}) AdminFault) (text : List ℕ) (d : Done) → ((image : List ℕ) → v.since v.moment image → v.images image) → Stands c b centre v
+pub carried_still : (c : Setting) (lays : Bool) (b : Option NodeState) (centre : Option (Hosted CoreValue)) (v : View)
+    (front : List ℕ) (r : Result (Unit {0}) AdminFault) (text : List ℕ) (d : Done)
+    → ((image : List ℕ) → v.since v.moment image → v.images image) → Stands c b centre v
     → d.after ≡ b → OnOk r (text ≡ front ++ page d.lines) → IsCarriedOut c lays b d v front r centre v text
 carried_still c lays b centre v front r text d only_now stood same lines = record {
   after = always r (subst (λ (o : Option NodeState). Stands c o centre v) (sym same) stood);
   lines = lines;
-  between = λ e. started v (StandsAsEither b d.after) only_now (λ image there. inl (images_stand c b centre v stood image there));
+  between = λ e. started v (StandsAsEither b d.after) only_now
+      (λ image there. inl (images_stand c b centre v stood image there));
   spared = always r (λ refusal. (still_refl v, same));
 }
 
 -- ---- commands that make a new store
 
-pub carried_new : (c : Setting) (s : NodeState) (old new : View) (front : List ℕ) (r : Result (Unit {0}) AdminFault) (centre : Option (Hosted CoreValue)) (text : List ℕ) (number : ℕ) → OnOk r (Stands c (Some s) centre new) → OnOk r (text ≡ front ++ page (ok_line number ∷ []))
+pub carried_new : (c : Setting) (s : NodeState) (old new : View) (front : List ℕ) (r : Result (Unit {0}) AdminFault)
+    (centre : Option (Hosted CoreValue)) (text : List ℕ) (number : ℕ) → OnOk r (Stands c (Some s) centre new)
+    → OnOk r (text ≡ front ++ page (ok_line number ∷ []))
     → IsCarriedOut c true None (does number [] s) old front r centre new text
 carried_new c s old new front r centre text number stood lines = record {
   after = stood;
@@ -126,18 +152,27 @@ carried_new c s old new front r centre text number stood lines = record {
 }
 
 -- what a command does where nothing stands
-pub carried_for : (c : Setting) (line : ℕ) (old : View) (front : List ℕ) (r : Result (Unit {0}) AdminFault) (centre : Option (Hosted CoreValue)) (new : View) (text : List ℕ) (o p : Order) → o ≡ p
-    → IsCarriedOut c (lays_out p None) None (on_empty line p) old front r centre new text → IsCarriedOut c (lays_out o None) None (on_empty line o) old front r centre new text
-carried_for c line old front r centre new text o p same h = subst (λ (q : Order). IsCarriedOut c (lays_out q None) None (on_empty line q) old front r centre new text) (sym same) h
+pub carried_for : (c : Setting) (line : ℕ) (old : View) (front : List ℕ) (r : Result (Unit {0}) AdminFault)
+    (centre : Option (Hosted CoreValue)) (new : View) (text : List ℕ) (o p : Order) → o ≡ p
+    → IsCarriedOut c (lays_out p None) None (on_empty line p) old front r centre new text
+    → IsCarriedOut c (lays_out o None) None (on_empty line o) old front r centre new text
+carried_for c line old front r centre new text o p same h =
+    subst (λ (q : Order). IsCarriedOut c (lays_out q None) None (on_empty line q) old front r centre new text)
+    (sym same) h
 
-pub new_stands : (tells : Telling) (c : Setting) (s : NodeState) (old new : View) (made : Result (Hosted CoreValue) AdminFault) (r : Result (Unit {0}) AdminFault) (centre : Option (Hosted CoreValue)) → HasLaidOut tells c s old made new → IsTrue tells.content
-    → OnOk r ((h : Hosted CoreValue) → made ≡ Ok h → centre ≡ Some h) → OnOk r (IsOk made) → OnOk r (Stands c (Some s) centre new)
-new_stands tells c s old new (Ok h) (Ok x) centre laid told kept is = subst (λ (o : Option (Hosted CoreValue)). Stands c (Some s) o new) (sym (kept h refl)) (laid.up told)
+pub new_stands : (tells : Telling) (c : Setting) (s : NodeState) (old new : View)
+    (made : Result (Hosted CoreValue) AdminFault) (r : Result (Unit {0}) AdminFault)
+    (centre : Option (Hosted CoreValue)) → HasLaidOut tells c s old made new → IsTrue tells.content
+    → OnOk r ((h : Hosted CoreValue) → made ≡ Ok h → centre ≡ Some h) → OnOk r (IsOk made)
+    → OnOk r (Stands c (Some s) centre new)
+new_stands tells c s old new (Ok h) (Ok x) centre laid told kept is =
+    subst (λ (o : Option (Hosted CoreValue)). Stands c (Some s) o new) (sym (kept h refl)) (laid.up told)
 new_stands tells c s old new (Err f) (Ok x) centre laid told kept is = let none : false ≡ true = is in absurd (cc)
 new_stands tells c s old new made (Err f) centre laid told kept is = tt
 
 -- the faults of a command that makes a new store
-laid_command : (tells : Telling) (old new : View) (f : AdminFault) → IsLayOutFault tells old new f → IsCommandFault tells old None new f
+laid_command : (tells : Telling) (old new : View) (f : AdminFault) → IsLayOutFault tells old new f
+    → IsCommandFault tells old None new f
 laid_command tells old new Disk h = h
 laid_command tells old new NoStore h = h
 laid_command tells old new (BadStore at) h = h
@@ -145,35 +180,58 @@ laid_command tells old new Worn h = absurd h
 laid_command tells old new Write h = h
 laid_command tells old new NoMemory h = h
 
-pub kept_command : (tells : Telling) (c : Setting) (s : NodeState) (old new : View) (made : Result (Hosted CoreValue) AdminFault)
+pub kept_command : (tells : Telling) (c : Setting) (s : NodeState) (old new : View)
+    (made : Result (Hosted CoreValue) AdminFault)
     (r : Result (Unit {0}) AdminFault) → HasLaidOut tells c s old made new
     → IfErr r (λ f. (made ≡ Err f) ⊎ (IsOk made × (f ≡ NoMemory))) → IfErr r (IsCommandFault tells old None new)
 kept_command tells c s old new made (Ok x) laid fault = tt
 kept_command tells c s old new made (Err f) laid (inl is) =
-    laid_command tells old new f (subst (λ (m : Result (Hosted CoreValue) AdminFault). IfErr m (IsLayOutFault tells old new)) is laid.faults)
-kept_command tells c s old new (Ok h) (Err f) laid (inr is) = subst (IsCommandFault tells old None new) (sym is.1) laid.unrisen
+    laid_command tells old new f
+    (subst (λ (m : Result (Hosted CoreValue) AdminFault). IfErr m (IsLayOutFault tells old new)) is laid.faults)
+kept_command tells c s old new (Ok h) (Err f) laid (inr is) = subst (IsCommandFault tells old None new) (sym is.1)
+    laid.unrisen
 kept_command tells c s old new (Err e) (Err f) laid (inr is) = let none : false ≡ true = is.0 in absurd (cc)
 
-pub kept_unrisen : (tells : Telling) (c : Setting) (s : NodeState) (old new : View) (made : Result (Hosted CoreValue) AdminFault)
-    (r : Result (Unit {0}) AdminFault) → HasLaidOut tells c s old made new → OnOk r (IsOk made) → OnOk r (Unrisen old.faults new.faults)
+pub kept_unrisen : (tells : Telling) (c : Setting) (s : NodeState) (old new : View)
+    (made : Result (Hosted CoreValue) AdminFault)
+    (r : Result (Unit {0}) AdminFault) → HasLaidOut tells c s old made new → OnOk r (IsOk made)
+    → OnOk r (Unrisen old.faults new.faults)
 kept_unrisen tells c s old new (Ok h) (Ok x) laid is = laid.unrisen
 kept_unrisen tells c s old new (Err f) (Ok x) laid is = let none : false ≡ true = is in absurd (cc)
 kept_unrisen tells c s old new made (Err f) laid is = tt
 
 -- a command other than these two
-pub carried_refused : (c : Setting) (line : ℕ) (o : Order) (centre : Option (Hosted CoreValue)) (v : View) (front : List ℕ) (r : Result (Unit {0}) AdminFault) (text : List ℕ) → ((image : List ℕ) → v.since v.moment image → v.images image) → IsEmpty v → centre ≡ None
-    → ((key : Key) → o ≡ Init key → ⊥) → ((by : ℕ) (bytes : _) → o ≡ Restore by bytes → ⊥) → OnOk r (text ≡ front ++ page (refuse_line line (codes "empty") ∷ [])) → IsCarriedOut c (lays_out o None) None (on_empty line o) v front r centre v text
-carried_refused c line (Init key) centre v front r text only_now empty none not_init not_restore lines = absurd (not_init key refl)
-carried_refused c line (Provision device code) centre v front r text only_now empty none not_init not_restore lines = carried_still c false None centre v front r text _ only_now (subst (λ (x : Option (Hosted CoreValue)). Stands c None x v) (sym none) empty) refl lines
-carried_refused c line (Remove device via) centre v front r text only_now empty none not_init not_restore lines = carried_still c false None centre v front r text _ only_now (subst (λ (x : Option (Hosted CoreValue)). Stands c None x v) (sym none) empty) refl lines
-carried_refused c line Lists centre v front r text only_now empty none not_init not_restore lines = carried_still c false None centre v front r text _ only_now (subst (λ (x : Option (Hosted CoreValue)). Stands c None x v) (sym none) empty) refl lines
-carried_refused c line Backup centre v front r text only_now empty none not_init not_restore lines = carried_still c false None centre v front r text _ only_now (subst (λ (x : Option (Hosted CoreValue)). Stands c None x v) (sym none) empty) refl lines
-carried_refused c line (Restore by bytes) centre v front r text only_now empty none not_init not_restore lines = absurd (not_restore by bytes refl)
+pub carried_refused : (c : Setting) (line : ℕ) (o : Order) (centre : Option (Hosted CoreValue)) (v : View)
+    (front : List ℕ) (r : Result (Unit {0}) AdminFault) (text : List ℕ)
+    → ((image : List ℕ) → v.since v.moment image → v.images image) → IsEmpty v → centre ≡ None
+    → ((key : Key) → o ≡ Init key → ⊥) → ((by : ℕ) (bytes : _) → o ≡ Restore by bytes → ⊥)
+    → OnOk r (text ≡ front ++ page (refuse_line line (codes "empty") ∷ []))
+    → IsCarriedOut c (lays_out o None) None (on_empty line o) v front r centre v text
+carried_refused c line (Init key) centre v front r text only_now empty none not_init not_restore lines =
+    absurd (not_init key refl)
+carried_refused c line (Provision device code) centre v front r text only_now empty none not_init not_restore lines =
+    carried_still c false None centre v front r text _ only_now
+    (subst (λ (x : Option (Hosted CoreValue)). Stands c None x v) (sym none) empty) refl lines
+carried_refused c line (Remove device via) centre v front r text only_now empty none not_init not_restore lines =
+    carried_still c false None centre v front r text _ only_now
+    (subst (λ (x : Option (Hosted CoreValue)). Stands c None x v) (sym none) empty) refl lines
+carried_refused c line Lists centre v front r text only_now empty none not_init not_restore lines =
+    carried_still c false None centre v front r text _ only_now
+    (subst (λ (x : Option (Hosted CoreValue)). Stands c None x v) (sym none) empty) refl lines
+carried_refused c line Backup centre v front r text only_now empty none not_init not_restore lines =
+    carried_still c false None centre v front r text _ only_now
+    (subst (λ (x : Option (Hosted CoreValue)). Stands c None x v) (sym none) empty) refl lines
+carried_refused c line (Restore by bytes) centre v front r text only_now empty none not_init not_restore lines =
+    absurd (not_restore by bytes refl)
 
 -- the lines of a list and of a backup
-pub listed_text : (front text : List ℕ) (t s : NodeState) (line : ℕ) → t ≡ s → text ≡ front ++ (page (listed t) ++ page (ok_line line ∷ [])) → text ≡ front ++ page (listed s ++ ok_line line ∷ [])
+pub listed_text : (front text : List ℕ) (t s : NodeState) (line : ℕ) → t ≡ s → text ≡ front
+    ++ (page (listed t) ++ page (ok_line line ∷ [])) → text ≡ front ++ page (listed s ++ ok_line line ∷ [])
 listed_text front text t s line same is =
-    is ∙ ap (λ l. front ++ l) (sym (page_more (listed t) (ok_line line ∷ []))) ∙ ap (λ (x : NodeState). front ++ page (listed x ++ ok_line line ∷ [])) same
+    is ∙ ap (λ l. front ++ l) (sym (page_more (listed t) (ok_line line ∷ []))) ∙ ap
+    (λ (x : NodeState). front ++ page (listed x ++ ok_line line ∷ [])) same
 
-pub backup_lines : (front text : List ℕ) (t s : NodeState) (line : ℕ) → t ≡ s → text ≡ front ++ (ended (backup_text t) ++ page (ok_line line ∷ [])) → text ≡ front ++ page (backup_text s ∷ ok_line line ∷ [])
-backup_lines front text t s line same is = is ∙ ap (λ (x : NodeState). front ++ page (backup_text x ∷ ok_line line ∷ [])) same
+pub backup_lines : (front text : List ℕ) (t s : NodeState) (line : ℕ) → t ≡ s → text ≡ front
+    ++ (ended (backup_text t) ++ page (ok_line line ∷ [])) → text ≡ front ++ page (backup_text s ∷ ok_line line ∷ [])
+backup_lines front text t s line same is =
+    is ∙ ap (λ (x : NodeState). front ++ page (backup_text x ∷ ok_line line ∷ [])) same

@@ -18,6 +18,8 @@ pub is_no_refusal : (d : Done) (lines : List Bytes) (n : ℕ) → d.lines ≡ li
 is_no_refusal d lines n is (m, why, e) = no_refusal lines n m why (sym is ∙ e)
 
 -- an event whose line is a refusal was refused
-pub refused_by : (number : ℕ) (reason : Option Reason) (frame : Option Bytes) (after : Option NodeState) → IsRefusal (record { lines = outcome_lines number reason frame; after = after }) → is_some reason ≡ true
+pub refused_by : (number : ℕ) (reason : Option Reason) (frame : Option Bytes) (after : Option NodeState)
+    → IsRefusal (record { lines = outcome_lines number reason frame; after = after }) → is_some reason ≡ true
 refused_by number (Some reason) frame after refusal = refl
-refused_by number None frame after refusal = absurd (no_refusal (sent_lines frame) number refusal.0 refusal.1 refusal.2)
+refused_by number None frame after refusal =
+    absurd (no_refusal (sent_lines frame) number refusal.0 refusal.1 refusal.2)

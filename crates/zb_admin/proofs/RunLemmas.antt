@@ -34,41 +34,56 @@ take_behind (x ∷ xs) ys n = let r = take_behind xs ys n in (suc r.0, ap (λ l.
 pub front_within : (a b : Option Bytes) (xs ys : Bytes) → AppendsFront a b xs → AppendsFront a b (xs ++ ys)
 front_within a b xs ys f = let r = take_front xs ys f.0 in (r.0, subst (Appends a b) (sym r.1) f.1)
 
-pub front_behind : (a b c : Option Bytes) (xs ys : Bytes) → Appends a b xs → AppendsFront b c ys → AppendsFront a c (xs ++ ys)
-front_behind a b c xs ys first f = let r = take_behind xs ys f.0 in (r.0, subst (Appends a c) (sym r.1) (Appends-trans a b c xs (take f.0 ys) first f.1))
+pub front_behind : (a b c : Option Bytes) (xs ys : Bytes) → Appends a b xs → AppendsFront b c ys
+    → AppendsFront a c (xs ++ ys)
+front_behind a b c xs ys first f = let r =
+    take_behind xs ys f.0 in (r.0, subst (Appends a c) (sym r.1) (Appends-trans a b c xs (take f.0 ys) first f.1))
 
 not_both : {A : Type 0} (result : Ended) (f : AdminFault) → result ≡ Ok tt → result ≡ Err f → A
 not_both result f ok is = let e : ◌≡◌ {A = Ended} (Ok tt) (Err f) = sym ok ∙ is in absurd (cc)
 
 module _ {D W : Type 0} (x : Outside D W) (c : Setting) where
   -- at Ok all lines were written
-  pub run_whole : (steps : List Step) (b : Option NodeState) (old : D) (before : W) (result : Ended) (new : D) (after : W) → result ≡ Ok tt → Runs x c steps b old before result new after
+  pub run_whole : (steps : List Step) (b : Option NodeState) (old : D) (before : W) (result : Ended) (new : D)
+      (after : W) → result ≡ Ok tt → Runs x c steps b old before result new after
       → Appends (x.taken before) (x.taken after) (page (served c steps b).lines)
-  run_whole [] b old before result new after ok (is, same_disk, same) = subst (λ (w : W). Appends (x.taken before) (x.taken w) []) (sym same) (Appends-nil (x.taken before))
+  run_whole [] b old before result new after ok (is, same_disk, same) =
+      subst (λ (w : W). Appends (x.taken before) (x.taken w) []) (sym same) (Appends-nil (x.taken before))
   run_whole (step ∷ steps) b old before result new after ok (inl (fault, is, ends)) = not_both result fault ok is
   run_whole (step ∷ steps) b old before result new after ok (inr (disk, sink, stored, lines, rest)) =
-      subst (Appends (x.taken before) (x.taken after)) (sym (page_more (done c step b).lines (served c steps (done c step b).after).lines))
-      (Appends-trans (x.taken before) (x.taken sink) (x.taken after) (page (done c step b).lines) (page (served c steps (done c step b).after).lines) lines
+      subst (Appends (x.taken before) (x.taken after))
+      (sym (page_more (done c step b).lines (served c steps (done c step b).after).lines))
+      (Appends-trans (x.taken before) (x.taken sink) (x.taken after) (page (done c step b).lines)
+      (page (served c steps (done c step b).after).lines) lines
       (run_whole steps (done c step b).after disk sink result new after ok rest))
 
   -- at a fault a prefix of them was
-  pub run_front : (steps : List Step) (b : Option NodeState) (old : D) (before : W) (result : Ended) (new : D) (after : W) (f : AdminFault) → result ≡ Err f → Runs x c steps b old before result new after
+  pub run_front : (steps : List Step) (b : Option NodeState) (old : D) (before : W) (result : Ended) (new : D)
+      (after : W) (f : AdminFault) → result ≡ Err f → Runs x c steps b old before result new after
       → AppendsFront (x.taken before) (x.taken after) (page (served c steps b).lines)
   run_front [] b old before result new after f err (is, same_disk, same) = not_both result f is err
   run_front (step ∷ steps) b old before result new after f err (inl (fault, is, inl (between, same))) =
       (0, subst (λ (w : W). Appends (x.taken before) (x.taken w) []) (sym same) (Appends-nil (x.taken before)))
   run_front (step ∷ steps) b old before result new after f err (inl (fault, is, inr (stored, front))) =
-      subst (AppendsFront (x.taken before) (x.taken after)) (sym (page_more (done c step b).lines (served c steps (done c step b).after).lines))
-      (front_within (x.taken before) (x.taken after) (page (done c step b).lines) (page (served c steps (done c step b).after).lines) front)
+      subst (AppendsFront (x.taken before) (x.taken after))
+      (sym (page_more (done c step b).lines (served c steps (done c step b).after).lines))
+      (front_within (x.taken before) (x.taken after) (page (done c step b).lines)
+      (page (served c steps (done c step b).after).lines) front)
   run_front (step ∷ steps) b old before result new after f err (inr (disk, sink, stored, lines, rest)) =
-      subst (AppendsFront (x.taken before) (x.taken after)) (sym (page_more (done c step b).lines (served c steps (done c step b).after).lines))
-      (front_behind (x.taken before) (x.taken sink) (x.taken after) (page (done c step b).lines) (page (served c steps (done c step b).after).lines) lines
+      subst (AppendsFront (x.taken before) (x.taken after))
+      (sym (page_more (done c step b).lines (served c steps (done c step b).after).lines))
+      (front_behind (x.taken before) (x.taken sink) (x.taken after) (page (done c step b).lines)
+      (page (served c steps (done c step b).after).lines) lines
       (run_front steps (done c step b).after disk sink result new after f err rest))
 
   -- at Ok every image represents the last record
-  pub run_last : (steps : List Step) (b : Option NodeState) (old : D) (before : W) (result : Ended) (new : D) (after : W) → result ≡ Ok tt → ((image : List ℕ) → (x.state old).images image → StandsAs b image)
-      → Runs x c steps b old before result new after → (image : List ℕ) → (x.state new).images image → StandsAs (served c steps b).after image
-  run_last [] b old before result new after ok now (is, same, same_sink) image there = now image (subst (λ (d : D). (x.state d).images image) same there)
-  run_last (step ∷ steps) b old before result new after ok now (inl (fault, is, ends)) image there = not_both result fault ok is
+  pub run_last : (steps : List Step) (b : Option NodeState) (old : D) (before : W) (result : Ended) (new : D)
+      (after : W) → result ≡ Ok tt → ((image : List ℕ) → (x.state old).images image → StandsAs b image)
+      → Runs x c steps b old before result new after → (image : List ℕ) → (x.state new).images image
+      → StandsAs (served c steps b).after image
+  run_last [] b old before result new after ok now (is, same, same_sink) image there =
+      now image (subst (λ (d : D). (x.state d).images image) same there)
+  run_last (step ∷ steps) b old before result new after ok now (inl (fault, is, ends)) image there =
+      not_both result fault ok is
   run_last (step ∷ steps) b old before result new after ok now (inr (disk, sink, stored, lines, rest)) image there =
       run_last steps (done c step b).after disk sink result new after ok stored.after rest image there

@@ -35,7 +35,9 @@ abbrev pub IsBetween : Bool → Option NodeState → Option NodeState → View �
 IsBetween lays before after old new = lays ≡ false → LeavesOnly old new (StandsAsEither before after)
 
 -- A command was carried out, and its lines stand on the page after what stood there; or it failed.
-pub record IsCarriedOut (c : Setting) (lays : Bool) (before : Option NodeState) (d : Done) (old : View) (front : List ℕ) (result : Result (Unit {0}) AdminFault) (centre : Option (Hosted CoreValue)) (new : View) (text : List ℕ) : Type 0 where
+pub record IsCarriedOut (c : Setting) (lays : Bool) (before : Option NodeState) (d : Done) (old : View)
+    (front : List ℕ) (result : Result (Unit {0}) AdminFault) (centre : Option (Hosted CoreValue)) (new : View)
+    (text : List ℕ) : Type 0 where
   pub after : OnOk result (Stands c d.after centre new)
   pub lines : OnOk result (text ≡ front ++ page d.lines)
   pub between : IsBetween lays before d.after old new
@@ -47,6 +49,7 @@ abbrev pub IsCommandFault : Telling → View → Option (Hosted CoreValue) → V
 IsCommandFault tells old centre new Disk = Rose old.faults new.faults
 IsCommandFault tells old centre new NoStore = IsTrue tells.content → ⊥
 IsCommandFault tells old centre new (BadStore at) = IsTrue tells.content → ⊥
-IsCommandFault tells old centre new Worn = IsTrue tells.content → (c : Setting) (before : Option NodeState) → Stands c before centre old → (z : Standing) × (stands new.seen ≡ Some z) × IsWornOut z
+IsCommandFault tells old centre new Worn = IsTrue tells.content → (c : Setting) (before : Option NodeState)
+    → Stands c before centre old → (z : Standing) × (stands new.seen ≡ Some z) × IsWornOut z
 IsCommandFault tells old centre new Write = ⊥
 IsCommandFault tells old centre new NoMemory = Unrisen old.faults new.faults

@@ -45,7 +45,9 @@ outcome_lines number None frame = sent_lines frame ++ ok_line number ∷ []
 
 -- The policy's answer to it, with the counters that the centre has. A refusal changes nothing.
 abbrev pub handled : Setting → ℕ → Task → NodeState → Done
-handled c number task s = let a = answer real c s task in record { lines = outcome_lines number a.refusal a.frame; after = Some (shown (answered a s)) }
+handled c number task s = let a =
+    answer real c s task in
+    record { lines = outcome_lines number a.refusal a.frame; after = Some (shown (answered a s)) }
 
 -- ---- a command, where a store stands and where none does
 

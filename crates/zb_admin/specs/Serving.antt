@@ -36,12 +36,15 @@ pub record IsStored (c : Setting) (step : Step) (standing : Option NodeState) (o
 -- The script ends at this command: it failed before its lines were written, or a prefix of them was.
 abbrev pub EndsAt : {D W : Type 0} → Outside D W → Setting → Step → Option NodeState → D → W → D → W → Type 0
 EndsAt x c step standing old before new after =
-    (IsBetween (lays_out step.order standing) standing (done c step standing).after (x.state old) (x.state new) × (after ≡ before))
-    ⊎ (IsStored c step standing (x.state old) (x.state new) × AppendsFront (x.taken before) (x.taken after) (page (done c step standing).lines))
+    (IsBetween (lays_out step.order standing) standing (done c step standing).after (x.state old) (x.state new)
+    × (after ≡ before))
+    ⊎ (IsStored c step standing (x.state old) (x.state new)
+    × AppendsFront (x.taken before) (x.taken after) (page (done c step standing).lines))
 
 -- The commands are served in their order. Of each one first the disk is called, while nothing is written; once what
 -- stands after it is stored, its lines are written, while the disk stays as it is; then comes the next one.
-abbrev pub Runs : {D W : Type 0} → Outside D W → Setting → List Step → Option NodeState → D → W → Ended → D → W → Type 0
+abbrev pub Runs : {D W : Type 0} → Outside D W → Setting → List Step → Option NodeState → D → W → Ended → D → W
+    → Type 0
 Runs x c [] standing old before result new after = (result ≡ Ok tt) × (new ≡ old) × (after ≡ before)
 Runs {D} {W} x c (step ∷ steps) standing old before result new after =
     ((fault : AdminFault) × (result ≡ Err fault) × EndsAt x c step standing old before new after)
@@ -50,7 +53,8 @@ Runs {D} {W} x c (step ∷ steps) standing old before result new after =
     × Runs x c steps (done c step standing).after disk sink result new after)
 
 -- A command was served, and what stands after it; or the script ends at it.
-pub record HasServed {D W : Type 0} (x : Outside D W) (c : Setting) (step : Step) (standing : Option NodeState) (old : D) (before : W) (result : Ended) (centre : Option (Hosted CoreValue)) (new : D) (after : W) : Type 0 where
+pub record HasServed {D W : Type 0} (x : Outside D W) (c : Setting) (step : Step) (standing : Option NodeState)
+    (old : D) (before : W) (result : Ended) (centre : Option (Hosted CoreValue)) (new : D) (after : W) : Type 0 where
   pub stored : OnOk result (IsStored c step standing (x.state old) (x.state new))
   pub stands_so : OnOk result (Stands c (done c step standing).after centre (x.state new))
   pub lines : OnOk result (Appends (x.taken before) (x.taken after) (page (done c step standing).lines))
@@ -58,11 +62,13 @@ pub record HasServed {D W : Type 0} (x : Outside D W) (c : Setting) (step : Step
 
 -- When each fault of commands comes, once the store was judged. Where memory is short the disk's count of faults
 -- stands.
-abbrev pub IsServiceFault : {D W : Type 0} → Outside D W → Setting → Option (Hosted CoreValue) → D → W → D → W → AdminFault → Type 0
+abbrev pub IsServiceFault : {D W : Type 0} → Outside D W → Setting → Option (Hosted CoreValue) → D → W → D → W
+    → AdminFault → Type 0
 IsServiceFault x c centre old before new after Disk = Rose (x.state old).faults (x.state new).faults
 IsServiceFault x c centre old before new after NoStore = IsTrue x.tells.content → ⊥
 IsServiceFault x c centre old before new after (BadStore at) = IsTrue x.tells.content → ⊥
-IsServiceFault x c centre old before new after Worn = IsTrue x.tells.content → (b : Option NodeState) → Stands c b centre (x.state old)
+IsServiceFault x c centre old before new after Worn = IsTrue x.tells.content → (b : Option NodeState)
+    → Stands c b centre (x.state old)
     → (z : Standing) × (stands (x.state new).seen ≡ Some z) × IsWornOut z
 IsServiceFault x c centre old before new after Write = Rose (x.faults before) (x.faults after)
 IsServiceFault x c centre old before new after NoMemory = Unrisen (x.state old).faults (x.state new).faults
@@ -71,7 +77,8 @@ IsServiceFault x c centre old before new after NoMemory = Unrisen (x.state old).
 
 -- The store was judged and opened, and then the commands were served. While it is opened, an image is empty or
 -- represents what one stood for before.
-abbrev pub IsServed : {D W : Type 0} → Outside D W → Setting → List Step → Option NodeState → D → W → Ended → D → W → Type 0
+abbrev pub IsServed : {D W : Type 0} → Outside D W → Setting → List Step → Option NodeState → D → W → Ended → D → W
+    → Type 0
 IsServed {D} x c steps standing old before result new after =
     (disk : D) × LeavesOnly (x.state old) (x.state disk) (WasThereOrEmpty (x.state old))
     × ((image : List ℕ) → (x.state disk).images image → StandsAs standing image)
@@ -80,7 +87,8 @@ IsServed {D} x c steps standing old before result new after =
 -- or it couldn't be opened
 abbrev pub IsUnopened : {D W : Type 0} → Outside D W → D → W → Ended → D → W → Type 0
 IsUnopened x old before result new after =
-    ((fault : AdminFault) × (result ≡ Err fault)) × LeavesOnly (x.state old) (x.state new) (WasThereOrEmpty (x.state old)) × (after ≡ before)
+    ((fault : AdminFault) × (result ≡ Err fault))
+    × LeavesOnly (x.state old) (x.state new) (WasThereOrEmpty (x.state old)) × (after ≡ before)
 
 -- The store is empty, or a centre's record stands in it.
 abbrev pub IsFound : {D W : Type 0} → Outside D W → D → Type 0
@@ -91,34 +99,47 @@ IsFound x old = (standing : Option NodeState) × (found_on (x.state old).seen �
 -- faults stands.
 abbrev pub IsAdminFault : {D W : Type 0} → Outside D W → D → W → D → W → AdminFault → Type 0
 IsAdminFault x old before new after Disk = Rose (x.state old).faults (x.state new).faults
-IsAdminFault x old before new after NoStore = IsTrue x.tells.content → (found_on (x.state old).seen ≡ Err NoStore) × (after ≡ before)
-IsAdminFault x old before new after (BadStore at) = IsTrue x.tells.content → (found_on (x.state old).seen ≡ Err (BadStore at)) × (after ≡ before)
+IsAdminFault x old before new after NoStore = IsTrue x.tells.content → (found_on (x.state old).seen ≡ Err NoStore)
+    × (after ≡ before)
+IsAdminFault x old before new after (BadStore at) = IsTrue x.tells.content
+    → (found_on (x.state old).seen ≡ Err (BadStore at)) × (after ≡ before)
 IsAdminFault x old before new after Worn = IsTrue x.tells.content → IsFound x old
     × (CanBeServed (x.state old) → (z : Standing) × (stands (x.state new).seen ≡ Some z) × IsWornOut z)
-IsAdminFault x old before new after Write = Rose (x.faults before) (x.faults after) × (IsTrue x.tells.content → IsFound x old)
+IsAdminFault x old before new after Write = Rose (x.faults before) (x.faults after)
+    × (IsTrue x.tells.content → IsFound x old)
 IsAdminFault x old before new after NoMemory = Unrisen (x.state old).faults (x.state new).faults
 
 -- A script was served.
-pub record Serves {D W : Type 0} (x : Outside D W) (script : Script) (old : D) (before : W) (result : Ended) (new : D) (after : W) : Type 0 where
+pub record Serves {D W : Type 0} (x : Outside D W) (script : Script) (old : D) (before : W) (result : Ended) (new : D)
+    (after : W) : Type 0 where
   -- a store that is no centre's is refused
-  pub found : OnOk result (IsTrue x.tells.content → (standing : Option NodeState) × (found_on (x.state old).seen ≡ Ok standing))
+  pub found : OnOk result
+      (IsTrue x.tells.content → (standing : Option NodeState) × (found_on (x.state old).seen ≡ Ok standing))
   -- at Ok all lines were written, and every image represents the last record
-  pub whole : OnOk result (IsTrue x.tells.content → CanBeServed (x.state old) → (standing : Option NodeState) → found_on (x.state old).seen ≡ Ok standing
+  pub whole : OnOk result (IsTrue x.tells.content → CanBeServed (x.state old) → (standing : Option NodeState)
+      → found_on (x.state old).seen ≡ Ok standing
       → Appends (x.taken before) (x.taken after) (served_text (setting_for script.config) script.steps standing))
-  pub last : OnOk result (IsTrue x.tells.content → CanBeServed (x.state old) → (standing : Option NodeState) → found_on (x.state old).seen ≡ Ok standing
-      → (image : List ℕ) → (x.state new).images image → StandsAs (served (setting_for script.config) script.steps standing).after image)
+  pub last : OnOk result (IsTrue x.tells.content → CanBeServed (x.state old) → (standing : Option NodeState)
+      → found_on (x.state old).seen ≡ Ok standing
+      → (image : List ℕ) → (x.state new).images image
+      → StandsAs (served (setting_for script.config) script.steps standing).after image)
   -- at a fault a prefix of them was
-  pub front : OnErr result (IsTrue x.tells.content → CanBeServed (x.state old) → (standing : Option NodeState) → found_on (x.state old).seen ≡ Ok standing
+  pub front : OnErr result (IsTrue x.tells.content → CanBeServed (x.state old) → (standing : Option NodeState)
+      → found_on (x.state old).seen ≡ Ok standing
       → AppendsFront (x.taken before) (x.taken after) (served_text (setting_for script.config) script.steps standing))
   -- command by command: what stands after a command is stored before its lines are written
-  pub run : IsTrue x.tells.content → CanBeServed (x.state old) → (standing : Option NodeState) → found_on (x.state old).seen ≡ Ok standing
-      → IsUnopened x old before result new after ⊎ IsServed x (setting_for script.config) script.steps standing old before result new after
+  pub run : IsTrue x.tells.content → CanBeServed (x.state old) → (standing : Option NodeState)
+      → found_on (x.state old).seen ≡ Ok standing
+      → IsUnopened x old before result new after ⊎ IsServed x (setting_for script.config) script.steps standing old
+      before result new after
   -- at every moment of the whole script: each image represents what stands after some first commands, and each command
   -- is among them of whose lines a byte was written
-  pub moments : IsTrue x.tells.content → CanBeServed (x.state old) → (standing : Option NodeState) → found_on (x.state old).seen ≡ Ok standing
+  pub moments : IsTrue x.tells.content → CanBeServed (x.state old) → (standing : Option NodeState)
+      → found_on (x.state old).seen ≡ Ok standing
       → IsRun x (setting_for script.config) script.steps standing old before new after
   -- where a store stands at first, that is so of all images at all moments of the call
-  pub all : IsTrue x.tells.content → CanBeServed (x.state old) → (s : NodeState) → found_on (x.state old).seen ≡ Ok (Some s)
+  pub all : IsTrue x.tells.content → CanBeServed (x.state old) → (s : NodeState) → found_on (x.state old).seen
+      ≡ Ok (Some s)
       → LeavesOnly (x.state old) (x.state new) (IsOfRun x (setting_for script.config) script.steps (Some s) old)
   -- when each fault comes
   pub faults : IfErr result (IsAdminFault x old before new after)

@@ -39,7 +39,8 @@ keys_more n keys next few long before e =
     let other : 0 ≢ n + 1 = omega arith in
     let first : key_at (set keys (n + 1) next) 0 ≡ key_at keys 0 =
     ap state_bytes (get_or-set_other keys (n + 1) 0 next _ other) in
-    let below : (i : ℕ) → i < n + 1 → key_at (set keys (n + 1) next) i ≡ round_key (key_at (set keys (n + 1) next) 0) i =
+    let below : (i : ℕ) → i < n + 1 → key_at (set keys (n + 1) next) i
+    ≡ round_key (key_at (set keys (n + 1) next) 0) i =
     λ i h. ap state_bytes (get_or-set_other keys (n + 1) i next _ (omega arith)) ∙ before.each i h
     ∙ ap (λ k. round_key k i) (sym first) in
     let here : key_at (set keys (n + 1) next) (n + 1) ≡ round_key (key_at (set keys (n + 1) next) 0) (n + 1) =

@@ -77,16 +77,20 @@ fourth_at x h = looked_up word_bytes (λ s. mix_column 0 0 0 s) 768 x (768 + x) 
 
 pub alone_0_at : (x : ℕ) → x < 256
     → word_bytes (bit_and (get_or MIXED (512 + x) 0) 0xff000000) ≡ substitute x ∷ 0 ∷ 0 ∷ 0 ∷ []
-alone_0_at x h = looked_up (λ w. word_bytes (bit_and w 0xff000000)) (λ s. s ∷ 0 ∷ 0 ∷ 0 ∷ []) 512 x (512 + x) h refl refl alone_0
+alone_0_at x h = looked_up (λ w. word_bytes (bit_and w 0xff000000)) (λ s. s ∷ 0 ∷ 0 ∷ 0 ∷ []) 512 x (512 + x) h refl
+    refl alone_0
 
 pub alone_1_at : (x : ℕ) → x < 256
     → word_bytes (bit_and (get_or MIXED (768 + x) 0) 0xff0000) ≡ 0 ∷ substitute x ∷ 0 ∷ 0 ∷ []
-alone_1_at x h = looked_up (λ w. word_bytes (bit_and w 0xff0000)) (λ s. 0 ∷ s ∷ 0 ∷ 0 ∷ []) 768 x (768 + x) h refl refl alone_1
+alone_1_at x h = looked_up (λ w. word_bytes (bit_and w 0xff0000)) (λ s. 0 ∷ s ∷ 0 ∷ 0 ∷ []) 768 x (768 + x) h refl
+    refl alone_1
 
 pub alone_2_at : (x : ℕ) → x < 256
     → word_bytes (bit_and (get_or MIXED x 0) 0xff00) ≡ 0 ∷ 0 ∷ substitute x ∷ 0 ∷ []
-alone_2_at x h = looked_up (λ w. word_bytes (bit_and w 0xff00)) (λ s. 0 ∷ 0 ∷ s ∷ 0 ∷ []) 0 x x h (omega arith) refl alone_2
+alone_2_at x h = looked_up (λ w. word_bytes (bit_and w 0xff00)) (λ s. 0 ∷ 0 ∷ s ∷ 0 ∷ []) 0 x x h (omega arith) refl
+    alone_2
 
 pub alone_3_at : (x : ℕ) → x < 256
     → word_bytes (bit_and (get_or MIXED (256 + x) 0) 0xff) ≡ 0 ∷ 0 ∷ 0 ∷ substitute x ∷ []
-alone_3_at x h = looked_up (λ w. word_bytes (bit_and w 0xff)) (λ s. 0 ∷ 0 ∷ 0 ∷ s ∷ []) 256 x (256 + x) h refl refl alone_3
+alone_3_at x h = looked_up (λ w. word_bytes (bit_and w 0xff)) (λ s. 0 ∷ 0 ∷ 0 ∷ s ∷ []) 256 x (256 + x) h refl refl
+    alone_3

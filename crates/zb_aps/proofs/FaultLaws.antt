@@ -31,9 +31,19 @@ read_as f = Ok f
 pub ok_is : (f g : ApsFrame) → read_as f ≡ read_as g → f ≡ g
 ok_is f g same = cc
 
-cut_has : (bytes : List ℕ) → length bytes ≤ 127 → frame_at (error.Short (length bytes)) bytes ≡ Err (error.Short (length bytes)) → CanGoOn bytes → HasFault bytes (error.Short (length bytes))
-cut_has bytes le short goes =
-    (le, (refl, record { no_frame = λ f is. let again = frame_again (error.Short (length bytes)) bytes f is in cc (again, short); goes_on = goes }))
+cut_has : (bytes : List ℕ) → length bytes ≤ 127 → frame_at (error.Short (length bytes)) bytes
+    ≡ Err (error.Short (length bytes)) → CanGoOn bytes → HasFault bytes (error.Short (length bytes))
+cut_has bytes le short goes = (
+  le,
+  (
+    refl,
+    record {
+      no_frame = λ f is. let again = frame_again (error.Short (length bytes)) bytes f is in cc
+          (again, short);
+      goes_on = goes;
+    },
+  ),
+)
 
 pub fault_found : (bytes : List ℕ) → IsBytes bytes → (e : ApsError) → frame_of bytes ≡ Err e → HasFault bytes e
 unfolding frame_of
@@ -58,7 +68,8 @@ fault_found bytes fits e given =
     ]
 
 -- bytes that can go on have no fault that stays
-stays_not : (bytes : List ℕ) (e : ApsError) → ((cut : ApsError) (more : List ℕ) → frame_at cut (bytes ++ more) ≡ Err e) → CanGoOn bytes → ⊥
+stays_not : (bytes : List ℕ) (e : ApsError)
+    → ((cut : ApsError) (more : List ℕ) → frame_at cut (bytes ++ more) ≡ Err e) → CanGoOn bytes → ⊥
 stays_not bytes e wrong (more, f, is) =
     let again = frame_again error.TooLong (bytes ++ more) f is in
     cc (again, wrong error.TooLong more)
@@ -85,7 +96,9 @@ fault_only bytes fits (error.Delivery found) (le, (control, rest, begins, known,
 fault_only bytes fits (error.KeyId found) (le, (control, h, rest, by, is, one)) =
     let cut = error.Short (length bytes) in
     let reads : frame_at cut bytes ≡ Err (error.KeyId (key_id control)) =
-    ap (frame_at cut) by.parts ∙ rw (header_again cut h (control ∷ rest) by.in_range by.shaped, by.secured, eq-eqb (key_id control) 1 (is ∙ one)) refl in
+    ap (frame_at cut) by.parts ∙ rw
+    (header_again cut h (control ∷ rest) by.in_range by.shaped, by.secured, eq-eqb (key_id control) 1 (is ∙ one))
+    refl in
     rw (le-ltb _ _ le, reads, is) refl
 
 pub read_is_spelled : (bytes : List ℕ) → IsBytes bytes → (f : ApsFrame) → frame_of bytes ≡ Ok f → Spells bytes f
@@ -97,7 +110,8 @@ read_is_spelled bytes fits f given =
           let cut = error.Short (length bytes) in
           elim (frame_end bytes fits) [
             | FrameCut short goes ↦ let same = rw (le-ltb _ _ le, short cut) at given in absurd cc
-            | FrameWrong e wrong why ↦ let same = rw (le-ltb _ _ le, wrong_now frame_at cut e bytes (wrong cut)) at given in absurd cc
+            | FrameWrong e wrong why ↦ let same = rw (le-ltb _ _ le, wrong_now frame_at cut e bytes (wrong cut)) at
+                given in absurd cc
             | FrameRead g is ↦
                 let same = rw (le-ltb _ _ le, frame_again cut bytes g is) at given in
                 subst (λ (h : ApsFrame). Spells bytes h) (ok_is g f same) (record { is_frame = is; fits = le })

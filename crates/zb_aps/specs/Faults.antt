@@ -28,9 +28,12 @@ pub record IsSecuredBy (bytes : List ℕ) (control : ℕ) (h : ApsHeader) (rest 
 abbrev pub Explains : List ℕ → ApsError → Type 0
 Explains bytes TooLong = ⊥
 Explains bytes (Short place) = (place ≡ length bytes) × IsCut bytes
-Explains bytes (FrameType found) = (control : ℕ) × (rest : List ℕ) × (bytes ≡ control ∷ rest) × (kind control ≡ found) × (found ≡ 3)
-Explains bytes (Delivery found) = (control : ℕ) × (rest : List ℕ) × (bytes ≡ control ∷ rest) × (kind control < 3) × (delivery control ≡ found) × (found ≡ 1)
-Explains bytes (KeyId found) = (control : ℕ) × (h : ApsHeader) × (rest : List ℕ) × IsSecuredBy bytes control h rest × (key_id control ≡ found) × (found ≡ 1)
+Explains bytes (FrameType found) = (control : ℕ) × (rest : List ℕ) × (bytes ≡ control ∷ rest) × (kind control ≡ found)
+    × (found ≡ 3)
+Explains bytes (Delivery found) = (control : ℕ) × (rest : List ℕ) × (bytes ≡ control ∷ rest) × (kind control < 3)
+    × (delivery control ≡ found) × (found ≡ 1)
+Explains bytes (KeyId found) = (control : ℕ) × (h : ApsHeader) × (rest : List ℕ) × IsSecuredBy bytes control h rest
+    × (key_id control ≡ found) × (found ≡ 1)
 
 -- The bytes have the fault.
 abbrev pub HasFault : List ℕ → ApsError → Type 0

@@ -14,10 +14,12 @@ extended e = byte e.control ++ optional byte e.block ++ optional byte e.bits
 
 -- the control byte and where the frame goes
 abbrev pub addressing : ApsHeader → List ℕ
-addressing h = byte h.control ++ optional byte h.endpoint ++ optional (number w16) h.group ++ optional (number w16) h.cluster
+addressing h = byte h.control ++ optional byte h.endpoint ++ optional (number w16) h.group
+    ++ optional (number w16) h.cluster
 
 abbrev pub header : ApsHeader → List ℕ
-header h = addressing h ++ optional (number w16) h.profile ++ optional byte h.source_endpoint ++ byte h.counter ++ optional extended h.extended
+header h = addressing h ++ optional (number w16) h.profile ++ optional byte h.source_endpoint ++ byte h.counter
+    ++ optional extended h.extended
 
 abbrev pub aux : ApsAux → List ℕ
 aux a = byte a.control ++ number w32 a.counter ++ optional eui a.source

@@ -55,13 +55,16 @@ disarmed_calls NotArmed m = refl
 disarmed_calls (StopAfter calls torn) m = refl
 disarmed_calls (FailAt call) m = refl
 
-pub armed_only : (a : Armed) (m : Medium) → Only m.bytes (memory_view m).images → Only m.bytes (memory_view (armed_medium a m)).images
+pub armed_only : (a : Armed) (m : Medium) → Only m.bytes (memory_view m).images
+    → Only m.bytes (memory_view (armed_medium a m)).images
 armed_only NotArmed m only = only
 armed_only (StopAfter calls torn) m only = only
 armed_only (FailAt call) m only = only
 
-pub armed_current : {C : Type 0} (restored : Restoring) (recorded : C → List ℕ) (s : Standing) (host : Hosted C) (a : Armed) (m : Medium)
-    → IsCurrent restored recorded s host (memory_view m) → IsCurrent restored recorded s host (memory_view (armed_medium a m))
+pub armed_current : {C : Type 0} (restored : Restoring) (recorded : C → List ℕ) (s : Standing) (host : Hosted C)
+    (a : Armed) (m : Medium)
+    → IsCurrent restored recorded s host (memory_view m)
+    → IsCurrent restored recorded s host (memory_view (armed_medium a m))
 armed_current restored recorded s host NotArmed m it = it
 armed_current restored recorded s host (StopAfter calls torn) m it = record {
   place = it.place;
@@ -76,8 +79,10 @@ armed_current restored recorded s host (FailAt call) m it = record {
   later = it.later;
 }
 
-pub disarmed_current : {C : Type 0} (restored : Restoring) (recorded : C → List ℕ) (s : Standing) (host : Hosted C) (a : Armed) (m : Medium)
-    → IsCurrent restored recorded s host (memory_view m) → IsCurrent restored recorded s host (memory_view (disarmed_medium a m))
+pub disarmed_current : {C : Type 0} (restored : Restoring) (recorded : C → List ℕ) (s : Standing) (host : Hosted C)
+    (a : Armed) (m : Medium)
+    → IsCurrent restored recorded s host (memory_view m)
+    → IsCurrent restored recorded s host (memory_view (disarmed_medium a m))
 disarmed_current restored recorded s host NotArmed m it = it
 disarmed_current restored recorded s host (StopAfter calls torn) m it = record {
   place = it.place;
@@ -116,10 +121,14 @@ missed (FailAt n) calls run old m arming is went =
     lt-leb n (count_of calls) (omega (arith, is, late))
 
 -- and then nothing is armed, once that is taken back
-pub unarmed_then : (a : Armed) (run : ℕ) (old m : Medium) → IsUnarmed old → WentThrough memory_tells run (memory_view (armed_medium a old)) (memory_view m) → IsUnarmed (disarmed_medium a m)
+pub unarmed_then : (a : Armed) (run : ℕ) (old m : Medium) → IsUnarmed old
+    → WentThrough memory_tells run (memory_view (armed_medium a old)) (memory_view m) → IsUnarmed (disarmed_medium a m)
 unarmed_then NotArmed run old m quiet went = λ k. went.later refl k ∙ quiet (k + run)
-unarmed_then (StopAfter calls torn) run old m quiet went = taken_back m.arming (still_on run (armed_medium (StopAfter calls torn) old) m went)
-unarmed_then (FailAt call) run old m quiet went = taken_back m.arming (still_on run (armed_medium (FailAt call) old) m went)
+unarmed_then (StopAfter calls torn) run old m quiet went =
+    taken_back m.arming (still_on run (armed_medium (StopAfter calls torn) old) m went)
+unarmed_then (FailAt call) run old m quiet went =
+    taken_back m.arming (still_on run (armed_medium (FailAt call) old) m went)
 
-pub unarmed_stays : (run : ℕ) (old new : Medium) → IsUnarmed old → WentThrough memory_tells run (memory_view old) (memory_view new) → IsUnarmed new
+pub unarmed_stays : (run : ℕ) (old new : Medium) → IsUnarmed old → WentThrough memory_tells run (memory_view old)
+    (memory_view new) → IsUnarmed new
 unarmed_stays run old new quiet went = unarmed_then NotArmed run old new quiet went

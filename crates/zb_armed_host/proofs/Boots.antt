@@ -36,9 +36,12 @@ pub all_whole : (s : Standing) (a : Armed) (m : Medium) → IsAtRest s m → All
 all_whole s a m rest = λ c image. (s, subst (IsWhole s) (sym (armed_only a m rest.only c image)) rest.whole)
 
 -- nothing fell
-pub was_booted : {C : Type 0} (restored : Restoring) (recorded : C → List ℕ) (payload : List Change → List ℕ) (s : Standing) (w : List ℕ) (a : Armed) (host : Hosted C) (old m : Medium)
-    → IsDown (memory_words restored recorded payload) s w a old → IsBooted (memory_words restored recorded payload) (armed_medium a old) (Ok host) m
-    → WentThrough memory_tells (open_calls (armed_medium a old).bytes) (memory_view (armed_medium a old)) (memory_view m)
+pub was_booted : {C : Type 0} (restored : Restoring) (recorded : C → List ℕ) (payload : List Change → List ℕ)
+    (s : Standing) (w : List ℕ) (a : Armed) (host : Hosted C) (old m : Medium)
+    → IsDown (memory_words restored recorded payload) s w a old → IsBooted (memory_words restored recorded payload)
+    (armed_medium a old) (Ok host) m
+    → WentThrough memory_tells (open_calls (armed_medium a old).bytes) (memory_view (armed_medium a old))
+    (memory_view m)
     → WasBooted (memory_words restored recorded payload) s w a old host (disarmed_medium a m)
 was_booted restored recorded payload s w a host old m down step went =
     let armed = armed_medium a old in
@@ -47,11 +50,13 @@ was_booted restored recorded payload s w a host old m down step went =
     let same = same_standing answer.0 s armed.bytes answer.1 is in
     let calls : open_calls armed.bytes ≡ open_calls old.bytes = ap open_calls (armed_bytes a old) in
     record {
-      missed = missed a (BootCalls (both_gates_open old.bytes)) (open_calls armed.bytes) old m down.arming (sym calls) went;
+      missed = missed a (BootCalls (both_gates_open old.bytes)) (open_calls armed.bytes) old m down.arming (sym calls)
+          went;
       current = disarmed_current restored recorded s host a m (step.ready (all_whole s a old down.rest) refl s is);
       recorded = same_record restored answer.0 s (recorded host.core) w same answer.2 down.gives_it;
       whole = answer.4 ∙ ap (λ (r : Standing). get_or r.content 0 0 == 1) same;
-      calls = disarmed_calls a m ∙ went.calls ∙ ap (λ (n : ℕ). risen n (open_calls armed.bytes)) (armed_calls a old) ∙ ap (λ (n : ℕ). risen old.calls n) calls;
+      calls = disarmed_calls a m ∙ went.calls ∙ ap (λ (n : ℕ). risen n (open_calls armed.bytes)) (armed_calls a old) ∙
+          ap (λ (n : ℕ). risen old.calls n) calls;
       unarmed = unarmed_then a (open_calls armed.bytes) old m down.rest.unarmed went;
     }
 
@@ -63,22 +68,33 @@ shut NotArmed = refl
 shut (StopAfter calls torn) = refl
 shut (FailAt call) = refl
 
-gates_stop : (s : Standing) (calls : ℕ) (torn : List ℕ) (old m : Medium) → (both : Bool) → both_gates_open old.bytes ≡ both → IsAtRest s old
-    → OpenStop memory_tells s (memory_view (armed_medium (StopAfter calls torn) old)) (memory_view m) → falls (StopAfter calls torn) (BootCalls both) ≡ true
+gates_stop : (s : Standing) (calls : ℕ) (torn : List ℕ) (old m : Medium) → (both : Bool) → both_gates_open old.bytes
+    ≡ both → IsAtRest s old
+    → OpenStop memory_tells s (memory_view (armed_medium (StopAfter calls torn) old)) (memory_view m)
+    → falls (StopAfter calls torn) (BootCalls both) ≡ true
     → both_gates_open (powered m).bytes ≡ leaves_both (StopAfter calls torn) (BootCalls both)
-gates_stop s calls torn old m true is rest stop fell = open_gates s (armed_medium (StopAfter calls torn) old) m calls stop rest.only is refl ∙ sym (boot_stop_leaves calls torn fell)
-gates_stop s calls torn old m false is rest stop fell = open_closed s (armed_medium (StopAfter calls torn) old) m stop rest.only is ∙ sym (shut (StopAfter calls torn))
+gates_stop s calls torn old m true is rest stop fell = open_gates s (armed_medium (StopAfter calls torn) old) m calls
+    stop rest.only is refl ∙ sym (boot_stop_leaves calls torn fell)
+gates_stop s calls torn old m false is rest stop fell = open_closed s (armed_medium (StopAfter calls torn) old) m stop
+    rest.only is ∙ sym (shut (StopAfter calls torn))
 
-gates_fail : (s : Standing) (call : ℕ) (old m : Medium) → (both : Bool) → both_gates_open old.bytes ≡ both → IsAtRest s old
-    → OpenStop memory_tells s (memory_view (armed_medium (FailAt call) old)) (memory_view m) → falls (FailAt call) (BootCalls both) ≡ true
+gates_fail : (s : Standing) (call : ℕ) (old m : Medium) → (both : Bool) → both_gates_open old.bytes ≡ both
+    → IsAtRest s old
+    → OpenStop memory_tells s (memory_view (armed_medium (FailAt call) old)) (memory_view m)
+    → falls (FailAt call) (BootCalls both) ≡ true
     → both_gates_open (powered m).bytes ≡ leaves_both (FailAt call) (BootCalls both)
-gates_fail s call old m true is rest stop fell = open_failure_gates s (armed_medium (FailAt call) old) m call stop rest.only is refl ∙ sym (boot_fail_leaves call fell)
-gates_fail s call old m false is rest stop fell = open_closed s (armed_medium (FailAt call) old) m stop rest.only is ∙ sym (shut (FailAt call))
+gates_fail s call old m true is rest stop fell = open_failure_gates s (armed_medium (FailAt call) old) m call stop
+    rest.only is refl ∙ sym (boot_fail_leaves call fell)
+gates_fail s call old m false is rest stop fell = open_closed s (armed_medium (FailAt call) old) m stop rest.only is ∙
+    sym (shut (FailAt call))
 
 -- an open that ended early, on a disk on which this was armed
-pub fell_at_open : (s : Standing) (a : Armed) (old m : Medium) (fallen : Fallen) → IsAtRest s old → OpenStop memory_tells s (memory_view (armed_medium a old)) (memory_view m)
-    → fallen.fall ≡ fall_seen (is_stopped old.arming) (is_stopped m.arming) → fallen.fired ≡ fired_seen a (is_stopped old.arming) (is_stopped m.arming) (will_refuse m.arming)
-    → Only (powered m).bytes (memory_view (powered m)).images → HasFallenAtBoot s a old fallen (disarmed_medium a (powered m))
+pub fell_at_open : (s : Standing) (a : Armed) (old m : Medium) (fallen : Fallen) → IsAtRest s old
+    → OpenStop memory_tells s (memory_view (armed_medium a old)) (memory_view m)
+    → fallen.fall ≡ fall_seen (is_stopped old.arming) (is_stopped m.arming) → fallen.fired
+    ≡ fired_seen a (is_stopped old.arming) (is_stopped m.arming) (will_refuse m.arming)
+    → Only (powered m).bytes (memory_view (powered m)).images
+    → HasFallenAtBoot s a old fallen (disarmed_medium a (powered m))
 fell_at_open s NotArmed old m fallen rest stop is did only =
     let (n, low, ended) = open_within s old m stop (on old rest.unarmed) in
     absurd (false≢true (sym (rest.unarmed n) ∙ ended.refused refl))
@@ -87,10 +103,12 @@ fell_at_open s (StopAfter calls torn) old m fallen rest stop is did only =
     let armed = armed_medium a old in
     let run = open_calls old.bytes in
     let it : StopFell calls run armed m = stop_falls run armed m calls (open_within s armed m stop refl) refl in
-    let fell : falls a (BootCalls (both_gates_open old.bytes)) ≡ true = lt-ltb calls (count_of (BootCalls (both_gates_open old.bytes))) it.within in
+    let fell : falls a (BootCalls (both_gates_open old.bytes)) ≡ true =
+    lt-ltb calls (count_of (BootCalls (both_gates_open old.bytes))) it.within in
     record {
       fell = fell;
-      is = is ∙ ap (λ (b : Bool). fall_seen b (is_stopped m.arming)) (on old rest.unarmed) ∙ ap (fall_seen false) it.off;
+      is = is ∙ ap (λ (b : Bool). fall_seen b (is_stopped m.arming)) (on old rest.unarmed) ∙ ap (fall_seen false)
+          it.off;
       fired = did ∙ ap (λ (b : Bool). not b && is_stopped m.arming) (on old rest.unarmed) ∙ it.off;
       rest = record {
         only = only;
@@ -105,12 +123,15 @@ fell_at_open s (FailAt call) old m fallen rest stop is did only =
     let armed = armed_medium a old in
     let run = open_calls old.bytes in
     let it : FailureFell call run armed m = failure_falls run armed m call (open_within s armed m stop refl) refl in
-    let fell : falls a (BootCalls (both_gates_open old.bytes)) ≡ true = le-leb call (count_of (BootCalls (both_gates_open old.bytes))) it.within in
+    let fell : falls a (BootCalls (both_gates_open old.bytes)) ≡ true =
+    le-leb call (count_of (BootCalls (both_gates_open old.bytes))) it.within in
     record {
       fell = fell;
-      is = is ∙ ap (λ (b : Bool). fall_seen b (is_stopped m.arming)) (on old rest.unarmed) ∙ ap (fall_seen false) it.on;
+      is = is ∙ ap (λ (b : Bool). fall_seen b (is_stopped m.arming)) (on old rest.unarmed) ∙ ap (fall_seen false)
+          it.on;
       fired = did ∙ ap (λ (b : Bool). not b && nat_lt 0 call && not (will_refuse m.arming)) (on old rest.unarmed)
-          ∙ ap (λ (b : Bool). b && not (will_refuse m.arming)) (lt-ltb 0 call (omega (arith, it.first))) ∙ ap not it.spent;
+          ∙ ap (λ (b : Bool). b && not (will_refuse m.arming)) (lt-ltb 0 call (omega (arith, it.first))) ∙ ap
+          not it.spent;
       rest = record {
         only = only;
         whole = open_failure_stands s armed m call stop rest.whole rest.only refl;
@@ -147,7 +168,8 @@ IsGood (gives w) = Unit {0}
 IsGood (bad at) = ⊥
 
 -- a boot that lacked memory left the count of faults
-pub lacked : (restored : Restoring) (old new : View) (fault : HostFault) (fallen : Fallen) → boot_cause fault fallen ≡ Lacking
+pub lacked : (restored : Restoring) (old new : View) (fault : HostFault) (fallen : Fallen) → boot_cause fault fallen
+    ≡ Lacking
     → IsBootFault memory_tells restored old new fault → Unrisen old.faults new.faults
 lacked restored old new (Disk changes) fallen cause of_fault = absurd (subst IsLack (sym cause) tt)
 lacked restored old new NoMemory fallen cause of_fault = of_fault
@@ -156,19 +178,27 @@ lacked restored old new (BadRecord at) fallen cause of_fault = absurd (subst IsL
 lacked restored old new Worn fallen cause of_fault = absurd of_fault
 
 -- a boot of a node at rest fails for the disk or for out of memory alone
-pub has_fallen_at_boot : {C : Type 0} (words : Words C Medium) (s : Standing) (w : List ℕ) (a : Armed) (old m : Medium) (fault : HostFault) (seen fallen : Fallen) → IsDown words s w a old
+pub has_fallen_at_boot : {C : Type 0} (words : Words C Medium) (s : Standing) (w : List ℕ) (a : Armed)
+    (old m : Medium) (fault : HostFault) (seen fallen : Fallen) → IsDown words s w a old
     → IsBootFault memory_tells words.restored (memory_view (armed_medium a old)) (memory_view m) fault
-    → ((changes : _) → fault ≡ Disk changes → OpenStop memory_tells s (memory_view (armed_medium a old)) (memory_view m))
-    → seen.fall ≡ fall_seen (is_stopped old.arming) (is_stopped m.arming) → seen.fired ≡ fired_seen a (is_stopped old.arming) (is_stopped m.arming) (will_refuse m.arming)
-    → Only (powered m).bytes (memory_view (powered m)).images → boot_cause fault seen ≡ Fault fallen → HasFallenAtBoot s a old fallen (disarmed_medium a (powered m))
+    → ((changes : _) → fault ≡ Disk changes → OpenStop memory_tells s (memory_view (armed_medium a old))
+    (memory_view m))
+    → seen.fall ≡ fall_seen (is_stopped old.arming) (is_stopped m.arming) → seen.fired
+    ≡ fired_seen a (is_stopped old.arming) (is_stopped m.arming) (will_refuse m.arming)
+    → Only (powered m).bytes (memory_view (powered m)).images → boot_cause fault seen ≡ Fault fallen
+    → HasFallenAtBoot s a old fallen (disarmed_medium a (powered m))
 has_fallen_at_boot words s w a old m (Disk changes) seen fallen down of_fault stopped is did only cause =
     let same : fallen ≡ seen = sym (ap (fault_in seen) cause) in
-    fell_at_open s a old m fallen down.rest (stopped changes refl) (ap (λ (f : Fallen). f.fall) same ∙ is) (ap (λ (f : Fallen). f.fired) same ∙ did) only
-has_fallen_at_boot words s w a old m NoMemory seen fallen down of_fault stopped is did only cause = absurd (subst IsLack cause tt)
+    fell_at_open s a old m fallen down.rest (stopped changes refl) (ap (λ (f : Fallen). f.fall) same ∙ is)
+    (ap (λ (f : Fallen). f.fired) same ∙ did) only
+has_fallen_at_boot words s w a old m NoMemory seen fallen down of_fault stopped is did only cause =
+    absurd (subst IsLack cause tt)
 has_fallen_at_boot words s w a old m NoRecord seen fallen down of_fault stopped is did only cause =
     absurd (subst IsThere (sym (armed_stands s a old down.rest) ∙ of_fault refl) tt)
 has_fallen_at_boot words s w a old m (BadRecord at) seen fallen down of_fault stopped is did only cause =
     let (r, there, wrong) = of_fault refl in
     let same = same_standing r s (armed_medium a old).bytes there (armed_stands s a old down.rest) in
-    absurd (subst IsGood (sym down.gives_it ∙ sym (ap (λ (x : Standing). words.restored x.content (concat x.payloads)) same) ∙ wrong) tt)
+    absurd (subst IsGood
+    (sym down.gives_it ∙ sym (ap (λ (x : Standing). words.restored x.content (concat x.payloads)) same) ∙ wrong)
+    tt)
 has_fallen_at_boot words s w a old m Worn seen fallen down of_fault stopped is did only cause = absurd of_fault

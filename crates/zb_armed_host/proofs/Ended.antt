@@ -32,9 +32,12 @@ disarmed_on (StopAfter calls torn) m on = on_by (is_stopped m.arming) m.arming r
 disarmed_on (FailAt call) m on = on_by (is_stopped m.arming) m.arming refl on
 
 -- the disk is off after the calls where that was told
-off_then : (a : Armed) (old m : Medium) → (asked : WasAsked memory_tells (memory_view (armed_on a old)) (memory_view m)) → is_stopped m.arming ≡ off_after (arming_on a old.arming) asked.made
+off_then : (a : Armed) (old m : Medium)
+    → (asked : WasAsked memory_tells (memory_view (armed_on a old)) (memory_view m)) → is_stopped m.arming
+    ≡ off_after (arming_on a old.arming) asked.made
 off_then a old m asked =
-    sym (off_now m.arming) ∙ asked.off refl 0 ∙ ap (λ (k : ℕ). off_after (armed_on a old).arming k) (zero-add asked.made)
+    sym (off_now m.arming) ∙ asked.off refl 0 ∙ ap (λ (k : ℕ). off_after (armed_on a old).arming k)
+    (zero-add asked.made)
     ∙ ap (λ (x : Arming). off_after x asked.made) (arming_is a old)
 
 -- a failure of the call of this number is over exactly where so many calls were made
@@ -43,31 +46,44 @@ module _ (call made : ℕ) (x : Arming) (later : (k : ℕ) → refuses x k ≡ (
   over some = elim (cases_lt made call) [
     | inl early ↦
         let there : (call - 1 - made) + made + 1 ≡ call = omega (arith, early, some) in
-        ap not (refuses_some x (call - 1 - made) (later (call - 1 - made) ∙ eq-eqb ((call - 1 - made) + made + 1) call there)) ∙ sym (lt-leb call made early)
+        ap not (refuses_some x (call - 1 - made)
+        (later (call - 1 - made) ∙ eq-eqb ((call - 1 - made) + made + 1) call there)) ∙ sym
+        (lt-leb call made early)
     | inr late ↦
-        ap not (refuses_none x (λ k. later k ∙ ne_eqb (k + made + 1) call (λ same. absurd (omega (arith, late, same))))) ∙ sym (le-leb call made late)
+        ap not (refuses_none x
+        (λ k. later k ∙ ne_eqb (k + made + 1) call (λ same. absurd (omega (arith, late, same))))) ∙ sym
+        (le-leb call made late)
   ]
 
-fail_is : (call made : ℕ) (x : Arming) → ((k : ℕ) → refuses x k ≡ (k + made + 1 == call)) → (nat_lt 0 call && not (will_refuse x)) ≡ (nat_lt 0 call && nat_le call made)
+fail_is : (call made : ℕ) (x : Arming) → ((k : ℕ) → refuses x k ≡ (k + made + 1 == call))
+    → (nat_lt 0 call && not (will_refuse x)) ≡ (nat_lt 0 call && nat_le call made)
 fail_is zero made x later = refl
-fail_is (suc call) made x later = ap (λ (b : Bool). nat_lt 0 (suc call) && b) (over (suc call) made x later (omega arith))
+fail_is (suc call) made x later = ap (λ (b : Bool). nat_lt 0 (suc call) && b)
+    (over (suc call) made x later (omega arith))
 
-fired_by : (b : Bool) (a : Armed) (old m : Medium) → is_stopped old.arming ≡ b → (asked : WasAsked memory_tells (memory_view (armed_on a old)) (memory_view m))
+fired_by : (b : Bool) (a : Armed) (old m : Medium) → is_stopped old.arming ≡ b
+    → (asked : WasAsked memory_tells (memory_view (armed_on a old)) (memory_view m))
     → fired_seen a b (is_stopped m.arming) (will_refuse m.arming) ≡ falls_within a b asked.made
 fired_by b NotArmed old m is asked = refl
 fired_by true (StopAfter calls torn) old m is asked = refl
 fired_by true (FailAt call) old m is asked = refl
 fired_by false (StopAfter calls torn) old m is asked =
-    off_then (StopAfter calls torn) old m asked ∙ ap (λ (b : Bool). off_after (if b then old.arming else Stop calls) asked.made) is
+    off_then (StopAfter calls torn) old m asked ∙ ap
+    (λ (b : Bool). off_after (if b then old.arming else Stop calls) asked.made) is
 fired_by false (FailAt call) old m is asked =
-    fail_is call asked.made m.arming (λ k. asked.later refl k ∙ ap (λ (b : Bool). refuses (if b then old.arming else Fail call) (k + asked.made)) is)
+    fail_is call asked.made m.arming
+    (λ k. asked.later refl k ∙ ap (λ (b : Bool). refuses (if b then old.arming else Fail call) (k + asked.made))
+    is)
 
-pub has_ended : (a : Armed) (old m : Medium) (fallen : Fallen) → WasAsked memory_tells (memory_view (armed_on a old)) (memory_view m)
-    → fallen.fall ≡ fall_seen (is_stopped old.arming) (is_stopped m.arming) → fallen.fired ≡ fired_seen a (is_stopped old.arming) (is_stopped m.arming) (will_refuse m.arming)
+pub has_ended : (a : Armed) (old m : Medium) (fallen : Fallen) → WasAsked memory_tells (memory_view (armed_on a old))
+    (memory_view m)
+    → fallen.fall ≡ fall_seen (is_stopped old.arming) (is_stopped m.arming) → fallen.fired
+    ≡ fired_seen a (is_stopped old.arming) (is_stopped m.arming) (will_refuse m.arming)
     → HasEnded a old fallen (disarmed_medium a (powered m))
 has_ended a old m fallen asked fall fired = record {
   made = asked.made;
-  calls = disarmed_calls a (powered m) ∙ powered_calls m ∙ asked.calls ∙ ap (λ (n : ℕ). calls_then n asked.made) (calls_on a old);
+  calls = disarmed_calls a (powered m) ∙ powered_calls m ∙ asked.calls ∙ ap (λ (n : ℕ). calls_then n asked.made)
+      (calls_on a old);
   fall = fall ∙ ap (fall_seen (is_stopped old.arming)) (off_then a old m asked);
   fired = fired ∙ fired_by (is_stopped old.arming) a old m refl asked;
   on = disarmed_on a (powered m) (on_once_powered m);

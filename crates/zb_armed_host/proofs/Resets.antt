@@ -19,7 +19,8 @@ still_quiet : (m : Medium) → IsUnarmed m → IsUnarmed (powered m)
 unfolding powered
 still_quiet m quiet = λ k. ap (λ b. refuses (if b then Unarmed else m.arming) k) (on m quiet) ∙ quiet k
 
-pub at_rest : (s : Standing) (m : Medium) → IsHeld s (memory_view m) → IsUnarmed m → Only (powered m).bytes (memory_view (powered m)).images → IsAtRest s (powered m)
+pub at_rest : (s : Standing) (m : Medium) → IsHeld s (memory_view m) → IsUnarmed m
+    → Only (powered m).bytes (memory_view (powered m)).images → IsAtRest s (powered m)
 at_rest s m held quiet only = record {
   only = only;
   whole = subst (IsWhole s) (sym (bytes_stay m quiet)) (held.whole m.bytes (image_seen m.bytes m.written m.grown));
@@ -30,10 +31,13 @@ and_false : (b : Bool) → (b && false) ≡ false
 and_false true = refl
 and_false false = refl
 
-one_gate : (second : Bool) (bytes : List ℕ) → gate_of (slot (not second) bytes) ≢ open_gate → both_gates_open bytes ≡ false
-one_gate true bytes closed = ap (λ (b : Bool). b && (gate_of (slot true bytes) == open_gate)) (ne_eqb (gate_of (slot false bytes)) open_gate closed)
+one_gate : (second : Bool) (bytes : List ℕ) → gate_of (slot (not second) bytes) ≢ open_gate → both_gates_open bytes
+    ≡ false
+one_gate true bytes closed = ap (λ (b : Bool). b && (gate_of (slot true bytes) == open_gate))
+    (ne_eqb (gate_of (slot false bytes)) open_gate closed)
 one_gate false bytes closed =
-    ap (λ (b : Bool). (gate_of (slot false bytes) == open_gate) && b) (ne_eqb (gate_of (slot true bytes)) open_gate closed) ∙ and_false (gate_of (slot false bytes) == open_gate)
+    ap (λ (b : Bool). (gate_of (slot false bytes) == open_gate) && b)
+    (ne_eqb (gate_of (slot true bytes)) open_gate closed) ∙ and_false (gate_of (slot false bytes) == open_gate)
 
 -- of what is held one gate alone is open
 pub one_open : (s : Standing) (m : Medium) → IsHeld s (memory_view m) → both_gates_open m.bytes ≡ false

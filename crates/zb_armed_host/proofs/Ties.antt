@@ -35,7 +35,8 @@ record_stands (suc (suc (suc (suc zero)))) b low = refl
 record_stands (suc (suc (suc (suc (suc zero))))) b low = refl
 record_stands (suc (suc (suc (suc (suc (suc n)))))) b low = absurd (omega arith)
 
-record_leaves : (n : ℕ) (b d : Bool) → n < 6 → ((nat_eq n 3 && b) || (nat_eq n 4 || (nat_eq n 5 && d))) ≡ (if n == 3 then b else (if n == 4 then true else (n == 5 && d)))
+record_leaves : (n : ℕ) (b d : Bool) → n < 6 → ((nat_eq n 3 && b) || (nat_eq n 4 || (nat_eq n 5 && d)))
+    ≡ (if n == 3 then b else (if n == 4 then true else (n == 5 && d)))
 record_leaves zero b d low = refl
 record_leaves (suc zero) b d low = refl
 record_leaves (suc (suc zero)) b d low = refl
@@ -51,16 +52,20 @@ boot_leaves (suc zero) d low = refl
 boot_leaves (suc (suc zero)) d low = refl
 boot_leaves (suc (suc (suc n))) d low = absurd (omega arith)
 
-pub stop_stands : (whole : Bool) (calls : ℕ) (torn : List ℕ) → falls (StopAfter calls torn) (commit_of whole) ≡ true → stands (StopAfter calls torn) (commit_of whole) ≡ stop_commits calls torn
+pub stop_stands : (whole : Bool) (calls : ℕ) (torn : List ℕ) → falls (StopAfter calls torn) (commit_of whole) ≡ true
+    → stands (StopAfter calls torn) (commit_of whole) ≡ stop_commits calls torn
 unfolding stands
 stop_stands true calls torn fell =
-    ap (λ b. (nat_eq calls 3 && b) || nat_le 4 calls) (gate_opening torn) ∙ record_stands calls (reads_open torn open_gate) (ltb-true calls 6 fell)
-stop_stands false calls torn fell = ap (λ b. nat_eq calls 3 && b) (gate_opening torn) ∙ entry_stands calls (reads_open torn open_gate) (ltb-true calls 4 fell)
+    ap (λ b. (nat_eq calls 3 && b) || nat_le 4 calls) (gate_opening torn) ∙ record_stands calls
+    (reads_open torn open_gate) (ltb-true calls 6 fell)
+stop_stands false calls torn fell = ap (λ b. nat_eq calls 3 && b) (gate_opening torn) ∙ entry_stands calls
+    (reads_open torn open_gate) (ltb-true calls 4 fell)
 
 fail_entry : (n : ℕ) → n ≤ 4 → nat_eq n 4 ≡ nat_lt 3 n
 fail_entry n low = grind (arith, nat_tests)
 
-pub fail_stands : (whole : Bool) (call : ℕ) → falls (FailAt call) (commit_of whole) ≡ true → stands (FailAt call) (commit_of whole) ≡ failure_commits call
+pub fail_stands : (whole : Bool) (call : ℕ) → falls (FailAt call) (commit_of whole) ≡ true
+    → stands (FailAt call) (commit_of whole) ≡ failure_commits call
 unfolding stands
 fail_stands true call fell = grind (arith, nat_tests)
 fail_stands false call fell = fail_entry call (leb-true call 4 fell)
@@ -70,20 +75,25 @@ pub stop_leaves : (whole : Bool) (calls : ℕ) (torn : List ℕ) → falls (Stop
 unfolding leaves_both
 stop_leaves true calls torn fell =
     ap (λ b. (nat_eq calls 3 && b) || (nat_eq calls 4 || (nat_eq calls 5 && is_gate torn))) (gate_opening torn)
-    ∙ ap (λ d. (nat_eq calls 3 && reads_open torn open_gate) || (nat_eq calls 4 || (nat_eq calls 5 && d))) (gate_closing torn)
+    ∙ ap (λ d. (nat_eq calls 3 && reads_open torn open_gate) || (nat_eq calls 4 || (nat_eq calls 5 && d)))
+    (gate_closing torn)
     ∙ record_leaves calls (reads_open torn open_gate) (reads_open torn 0) (ltb-true calls 6 fell)
 stop_leaves false calls torn fell = refl
 
-pub fail_leaves : (whole : Bool) (call : ℕ) → falls (FailAt call) (commit_of whole) ≡ true → leaves_both (FailAt call) (commit_of whole) ≡ (whole && failure_opens_both call)
+pub fail_leaves : (whole : Bool) (call : ℕ) → falls (FailAt call) (commit_of whole) ≡ true
+    → leaves_both (FailAt call) (commit_of whole) ≡ (whole && failure_opens_both call)
 unfolding leaves_both
 fail_leaves true call fell = grind (arith, nat_tests)
 fail_leaves false call fell = refl
 
-pub boot_stop_leaves : (calls : ℕ) (torn : List ℕ) → falls (StopAfter calls torn) (BootCalls true) ≡ true → leaves_both (StopAfter calls torn) (BootCalls true) ≡ open_stop_leaves_both calls torn
+pub boot_stop_leaves : (calls : ℕ) (torn : List ℕ) → falls (StopAfter calls torn) (BootCalls true) ≡ true
+    → leaves_both (StopAfter calls torn) (BootCalls true) ≡ open_stop_leaves_both calls torn
 unfolding leaves_both
-boot_stop_leaves calls torn fell = ap (λ d. nat_le calls 1 || d) (gate_closing torn) ∙ boot_leaves calls (reads_open torn 0) (ltb-true calls 3 fell)
+boot_stop_leaves calls torn fell = ap (λ d. nat_le calls 1 || d) (gate_closing torn) ∙ boot_leaves calls
+    (reads_open torn 0) (ltb-true calls 3 fell)
 
-pub boot_fail_leaves : (call : ℕ) → falls (FailAt call) (BootCalls true) ≡ true → leaves_both (FailAt call) (BootCalls true) ≡ open_failure_leaves_both call
+pub boot_fail_leaves : (call : ℕ) → falls (FailAt call) (BootCalls true) ≡ true
+    → leaves_both (FailAt call) (BootCalls true) ≡ open_failure_leaves_both call
 unfolding leaves_both
 boot_fail_leaves call fell = grind (arith, nat_tests)
 

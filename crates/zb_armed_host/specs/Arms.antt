@@ -34,7 +34,8 @@ arming_on (FailAt call) x = armed x (disk.Fail call)
 -- a disk once this is armed on it
 abbrev pub armed_on : Armed → Medium → Medium
 armed_on NotArmed m = m
-armed_on (StopAfter calls torn) m = record m { arming = armed m.arming (disk.Stop calls); torn = if is_stopped m.arming then m.torn else torn }
+armed_on (StopAfter calls torn) m =
+    record m { arming = armed m.arming (disk.Stop calls); torn = if is_stopped m.arming then m.torn else torn }
 armed_on (FailAt call) m = record m { arming = armed m.arming (disk.Fail call) }
 
 -- the same of a disk that isn't off

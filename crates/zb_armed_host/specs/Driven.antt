@@ -67,18 +67,21 @@ standing_after whole s content payload [] = s
 standing_after whole s content payload (e ∷ es) = next_standing whole s content payload
 
 abbrev pub next_of : {C : Type 0} → Words C Medium → Standing → Hosted C → List Change → Hosted C → Standing
-next_of words s before changes after = standing_after (writes_whole before) s (words.recorded after.core) (words.payload changes) changes
+next_of words s before changes after = standing_after (writes_whole before) s (words.recorded after.core)
+    (words.payload changes) changes
 
 -- A host that is up over a disk on which nothing is armed, and what is to be armed. The store isn't at its last
 -- generation.
-pub record IsUp {C : Type 0} (words : Words C Medium) (s : Standing) (a : Armed) (host : Hosted C) (m : Medium) : Type 0 where
+pub record IsUp {C : Type 0} (words : Words C Medium) (s : Standing) (a : Armed) (host : Hosted C) (m : Medium) : Type
+    0 where
   pub current : IsCurrent words.restored words.recorded s host (memory_view m)
   pub unarmed : IsUnarmed m
   pub arming : IsArming a
   pub lasting : s.generation < 18446744073709551615
 
 -- An event on which nothing fell: the host is up, its changes stand, and so many device calls were made.
-pub record WasHandled {C : Type 0} (words : Words C Medium) (s : Standing) (a : Armed) (before : Hosted C) (old : Medium) (changes : List Change) (after : Hosted C) (new : Medium) : Type 0 where
+pub record WasHandled {C : Type 0} (words : Words C Medium) (s : Standing) (a : Armed) (before : Hosted C)
+    (old : Medium) (changes : List Change) (after : Hosted C) (new : Medium) : Type 0 where
   pub missed : falls a (calls_in (writes_whole before) changes) ≡ false
   pub current : IsCurrent words.restored words.recorded (next_of words s before changes after) after (memory_view new)
   pub calls : new.calls ≡ calls_after old.calls (calls_in (writes_whole before) changes)
@@ -88,13 +91,15 @@ pub record WasHandled {C : Type 0} (words : Words C Medium) (s : Standing) (a : 
 
 -- An event on whose commit it fell. The host is down and the disk at rest; what stands is as the model says, and so is
 -- whether the gates of both slots are open.
-pub record HasFallen {C : Type 0} (words : Words C Medium) (s : Standing) (a : Armed) (before : Hosted C) (old : Medium) (changes : List Change) (fallen : Fallen) (after : Hosted C) (new : Medium) : Type 0 where
+pub record HasFallen {C : Type 0} (words : Words C Medium) (s : Standing) (a : Armed) (before : Hosted C)
+    (old : Medium) (changes : List Change) (fallen : Fallen) (after : Hosted C) (new : Medium) : Type 0 where
   pub some : changes ≢ []
   pub fell : falls a (calls_in (writes_whole before) changes) ≡ true
   pub is : fallen.fall ≡ fall_of a
   pub fired : fallen.fired ≡ true
   pub gives_it : Gives words.restored (next_of words s before changes after) (words.recorded after.core)
-  pub rest : IsAtRest (if stands a (calls_in (writes_whole before) changes) then next_of words s before changes after else s) new
+  pub rest : IsAtRest (if stands a (calls_in (writes_whole before) changes) then next_of words s before changes after
+      else s) new
   pub gates : both_gates_open new.bytes ≡ leaves_both a (calls_in (writes_whole before) changes)
   pub calls : new.calls ≡ risen old.calls (fallen_calls a)
 
@@ -107,13 +112,15 @@ boot_cause (BadRecord at) fallen = Fault fallen
 boot_cause Worn fallen = Fault fallen
 
 -- A node that is down over a disk at rest, which represents the core of this record, and what is to be armed.
-pub record IsDown {C : Type 0} (words : Words C Medium) (s : Standing) (w : List ℕ) (a : Armed) (m : Medium) : Type 0 where
-  pub rest : IsAtRest s m
-  pub gives_it : Gives words.restored s w
-  pub arming : IsArming a
+pub record IsDown {C : Type 0} (words : Words C Medium) (s : Standing) (w : List ℕ) (a : Armed) (m : Medium) : Type 0
+  where
+    pub rest : IsAtRest s m
+    pub gives_it : Gives words.restored s w
+    pub arming : IsArming a
 
 -- A boot on which nothing fell: the host is up with the core of that record, and one slot alone stands open.
-pub record WasBooted {C : Type 0} (words : Words C Medium) (s : Standing) (w : List ℕ) (a : Armed) (old : Medium) (host : Hosted C) (new : Medium) : Type 0 where
+pub record WasBooted {C : Type 0} (words : Words C Medium) (s : Standing) (w : List ℕ) (a : Armed) (old : Medium)
+    (host : Hosted C) (new : Medium) : Type 0 where
   pub missed : falls a (BootCalls (both_gates_open old.bytes)) ≡ false
   pub current : IsCurrent words.restored words.recorded s host (memory_view new)
   pub recorded : words.recorded host.core ≡ w

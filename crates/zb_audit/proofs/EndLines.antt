@@ -24,7 +24,8 @@ ends_more : (tools : Tools) (g h : List Line) (l : Line) → ends_from tools g (
 unfolding ends_from
 ends_more tools g [] l = ap (λ (x : List Line). sums_up tools x l) (sym (append-nil g))
 ends_more tools g (k ∷ []) l = ap (λ (x : List Line). sums_up tools x l) refl
-ends_more tools g (k ∷ m ∷ h) l = ends_more tools (g ++ k ∷ []) (m ∷ h) l ∙ ap (λ (x : List Line). sums_up tools x l) (append_assoc g (k ∷ []) (m ∷ h))
+ends_more tools g (k ∷ m ∷ h) l = ends_more tools (g ++ k ∷ []) (m ∷ h) l ∙ ap (λ (x : List Line). sums_up tools x l)
+    (append_assoc g (k ∷ []) (m ∷ h))
 
 no_end_alike : (g h : List Line) (l : Line) → is_no_end g l ≡ is_no_end h l
 no_end_alike g h (line.Node x0 x1 x2 x3 x4 x5) = refl
@@ -61,7 +62,8 @@ no_end_alike g h (line.Boot x0 x1) = refl
 no_end_alike g h (line.Dump x0 x1 x2) = refl
 no_end_alike g h (line.End x0 x1 x2 x3 x4 x5) = refl
 
-fits_is : (tools : Tools) (e : Ending) (h : List Line) (i p : Bool) (l : Line) → i ≡ ideal tools h → p ≡ private tools h → Ends tools e h → fits e i p l ≡ sums_up tools h l
+fits_is : (tools : Tools) (e : Ending) (h : List Line) (i p : Bool) (l : Line) → i ≡ ideal tools h → p
+    ≡ private tools h → Ends tools e h → fits e i p l ≡ sums_up tools h l
 unfolding sums_up
 fits_is tools e h i p (line.Node x0 x1 x2 x3 x4 x5) ideals privates before = refl
 fits_is tools e h i p (line.GivenNet x0 x1 x2) ideals privates before = refl
@@ -95,15 +97,39 @@ fits_is tools e h i p (line.DownReset x0 x1) ideals privates before = refl
 fits_is tools e h i p (line.DownDisk x0 x1) ideals privates before = refl
 fits_is tools e h i p (line.Boot x0 x1) ideals privates before = refl
 fits_is tools e h i p (line.Dump x0 x1 x2) ideals privates before = refl
-fits_is tools e h i p (line.End x0 x1 x2 x3 x4 x5) ideals privates before = rw (ideals, privates, before.events, before.seals, before.accepts, before.refusals) refl
+fits_is tools e h i p (line.End x0 x1 x2 x3 x4 x5) ideals privates before =
+    rw (ideals, privates, before.events, before.seals, before.accepts, before.refusals) refl
 
-pub none_ended : (tools : Tools) → Ends tools (record { last = 0; events = 0; seals = 0; accepts = 0; refusals = 0; is_end = false; sums_up = false; first = None }) []
+pub none_ended : (tools : Tools)
+    → Ends tools
+    (record {
+      last = 0;
+      events = 0;
+      seals = 0;
+      accepts = 0;
+      refusals = 0;
+      is_end = false;
+      sums_up = false;
+      first = None;
+    }) []
 unfolding greatest_event seals_in accepts_in refusals_in failing failing_from ends_well ends_from
-none_ended tools = record { last = refl; events = refl; seals = refl; accepts = refl; refusals = refl; first = refl; so_far = refl; sums_up = refl }
+none_ended tools =
+    record {
+      last = refl;
+      events = refl;
+      seals = refl;
+      accepts = refl;
+      refusals = refl;
+      first = refl;
+      so_far = refl;
+      sums_up = refl;
+    }
 
-pub line_ends : (tools : Tools) (old : Ending) (h : List Line) (l : Line) (number : ℕ) (i p : Bool) (first : Option ℕ) (is sums : Bool)
+pub line_ends : (tools : Tools) (old : Ending) (h : List Line) (l : Line) (number : ℕ) (i p : Bool) (first : Option ℕ)
+    (is sums : Bool)
     → first ≡ option_or old.first (if not old.is_end then None else Some old.last)
-    → is ≡ not (is_no_end [] l) → sums ≡ fits old i p l → number ≡ length h + 1 → i ≡ ideal tools h → p ≡ private tools h → Ends tools old h
+    → is ≡ not (is_no_end [] l) → sums ≡ fits old i p l → number ≡ length h + 1 → i ≡ ideal tools h → p
+    ≡ private tools h → Ends tools old h
     → Ends tools (record {
       last = number;
       events = greater_event old.events (event_of l);
@@ -119,7 +145,8 @@ line_ends tools old h l number i p first is sums first_is is_is sums_is here ide
     let so_far : first ≡ head (failing is_no_end h) = first_is ∙ before.so_far in
     record {
       last = here ∙ sym (length-append h (l ∷ []));
-      events = ap (λ (n : ℕ). greater_event n (event_of l)) before.events ∙ sym (fold-append (λ n l. greater_event n (event_of l)) 0 h (l ∷ []));
+      events = ap (λ (n : ℕ). greater_event n (event_of l)) before.events ∙ sym
+          (fold-append (λ n l. greater_event n (event_of l)) 0 h (l ∷ []));
       seals = ap (λ (n : ℕ). seal_count n l) before.seals ∙ sym (fold-append seal_count 0 h (l ∷ []));
       accepts = ap (λ (n : ℕ). accept_count n l) before.accepts ∙ sym (fold-append accept_count 0 h (l ∷ []));
       refusals = ap (λ (n : ℕ). refuse_count n l) before.refusals ∙ sym (fold-append refuse_count 0 h (l ∷ []));
@@ -127,8 +154,10 @@ line_ends tools old h l number i p first is sums first_is is_is sums_is here ide
       so_far =
           ap (λ (o : Option ℕ). option_or o (if not is then None else Some number)) so_far
           ∙ (ap (λ (b : Bool). option_or (head (failing is_no_end h)) (if not b then None else Some number)) is_is
-          ∙ (ap (λ (b : Bool). option_or (head (failing is_no_end h)) (if b then None else Some number)) (twice (is_no_end [] l) ∙ no_end_alike [] h l)
-          ∙ (ap (λ (n : ℕ). option_or (head (failing is_no_end h)) (if is_no_end h l then None else Some n)) here ∙ sym (failing_more is_no_end h l))));
+          ∙ (ap (λ (b : Bool). option_or (head (failing is_no_end h)) (if b then None else Some number))
+          (twice (is_no_end [] l) ∙ no_end_alike [] h l)
+          ∙ (ap (λ (n : ℕ). option_or (head (failing is_no_end h)) (if is_no_end h l then None else Some n)) here ∙
+          sym (failing_more is_no_end h l))));
       sums_up = sums_is ∙ (fits_is tools old h i p l ideals privates before ∙ sym (ends_more tools [] h l));
     }
   where
@@ -136,7 +165,9 @@ line_ends tools old h l number i p first is sums first_is is_is sums_is here ide
     twice true = refl
     twice false = refl
 
-pub end_is : (tools : Tools) (e : Ending) (h : List Line) → Ends tools e h → option_or e.first (if e.sums_up then None else Some (max e.last 1)) ≡ head (ill_ended tools h)
+pub end_is : (tools : Tools) (e : Ending) (h : List Line) → Ends tools e h → option_or e.first (if e.sums_up then None
+    else Some (max e.last 1)) ≡ head (ill_ended tools h)
 unfolding ill_ended
 end_is tools e h ends =
-    rw (ends.first, ends.sums_up, ends.last) (sym (head_then (failing is_no_end (front h)) (ends_well tools h) (max (length h) 1)))
+    rw (ends.first, ends.sums_up, ends.last)
+    (sym (head_then (failing is_no_end (front h)) (ends_well tools h) (max (length h) 1)))

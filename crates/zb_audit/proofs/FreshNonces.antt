@@ -34,22 +34,33 @@ part o p a b e f = then_alike o p ∙ ap (λ (x : Bool). x && is_eq p) e ∙ ap 
 pub stamp_alike : (a b : Stamp) → is_eq (stamp_cmp a b) ≡ same_parts a b
 stamp_alike a b =
     part _ _ _ _ (bytes_alike a.key.0 b.key.0)
-    (part _ _ _ _ (number_so a.source.0 b.source.0) (part _ _ _ _ (number_so a.counter b.counter) (number_so a.control b.control)))
+    (part _ _ _ _ (number_so a.source.0 b.source.0)
+    (part _ _ _ _ (number_so a.counter b.counter) (number_so a.control b.control)))
 
 pub stamp_turned : (a b : Stamp) → same_parts a b ≡ same_parts b a
-stamp_turned a b = rw (bytes_eq_sym a.key.0 b.key.0, turned_number a.source.0 b.source.0, turned_number a.counter b.counter, turned_number a.control b.control) refl
+stamp_turned a b =
+    rw (
+      bytes_eq_sym a.key.0 b.key.0,
+      turned_number a.source.0 b.source.0,
+      turned_number a.counter b.counter,
+      turned_number a.control b.control,
+    ) refl
 
 pub none_sealed : (seen : BTreeSet Stamp) → seen.keys ≡ [] → AreNonces (record { seen = seen; first = None }) []
 unfolding failing failing_from
 none_sealed seen none = record { seen = λ t. ap (list_any (same_parts (stamp_of t))) none; first = refl }
 
 pub seal_follows : (old new : Nonces) (h : List Line) (event : ℕ) (node : ArrayString) (t : Term) (number : ℕ)
-    → ((u : Term) → was_sealed new u ≡ (was_sealed old u || same_stamp u t)) → new.first ≡ option_or old.first (if not (was_sealed old t) then None else Some number)
+    → ((u : Term) → was_sealed new u ≡ (was_sealed old u || same_stamp u t)) → new.first
+    ≡ option_or old.first (if not (was_sealed old t) then None else Some number)
     → number ≡ length h + 1 → AreNonces old h → AreNonces new (h ++ line.Seal event node t ∷ [])
 unfolding is_fresh
 seal_follows old new h event node t number seen first here before = record {
-  seen = λ u. seen u ∙ (ap (λ (b : Bool). b || same_stamp u t) (before.seen u) ∙ sym (any_more (seals_alike u) h (line.Seal event node t)));
-  first = first_more is_fresh old.first new.first number (not (was_sealed old t)) h (line.Seal event node t) first (ap not (before.seen t)) here before.first;
+  seen = λ u. seen u ∙
+      (ap (λ (b : Bool). b || same_stamp u t) (before.seen u) ∙ sym
+      (any_more (seals_alike u) h (line.Seal event node t)));
+  first = first_more is_fresh old.first new.first number (not (was_sealed old t)) h (line.Seal event node t) first
+      (ap not (before.seen t)) here before.first;
 }
 
 pub seals_none : (l : Line)
@@ -127,7 +138,9 @@ is_no_seal h (line.Boot x0 x1) no_seal = refl
 is_no_seal h (line.Dump x0 x1 x2) no_seal = refl
 is_no_seal h (line.End x0 x1 x2 x3 x4 x5) no_seal = refl
 
-pub quiet_follows : (n : Nonces) (h : List Line) (l : Line) → ((x0 : ℕ) (x1 : ArrayString) (x2 : Term) → l ≡ line.Seal x0 x1 x2 → ⊥) → AreNonces n h → AreNonces n (h ++ l ∷ [])
+pub quiet_follows : (n : Nonces) (h : List Line) (l : Line)
+    → ((x0 : ℕ) (x1 : ArrayString) (x2 : Term) → l ≡ line.Seal x0 x1 x2 → ⊥) → AreNonces n h
+    → AreNonces n (h ++ l ∷ [])
 quiet_follows n h l none before = record {
   seen = λ t. before.seen t ∙ sym (any_stays (seals_alike t) h l (seals_none l none t));
   first = first_stays is_fresh n.first h l (is_no_seal h l none) before.first;
@@ -135,11 +148,15 @@ quiet_follows n h l none before = record {
 
 -- what was put in
 pub stamp_added : (old new : List Stamp) (stamp : Stamp) (t u : Term) → stamp ≡ stamp_of t
-    → list_any (is_at (stamp_cmp (stamp_of u))) new ≡ cond (is_at (stamp_cmp stamp) (stamp_of u)) true (list_any (is_at (stamp_cmp (stamp_of u))) old)
+    → list_any (is_at (stamp_cmp (stamp_of u))) new ≡ cond (is_at (stamp_cmp stamp) (stamp_of u)) true
+    (list_any (is_at (stamp_cmp (stamp_of u))) old)
     → list_any (same_parts (stamp_of u)) new ≡ (list_any (same_parts (stamp_of u)) old || same_stamp u t)
 unfolding same_stamp
 stamp_added old new stamp t u is updates =
-    added_alike stamp_cmp same_parts stamp_alike stamp_turned old new stamp (stamp_of u) updates ∙ ap (λ (s : Stamp). list_any (same_parts (stamp_of u)) old || same_parts (stamp_of u) s) is
+    added_alike stamp_cmp same_parts stamp_alike stamp_turned old new stamp (stamp_of u) updates ∙ ap
+    (λ (s : Stamp). list_any (same_parts (stamp_of u)) old || same_parts (stamp_of u) s) is
 
-pub stamp_is_new : (old : List Stamp) (stamp : Stamp) (t : Term) → stamp ≡ stamp_of t → list_any (is_at (stamp_cmp stamp)) old ≡ list_any (same_parts (stamp_of t)) old
-stamp_is_new old stamp t is = list_any_alike (is_at (stamp_cmp stamp)) (same_parts stamp) (stamp_alike stamp) old ∙ ap (λ (s : Stamp). list_any (same_parts s) old) is
+pub stamp_is_new : (old : List Stamp) (stamp : Stamp) (t : Term) → stamp ≡ stamp_of t
+    → list_any (is_at (stamp_cmp stamp)) old ≡ list_any (same_parts (stamp_of t)) old
+stamp_is_new old stamp t is = list_any_alike (is_at (stamp_cmp stamp)) (same_parts stamp) (stamp_alike stamp) old ∙ ap
+    (λ (s : Stamp). list_any (same_parts s) old) is

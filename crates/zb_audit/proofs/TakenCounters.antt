@@ -42,14 +42,17 @@ layer_turned Nwk Aps = refl
 layer_turned Aps Nwk = refl
 layer_turned Aps Aps = refl
 
-channel_alike : (i j : ℕ) (t u : Term) → is_eq (channel_cmp (channel_of i t) (channel_of j u)) ≡ (nat_eq i j && same_sender u t)
+channel_alike : (i j : ℕ) (t u : Term) → is_eq (channel_cmp (channel_of i t) (channel_of j u))
+    ≡ (nat_eq i j && same_sender u t)
 unfolding same_sender
 channel_alike i j t u =
     part _ _ _ _ (number_so i j)
     (part _ _ _ _ (layer_alike t.layer u.layer ∙ layer_turned t.layer u.layer)
-    (part _ _ _ _ (bytes_alike t.base.0 u.base.0 ∙ bytes_eq_sym t.base.0 u.base.0) (number_so t.source.0 u.source.0 ∙ turned_number t.source.0 u.source.0)))
+    (part _ _ _ _ (bytes_alike t.base.0 u.base.0 ∙ bytes_eq_sym t.base.0 u.base.0)
+    (number_so t.source.0 u.source.0 ∙ turned_number t.source.0 u.source.0)))
 
-pub none_taken : (heights : BTreeMap Channel ℕ) → heights.entries ≡ [] → (names : List Bytes) → AreTaken names (record { heights = heights; first = None }) []
+pub none_taken : (heights : BTreeMap Channel ℕ) → heights.entries ≡ [] → (names : List Bytes)
+    → AreTaken names (record { heights = heights; first = None }) []
 unfolding failing failing_from
 none_taken heights none names = record { heights = λ name i there t. rw none refl; first = refl }
 
@@ -59,34 +62,44 @@ below_top x c None e = refl
 below_top x c (Some top) e =
     let above : top < c = leb-false c top e in
     same_truth (nat_le x c) (nat_le x top || nat_le x c) (λ le. or_right (nat_le x top) (nat_le x c) le)
-    (λ some. elim (either (nat_le x top) (nat_le x c) some) [ inl le ↦ (let it : x ≤ top = leb-true x top le in le-leb x c (omega arith)) | inr le ↦ le ])
+    (λ some. elim (either (nat_le x top) (nat_le x c) some)
+    [ inl le ↦ (let it : x ≤ top = leb-true x top le in le-leb x c (omega arith)) | inr le ↦ le ])
 
 below_old : (x c : ℕ) (old : Option ℕ) → is_below c old ≡ true → is_below x old ≡ (is_below x old || nat_le x c)
 below_old x c None e = cc
 below_old x c (Some top) e =
     let under : c ≤ top = leb-true c top e in
     same_truth (nat_le x top) (nat_le x top || nat_le x c) (λ le. or_left (nat_le x top) (nat_le x c) le)
-    (λ some. elim (either (nat_le x top) (nat_le x c) some) [ inl le ↦ le | inr le ↦ (let it : x ≤ c = leb-true x c le in le-leb x top (omega arith)) ])
+    (λ some. elim (either (nat_le x top) (nat_le x c) some)
+    [ inl le ↦ le | inr le ↦ (let it : x ≤ c = leb-true x c le in le-leb x top (omega arith)) ])
 
-pub accept_follows : (names : List Bytes) (old new : Taking) (h : List Line) (event : ℕ) (node : ArrayString) (t : Term) (place number : ℕ)
-    → ((i : ℕ) (u : Term) → is_below u.counter (height new i u) ≡ (is_below u.counter (height old i u) || (nat_eq place i && (same_sender u t && nat_le u.counter t.counter))))
+pub accept_follows : (names : List Bytes) (old new : Taking) (h : List Line) (event : ℕ) (node : ArrayString)
+    (t : Term) (place number : ℕ)
+    → ((i : ℕ) (u : Term) → is_below u.counter (height new i u)
+    ≡ (is_below u.counter (height old i u) || (nat_eq place i && (same_sender u t && nat_le u.counter t.counter))))
     → new.first ≡ option_or old.first (if not (is_below t.counter (height old place t)) then None else Some number)
-    → number ≡ length h + 1 → place_in names node.bytes ≡ Some place → AreTaken names old h → AreTaken names new (h ++ line.Accept event node t ∷ [])
+    → number ≡ length h + 1 → place_in names node.bytes ≡ Some place → AreTaken names old h
+    → AreTaken names new (h ++ line.Accept event node t ∷ [])
 unfolding is_later bars
 accept_follows names old new h event node t place number heights first here there before = record {
   heights = λ name i at u.
       heights i u
-      ∙ (ap (λ (b : Bool). b || (nat_eq place i && (same_sender u t && nat_le u.counter t.counter))) (before.heights name i at u)
-      ∙ (ap (λ (b : Bool). list_any (bars name u) h || (b && (same_sender u t && nat_le u.counter t.counter))) (same_place name i at)
+      ∙ (ap (λ (b : Bool). b || (nat_eq place i && (same_sender u t && nat_le u.counter t.counter)))
+      (before.heights name i at u)
+      ∙ (ap (λ (b : Bool). list_any (bars name u) h || (b && (same_sender u t && nat_le u.counter t.counter)))
+      (same_place name i at)
       ∙ sym (any_more (bars name u) h (line.Accept event node t))));
-  first = first_more is_later old.first new.first number (not (is_below t.counter (height old place t))) h (line.Accept event node t) first (ap not (before.heights node.bytes place there t)) here before.first;
+  first = first_more is_later old.first new.first number (not (is_below t.counter (height old place t))) h
+      (line.Accept event node t) first (ap not (before.heights node.bytes place there t)) here before.first;
 }
   where
     same_place : (name : Bytes) (i : ℕ) → place_in names name ≡ Some i → nat_eq place i ≡ bytes_eq node.bytes name
     same_place name i at =
         same_truth _ _
-        (λ e. let it : place ≡ i = same_number place i e in ap (λ (n : Bytes). bytes_eq node.bytes n) (one_place names name node.bytes place (at ∙ ap Some (sym it)) there) ∙ itself node.bytes)
-        (λ e. let it : Some place ≡ Some i = sym there ∙ (ap (place_in names) (same_bytes node.bytes name e) ∙ at) in let same : place ≡ i = cc in ap (λ (n : ℕ). nat_eq place n) (sym same) ∙ itself_number place)
+        (λ e. let it : place ≡ i = same_number place i e in ap (λ (n : Bytes). bytes_eq node.bytes n)
+        (one_place names name node.bytes place (at ∙ ap Some (sym it)) there) ∙ itself node.bytes)
+        (λ e. let it : Some place ≡ Some i = sym there ∙ (ap (place_in names) (same_bytes node.bytes name e) ∙ at) in
+        let same : place ≡ i = cc in ap (λ (n : ℕ). nat_eq place n) (sym same) ∙ itself_number place)
 
 pub bars_none : (l : Line)
     → ((x0 : ℕ) (x1 : ArrayString) (x2 : Term) → l ≡ line.Accept x0 x1 x2 → ⊥)
@@ -164,14 +177,18 @@ is_no_accept h (line.Boot x0 x1) no_accept = refl
 is_no_accept h (line.Dump x0 x1 x2) no_accept = refl
 is_no_accept h (line.End x0 x1 x2 x3 x4 x5) no_accept = refl
 
-pub quiet_follows : (names : List Bytes) (k : Taking) (h : List Line) (l : Line) → ((x0 : ℕ) (x1 : ArrayString) (x2 : Term) → l ≡ line.Accept x0 x1 x2 → ⊥) → AreTaken names k h → AreTaken names k (h ++ l ∷ [])
+pub quiet_follows : (names : List Bytes) (k : Taking) (h : List Line) (l : Line)
+    → ((x0 : ℕ) (x1 : ArrayString) (x2 : Term) → l ≡ line.Accept x0 x1 x2 → ⊥) → AreTaken names k h
+    → AreTaken names k (h ++ l ∷ [])
 quiet_follows names k h l none before = record {
-  heights = λ name i there t. before.heights name i there t ∙ sym (any_stays (bars name t) h l (bars_none l none name t));
+  heights = λ name i there t. before.heights name i there t ∙ sym
+      (any_stays (bars name t) h l (bars_none l none name t));
   first = first_stays is_later k.first h l (is_no_accept h l none) before.first;
 }
 
 -- the heights after a counter was accepted: it is written where it rises
-pub raised : (same : Bool) (before now : Option ℕ) (x c : ℕ) → now ≡ cond same (Some c) before → (same ≡ true → is_below c before ≡ false) → is_below x now ≡ (is_below x before || (same && nat_le x c))
+pub raised : (same : Bool) (before now : Option ℕ) (x c : ℕ) → now ≡ cond same (Some c) before
+    → (same ≡ true → is_below c before ≡ false) → is_below x now ≡ (is_below x before || (same && nat_le x c))
 raised true before now x c is below = ap (is_below x) is ∙ below_top x c before (below refl)
 raised false before now x c is below = ap (is_below x) is ∙ sym (or_false (is_below x before))
 
@@ -181,38 +198,54 @@ same_layer_is Aps Aps e = refl
 same_layer_is Nwk Aps e = cc
 same_layer_is Aps Nwk e = cc
 
-same_channel : (place i : ℕ) (t u : Term) → (nat_eq place i && same_sender u t) ≡ true → channel_of place t ≡ channel_of i u
+same_channel : (place i : ℕ) (t u : Term) → (nat_eq place i && same_sender u t) ≡ true → channel_of place t
+    ≡ channel_of i u
 unfolding same_sender
 same_channel place i t u same =
     let places : place ≡ i = same_number place i (and_left _ _ same) in
     let sender : same_sender u t ≡ true = and_right (nat_eq place i) _ same in
     let layers : u.layer ≡ t.layer = same_layer_is u.layer t.layer (and_left _ _ sender) in
-    let more : (bytes_eq u.base.0 t.base.0 && nat_eq u.source.0 t.source.0) ≡ true = and_right (same_layer u.layer t.layer) _ sender in
+    let more : (bytes_eq u.base.0 t.base.0 && nat_eq u.source.0 t.source.0) ≡ true =
+    and_right (same_layer u.layer t.layer) _ sender in
     let keys : u.base.0 ≡ t.base.0 = same_bytes u.base.0 t.base.0 (and_left _ _ more) in
-    let sources : u.source.0 ≡ t.source.0 = same_number u.source.0 t.source.0 (and_right (bytes_eq u.base.0 t.base.0) _ more) in
-    λ j. record { place = places j; layer = (sym layers) j; base = record { 0 = (sym keys) j }; source = record { 0 = (sym sources) j } }
+    let sources : u.source.0 ≡ t.source.0 =
+    same_number u.source.0 t.source.0 (and_right (bytes_eq u.base.0 t.base.0) _ more) in
+    λ j. record {
+      place = places j;
+      layer = (sym layers) j;
+      base = record { 0 = (sym keys) j };
+      source = record { 0 = (sym sources) j };
+    }
 
 grouped : (a b c : Bool) → ((a && b) && c) ≡ (a && (b && c))
 grouped true b c = refl
 grouped false b c = refl
 
 pub heights_written : (old new : Taking) (t : Term) (place : ℕ) → is_below t.counter (height old place t) ≡ false
-    → ((q : Channel) → get channel_cmp new.heights q ≡ cond (is_at (channel_cmp (channel_of place t)) q) (Some t.counter) (get channel_cmp old.heights q))
-    → (i : ℕ) (u : Term) → is_below u.counter (height new i u) ≡ (is_below u.counter (height old i u) || (nat_eq place i && (same_sender u t && nat_le u.counter t.counter)))
+    → ((q : Channel) → get channel_cmp new.heights q ≡ cond (is_at (channel_cmp (channel_of place t)) q)
+    (Some t.counter) (get channel_cmp old.heights q))
+    → (i : ℕ) (u : Term) → is_below u.counter (height new i u)
+    ≡ (is_below u.counter (height old i u) || (nat_eq place i && (same_sender u t && nat_le u.counter t.counter)))
 heights_written old new t place rises updates i u =
     raised (nat_eq place i && same_sender u t) (height old i u) (height new i u) u.counter t.counter
-    (updates (channel_of i u) ∙ ap (λ (b : Bool). cond b (Some t.counter) (height old i u)) (channel_alike place i t u))
+    (updates (channel_of i u) ∙ ap (λ (b : Bool). cond b (Some t.counter) (height old i u))
+    (channel_alike place i t u))
     (λ same. ap (is_below t.counter) (ap (get channel_cmp old.heights) (sym (same_channel place i t u same))) ∙ rises)
-    ∙ ap (λ (b : Bool). is_below u.counter (height old i u) || b) (grouped (nat_eq place i) (same_sender u t) (nat_le u.counter t.counter))
+    ∙ ap (λ (b : Bool). is_below u.counter (height old i u) || b)
+    (grouped (nat_eq place i) (same_sender u t) (nat_le u.counter t.counter))
 
-left_alone : (same : Bool) (at before : Option ℕ) (x c : ℕ) → (same ≡ true → at ≡ before) → is_below c before ≡ true → is_below x at ≡ (is_below x at || (same && nat_le x c))
+left_alone : (same : Bool) (at before : Option ℕ) (x c : ℕ) → (same ≡ true → at ≡ before) → is_below c before ≡ true
+    → is_below x at ≡ (is_below x at || (same && nat_le x c))
 left_alone true at before x c is under =
-    ap (is_below x) (is refl) ∙ (below_old x c before under ∙ ap (λ (o : Option ℕ). is_below x o || nat_le x c) (sym (is refl)))
+    ap (is_below x) (is refl) ∙
+    (below_old x c before under ∙ ap (λ (o : Option ℕ). is_below x o || nat_le x c) (sym (is refl)))
 left_alone false at before x c is under = sym (or_false (is_below x at))
 
 pub heights_stay : (k : Taking) (t : Term) (place : ℕ) → is_below t.counter (height k place t) ≡ true
-    → (i : ℕ) (u : Term) → is_below u.counter (height k i u) ≡ (is_below u.counter (height k i u) || (nat_eq place i && (same_sender u t && nat_le u.counter t.counter)))
+    → (i : ℕ) (u : Term) → is_below u.counter (height k i u)
+    ≡ (is_below u.counter (height k i u) || (nat_eq place i && (same_sender u t && nat_le u.counter t.counter)))
 heights_stay k t place under i u =
     left_alone (nat_eq place i && same_sender u t) (height k i u) (height k place t) u.counter t.counter
     (λ same. ap (get channel_cmp k.heights) (sym (same_channel place i t u same))) under
-    ∙ ap (λ (b : Bool). is_below u.counter (height k i u) || b) (grouped (nat_eq place i) (same_sender u t) (nat_le u.counter t.counter))
+    ∙ ap (λ (b : Bool). is_below u.counter (height k i u) || b)
+    (grouped (nat_eq place i) (same_sender u t) (nat_le u.counter t.counter))

@@ -36,5 +36,6 @@ pub record Stands (tools : Tools) (a : Auditor) (h : List Line) : Type 0 where
 -- lockout after one more line represents it too
 abbrev pub LocksOn : Lockout → Lockout → ℕ → Line → Who → Type 0
 LocksOn old new number l who =
-    (tools : Tools) (names : List Bytes) (h : List Line) → FindKeys tools → number ≡ length h + 1 → IsSpeaker who names (declared_in h) l
+    (tools : Tools) (names : List Bytes) (h : List Line) → FindKeys tools → number ≡ length h + 1
+    → IsSpeaker who names (declared_in h) l
     → lockout.Stands tools names old h → lockout.Stands tools names new (h ++ l ∷ [])

@@ -18,7 +18,8 @@ use Rattle.zb_trace.specs.declared.line.Line.TheVariants as line
 -- a later seal is under another key, or of another source, counter or control byte
 abbrev pub SealsApart : Term → Line → Type 0
 SealsApart t (line.Seal event node u) =
-    sealing_key t.label t.base.0 ≡ sealing_key u.label u.base.0 → t.source.0 ≡ u.source.0 → t.counter ≡ u.counter → t.control ≡ u.control → ⊥
+    sealing_key t.label t.base.0 ≡ sealing_key u.label u.base.0 → t.source.0 ≡ u.source.0 → t.counter ≡ u.counter
+    → t.control ≡ u.control → ⊥
 SealsApart t _ = ⊤
 
 abbrev pub FreshFrom : Line → List Line → Type 0
@@ -34,7 +35,8 @@ Fresh (l ∷ ls) = FreshFrom l ls × Fresh ls
 
 -- the later of two accepted terms of one receiver, layer, base key and source has the greater counter
 abbrev pub Rises : Bytes → Term → Line → Type 0
-Rises name t (line.Accept event node u) = node.bytes ≡ name → t.layer ≡ u.layer → t.base.0 ≡ u.base.0 → t.source.0 ≡ u.source.0 → t.counter < u.counter
+Rises name t (line.Accept event node u) = node.bytes ≡ name → t.layer ≡ u.layer → t.base.0 ≡ u.base.0 → t.source.0
+    ≡ u.source.0 → t.counter < u.counter
 Rises name t _ = ⊤
 
 abbrev pub OnceFrom : Line → List Line → Type 0
@@ -50,7 +52,8 @@ Once (l ∷ ls) = OnceFrom l ls × Once ls
 
 abbrev pub ConfirmLine : List Line → Line → Type 0
 ConfirmLine h (line.Seal event node t) =
-    (device : Eui) → confirmed t ≡ Some device → (is_centres (declared_in h) node.bytes ≡ true) × (row_in h device.0 t.base.0 ≡ Kept)
+    (device : Eui) → confirmed t ≡ Some device → (is_centres (declared_in h) node.bytes ≡ true)
+    × (row_in h device.0 t.base.0 ≡ Kept)
 ConfirmLine h _ = ⊤
 
 abbrev pub ConfirmsFrom : List Line → List Line → Type 0

@@ -43,7 +43,8 @@ agree false b = not b
 -- an end line that sums up the lines before it
 unfoldable pub sums_up : Tools → List Line → Line → Bool
 sums_up tools h (line.End events seals accepts refusals is_ideal is_private) =
-    (nat_le (greatest_event h) events && (nat_eq (seals_in h) seals && (nat_eq (accepts_in h) accepts && nat_eq (refusals_in h) refusals)))
+    (nat_le (greatest_event h) events
+    && (nat_eq (seals_in h) seals && (nat_eq (accepts_in h) accepts && nat_eq (refusals_in h) refusals)))
     && (agree (ideal tools h) is_ideal && agree (private tools h) is_private)
 sums_up tools h _ = false
 
@@ -70,4 +71,5 @@ ends_well tools lines = ends_from tools [] lines
 -- The numbers of the lines that end it badly: of end lines before the last line, and of the last line where it isn't
 -- an end line that sums up. Where there is no line, 1.
 unfoldable pub ill_ended : Tools → List Line → List ℕ
-ill_ended tools lines = failing is_no_end (front lines) ++ (if ends_well tools lines then [] else max (length lines) 1 ∷ [])
+ill_ended tools lines = failing is_no_end (front lines)
+    ++ (if ends_well tools lines then [] else max (length lines) 1 ∷ [])

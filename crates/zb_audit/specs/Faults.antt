@@ -51,5 +51,6 @@ pub record IsSound (tools : Tools) (v : Verdict) (lines : List Line) : Type 0 wh
 -- What an audit answers: the verdict exactly where no line is bad, else the first fault.
 abbrev pub IsAnswer : Tools → List Line → Result Verdict AuditFault → Type 0
 IsAnswer tools lines (Ok v) = IsSound tools v lines
-IsAnswer tools lines (Err (Broken line clause)) = first_fault tools lines ≡ Some (record { line = line; clause = clause })
+IsAnswer tools lines (Err (Broken line clause)) = first_fault tools lines
+    ≡ Some (record { line = line; clause = clause })
 IsAnswer tools lines (Err NoMemory) = Unit {0}

@@ -32,10 +32,17 @@ use Rattle.zb_trace.specs.declared.line.Line.TheVariants as line
 -- Nonces
 
 abbrev pub stamp_of : Term → Stamp
-stamp_of t = record { key = record { 0 = sealing_key t.label t.base.0 }; source = t.source; counter = t.counter; control = t.control }
+stamp_of t =
+    record {
+      key = record { 0 = sealing_key t.label t.base.0 };
+      source = t.source;
+      counter = t.counter;
+      control = t.control;
+    }
 
 abbrev pub same_parts : Stamp → Stamp → Bool
-same_parts a b = bytes_eq a.key.0 b.key.0 && (nat_eq a.source.0 b.source.0 && (nat_eq a.counter b.counter && nat_eq a.control b.control))
+same_parts a b = bytes_eq a.key.0 b.key.0
+    && (nat_eq a.source.0 b.source.0 && (nat_eq a.counter b.counter && nat_eq a.control b.control))
 
 -- whether a term was sealed with this key and nonce
 abbrev pub was_sealed : Nonces → Term → Bool
@@ -62,7 +69,8 @@ is_below counter None = false
 is_below counter (Some top) = nat_le counter top
 
 pub record AreTaken (names : List Bytes) (k : Taking) (h : List Line) : Type 0 where
-  pub heights : (name : Bytes) (i : ℕ) → place_in names name ≡ Some i → (t : Term) → is_below t.counter (height k i t) ≡ list_any (bars name t) h
+  pub heights : (name : Bytes) (i : ℕ) → place_in names name ≡ Some i → (t : Term) → is_below t.counter (height k i t)
+      ≡ list_any (bars name t) h
   pub first : k.first ≡ head (failing is_later h)
 
 -- Confirmed keys
@@ -99,7 +107,8 @@ pub record AreConfirmed (c : Confirming) (h : List Line) : Type 0 where
 
 -- whether the counts of an end line are those so far; and its two words
 abbrev pub counts_are : Ending → ℕ → ℕ → ℕ → ℕ → Bool
-counts_are e events seals accepts refusals = nat_le e.events events && (nat_eq e.seals seals && (nat_eq e.accepts accepts && nat_eq e.refusals refusals))
+counts_are e events seals accepts refusals = nat_le e.events events
+    && (nat_eq e.seals seals && (nat_eq e.accepts accepts && nat_eq e.refusals refusals))
 
 abbrev pub fits : Ending → Bool → Bool → Line → Bool
 fits e ideal private (line.End events seals accepts refusals says_ideal says_private) =

@@ -35,7 +35,8 @@ same_truth false false f g = refl
 
 pub bytes_turned : (a b : List ℕ) → bytes_eq a b ≡ bytes_eq b a
 bytes_turned a b =
-    same_truth (bytes_eq a b) (bytes_eq b a) (λ h. (bytes_eq-Decides b a).1 (sym (same_bytes a b h))) (λ h. (bytes_eq-Decides a b).1 (sym (same_bytes b a h)))
+    same_truth (bytes_eq a b) (bytes_eq b a) (λ h. (bytes_eq-Decides b a).1 (sym (same_bytes a b h)))
+    (λ h. (bytes_eq-Decides a b).1 (sym (same_bytes b a h)))
 
 pub same_number : (a b : ℕ) → nat_eq a b ≡ true → a ≡ b
 same_number a b h = exact_unsigned_eq a b h
@@ -45,7 +46,9 @@ itself_number a = eq-eqb a a refl
 
 pub number_alike : (a b : ℕ) → is_eq (nat_cmp a b) ≡ nat_eq a b
 number_alike a b =
-    same_truth (is_eq (nat_cmp a b)) (nat_eq a b) (λ h. eq-eqb a b (exact_unsigned a b (equal (nat_cmp a b) h))) (λ h. ap (λ (x : ℕ). is_eq (nat_cmp a x)) (sym (exact_unsigned_eq a b h)) ∙ ap is_eq (tied_itself nat_cmp_total a))
+    same_truth (is_eq (nat_cmp a b)) (nat_eq a b) (λ h. eq-eqb a b (exact_unsigned a b (equal (nat_cmp a b) h)))
+    (λ h. ap (λ (x : ℕ). is_eq (nat_cmp a x)) (sym (exact_unsigned_eq a b h)) ∙ ap is_eq
+    (tied_itself nat_cmp_total a))
   where
     equal : (o : Ordering) → is_eq o ≡ true → o ≡ Equal
     equal Less h = cc
@@ -67,35 +70,43 @@ layer_alike layer.Aps layer.Nwk = refl
 layer_alike layer.Aps layer.Aps = refl
 
 sender_alike : (s q : Sender) → is_eq (sender_cmp s q) ≡ same_sender s q
-sender_alike s q = part _ _ _ _ (layer_alike s.layer q.layer) (part _ _ _ _ (sym (texts_ties s.key.0 q.key.0)) (number_alike s.eui.0 q.eui.0))
+sender_alike s q = part _ _ _ _ (layer_alike s.layer q.layer)
+    (part _ _ _ _ (sym (texts_ties s.key.0 q.key.0)) (number_alike s.eui.0 q.eui.0))
 
-put : {T : Type 0} (b same : Bool) (t fresh : T) (o : Option T) → b ≡ same → unwrap_or (cond b (Some t) o) fresh ≡ (if same then t else unwrap_or o fresh)
+put : {T : Type 0} (b same : Bool) (t fresh : T) (o : Option T) → b ≡ same → unwrap_or (cond b (Some t) o) fresh
+    ≡ (if same then t else unwrap_or o fresh)
 put true true t fresh o e = refl
 put true false t fresh o e = cc
 put false true t fresh o e = cc
 put false false t fresh o e = refl
 
-pub key_put : (old new : BTreeMap Key KeyCounters) (key : Key) (counters : KeyCounters) → ((q : Key) → get key_cmp new q ≡ cond (is_at (key_cmp key) q) (Some counters) (get key_cmp old q))
+pub key_put : (old new : BTreeMap Key KeyCounters) (key : Key) (counters : KeyCounters)
+    → ((q : Key) → get key_cmp new q ≡ cond (is_at (key_cmp key) q) (Some counters) (get key_cmp old q))
     → PutsKey old new key counters
 unfolding key_in
 key_put old new key counters updates q =
-    ap (λ (o : Option KeyCounters). unwrap_or o fresh_key) (updates q) ∙ put (is_at (key_cmp key) q) (bytes_eq key.0 q.0) counters fresh_key (get key_cmp old q) (sym (texts_ties key.0 q.0))
+    ap (λ (o : Option KeyCounters). unwrap_or o fresh_key) (updates q) ∙ put (is_at (key_cmp key) q)
+    (bytes_eq key.0 q.0) counters fresh_key (get key_cmp old q) (sym (texts_ties key.0 q.0))
 
-pub floor_put : (old new : BTreeMap Sender Floor) (s : Sender) (floor : Floor) → ((q : Sender) → get sender_cmp new q ≡ cond (is_at (sender_cmp s) q) (Some floor) (get sender_cmp old q))
+pub floor_put : (old new : BTreeMap Sender Floor) (s : Sender) (floor : Floor)
+    → ((q : Sender) → get sender_cmp new q ≡ cond (is_at (sender_cmp s) q) (Some floor) (get sender_cmp old q))
     → PutsFloor old new s floor
 unfolding floor_of
 floor_put old new s floor updates q =
-    ap (λ (o : Option Floor). unwrap_or o fresh_floor) (updates q) ∙ put (is_at (sender_cmp s) q) (same_sender s q) floor fresh_floor (get sender_cmp old q) (sender_alike s q)
+    ap (λ (o : Option Floor). unwrap_or o fresh_floor) (updates q) ∙ put (is_at (sender_cmp s) q) (same_sender s q)
+    floor fresh_floor (get sender_cmp old q) (sender_alike s q)
 
 pub same_key : (a b : Key) → bytes_eq a.0 b.0 ≡ true → a ≡ b
 same_key a b e = λ i. record { 0 = same_bytes a.0 b.0 e i }
 
 -- What was put for a key is what a change makes of what stood there.
 
-pub key_changed : (old new : BTreeMap Key KeyCounters) (key : Key) (f : KeyCounters → KeyCounters) → PutsKey old new key (f (key_in old key))
+pub key_changed : (old new : BTreeMap Key KeyCounters) (key : Key) (f : KeyCounters → KeyCounters)
+    → PutsKey old new key (f (key_in old key))
     → (q : Key) → key_in new q ≡ (if bytes_eq key.0 q.0 then f (key_in old q) else key_in old q)
 key_changed old new key f puts q = puts q ∙ chosen (bytes_eq key.0 q.0) refl
   where
-    chosen : (b : Bool) → bytes_eq key.0 q.0 ≡ b → (if b then f (key_in old key) else key_in old q) ≡ (if b then f (key_in old q) else key_in old q)
+    chosen : (b : Bool) → bytes_eq key.0 q.0 ≡ b → (if b then f (key_in old key) else key_in old q)
+        ≡ (if b then f (key_in old q) else key_in old q)
     chosen true e = ap (λ (k : Key). f (key_in old k)) (same_key key q e)
     chosen false e = refl

@@ -43,11 +43,13 @@ record IsSilent (n : Bytes) (l : Line) : Type 0 where
   floor : (ly : Layer) (key : Bytes) (sender : ℕ) → floor_in n ly key sender l ≡ None
   accepted : (ly : Layer) (key : Bytes) (sender : ℕ) → accepted_in n ly key sender l ≡ []
 
-given_apart : (same : Bool) (key : Key) → same ≡ false → (b : Bool) → (if not b && same then Some (Some key) else None) ≡ None
+given_apart : (same : Bool) (key : Key) → same ≡ false → (b : Bool) → (if not b && same then Some (Some key)
+    else None) ≡ None
 given_apart same key h true = refl
 given_apart same key h false = rw h refl
 
-reserve_apart : (same : Bool) → same ≡ false → (was at : Bool) (value : ℕ) → (if was && (same && at) then Some value else None) ≡ None
+reserve_apart : (same : Bool) → same ≡ false → (was at : Bool) (value : ℕ) → (if was && (same && at) then Some value
+    else None) ≡ None
 reserve_apart same h true at value = rw h refl
 reserve_apart same h false at value = refl
 
@@ -238,12 +240,19 @@ stays g number n l c none = record {
   booted = rw none.booted refl;
   layers = λ ly. rw (none.counter ly, none.reserve ly, none.seals ly) refl;
   outgoing = rw (none.reserve Aps, none.sealed Aps None) refl;
-  keys = λ key. rw (none.limit key.0 (is_key (active_by g c) key.0), none.sealed Nwk (Some key.0), none.started key.0, none.start key.0, none.activates key.0) refl;
+  keys = λ key. rw (
+    none.limit key.0 (is_key (active_by g c) key.0),
+    none.sealed Nwk (Some key.0),
+    none.started key.0,
+    none.start key.0,
+    none.activates key.0,
+  ) refl;
   floors = λ s. rw (none.accepted s.layer s.key.0 s.eui.0, none.floor s.layer s.key.0 s.eui.0) refl;
 }
 
 pub passed_over : (g number : ℕ) (n : Bytes) (l : Line) (c : Counters) → counts l ≡ false → Hears g number n l c c
 passed_over g number n l c h = stays g number n l c (silent n l (unnamed n l h))
 
-pub not_named : (g number : ℕ) (n : Bytes) (l : Line) (c : Counters) (m : Bytes) → speaker l ≡ Some m → bytes_eq m n ≡ false → Hears g number n l c c
+pub not_named : (g number : ℕ) (n : Bytes) (l : Line) (c : Counters) (m : Bytes) → speaker l ≡ Some m → bytes_eq m n
+    ≡ false → Hears g number n l c c
 not_named g number n l c m s h = stays g number n l c (silent n l (of_another n l m s h))

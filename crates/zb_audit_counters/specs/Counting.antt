@@ -79,20 +79,23 @@ is_spent before n l = nat_eq (next before n l) (limit before n l)
 unfoldable pub seal_stands : List (List Line) → List Line → Bytes → Term → Bool
 seal_stands before front n t =
     (nat_eq t.counter (next before n t.layer) && is_under t.layer (active (flat before) n) t.base.0)
-    && (is_some (out_block (flat before ++ front) n) && (not (is_spent before n t.layer) || is_some (last (reserve_in n t.layer) front)))
+    && (is_some (out_block (flat before ++ front) n)
+    && (not (is_spent before n t.layer) || is_some (last (reserve_in n t.layer) front)))
 
 -- Reserves: one outgoing block ahead, where the next counter has reached the limit, and for a seal.
 
 unfoldable pub reserve_stands : List (List Line) → List Line → List Line → Bytes → Layer → ℕ → Bool
 reserve_stands before group front n l value =
-    (block_passes (λ block. nat_eq value (ahead (next before n l) block)) (out_block (flat before ++ front) n) && is_spent before n l)
+    (block_passes (λ block. nat_eq value (ahead (next before n l) block)) (out_block (flat before ++ front) n)
+    && is_spent before n l)
     && (list_any cuts group || list_any (seals_at n l) group)
 
 -- Accepts: from the stored floor on they call for a floor.
 
 unfoldable pub accept_stands : List (List Line) → List Line → Bytes → Term → Bool
 accept_stands before group n t =
-    nat_lt t.counter (stored (flat before) n t.layer t.base.0 t.source.0) || is_some (last (floor_in n t.layer t.base.0 t.source.0) group)
+    nat_lt t.counter (stored (flat before) n t.layer t.base.0 t.source.0)
+    || is_some (last (floor_in n t.layer t.base.0 t.source.0) group)
 
 -- Floors: one incoming block ahead of each accepted counter, none of which is below the stored floor. In an event that
 -- was cut short nothing is accepted; then the floor rises.
@@ -107,7 +110,9 @@ is_called_for false floor value (counter ∷ more) = true
 
 unfoldable pub floor_stands : List (List Line) → List Line → List Line → Bytes → Layer → Bytes → ℕ → ℕ → Bool
 floor_stands before group front n l key sender value =
-    block_passes (λ block. list_all (floor_fits (stored (flat before) n l key sender) value block) (accepted group n l key sender)) (in_block (flat before ++ front) n)
+    block_passes
+    (λ block. list_all (floor_fits (stored (flat before) n l key sender) value block)
+    (accepted group n l key sender)) (in_block (flat before ++ front) n)
     && is_called_for (list_any cuts group) (stored (flat before) n l key sender) value (accepted group n l key sender)
 
 -- Starts: a key starts where it first becomes active, at the next counter, or at 0 from half of the range on.
@@ -117,7 +122,8 @@ start_value counter = if nat_le half counter then 0 else counter
 
 unfoldable pub start_stands : List (List Line) → List Line → List Line → Bytes → Bytes → ℕ → Bool
 start_stands before group front n key value =
-    (is_some (out_block (flat before ++ front) n) && (not (has_started (flat before) n key) && nat_eq value (start_value (next before n Nwk))))
+    (is_some (out_block (flat before ++ front) n)
+    && (not (has_started (flat before) n key) && nat_eq value (start_value (next before n Nwk))))
     && list_any (activates n key) group
 
 unfoldable pub active_stands : List (List Line) → List Line → Bytes → Bytes → Bool
@@ -128,7 +134,8 @@ unfoldable pub is_counted : List (List Line) → List Line → List Line → Lin
 is_counted before group front (line.Seal e n t) = seal_stands before front n.bytes t
 is_counted before group front (line.Reserve e n l value) = reserve_stands before group front n.bytes l value
 is_counted before group front (line.Accept e n t) = accept_stands before group n.bytes t
-is_counted before group front (line.Floor e n l key sender value) = floor_stands before group front n.bytes l key.0 sender.0 value
+is_counted before group front (line.Floor e n l key sender value) = floor_stands before group front n.bytes l key.0
+    sender.0 value
 is_counted before group front (line.Start e n key value) = start_stands before group front n.bytes key.0 value
 is_counted before group front (line.Active e n key) = active_stands before group n.bytes key.0
 is_counted before group front _ = true
@@ -137,7 +144,8 @@ is_counted before group front _ = true
 unfoldable pub uncounted_in : List (List Line) → List Line → List Line → ℕ → List Line → List ℕ
 uncounted_in before group front number [] = []
 uncounted_in before group front number (l ∷ ls) =
-    (if is_counted before group front l then [] else number ∷ []) ++ uncounted_in before group (front ++ l ∷ []) (number + 1) ls
+    (if is_counted before group front l then [] else number ∷ [])
+    ++ uncounted_in before group (front ++ l ∷ []) (number + 1) ls
 
 unfoldable pub uncounted_from : List (List Line) → ℕ → List (List Line) → List ℕ
 uncounted_from before number [] = []

@@ -68,7 +68,8 @@ reserve_in n l _ = None
 -- what a line says of the limit of a key; `was` tells whether the key was active before the line's group
 abbrev pub limit_in : Bytes → Bytes → Bool → Line → Option ℕ
 limit_in n key was (line.Start e m k value) = if bytes_eq m.bytes n && bytes_eq k.0 key then Some value else None
-limit_in n key was (line.Reserve e m layer value) = if was && (bytes_eq m.bytes n && same_layer layer Nwk) then Some value else None
+limit_in n key was (line.Reserve e m layer value) = if was && (bytes_eq m.bytes n && same_layer layer Nwk)
+    then Some value else None
 limit_in n key was _ = None
 
 -- the limit of a key by groups that stand after the lines `h`
@@ -111,7 +112,8 @@ behind limit None = limit
 behind limit (Some counter) = counter + 1
 
 unfoldable pub next : List (List Line) → Bytes → Layer → ℕ
-next before n l = behind (limit before n l) (last (sealed_in n l (active (flat before) n)) (since_boot n (flat before)))
+next before n l =
+    behind (limit before n l) (last (sealed_in n l (active (flat before) n)) (since_boot n (flat before)))
 
 -- The stored floor of a layer, a key and a sender: 0 without a `floor` line.
 
@@ -119,7 +121,8 @@ abbrev pub is_from : Layer → Bytes → ℕ → Layer → Bytes → ℕ → Boo
 is_from l key sender layer base source = same_layer layer l && (bytes_eq base key && nat_eq source sender)
 
 abbrev pub floor_in : Bytes → Layer → Bytes → ℕ → Line → Option ℕ
-floor_in n l key sender (line.Floor e m layer k s value) = if bytes_eq m.bytes n && is_from l key sender layer k.0 s.0 then Some value else None
+floor_in n l key sender (line.Floor e m layer k s value) = if bytes_eq m.bytes n && is_from l key sender layer k.0 s.0
+    then Some value else None
 floor_in n l key sender _ = None
 
 unfoldable pub stored : List Line → Bytes → Layer → Bytes → ℕ → ℕ

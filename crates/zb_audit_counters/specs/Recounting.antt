@@ -45,22 +45,27 @@ itself x = x
 unfoldable pub last_seal : Bytes → Layer → Option Bytes → List Line → Option ℕ
 last_seal n l key h = last (sealed_in n l key) (since_boot n h)
 
-pub record IsOutgoing (count g : ℕ) (booted : Versioned ℕ) (limit_before limit_now sealed_before sealed_now : Option ℕ) (o : Outgoing) : Type 0 where
+pub record IsOutgoing (count g : ℕ) (booted : Versioned ℕ)
+    (limit_before limit_now sealed_before sealed_now : Option ℕ) (o : Outgoing) : Type 0 where
   pub limit : IsRead itself count g o.limit limit_before limit_now
   pub past : o.sealed.group ≤ count
   pub before : since (before_of g booted) (before_of g o.sealed) ≡ sealed_before
   pub now : since booted.latest o.sealed.latest ≡ sealed_now
   pub noted : IfSome o.sealed.latest (λ (s : Sealed). s.boot ≤ booted.latest)
 
-pub record IsLayer (count g : ℕ) (n : Bytes) (l : Layer) (before : List (List Line)) (front : List Line) (a : LayerCounters) : Type 0 where
+pub record IsLayer (count g : ℕ) (n : Bytes) (l : Layer) (before : List (List Line)) (front : List Line)
+    (a : LayerCounters) : Type 0 where
   pub declared : IsRead itself count g a.declared (declared (flat before) n l) (declared (flat before ++ front) n l)
   pub reserved : IsMark count g a.reserved (is_some (last (reserve_in n l) front))
   pub sealed : IsMark count g a.sealed (list_any (seals_at n l) front)
 
-pub record IsKey (count g : ℕ) (booted : Versioned ℕ) (n key : Bytes) (before : List (List Line)) (front : List Line) (k : KeyCounters) : Type 0 where
-  pub outgoing : IsOutgoing count g booted (limit_behind [] n key before) (limit_behind [] n key (before ++ front ∷ []))
+pub record IsKey (count g : ℕ) (booted : Versioned ℕ) (n key : Bytes) (before : List (List Line)) (front : List Line)
+    (k : KeyCounters) : Type 0 where
+  pub outgoing : IsOutgoing count g booted (limit_behind [] n key before)
+      (limit_behind [] n key (before ++ front ∷ []))
       (last_seal n Nwk (Some key) (flat before)) (last_seal n Nwk (Some key) (flat before ++ front)) k.outgoing
-  pub started : IsRead itself count g k.started (has_started (flat before) n key) (has_started (flat before ++ front) n key)
+  pub started : IsRead itself count g k.started (has_started (flat before) n key)
+      (has_started (flat before ++ front) n key)
   pub start : IsMark count g k.start (list_any (starts n key) front)
   pub active : IsMark count g k.active (list_any (activates n key) front)
 
@@ -69,20 +74,25 @@ abbrev pub are_any : List ℕ → Bool
 are_any [] = false
 are_any (x ∷ xs) = true
 
-pub record IsFloor (count g : ℕ) (n : Bytes) (l : Layer) (key : Bytes) (sender : ℕ) (before : List (List Line)) (front : List Line) (f : Floor) : Type 0 where
-  pub kept : IsRead itself count g f.stored (stored (flat before) n l key sender) (stored (flat before ++ front) n l key sender)
+pub record IsFloor (count g : ℕ) (n : Bytes) (l : Layer) (key : Bytes) (sender : ℕ) (before : List (List Line))
+    (front : List Line) (f : Floor) : Type 0 where
+  pub kept : IsRead itself count g f.stored (stored (flat before) n l key sender)
+      (stored (flat before ++ front) n l key sender)
   pub here : nat_eq f.stored.group g ≡ is_some (last (floor_in n l key sender) front)
   pub taken : IsMark count g f.accepted (are_any (accepted front n l key sender))
-  pub fits : (floor value block : ℕ) → fits_all g floor value block f ≡ list_all (floor_fits floor value block) (accepted front n l key sender)
+  pub fits : (floor value block : ℕ) → fits_all g floor value block f
+      ≡ list_all (floor_fits floor value block) (accepted front n l key sender)
   pub ordered : f.least ≤ f.greatest
 
 -- The counters are those of the node of this name, of which the groups before and the lines of the group so far speak.
 pub record IsOf (count g : ℕ) (n : Bytes) (before : List (List Line)) (front : List Line) (c : Counters) : Type 0 where
-  pub active : IsRead (option_map key_bytes) count g c.active (active (flat before) n) (active (flat before ++ front) n)
+  pub active : IsRead (option_map key_bytes) count g c.active (active (flat before) n)
+      (active (flat before ++ front) n)
   pub activated : c.activated ≡ is_some (last (active_in n) (flat before ++ front))
   pub booted : (c.booted.group ≤ count) × (c.booted.latest ≤ count)
   pub layers : (l : Layer) → IsLayer count g n l before front (layer_of c l)
-  pub outgoing : (key : Option Bytes) → IsOutgoing count g c.booted (last (reserve_in n Aps) (flat before)) (last (reserve_in n Aps) (flat before ++ front))
+  pub outgoing : (key : Option Bytes) → IsOutgoing count g c.booted (last (reserve_in n Aps) (flat before))
+      (last (reserve_in n Aps) (flat before ++ front))
       (last_seal n Aps key (flat before)) (last_seal n Aps key (flat before ++ front)) c.outgoing
   pub keys : (key : Key) → IsKey count g c.booted n key.0 before front (key_in c.keys key)
   pub floors : (s : Sender) → IsFloor count g n s.layer s.key.0 s.eui.0 before front (floor_of c.floors s)
@@ -97,8 +107,10 @@ abbrev pub meets : List (List Line) → List Line → Bytes → Need → Bool
 meets before group n (need.Seal l) = list_any cuts group || list_any (seals_at n l) group
 meets before group n (need.Floor s) = is_some (last (floor_in n s.layer s.key.0 s.eui.0) group)
 meets before group n (need.Accept s value block) =
-    list_all (floor_fits (stored (flat before) n s.layer s.key.0 s.eui.0) value block) (accepted group n s.layer s.key.0 s.eui.0)
-    && is_called_for (list_any cuts group) (stored (flat before) n s.layer s.key.0 s.eui.0) value (accepted group n s.layer s.key.0 s.eui.0)
+    list_all (floor_fits (stored (flat before) n s.layer s.key.0 s.eui.0) value block)
+    (accepted group n s.layer s.key.0 s.eui.0)
+    && is_called_for (list_any cuts group) (stored (flat before) n s.layer s.key.0 s.eui.0) value
+    (accepted group n s.layer s.key.0 s.eui.0)
 meets before group n (need.Start key) = list_any (starts n key.0) group
 meets before group n (need.Active key) = list_any (activates n key.0) group
 
@@ -135,7 +147,8 @@ pub record IsOfGroups (names : List Bytes) (r : Recount) (before : List (List Li
   pub judged : (rest : List Line) → first_of (uncounted_in before (front ++ rest) [] r.group front)
       ≡ option_or (first_unmet names before (front ++ rest) r.waits.items) r.bad
 
-pub record IsUnderWay (names : List Bytes) (r : Recount) (lines : List Line) (before : List (List Line)) (front : List Line) : Type 0 where
+pub record IsUnderWay (names : List Bytes) (r : Recount) (lines : List Line) (before : List (List Line))
+    (front : List Line) : Type 0 where
   pub lines_are : lines ≡ flat before ++ front
   pub ahead : (rest : List Line) → groups (lines ++ rest) ≡ before ++ groups (front ++ rest)
   pub run : IsRun r.event front
@@ -144,21 +157,24 @@ pub record IsUnderWay (names : List Bytes) (r : Recount) (lines : List Line) (be
 -- The recount represents these lines. Once a line of a group that has ended doesn't add up it is the first, whatever
 -- follows.
 abbrev pub RecountsTo : Option ℕ → List Bytes → Recount → List Line → Type 0
-RecountsTo None names r lines = (before : List (List Line)) × (front : List Line) × IsUnderWay names r lines before front
+RecountsTo None names r lines = (before : List (List Line)) × (front : List Line)
+    × IsUnderWay names r lines before front
 RecountsTo (Some number) names r lines = (rest : List Line) → first_uncounted (lines ++ rest) ≡ Some number
 
 unfoldable pub Recounts : List Bytes → Recount → List Line → Type 0
 Recounts names r lines = RecountsTo r.first names r lines
 
 -- The same before a line that is of the recount's event.
-pub record IsReadyFor (names : List Bytes) (r : Recount) (lines : List Line) (l : Line) (before : List (List Line)) (front : List Line) : Type 0 where
+pub record IsReadyFor (names : List Bytes) (r : Recount) (lines : List Line) (l : Line) (before : List (List Line))
+    (front : List Line) : Type 0 where
   pub lines_are : lines ≡ flat before ++ front
   pub ahead : (rest : List Line) → groups (lines ++ l ∷ rest) ≡ before ++ groups (front ++ l ∷ rest)
   pub run : IsRun r.event (front ++ l ∷ [])
   pub kept : IsOfGroups names r before front
 
 abbrev pub ReadyTo : Option ℕ → List Bytes → Recount → List Line → Line → Type 0
-ReadyTo None names r lines l = (before : List (List Line)) × (front : List Line) × IsReadyFor names r lines l before front
+ReadyTo None names r lines l = (before : List (List Line)) × (front : List Line)
+    × IsReadyFor names r lines l before front
 ReadyTo (Some number) names r lines l = (rest : List Line) → first_uncounted (lines ++ l ∷ rest) ≡ Some number
 
 unfoldable pub Ready : List Bytes → Recount → List Line → Line → Type 0
@@ -169,7 +185,8 @@ abbrev pub IsOrFresh : Option Counters → Counters → Type 0
 IsOrFresh None c = AreFresh c
 IsOrFresh (Some kept) c = c ≡ kept
 
-pub record HasHeard (g number : ℕ) (l : Line) (out_block in_block : Option ℕ) (place : ℕ) (old new : BTreeMap ℕ Counters) (j : Judgement) : Type 0 where
+pub record HasHeard (g number : ℕ) (l : Line) (out_block in_block : Option ℕ) (place : ℕ)
+    (old new : BTreeMap ℕ Counters) (j : Judgement) : Type 0 where
   pub was : Counters
   pub is : Counters
   pub found : IsOrFresh (get nat_cmp old place) was

@@ -84,7 +84,8 @@ abbrev pub key_cmp : Key → Key → Ordering
 key_cmp a b = slice_cmp nat_cmp a.0 b.0
 
 abbrev pub sender_cmp : Sender → Sender → Ordering
-sender_cmp a b = ordering_then (layer_ord.cmp-value.it a.layer b.layer) (ordering_then (key_cmp a.key b.key) (nat_cmp a.eui.0 b.eui.0))
+sender_cmp a b = ordering_then (layer_ord.cmp-value.it a.layer b.layer)
+    (ordering_then (key_cmp a.key b.key) (nat_cmp a.eui.0 b.eui.0))
 
 unfoldable pub key_in : BTreeMap Key KeyCounters → Key → KeyCounters
 key_in keys key = unwrap_or (get key_cmp keys key) fresh_key
@@ -124,9 +125,12 @@ waits_unless n false = Waits n
 abbrev pub seal_judged : ℕ → Counters → Layer → Key → ℕ → Bool → Judgement
 seal_judged g c Nwk base counter declared =
     stands_if ((is_key (active_by g c) base.0 && declared)
-    && seals_by (key_in c.keys base).outgoing g (before_of g c.booted) (before_of g c.nwk.declared) counter (nat_eq c.nwk.reserved g))
+    && seals_by (key_in c.keys base).outgoing g (before_of g c.booted) (before_of g c.nwk.declared) counter
+    (nat_eq c.nwk.reserved g))
 seal_judged g c Aps base counter declared =
-    stands_if (declared && seals_by c.outgoing g (before_of g c.booted) (before_of g c.aps.declared) counter (nat_eq c.aps.reserved g))
+    stands_if
+    (declared && seals_by c.outgoing g (before_of g c.booted) (before_of g c.aps.declared) counter
+    (nat_eq c.aps.reserved g))
 
 abbrev pub reserve_under : ℕ → Counters → Option Key → ℕ → ℕ → Bool
 reserve_under g c None value block = nat_eq value (ahead (before_of g c.nwk.declared) block)
@@ -136,13 +140,15 @@ reserve_under g c (Some key) value block =
 abbrev pub reserves_at : ℕ → Counters → Layer → ℕ → Option ℕ → Bool
 reserves_at g c layer value None = false
 reserves_at g c Nwk value (Some block) = reserve_under g c (before_of g c.active) value block
-reserves_at g c Aps value (Some block) = reserves_by c.outgoing g (before_of g c.booted) (before_of g c.aps.declared) value block
+reserves_at g c Aps value (Some block) = reserves_by c.outgoing g (before_of g c.booted) (before_of g c.aps.declared)
+    value block
 
 abbrev pub reserve_judged : ℕ → Counters → Layer → ℕ → Option ℕ → Judgement
 reserve_judged g c layer value block = waits_if (need.Seal layer) (reserves_at g c layer value block)
 
 abbrev pub accept_judged : ℕ → Counters → Sender → ℕ → Judgement
-accept_judged g c sender counter = waits_unless (need.Floor sender) (nat_lt counter (before_of g (floor_of c.floors sender).stored))
+accept_judged g c sender counter =
+    waits_unless (need.Floor sender) (nat_lt counter (before_of g (floor_of c.floors sender).stored))
 
 abbrev pub floor_judged : Sender → ℕ → Option ℕ → Judgement
 floor_judged sender value None = Falls
@@ -151,7 +157,9 @@ floor_judged sender value (Some block) = Waits (need.Accept sender value block)
 abbrev pub start_judged : ℕ → Counters → Key → ℕ → Bool → Judgement
 start_judged g c key value declared =
     waits_if (need.Active key)
-    (declared && (not (before_of g (key_in c.keys key).started) && nat_eq value (start_value (next_under g c (before_of g c.active)))))
+    (declared
+    && (not (before_of g (key_in c.keys key).started)
+    && nat_eq value (start_value (next_under g c (before_of g c.active)))))
 
 abbrev pub active_judged : ℕ → Counters → Key → Judgement
 active_judged g c key = waits_unless (need.Start key) (before_of g (key_in c.keys key).started)
@@ -170,7 +178,8 @@ abbrev pub judged_at : ℕ → Counters → Option ℕ → Option ℕ → Line �
 judged_at g c out_block in_block (line.Seal e n t) = seal_judged g c t.layer t.base t.counter (is_some out_block)
 judged_at g c out_block in_block (line.Reserve e n layer value) = reserve_judged g c layer value out_block
 judged_at g c out_block in_block (line.Accept e n t) = accept_judged g c (sender_of t) t.counter
-judged_at g c out_block in_block (line.Floor e n layer key sender value) = floor_judged (record { layer = layer; key = key; eui = sender }) value in_block
+judged_at g c out_block in_block (line.Floor e n layer key sender value) =
+    floor_judged (record { layer = layer; key = key; eui = sender }) value in_block
 judged_at g c out_block in_block (line.Start e n key value) = start_judged g c key value (is_some out_block)
 judged_at g c out_block in_block (line.Active e n key) = active_judged g c key
 judged_at g c out_block in_block _ = Stands
@@ -224,7 +233,8 @@ true_if false = None
 -- the active key, where `activated` tells whether an `active` line stands before
 abbrev pub active_said : Bytes → Bool → Line → Option (Option Key)
 active_said n activated (line.Active e m key) = if bytes_eq m.bytes n then Some (Some key) else None
-active_said n activated (line.GivenNet m key sequence) = if not activated && bytes_eq m.bytes n then Some (Some key) else None
+active_said n activated (line.GivenNet m key sequence) = if not activated && bytes_eq m.bytes n then Some (Some key)
+    else None
 active_said n activated _ = None
 
 abbrev pub boot_said : Bytes → ℕ → Line → Option ℕ
@@ -237,7 +247,8 @@ abbrev pub seal_said : ℕ → Option ℕ → Option (Option Sealed)
 seal_said boot said = option_map (λ (n : ℕ). Some (record { counter = n; boot = boot })) said
 
 abbrev pub heard_outgoing : ℕ → ℕ → Option ℕ → Option ℕ → Outgoing → Outgoing
-heard_outgoing g boot limit sealed o = record { limit = hear g (some_said limit) o.limit; sealed = hear g (seal_said boot sealed) o.sealed }
+heard_outgoing g boot limit sealed o =
+    record { limit = hear g (some_said limit) o.limit; sealed = hear g (seal_said boot sealed) o.sealed }
 
 abbrev pub heard_layer : ℕ → Bytes → Layer → Line → LayerCounters → LayerCounters
 heard_layer g n layer l a = record {
@@ -264,7 +275,8 @@ greatest_of g counter f = if nat_eq f.accepted g then max f.greatest counter els
 
 abbrev pub with_accepted : ℕ → List ℕ → Floor → Floor
 with_accepted g [] f = f
-with_accepted g (counter ∷ more) f = record f { accepted = g; least = least_of g counter f; greatest = greatest_of g counter f }
+with_accepted g (counter ∷ more) f =
+    record f { accepted = g; least = least_of g counter f; greatest = greatest_of g counter f }
 
 abbrev pub with_stored : ℕ → Option ℕ → Floor → Floor
 with_stored g said f = record f { stored = hear g said f.stored }
@@ -279,8 +291,10 @@ pub record Hears (g number : ℕ) (n : Bytes) (l : Line) (old new : Counters) : 
   pub activated : new.activated ≡ (is_some (active_in n l) || old.activated)
   pub booted : new.booted ≡ hear g (boot_said n number l) old.booted
   pub layers : (layer : Layer) → layer_of new layer ≡ heard_layer g n layer l (layer_of old layer)
-  pub outgoing : new.outgoing ≡ heard_outgoing g old.booted.latest (reserve_in n Aps l) (sealed_in n Aps None l) old.outgoing
-  pub keys : (key : Key) → key_in new.keys key ≡ heard_key g old.booted.latest n key.0 (is_key (active_by g old) key.0) l (key_in old.keys key)
+  pub outgoing : new.outgoing ≡ heard_outgoing g old.booted.latest (reserve_in n Aps l) (sealed_in n Aps None l)
+      old.outgoing
+  pub keys : (key : Key) → key_in new.keys key
+      ≡ heard_key g old.booted.latest n key.0 (is_key (active_by g old) key.0) l (key_in old.keys key)
   pub floors : (s : Sender) → floor_of new.floors s ≡ heard_floor g n s l (floor_of old.floors s)
 
 -- The counters of a node of which no line speaks.

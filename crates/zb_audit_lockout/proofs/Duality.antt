@@ -55,30 +55,37 @@ module _ (tools : Tools) (h : List Line) where
   plain_terms_of = plain_all h
 
   pub covers : (from : List Bytes) (k : Bytes) → holds from k ≡ true → holds (exposed tools h from) k ≡ true
-  covers from k there = ap (λ (keys : List Bytes). holds keys k) (sym (as_plain from)) ∙ exposed_covers tools (plain_lines h) from k there
+  covers from k there = ap (λ (keys : List Bytes). holds keys k) (sym (as_plain from)) ∙ exposed_covers tools
+      (plain_lines h) from k there
 
   pub closed : (from : List Bytes) → IsClosed tools (holds (exposed tools h from)) (terms_of h)
   closed from =
       subst (λ (ts : List Term). IsClosed tools (holds (exposed tools h from)) ts) plain_terms_of
-      (subst (λ (keys : List Bytes). IsClosed tools (holds keys) (model.terms_of (plain_lines h))) (as_plain from) (exposed_closed tools (plain_lines h) from))
+      (subst (λ (keys : List Bytes). IsClosed tools (holds keys) (model.terms_of (plain_lines h))) (as_plain from)
+      (exposed_closed tools (plain_lines h) from))
 
-  pub least : (from : List Bytes) (S : Bytes → Bool) → ((k : Bytes) → holds from k ≡ true → S k ≡ true) → IsClosed tools S (terms_of h)
+  pub least : (from : List Bytes) (S : Bytes → Bool) → ((k : Bytes) → holds from k ≡ true → S k ≡ true)
+      → IsClosed tools S (terms_of h)
       → (k : Bytes) → holds (exposed tools h from) k ≡ true → S k ≡ true
   least from S start shut k there =
-      exposed_least tools (plain_lines h) from S start (subst (λ (ts : List Term). IsClosed tools S ts) (sym plain_terms_of) shut) k
+      exposed_least tools (plain_lines h) from S start
+      (subst (λ (ts : List Term). IsClosed tools S ts) (sym plain_terms_of) shut) k
       (ap (λ (keys : List Bytes). holds keys k) (as_plain from) ∙ there)
 
 -- Closed sets, key by key.
 
 module _ (tools : Tools) (S : Bytes → Bool) where
-  passes_any : (base key : Bytes) (t : Term) (o : Option Bytes) → carried tools t ≡ o → Passes tools S t → S base ≡ true → (bytes_eq base t.base && is_that o key) ≡ true → S key ≡ true
+  passes_any : (base key : Bytes) (t : Term) (o : Option Bytes) → carried tools t ≡ o → Passes tools S t → S base
+      ≡ true → (bytes_eq base t.base && is_that o key) ≡ true → S key ≡ true
   passes_any base key t None is passes known there = cc (and_right (bytes_eq base t.base) false there)
   passes_any base key t (Some k) is passes known there =
-      let here : IfSome (carried tools t) (λ (q : Bytes). S q ≡ true) = passes (ap S (sym (same_bytes base t.base (and_left _ _ there))) ∙ known) in
+      let here : IfSome (carried tools t) (λ (q : Bytes). S q ≡ true) =
+      passes (ap S (sym (same_bytes base t.base (and_left _ _ there))) ∙ known) in
       let it : S k ≡ true = rw is at here in
       ap S (same_bytes key k (and_right _ _ there)) ∙ it
 
-  pub closed_any : (base key : Bytes) (ts : List Term) → IsClosed tools S ts → S base ≡ true → list_any (carries tools base key) ts ≡ true → S key ≡ true
+  pub closed_any : (base key : Bytes) (ts : List Term) → IsClosed tools S ts → S base ≡ true
+      → list_any (carries tools base key) ts ≡ true → S key ≡ true
   closed_any base key [] shut known there = cc
   closed_any base key (t ∷ ts) shut known there =
       elim (either (carries tools base key t) (list_any (carries tools base key) ts) there) [
@@ -86,11 +93,15 @@ module _ (tools : Tools) (S : Bytes → Bool) where
         | inr later ↦ closed_any base key ts shut.1 known later
       ]
 
-  passes_one : (t : Term) (o : Option Bytes) → ((key : Bytes) → S t.base ≡ true → (bytes_eq t.base t.base && is_that o key) ≡ true → S key ≡ true) → S t.base ≡ true → IfSome o (λ (key : Bytes). S key ≡ true)
+  passes_one : (t : Term) (o : Option Bytes)
+      → ((key : Bytes) → S t.base ≡ true → (bytes_eq t.base t.base && is_that o key) ≡ true → S key ≡ true) → S t.base
+      ≡ true → IfSome o (λ (key : Bytes). S key ≡ true)
   passes_one t None carries_all known = tt
   passes_one t (Some k) carries_all known = carries_all k known (both _ _ (itself t.base) (itself k))
 
-  pub closed_from : (ts : List Term) → ((base key : Bytes) → S base ≡ true → list_any (carries tools base key) ts ≡ true → S key ≡ true) → IsClosed tools S ts
+  pub closed_from : (ts : List Term)
+      → ((base key : Bytes) → S base ≡ true → list_any (carries tools base key) ts ≡ true → S key ≡ true)
+      → IsClosed tools S ts
   closed_from [] carries_all = tt
   closed_from (t ∷ ts) carries_all = (
     passes_one t (carried tools t) (λ key known there. carries_all t.base key known (or_left _ _ there)),
@@ -98,27 +109,36 @@ module _ (tools : Tools) (S : Bytes → Bool) where
   )
 
 module _ (tools : Tools) (h : List Line) (carriers : Holdings Key) (drawn : List Bytes) (T : Bytes → Bool)
-    (carried_is : (k b : Bytes) → is_carried carriers k b ≡ list_any (carries tools b k) (terms_of h)) (leads : LeadsTo carriers drawn T) where
+    (carried_is : (k b : Bytes) → is_carried carriers k b ≡ list_any (carries tools b k) (terms_of h))
+    (leads : LeadsTo carriers drawn T) where
   -- From keys that lead to no drawn one none comes out.
 
   abbrev out : Bytes → Bool
   out k = not (T k)
 
-  out_closed : (base key : Bytes) → out base ≡ true → list_any (carries tools base key) (terms_of h) ≡ true → out key ≡ true
+  out_closed : (base key : Bytes) → out base ≡ true → list_any (carries tools base key) (terms_of h) ≡ true → out key
+      ≡ true
   out_closed base key outside there =
       elim (decided (T key)) [
-        | inl inside ↦ absurd (not_both (T base) (leads.bases key base inside (carried_is key base ∙ there)) (was_off (T base) outside))
+        | inl inside ↦ absurd
+            (not_both (T base) (leads.bases key base inside (carried_is key base ∙ there)) (was_off (T base) outside))
         | inr it ↦ not_on (T key) it
       ]
 
-  stays_out : (from : List Bytes) → ((k : Bytes) → holds from k ≡ true → T k ≡ false) → (k : Bytes) → holds (exposed tools h from) k ≡ true → T k ≡ false
+  stays_out : (from : List Bytes) → ((k : Bytes) → holds from k ≡ true → T k ≡ false) → (k : Bytes)
+      → holds (exposed tools h from) k ≡ true → T k ≡ false
   stays_out from none k there =
-      was_off (T k) (least tools h from out (λ q start. not_on (T q) (none q start)) (closed_from tools out (terms_of h) out_closed) k there)
+      was_off (T k)
+      (least tools h from out (λ q start. not_on (T q) (none q start))
+      (closed_from tools out (terms_of h) out_closed) k there)
 
-  pub kept_out : (from : List Bytes) → ((k : Bytes) → holds from k ≡ true → T k ≡ false) → list_any (holds (exposed tools h from)) drawn ≡ false
-  kept_out from none = none_any (holds (exposed tools h from)) drawn (λ q there. by q there (decided (holds (exposed tools h from) q)))
+  pub kept_out : (from : List Bytes) → ((k : Bytes) → holds from k ≡ true → T k ≡ false)
+      → list_any (holds (exposed tools h from)) drawn ≡ false
+  kept_out from none = none_any (holds (exposed tools h from)) drawn
+      (λ q there. by q there (decided (holds (exposed tools h from) q)))
     where
-      by : (q : Bytes) → holds drawn q ≡ true → (holds (exposed tools h from) q ≡ true) ⊎ (holds (exposed tools h from) q ≡ false) → holds (exposed tools h from) q ≡ false
+      by : (q : Bytes) → holds drawn q ≡ true → (holds (exposed tools h from) q ≡ true)
+          ⊎ (holds (exposed tools h from) q ≡ false) → holds (exposed tools h from) q ≡ false
       by q there (inl it) = absurd (not_both (T q) (leads.has q there) (stays_out from none q it))
       by q there (inr it) = it
 
@@ -127,21 +147,28 @@ module _ (tools : Tools) (h : List Line) (carriers : Holdings Key) (drawn : List
   abbrev shows : Bytes → Bool
   shows q = list_any (holds (exposed tools h (q ∷ []))) drawn
 
-  within : (q : Bytes) (from : List Bytes) → holds (exposed tools h from) q ≡ true → (k : Bytes) → holds (exposed tools h (q ∷ [])) k ≡ true → holds (exposed tools h from) k ≡ true
+  within : (q : Bytes) (from : List Bytes) → holds (exposed tools h from) q ≡ true → (k : Bytes)
+      → holds (exposed tools h (q ∷ [])) k ≡ true → holds (exposed tools h from) k ≡ true
   within q from there k it =
-      least tools h (q ∷ []) (holds (exposed tools h from)) (λ x start. ap (holds (exposed tools h from)) (same_bytes x q (none_left _ start)) ∙ there) (closed tools h from) k it
+      least tools h (q ∷ []) (holds (exposed tools h from))
+      (λ x start. ap (holds (exposed tools h from)) (same_bytes x q (none_left _ start)) ∙ there)
+      (closed tools h from) k it
 
   shows_base : (k b : Bytes) → shows k ≡ true → is_carried carriers k b ≡ true → shows b ≡ true
   shows_base k b shown carried_so =
       any_within (holds (exposed tools h (k ∷ []))) (holds (exposed tools h (b ∷ []))) drawn
       (within k (b ∷ [])
-      (closed_any tools (holds (exposed tools h (b ∷ []))) b k (terms_of h) (closed tools h (b ∷ [])) (covers tools h (b ∷ []) b (or_left _ _ (itself b)))
+      (closed_any tools (holds (exposed tools h (b ∷ []))) b k (terms_of h) (closed tools h (b ∷ []))
+      (covers tools h (b ∷ []) b (or_left _ _ (itself b)))
       (sym (carried_is k b) ∙ carried_so))) shown
 
   shows_drawn : (q : Bytes) → holds drawn q ≡ true → shows q ≡ true
-  shows_drawn q there = any_at (holds (exposed tools h (q ∷ []))) q drawn there (covers tools h (q ∷ []) q (or_left _ _ (itself q)))
+  shows_drawn q there = any_at (holds (exposed tools h (q ∷ []))) q drawn there
+      (covers tools h (q ∷ []) q (or_left _ _ (itself q)))
 
-  pub let_in : (from : List Bytes) (k : Bytes) → holds from k ≡ true → T k ≡ true → list_any (holds (exposed tools h from)) drawn ≡ true
+  pub let_in : (from : List Bytes) (k : Bytes) → holds from k ≡ true → T k ≡ true
+      → list_any (holds (exposed tools h from)) drawn ≡ true
   let_in from k there leads_there =
-      any_within (holds (exposed tools h (k ∷ []))) (holds (exposed tools h from)) drawn (within k from (covers tools h from k there))
+      any_within (holds (exposed tools h (k ∷ []))) (holds (exposed tools h from)) drawn
+      (within k from (covers tools h from k there))
       (leads.least shows shows_drawn shows_base k leads_there)

@@ -24,7 +24,8 @@ use Rattle.zb_trace_watch.proofs.Alike.{list_any_alike}
 use Rattle.zb_trace_watch.proofs.Truth.{either, itself, itself_number, or_left, or_right, same_bytes, same_number, same_truth}
 
 -- What removed devices ever held is among what outsiders may hold.
-outside_has : (f : ℕ → List Bytes) (d : ℕ) (k : Bytes) (ds : List ℕ) → list_any (nat_eq d) ds ≡ true → holds (f d) k ≡ true → holds (flat_map f ds) k ≡ true
+outside_has : (f : ℕ → List Bytes) (d : ℕ) (k : Bytes) (ds : List ℕ) → list_any (nat_eq d) ds ≡ true → holds (f d) k
+    ≡ true → holds (flat_map f ds) k ≡ true
 outside_has f d k [] gone did = cc
 outside_has f d k (x ∷ ds) gone did =
     list_any-append (bytes_eq k) (f x) (flat_map f ds)
@@ -33,10 +34,13 @@ outside_has f d k (x ∷ ds) gone did =
       | inr there ↦ or_right _ _ (outside_has f d k ds there did)
     ]
 
-from_outside : (f : ℕ → List Bytes) (S : Bytes → Bool) (k : Bytes) (ds : List ℕ) → ((d : ℕ) → list_any (nat_eq d) ds ≡ true → holds (f d) k ≡ true → S k ≡ true) → holds (flat_map f ds) k ≡ true → S k ≡ true
+from_outside : (f : ℕ → List Bytes) (S : Bytes → Bool) (k : Bytes) (ds : List ℕ)
+    → ((d : ℕ) → list_any (nat_eq d) ds ≡ true → holds (f d) k ≡ true → S k ≡ true) → holds (flat_map f ds) k ≡ true
+    → S k ≡ true
 from_outside f S k [] covered there = cc
 from_outside f S k (d ∷ ds) covered there =
-    elim (either (holds (f d) k) (holds (flat_map f ds) k) (sym (list_any-append (bytes_eq k) (f d) (flat_map f ds)) ∙ there)) [
+    elim (either (holds (f d) k) (holds (flat_map f ds) k)
+    (sym (list_any-append (bytes_eq k) (f d) (flat_map f ds)) ∙ there)) [
       | inl here ↦ covered d (or_left _ _ (itself_number d)) here
       | inr later ↦ from_outside f S k ds (λ e gone did. covered e (or_right _ _ gone) did) later
     ]
@@ -51,27 +55,35 @@ module _ (tools : Tools) (e : Exposure) (h : List Line)
   covers_exposed = record {
     everybody = covers tools h (outside h) well_known refl;
     removed = λ d k gone did.
-        covers tools h (outside h) k (or_right _ _ (outside_has (ever h) d k (removed_devices h) (sym (removed_is d) ∙ gone) (sym (ever_is d k) ∙ did)));
-    carried = λ base key known there. closed_any tools (holds (exposed tools h (outside h))) base key (terms_of h) (closed tools h (outside h)) known (sym (carried_is base key) ∙ there);
+        covers tools h (outside h) k
+        (or_right _ _
+        (outside_has (ever h) d k (removed_devices h) (sym (removed_is d) ∙ gone) (sym (ever_is d k) ∙ did)));
+    carried = λ base key known there. closed_any tools (holds (exposed tools h (outside h))) base key (terms_of h)
+        (closed tools h (outside h)) known (sym (carried_is base key) ∙ there);
   }
 
-  exposed_within : (S : Bytes → Bool) → Covers e S → (k : Bytes) → holds (exposed tools h (outside h)) k ≡ true → S k ≡ true
+  exposed_within : (S : Bytes → Bool) → Covers e S → (k : Bytes) → holds (exposed tools h (outside h)) k ≡ true → S k
+      ≡ true
   unfolding outside
   exposed_within S covered k there =
       least tools h (outside h) S
       (λ q out.
       elim (either (bytes_eq q well_known) (holds (flat_map (ever h) (removed_devices h)) q) out) [
         | inl is ↦ ap S (same_bytes q well_known is) ∙ covered.everybody
-        | inr from ↦ from_outside (ever h) S q (removed_devices h) (λ d was did. covered.removed d q (removed_is d ∙ was) (ever_is d q ∙ did)) from
+        | inr from ↦ from_outside (ever h) S q (removed_devices h)
+            (λ d was did. covered.removed d q (removed_is d ∙ was) (ever_is d q ∙ did)) from
       ])
-      (closed_from tools S (terms_of h) (λ base key known carry. covered.carried base key known (carried_is base key ∙ carry))) k there
+      (closed_from tools S (terms_of h)
+      (λ base key known carry. covered.carried base key known (carried_is base key ∙ carry))) k there
 
   known_is : IsSettled e → (k : Bytes) → has e.known k ≡ holds (exposed tools h (outside h)) k
-  known_is settled k = same_truth _ _ (settled.least (holds (exposed tools h (outside h))) covers_exposed k) (exposed_within (has e.known) settled.covers k)
+  known_is settled k = same_truth _ _ (settled.least (holds (exposed tools h (outside h))) covers_exposed k)
+      (exposed_within (has e.known) settled.covers k)
 
 -- Two lists with the same keys: some key of one passes a test where some key of the other does.
 
-pub among_passes : (P : Bytes → Bool) (k : Bytes) (keys : List Key) → is_among keys k ≡ true → P k ≡ true → list_any (λ (key : Key). P key.0) keys ≡ true
+pub among_passes : (P : Bytes → Bool) (k : Bytes) (keys : List Key) → is_among keys k ≡ true → P k ≡ true
+    → list_any (λ (key : Key). P key.0) keys ≡ true
 among_passes P k [] there h = cc
 among_passes P k (key ∷ keys) there h =
     elim (either (bytes_eq k key.0) (is_among keys k) there) [
@@ -79,7 +91,9 @@ among_passes P k (key ∷ keys) there h =
       | inr later ↦ or_right _ _ (among_passes P k keys later h)
     ]
 
-some_held : (P : Bytes → Bool) (keys : List Key) (bs : List Bytes) → ((k : Bytes) → is_among keys k ≡ true → holds bs k ≡ true) → list_any (λ (key : Key). P key.0) keys ≡ true → list_any P bs ≡ true
+some_held : (P : Bytes → Bool) (keys : List Key) (bs : List Bytes)
+    → ((k : Bytes) → is_among keys k ≡ true → holds bs k ≡ true) → list_any (λ (key : Key). P key.0) keys ≡ true
+    → list_any P bs ≡ true
 some_held P [] bs within some = cc
 some_held P (key ∷ keys) bs within some =
     elim (either (P key.0) (list_any (λ (x : Key). P x.0) keys) some) [
@@ -87,7 +101,9 @@ some_held P (key ∷ keys) bs within some =
       | inr later ↦ some_held P keys bs (λ k there. within k (or_right _ _ there)) later
     ]
 
-some_among : (P : Bytes → Bool) (keys : List Key) (bs : List Bytes) → ((k : Bytes) → holds bs k ≡ true → is_among keys k ≡ true) → list_any P bs ≡ true → list_any (λ (key : Key). P key.0) keys ≡ true
+some_among : (P : Bytes → Bool) (keys : List Key) (bs : List Bytes)
+    → ((k : Bytes) → holds bs k ≡ true → is_among keys k ≡ true) → list_any P bs ≡ true
+    → list_any (λ (key : Key). P key.0) keys ≡ true
 some_among P keys [] within some = cc
 some_among P keys (b ∷ bs) within some =
     elim (either (P b) (list_any P bs) some) [
@@ -95,13 +111,17 @@ some_among P keys (b ∷ bs) within some =
       | inr later ↦ some_among P keys bs (λ k there. within k (or_right _ _ there)) later
     ]
 
-pub knows_is : (tools : Tools) (names : List Bytes) (b : Before) (h : List Line) (name : Bytes) (place : ℕ) → Recalls tools names b [] h → place_in names name ≡ Some place → knows b place ≡ holds_known tools h name
+pub knows_is : (tools : Tools) (names : List Bytes) (b : Before) (h : List Line) (name : Bytes) (place : ℕ)
+    → Recalls tools names b [] h → place_in names name ≡ Some place → knows b place ≡ holds_known tools h name
 unfolding holds_known
 knows_is tools names b h name place r at =
-    list_any_alike (λ (key : Key). is_among (keys_at nat_cmp b.live place) key.0) (λ (key : Key). is_live h name key.0) (λ (key : Key). r.live name place at key.0) b.exposure.known.keys.keys
+    list_any_alike (λ (key : Key). is_among (keys_at nat_cmp b.live place) key.0)
+    (λ (key : Key). is_live h name key.0) (λ (key : Key). r.live name place at key.0) b.exposure.known.keys.keys
     ∙ same_truth _ _
-    (some_held (is_live h name) b.exposure.known.keys.keys (exposed tools h (outside h)) (λ k there. sym (known k) ∙ there))
+    (some_held (is_live h name) b.exposure.known.keys.keys (exposed tools h (outside h))
+    (λ k there. sym (known k) ∙ there))
     (some_among (is_live h name) b.exposure.known.keys.keys (exposed tools h (outside h)) (λ k there. known k ∙ there))
   where
     known : (k : Bytes) → has b.exposure.known k ≡ holds (exposed tools h (outside h)) k
-    known = known_is tools b.exposure h (λ base key. sym (or_none _) ∙ r.carried base key) (λ d key. sym (or_none _) ∙ r.ever d key) (λ d. sym (or_none _) ∙ r.removed d) r.settled
+    known = known_is tools b.exposure h (λ base key. sym (or_none _) ∙ r.carried base key)
+        (λ d key. sym (or_none _) ∙ r.ever d key) (λ d. sym (or_none _) ∙ r.removed d) r.settled

@@ -49,43 +49,78 @@ record IsHolding (l : Line) : Type 1 where
   pub undrawn : drawn_in l ≡ []
   pub no_removal : (Q : Claim) (h : List Line) → EachAt Q h l []
 
-holding_judges : (old new : Lockout) (number : ℕ) (l : Line) (who : Who) (stays : Bool) (more : ℕ → Bytes → Bool) → IsHolding l → new.past ≡ old.past → Holds old.reach new.reach more
+holding_judges : (old new : Lockout) (number : ℕ) (l : Line) (who : Who) (stays : Bool) (more : ℕ → Bytes → Bool)
+    → IsHolding l → new.past ≡ old.past → Holds old.reach new.reach more
     → Tells old.reach new.reach stays → new.evidence ≡ old.evidence
-    → ((names : List Bytes) (known : List Station) → IsSpeaker who names known l → (d : ℕ) (k : Bytes) → more d k ≡ holds (held_by d known l) k) → Judges old new number l who stays
+    → ((names : List Bytes) (known : List Station) → IsSpeaker who names known l → (d : ℕ) (k : Bytes) → more d k
+    ≡ holds (held_by d known l) k) → Judges old new number l who stays
 holding_judges old new number l who stays more is past hold tells evidence more_is = record {
   past = past;
   judged = λ tools names h find number_is speaks ready.
-      held_judged tools names old new h l stays more ready hold tells evidence is.plain is.unsealed is.undrawn (λ Q. is.no_removal Q h) (more_is names (declared_in h) speaks);
+      held_judged tools names old new h l stays more ready hold tells evidence is.plain is.unsealed is.undrawn
+      (λ Q. is.no_removal Q h) (more_is names (declared_in h) speaks);
 }
 
-module _ (old new : Lockout) (number : ℕ) (who : Who) (stays : Bool) (first second : Option Eui) (key : Key) (past : new.past ≡ old.past)
-    (hold : Holds old.reach new.reach (both_hold first second key)) (tells : Tells old.reach new.reach stays) (evidence : new.evidence ≡ old.evidence) where
-  own_alone : (known : List Station) (name : Bytes) → first ≡ eui_of_node who.node → second ≡ None → ((d : ℕ) → is_node (eui_of_node who.node) d ≡ is_of known d name) → (d : ℕ) (k : Bytes)
+module _ (old new : Lockout) (number : ℕ) (who : Who) (stays : Bool) (first second : Option Eui) (key : Key)
+    (past : new.past ≡ old.past)
+    (hold : Holds old.reach new.reach (both_hold first second key)) (tells : Tells old.reach new.reach stays)
+    (evidence : new.evidence ≡ old.evidence) where
+  own_alone : (known : List Station) (name : Bytes) → first ≡ eui_of_node who.node → second ≡ None
+      → ((d : ℕ) → is_node (eui_of_node who.node) d ≡ is_of known d name) → (d : ℕ) (k : Bytes)
       → both_hold first second key d k ≡ holds (if is_of known d name then key.0 ∷ [] else []) k
   own_alone known name own none is d k =
       ap (λ (o : Option Eui). both_hold first o key d k) none
-      ∙ (or_none _ ∙ (ap (λ (o : Option Eui). is_node o d && bytes_eq k key.0) own ∙ (ap (λ (b : Bool). b && bytes_eq k key.0) (is d) ∙ sym (holds_where (is_of known d name) key.0 k))))
+      ∙ (or_none _ ∙
+      (ap (λ (o : Option Eui). is_node o d && bytes_eq k key.0) own ∙
+      (ap (λ (b : Bool). b && bytes_eq k key.0) (is d) ∙ sym (holds_where (is_of known d name) key.0 k))))
 
-  pub given_net_judges : (node : ArrayString) (sequence : ℕ) → first ≡ eui_of_node who.node → second ≡ None → Judges old new number (line.GivenNet node key sequence) who stays
+  pub given_net_judges : (node : ArrayString) (sequence : ℕ) → first ≡ eui_of_node who.node → second ≡ None
+      → Judges old new number (line.GivenNet node key sequence) who stays
   unfolding refuses_line naming.speaker
   given_net_judges node sequence own none =
       holding_judges old new number (line.GivenNet node key sequence) who stays (both_hold first second key)
-      (record { plain = record { admits = λ d. refl; refused = λ ts d a b. refl }; unsealed = record { terms = refl; forged = refl; sealed = λ d known. refl }; undrawn = refl; no_removal = λ Q h. tt })
-      past hold tells evidence (λ names known speaks. own_alone known node.bytes own none (λ d. own_is known who.node node.bytes d speaks.eui))
+      (record {
+        plain = record { admits = λ d. refl; refused = λ ts d a b. refl };
+        unsealed = record { terms = refl; forged = refl; sealed = λ d known. refl };
+        undrawn = refl;
+        no_removal =
+            λ Q h. tt;
+      })
+      past hold tells evidence
+      (λ names known speaks. own_alone known node.bytes own none
+      (λ d. own_is known who.node node.bytes d speaks.eui))
 
-  pub given_link_judges : (node : ArrayString) (partner : Eui) → first ≡ eui_of_node who.node → second ≡ None → Judges old new number (line.GivenLink node partner key) who stays
+  pub given_link_judges : (node : ArrayString) (partner : Eui) → first ≡ eui_of_node who.node → second ≡ None
+      → Judges old new number (line.GivenLink node partner key) who stays
   unfolding refuses_line naming.speaker
   given_link_judges node partner own none =
       holding_judges old new number (line.GivenLink node partner key) who stays (both_hold first second key)
-      (record { plain = record { admits = λ d. refl; refused = λ ts d a b. refl }; unsealed = record { terms = refl; forged = refl; sealed = λ d known. refl }; undrawn = refl; no_removal = λ Q h. tt })
-      past hold tells evidence (λ names known speaks. own_alone known node.bytes own none (λ d. own_is known who.node node.bytes d speaks.eui))
+      (record {
+        plain = record { admits = λ d. refl; refused = λ ts d a b. refl };
+        unsealed = record { terms = refl; forged = refl; sealed = λ d known. refl };
+        undrawn = refl;
+        no_removal =
+            λ Q h. tt;
+      })
+      past hold tells evidence
+      (λ names known speaks. own_alone known node.bytes own none
+      (λ d. own_is known who.node node.bytes d speaks.eui))
 
-  pub install_judges : (event : ℕ) (node : ArrayString) (sequence : ℕ) → first ≡ eui_of_node who.node → second ≡ None → Judges old new number (line.Install event node key sequence) who stays
+  pub install_judges : (event : ℕ) (node : ArrayString) (sequence : ℕ) → first ≡ eui_of_node who.node → second ≡ None
+      → Judges old new number (line.Install event node key sequence) who stays
   unfolding refuses_line naming.speaker
   install_judges event node sequence own none =
       holding_judges old new number (line.Install event node key sequence) who stays (both_hold first second key)
-      (record { plain = record { admits = λ d. refl; refused = λ ts d a b. refl }; unsealed = record { terms = refl; forged = refl; sealed = λ d known. refl }; undrawn = refl; no_removal = λ Q h. tt })
-      past hold tells evidence (λ names known speaks. own_alone known node.bytes own none (λ d. own_is known who.node node.bytes d speaks.eui))
+      (record {
+        plain = record { admits = λ d. refl; refused = λ ts d a b. refl };
+        unsealed = record { terms = refl; forged = refl; sealed = λ d known. refl };
+        undrawn = refl;
+        no_removal =
+            λ Q h. tt;
+      })
+      past hold tells evidence
+      (λ names known speaks. own_alone known node.bytes own none
+      (λ d. own_is known who.node node.bytes d speaks.eui))
 
   turned_or : (a b : Bool) → (a || b) ≡ (b || a)
   turned_or true true = refl
@@ -93,27 +128,46 @@ module _ (old new : Lockout) (number : ℕ) (who : Who) (stays : Bool) (first se
   turned_or false true = refl
   turned_or false false = refl
 
-  pub row_judges : (event : ℕ) (node : ArrayString) (partner : Eui) (attribute : Attribute) → first ≡ eui_of_node who.node → second ≡ partner_of who.is_centre partner
+  pub row_judges : (event : ℕ) (node : ArrayString) (partner : Eui) (attribute : Attribute) → first
+      ≡ eui_of_node who.node → second ≡ partner_of who.is_centre partner
       → Judges old new number (line.Row event node partner key attribute) who stays
   unfolding refuses_line naming.speaker
   row_judges event node partner attribute own other =
       holding_judges old new number (line.Row event node partner key attribute) who stays (both_hold first second key)
-      (record { plain = record { admits = λ d. refl; refused = λ ts d a b. refl }; unsealed = record { terms = refl; forged = refl; sealed = λ d known. refl }; undrawn = refl; no_removal = λ Q h. tt })
+      (record {
+        plain = record { admits = λ d. refl; refused = λ ts d a b. refl };
+        unsealed = record { terms = refl; forged = refl; sealed = λ d known. refl };
+        undrawn = refl;
+        no_removal =
+            λ Q h. tt;
+      })
       past hold tells evidence
       (λ names known speaks d k.
       ap (λ (o : Option Eui). both_hold o second key d k) own
       ∙ (ap (λ (o : Option Eui). both_hold (eui_of_node who.node) o key d k) other
-      ∙ (ap (λ (b : Bool). (b && bytes_eq k key.0) || (is_node (partner_of who.is_centre partner) d && bytes_eq k key.0)) (own_is known who.node node.bytes d speaks.eui)
-      ∙ (ap (λ (b : Bool). (is_of known d node.bytes && bytes_eq k key.0) || (b && bytes_eq k key.0)) (centre_is known who.is_centre node.bytes partner d speaks.centre)
+      ∙ (ap (λ (b : Bool). (b && bytes_eq k key.0)
+      || (is_node (partner_of who.is_centre partner) d && bytes_eq k key.0))
+      (own_is known who.node node.bytes d speaks.eui)
+      ∙ (ap (λ (b : Bool). (is_of known d node.bytes && bytes_eq k key.0) || (b && bytes_eq k key.0))
+      (centre_is known who.is_centre node.bytes partner d speaks.centre)
       ∙ (split_or (is_of known d node.bytes) (is_centres known node.bytes && nat_eq partner.0 d) (bytes_eq k key.0)
-      ∙ (ap (λ (b : Bool). b && bytes_eq k key.0) (turned_or (is_centres known node.bytes && nat_eq partner.0 d) (is_of known d node.bytes))
-      ∙ sym (holds_where (is_of known d node.bytes || (is_centres known node.bytes && nat_eq partner.0 d)) key.0 k)))))))
+      ∙ (ap (λ (b : Bool). b && bytes_eq k key.0)
+      (turned_or (is_centres known node.bytes && nat_eq partner.0 d) (is_of known d node.bytes))
+      ∙ sym (holds_where (is_of known d node.bytes || (is_centres known node.bytes && nat_eq partner.0 d)) key.0
+      k)))))))
 
-  pub pair_judges : (event : ℕ) (node : ArrayString) (one two : Eui) → first ≡ Some one → second ≡ Some two → Judges old new number (line.Pair event node one two key) who stays
+  pub pair_judges : (event : ℕ) (node : ArrayString) (one two : Eui) → first ≡ Some one → second ≡ Some two
+      → Judges old new number (line.Pair event node one two key) who stays
   unfolding refuses_line
   pair_judges event node one two is_one is_two =
       holding_judges old new number (line.Pair event node one two key) who stays (both_hold first second key)
-      (record { plain = record { admits = λ d. refl; refused = λ ts d a b. refl }; unsealed = record { terms = refl; forged = refl; sealed = λ d known. refl }; undrawn = refl; no_removal = λ Q h. tt })
+      (record {
+        plain = record { admits = λ d. refl; refused = λ ts d a b. refl };
+        unsealed = record { terms = refl; forged = refl; sealed = λ d known. refl };
+        undrawn = refl;
+        no_removal =
+            λ Q h. tt;
+      })
       past hold tells evidence
       (λ names known speaks d k.
       ap (λ (o : Option Eui). both_hold o second key d k) is_one
@@ -121,65 +175,82 @@ module _ (old new : Lockout) (number : ℕ) (who : Who) (stays : Bool) (first se
       ∙ (ap (λ (b : Bool). (b && bytes_eq k key.0) || (nat_eq d two.0 && bytes_eq k key.0)) (turned_number d one.0)
       ∙ (ap (λ (b : Bool). (nat_eq one.0 d && bytes_eq k key.0) || (b && bytes_eq k key.0)) (turned_number d two.0)
       ∙ (split_or (nat_eq one.0 d) (nat_eq two.0 d) (bytes_eq k key.0)
-      ∙ (ap (λ (b : Bool). b && bytes_eq k key.0) (turned_or (nat_eq two.0 d) (nat_eq one.0 d)) ∙ sym (holds_where (nat_eq one.0 d || nat_eq two.0 d) key.0 k)))))))
+      ∙ (ap (λ (b : Bool). b && bytes_eq k key.0) (turned_or (nat_eq two.0 d) (nat_eq one.0 d)) ∙ sym
+      (holds_where (nat_eq one.0 d || nat_eq two.0 d) key.0 k)))))))
 
 -- The other lines
 
-pub draw_judges : (old new : Lockout) (number event : ℕ) (key : Key) (who : Who) (stays : Bool) → new.past ≡ old.past → RaisesOne old.reach new.reach key old.reach.windows.last → Tells old.reach new.reach stays
+pub draw_judges : (old new : Lockout) (number event : ℕ) (key : Key) (who : Who) (stays : Bool) → new.past ≡ old.past
+    → RaisesOne old.reach new.reach key old.reach.windows.last → Tells old.reach new.reach stays
     → new.evidence ≡ old.evidence → Judges old new number (line.Draw event key) who stays
 draw_judges old new number event key who stays past one tells evidence = record {
   past = past;
-  judged = λ tools names h find number_is speaks ready. drawn_judged tools names old new h event key stays ready one tells evidence;
+  judged = λ tools names h find number_is speaks ready. drawn_judged tools names old new h event key stays ready one
+      tells evidence;
 }
 
-pub remove_judges : (old new : Lockout) (number event : ℕ) (device : Eui) (who : Who) (stays : Bool) → stays ≡ true → new.past ≡ old.past → Removes old.reach new.reach device.0 number → new.evidence ≡ old.evidence
+pub remove_judges : (old new : Lockout) (number event : ℕ) (device : Eui) (who : Who) (stays : Bool) → stays ≡ true
+    → new.past ≡ old.past → Removes old.reach new.reach device.0 number → new.evidence ≡ old.evidence
     → Judges old new number (line.Removed event device) who stays
 remove_judges old new number event device who stays stay past removes evidence = record {
   past = past;
   judged = λ tools names h find number_is speaks ready.
-      subst (λ (b : Bool). IsJudged tools new h (line.Removed event device) b) (sym stay) (gone_judged tools names old new h event device number ready removes number_is evidence);
+      subst (λ (b : Bool). IsJudged tools new h (line.Removed event device) b) (sym stay)
+      (gone_judged tools names old new h event device number ready removes number_is evidence);
 }
 
-pub admit_judges : (old new : Lockout) (number event : ℕ) (device : Eui) (who : Who) (stays : Bool) → stays ≡ true → new.past ≡ old.past → Admits old.reach new.reach device.0 → new.evidence ≡ old.evidence
+pub admit_judges : (old new : Lockout) (number event : ℕ) (device : Eui) (who : Who) (stays : Bool) → stays ≡ true
+    → new.past ≡ old.past → Admits old.reach new.reach device.0 → new.evidence ≡ old.evidence
     → Judges old new number (line.Live event device) who stays
 admit_judges old new number event device who stays stay past admitted evidence = record {
   past = past;
   judged = λ tools names h find number_is speaks ready.
-      subst (λ (b : Bool). IsJudged tools new h (line.Live event device) b) (sym stay) (live_judged tools names old new h event device ready admitted evidence);
+      subst (λ (b : Bool). IsJudged tools new h (line.Live event device) b) (sym stay)
+      (live_judged tools names old new h event device ready admitted evidence);
 }
 
-pub seal_judges : (old new : Lockout) (number event : ℕ) (node : ArrayString) (t : program.Term) (who : Who) (stays : Bool) → new.past ≡ old.past → CarriesSome old.reach new.reach t.base (carried t)
-    → Tells old.reach new.reach stays → Seals old.reach old.evidence new.evidence (eui_of_node who.node) t → Judges old new number (line.Seal event node t) who stays
+pub seal_judges : (old new : Lockout) (number event : ℕ) (node : ArrayString) (t : program.Term) (who : Who)
+    (stays : Bool) → new.past ≡ old.past → CarriesSome old.reach new.reach t.base (carried t)
+    → Tells old.reach new.reach stays → Seals old.reach old.evidence new.evidence (eui_of_node who.node) t
+    → Judges old new number (line.Seal event node t) who stays
 unfolding refuses_line
 seal_judges old new number event node t who stays past carries tells seals = record {
   past = past;
   judged = λ tools names h find number_is speaks ready.
       term_judged tools names old new h (line.Seal event node t) t stays find ready refl tells
-      (seal_evidence tools names old.reach old.evidence new.evidence h event node t who ready.reach ready.evidence speaks seals) (record { admits = λ d. refl; refused = λ ts d a b. refl }) (λ Q. tt) refl (λ d known. refl)
+      (seal_evidence tools names old.reach old.evidence new.evidence h event node t who ready.reach ready.evidence
+      speaks seals) (record { admits = λ d. refl; refused = λ ts d a b. refl }) (λ Q. tt) refl (λ d known. refl)
       (carried t) refl carries;
 }
 
-pub forge_judges : (old new : Lockout) (number event : ℕ) (t : program.Term) (who : Who) (stays : Bool) → new.past ≡ old.past → CarriesSome old.reach new.reach t.base (carried t)
-    → Tells old.reach new.reach stays → Forges old.evidence new.evidence t → Judges old new number (line.Forge event t) who stays
+pub forge_judges : (old new : Lockout) (number event : ℕ) (t : program.Term) (who : Who) (stays : Bool) → new.past
+    ≡ old.past → CarriesSome old.reach new.reach t.base (carried t)
+    → Tells old.reach new.reach stays → Forges old.evidence new.evidence t
+    → Judges old new number (line.Forge event t) who stays
 unfolding refuses_line
 forge_judges old new number event t who stays past carries tells forges = record {
   past = past;
   judged = λ tools names h find number_is speaks ready.
       term_judged tools names old new h (line.Forge event t) t stays find ready refl tells
-      (forge_evidence tools old.reach old.evidence new.evidence h event t ready.reach ready.evidence forges) (record { admits = λ d. refl; refused = λ ts d a b. refl }) (λ Q. tt) refl (λ d known. refl)
+      (forge_evidence tools old.reach old.evidence new.evidence h event t ready.reach ready.evidence forges)
+      (record { admits = λ d. refl; refused = λ ts d a b. refl }) (λ Q. tt) refl (λ d known. refl)
       (carried t) refl carries;
 }
 
-pub accept_judges : (old new : Lockout) (number event : ℕ) (node : ArrayString) (t : program.Term) (who : Who) (stays : Bool) → stays ≡ accepts old who.place t
-    → new.past ≡ old.past → new.reach ≡ old.reach → Forgets old.reach.windows old.evidence new.evidence → Judges old new number (line.Accept event node t) who stays
+pub accept_judges : (old new : Lockout) (number event : ℕ) (node : ArrayString) (t : program.Term) (who : Who)
+    (stays : Bool) → stays ≡ accepts old who.place t
+    → new.past ≡ old.past → new.reach ≡ old.reach → Forgets old.reach.windows old.evidence new.evidence
+    → Judges old new number (line.Accept event node t) who stays
 unfolding naming.speaker
 accept_judges old new number event node t who stays is past reach forgets = record {
   past = past;
   judged = λ tools names h find number_is speaks ready.
       let it : IsJudged tools old h (line.Accept event node t) stays =
-      subst (λ (b : Bool). IsJudged tools old h (line.Accept event node t) b) (sym is) (accept_judged tools names old h event node t who ready speaks.place) in record {
+      subst (λ (b : Bool). IsJudged tools old h (line.Accept event node t) b) (sym is)
+      (accept_judged tools names old h event node t who ready speaks.place) in record {
         reach = subst (λ (r : Reach). IsReach tools r (h ++ line.Accept event node t ∷ [])) (sym reach) it.reach;
-        evidence = evidence_kept tools old.reach old.evidence new.evidence (h ++ line.Accept event node t ∷ []) it.reach it.evidence forgets;
+        evidence = evidence_kept tools old.reach old.evidence new.evidence (h ++ line.Accept event node t ∷ [])
+            it.reach it.evidence forgets;
         safe = λ stay. subst IsSafe (sym reach) (it.safe stay);
         holds = it.holds;
         fails = it.fails;
@@ -228,9 +299,13 @@ quiet_line _ a b c d e f g h i j k = record {
 
 -- From line to line
 
-module _ (tools : Tools) (names : List Bytes) (old mid new : Lockout) (h : List Line) (l : Line) (number : ℕ) (who : Who) (stays : Bool) (find : FindKeys tools) (number_is : number ≡ length h + 1)
-    (speaks : IsSpeaker who names (declared_in h) l) (reach : mid.reach ≡ old.reach) (evidence : mid.evidence ≡ old.evidence) (past : IsPast tools names mid.past (h ++ l ∷ [])) (judges : Judges mid new number l who stays) where
-  pub held_on : IsHeld tools names old h → (locked tools (h ++ l ∷ []) ≡ stays) × (stays ≡ true → IsHeld tools names new (h ++ l ∷ []))
+module _ (tools : Tools) (names : List Bytes) (old mid new : Lockout) (h : List Line) (l : Line) (number : ℕ)
+    (who : Who) (stays : Bool) (find : FindKeys tools) (number_is : number ≡ length h + 1)
+    (speaks : IsSpeaker who names (declared_in h) l) (reach : mid.reach ≡ old.reach)
+    (evidence : mid.evidence ≡ old.evidence) (past : IsPast tools names mid.past (h ++ l ∷ []))
+    (judges : Judges mid new number l who stays) where
+  pub held_on : IsHeld tools names old h → (locked tools (h ++ l ∷ []) ≡ stays)
+      × (stays ≡ true → IsHeld tools names new (h ++ l ∷ []))
   held_on held =
       let ready : IsReady tools names mid h l = record {
         past = past;
@@ -250,12 +325,20 @@ module _ (tools : Tools) (names : List Bytes) (old mid new : Lockout) (h : List 
         },
       )
 
-pub go_on_stands : (tools : Tools) (names : List Bytes) (old new last : Lockout) (h : List Line) (l : Line) (number : ℕ) (stays : Bool) → number ≡ length h + 1 → old.first ≡ None → Stands tools names old h
-    → (IsHeld tools names old h → (locked tools (h ++ l ∷ []) ≡ stays) × (stays ≡ true → IsHeld tools names new (h ++ l ∷ [])))
-    → last.past ≡ new.past → last.reach ≡ new.reach → last.evidence ≡ new.evidence → last.first ≡ (if stays then None else Some number) → Stands tools names last (h ++ l ∷ [])
+pub go_on_stands : (tools : Tools) (names : List Bytes) (old new last : Lockout) (h : List Line) (l : Line)
+    (number : ℕ) (stays : Bool) → number ≡ length h + 1 → old.first ≡ None → Stands tools names old h
+    → (IsHeld tools names old h → (locked tools (h ++ l ∷ []) ≡ stays)
+    × (stays ≡ true → IsHeld tools names new (h ++ l ∷ [])))
+    → last.past ≡ new.past → last.reach ≡ new.reach → last.evidence ≡ new.evidence → last.first
+    ≡ (if stays then None else Some number) → Stands tools names last (h ++ l ∷ [])
 go_on_stands tools names old new last h l number stays number_is none stands on past reach evidence first =
     let it = on (stands.held none) in record {
-      first = first ∙ (answered stays ∙ sym (first_more tools h l ∙ (ap (λ (o : Option ℕ). option_or o (if locked tools (h ++ l ∷ []) then None else Some (length h + 1))) (sym stands.first ∙ none) ∙ ap (λ (b : Bool). if b then None else Some (length h + 1)) it.0)));
+      first =
+          first ∙
+          (answered stays ∙ sym
+          (first_more tools h l ∙
+          (ap (λ (o : Option ℕ). option_or o (if locked tools (h ++ l ∷ []) then None else Some (length h + 1)))
+          (sym stands.first ∙ none) ∙ ap (λ (b : Bool). if b then None else Some (length h + 1)) it.0)));
       held = λ none_left. by stays none_left it.1 first;
     }
   where
@@ -266,7 +349,8 @@ go_on_stands tools names old new last h l number stays number_is none stands on 
     gone : ◌≡◌ {A = Option ℕ} None (Some number) → ⊥
     gone e = cc
 
-    by : (b : Bool) → last.first ≡ None → (b ≡ true → IsHeld tools names new (h ++ l ∷ [])) → last.first ≡ (if b then None else Some number) → IsHeld tools names last (h ++ l ∷ [])
+    by : (b : Bool) → last.first ≡ None → (b ≡ true → IsHeld tools names new (h ++ l ∷ [])) → last.first
+        ≡ (if b then None else Some number) → IsHeld tools names last (h ++ l ∷ [])
     by true none_left held first_is =
         let was = held refl in record {
           past = subst (λ (p : Past). IsPast tools names p (h ++ l ∷ [])) (sym past) was.past;
@@ -278,9 +362,14 @@ go_on_stands tools names old new last h l number stays number_is none stands on 
     by false none_left held first_is = absurd (gone (sym none_left ∙ first_is))
 
 -- once lockout failed
-pub failed_stands : (tools : Tools) (names : List Bytes) (s : Lockout) (h : List Line) (l : Line) (n : ℕ) → s.first ≡ Some n → Stands tools names s h → Stands tools names s (h ++ l ∷ [])
+pub failed_stands : (tools : Tools) (names : List Bytes) (s : Lockout) (h : List Line) (l : Line) (n : ℕ) → s.first
+    ≡ Some n → Stands tools names s h → Stands tools names s (h ++ l ∷ [])
 failed_stands tools names s h l n is stands = record {
-  first = is ∙ sym (first_more tools h l ∙ ap (λ (o : Option ℕ). option_or o (if locked tools (h ++ l ∷ []) then None else Some (length h + 1))) (sym stands.first ∙ is));
+  first =
+      is ∙ sym
+      (first_more tools h l ∙ ap
+      (λ (o : Option ℕ). option_or o (if locked tools (h ++ l ∷ []) then None else Some (length h + 1)))
+      (sym stands.first ∙ is));
   held = λ none. absurd (gone (sym none ∙ is));
 }
   where

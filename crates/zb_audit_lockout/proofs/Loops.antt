@@ -4,8 +4,11 @@ use Rattle.std.specs.List.{list_any}
 use Rattle.std.proofs.lemmas.List.{drop_more}
 use Rattle.zb_trace_watch.proofs.Truth.{or_left}
 
-pub any_here : {A : Type 0} (test : A → Bool) (xs : List A) (i : ℕ) (d : A) → i < length xs → test (get_or xs i d) ≡ true → list_any test (drop i xs) ≡ true
+pub any_here : {A : Type 0} (test : A → Bool) (xs : List A) (i : ℕ) (d : A) → i < length xs → test (get_or xs i d)
+    ≡ true → list_any test (drop i xs) ≡ true
 any_here test xs i d lt is = ap (list_any test) (drop_more xs i d lt) ∙ or_left _ _ is
 
-pub any_next : {A : Type 0} (test : A → Bool) (xs : List A) (i : ℕ) (d : A) → i < length xs → test (get_or xs i d) ≡ false → list_any test (drop (i + 1) xs) ≡ list_any test (drop i xs)
-any_next {A} test xs i d lt is = sym (ap (list_any test) (drop_more xs i d lt) ∙ ap (λ (b : Bool). b || list_any test (drop (i + 1) xs)) is)
+pub any_next : {A : Type 0} (test : A → Bool) (xs : List A) (i : ℕ) (d : A) → i < length xs → test (get_or xs i d)
+    ≡ false → list_any test (drop (i + 1) xs) ≡ list_any test (drop i xs)
+any_next {A} test xs i d lt is =
+    sym (ap (list_any test) (drop_more xs i d lt) ∙ ap (λ (b : Bool). b || list_any test (drop (i + 1) xs)) is)

@@ -15,20 +15,25 @@ use Rattle.zb_trace_watch.proofs.Alike.{bytes_alike}
 use Rattle.zb_trace_watch.proofs.Truth.{among_append, among_end, decided, either, itself, none_left, or_left, or_right, same_bytes}
 
 -- What is raised so far, and what is left to raise.
-pub record Raising (carriers : Holdings Key) (old now : Lateness) (start left : List Key) (number : ℕ) (raised : List Key) : Type 0 where
+pub record Raising (carriers : Holdings Key) (old now : Lateness) (start left : List Key) (number : ℕ)
+    (raised : List Key) : Type 0 where
   pub told : (k : List ℕ) → (late_of now k ≡ late_of old k) ⊎ IsRaised old now number raised k
   pub only : (k : List ℕ) → is_among raised k ≡ true → late_of now k ≡ number
   pub reached : (k : List ℕ) → is_among start k ≡ true → (number ≤ late_of now k) ⊎ (is_among left k ≡ true)
-  pub bases : (k b : List ℕ) → is_among raised k ≡ true → is_carried carriers k b ≡ true → (number ≤ late_of now b) ⊎ (is_among left b ≡ true)
+  pub bases : (k b : List ℕ) → is_among raised k ≡ true → is_carried carriers k b ≡ true → (number ≤ late_of now b)
+      ⊎ (is_among left b ≡ true)
   pub least : (S : List ℕ → Bool) → ((k : List ℕ) → is_among start k ≡ true → S k ≡ true)
       → ((k b : List ℕ) → S k ≡ true → is_carried carriers k b ≡ true → S b ≡ true)
       → ((k : List ℕ) → is_among raised k ≡ true → S k ≡ true) × ((k : List ℕ) → is_among left k ≡ true → S k ≡ true)
 
-module _ (carriers : Holdings Key) (old now new : Lateness) (start left : List Key) (number : ℕ) (raised : List Key) (key : Key)
-    (becomes : (k : List ℕ) → late_of new k ≡ (if bytes_eq k key.0 && nat_lt (late_of now key.0) number then number else late_of now k))
+module _ (carriers : Holdings Key) (old now new : Lateness) (start left : List Key) (number : ℕ) (raised : List Key)
+    (key : Key)
+    (becomes : (k : List ℕ) → late_of new k ≡ (if bytes_eq k key.0 && nat_lt (late_of now key.0) number then number
+    else late_of now k))
     (l : Raising carriers old now start (left ++ key ∷ []) number raised) where
   others : (k : List ℕ) → bytes_eq k key.0 ≡ false → late_of new k ≡ late_of now k
-  others k not_it = becomes k ∙ ap (λ (b : Bool). if b && nat_lt (late_of now key.0) number then number else late_of now k) not_it
+  others k not_it = becomes k ∙ ap (λ (b : Bool). if b && nat_lt (late_of now key.0) number then number
+      else late_of now k) not_it
 
   -- of what was left
   was_left : (k : List ℕ) → is_among (left ++ key ∷ []) k ≡ true → (is_among left k ≡ true) ⊎ (k ≡ key.0)
@@ -41,7 +46,8 @@ module _ (carriers : Holdings Key) (old now new : Lateness) (start left : List K
   -- A key that is raised brings its base keys.
   module _ (below : nat_lt (late_of now key.0) number ≡ true) where
     here : late_of new key.0 ≡ number
-    here = becomes key.0 ∙ ap (λ (b : Bool). if b then number else late_of now key.0) (ap (λ (b : Bool). b && nat_lt (late_of now key.0) number) (itself key.0) ∙ below)
+    here = becomes key.0 ∙ ap (λ (b : Bool). if b then number else late_of now key.0)
+        (ap (λ (b : Bool). b && nat_lt (late_of now key.0) number) (itself key.0) ∙ below)
 
     at_key : (k : List ℕ) → k ≡ key.0 → number ≤ late_of new k
     at_key k is = let it : late_of new k ≡ number = ap (late_of new) is ∙ here in omega arith
@@ -55,7 +61,8 @@ module _ (carriers : Holdings Key) (old now new : Lateness) (start left : List K
     abbrev more : List Key
     more = keys_at key_cmp carriers key
 
-    moved : (k : List ℕ) → (number ≤ late_of now k) ⊎ (is_among (left ++ key ∷ []) k ≡ true) → (number ≤ late_of new k) ⊎ (is_among (left ++ more) k ≡ true)
+    moved : (k : List ℕ) → (number ≤ late_of now k) ⊎ (is_among (left ++ key ∷ []) k ≡ true)
+        → (number ≤ late_of new k) ⊎ (is_among (left ++ more) k ≡ true)
     moved k (inl high) = inl (up k high)
     moved k (inr there) = elim (was_left k there) [
       | inl before ↦ inr (among_append left more k ∙ or_left _ _ before)
@@ -87,7 +94,13 @@ module _ (carriers : Holdings Key) (old now new : Lateness) (start left : List K
       })
       | inr other ↦ elim (l.told k) [
         | inl kept ↦ inl (others k other ∙ kept)
-        | inr it ↦ inr (record { was = it.was; is = others k other ∙ it.is; among = among_append raised (key ∷ []) k ∙ or_left _ _ it.among })
+        | inr it ↦ inr
+            (record {
+              was = it.was;
+              is = others k other ∙ it.is;
+              among = among_append raised (key ∷ []) k ∙ or_left _ _
+                  it.among;
+            })
       ]
     ]
 
@@ -100,10 +113,12 @@ module _ (carriers : Holdings Key) (old now new : Lateness) (start left : List K
       ]
     ]
 
-    bases_now : (k b : List ℕ) → is_among (raised ++ key ∷ []) k ≡ true → is_carried carriers k b ≡ true → (number ≤ late_of new b) ⊎ (is_among (left ++ more) b ≡ true)
+    bases_now : (k b : List ℕ) → is_among (raised ++ key ∷ []) k ≡ true → is_carried carriers k b ≡ true
+        → (number ≤ late_of new b) ⊎ (is_among (left ++ more) b ≡ true)
     bases_now k b there carried = elim (now_raised k there) [
       | inl before ↦ moved b (l.bases k b before carried)
-      | inr is ↦ inr (among_append left more b ∙ or_right _ _ (ap (λ (q : List ℕ). is_carried carriers q b) (sym is) ∙ carried))
+      | inr is ↦ inr
+          (among_append left more b ∙ or_right _ _ (ap (λ (q : List ℕ). is_carried carriers q b) (sym is) ∙ carried))
     ]
 
     pub raises_new : Raising carriers old new start (left ++ more) number (raised ++ key ∷ [])
@@ -135,7 +150,8 @@ module _ (carriers : Holdings Key) (old now new : Lateness) (start left : List K
         by false false h = refl
         by a true h = cc
 
-    stays : (k : List ℕ) → (number ≤ late_of now k) ⊎ (is_among (left ++ key ∷ []) k ≡ true) → (number ≤ late_of new k) ⊎ (is_among left k ≡ true)
+    stays : (k : List ℕ) → (number ≤ late_of now k) ⊎ (is_among (left ++ key ∷ []) k ≡ true)
+        → (number ≤ late_of new k) ⊎ (is_among left k ≡ true)
     stays k (inl up) = let it : late_of new k ≡ late_of now k = same k in inl (omega arith)
     stays k (inr there) = elim (was_left k there) [
       | inl before ↦ inr before
@@ -155,7 +171,8 @@ module _ (carriers : Holdings Key) (old now new : Lateness) (start left : List K
       only = λ k there. same k ∙ l.only k there;
       reached = λ k there. stays k (l.reached k there);
       bases = λ k b there carried. stays b (l.bases k b there carried);
-      least = λ S first closed. let it = l.least S first closed in (it.0, λ k there. it.1 k (among_append left (key ∷ []) k ∙ or_left _ _ there));
+      least = λ S first closed. let it =
+          l.least S first closed in (it.0, λ k there. it.1 k (among_append left (key ∷ []) k ∙ or_left _ _ there));
     }
 
 -- How many base keys there are of keys whose number is lower.
@@ -175,37 +192,53 @@ less_or_same true b keys more = rw (more refl) (omega arith)
 less_or_same false true keys more = omega arith
 less_or_same false false keys more = omega arith
 
-module _ (now new : Lateness) (number : ℕ) (key : Key) (up : (k : List ℕ) → is_high now number k ≡ true → is_high new number k ≡ true) where
+module _ (now new : Lateness) (number : ℕ) (key : Key)
+    (up : (k : List ℕ) → is_high now number k ≡ true → is_high new number k ≡ true) where
   pub fewer_unraised : (entries : List (Key × Keys)) → unraised new number entries ≤ unraised now number entries
   fewer_unraised [] = omega arith
-  fewer_unraised (e ∷ es) = omega (arith, less_or_same (is_high now number e.0.0) (is_high new number e.0.0) e.1 (up e.0.0), fewer_unraised es)
+  fewer_unraised (e ∷ es) =
+      omega (
+        arith,
+        less_or_same (is_high now number e.0.0) (is_high new number e.0.0) e.1 (up e.0.0),
+        fewer_unraised es,
+      )
 
   abbrev found : List (Key × Keys) → Option Keys
   found entries = lookup (is_at (key_cmp key)) entries
 
-  raised_here : (a b : Bool) (keys : Keys) → a ≡ false → b ≡ true → unraised_by b keys + length keys.keys.keys ≤ unraised_by a keys
+  raised_here : (a b : Bool) (keys : Keys) → a ≡ false → b ≡ true → unraised_by b keys + length keys.keys.keys
+      ≤ unraised_by a keys
   raised_here a b keys e f = rw (e, f) (omega arith)
 
   module _ (low : is_high now number key.0 ≡ false) (high : is_high new number key.0 ≡ true) where
-    raised_at : (e : Key × Keys) (es : List (Key × Keys)) → unraised new number es + length (keys_of (found es)) ≤ unraised now number es
+    raised_at : (e : Key × Keys) (es : List (Key × Keys)) → unraised new number es + length (keys_of (found es))
+        ≤ unraised now number es
         → (b : Bool) → is_at (key_cmp key) e.0 ≡ b
-        → (unraised_by (is_high new number e.0.0) e.1 + unraised new number es) + length (keys_of (cond b (Some e.1) (found es))) ≤ unraised_by (is_high now number e.0.0) e.1 + unraised now number es
+        → (unraised_by (is_high new number e.0.0) e.1 + unraised new number es) + length
+        (keys_of (cond b (Some e.1) (found es))) ≤ unraised_by (is_high now number e.0.0) e.1 + unraised now
+        number es
     raised_at e es later true is =
         let same : e.0.0 ≡ key.0 = sym (same_bytes key.0 e.0.0 (sym (bytes_alike key.0 e.0.0) ∙ is)) in
-        let it : unraised_by (is_high new number e.0.0) e.1 + length e.1.keys.keys ≤ unraised_by (is_high now number e.0.0) e.1 =
-        raised_here (is_high now number e.0.0) (is_high new number e.0.0) e.1 (ap (is_high now number) same ∙ low) (ap (is_high new number) same ∙ high) in
+        let it : unraised_by (is_high new number e.0.0) e.1 + length e.1.keys.keys
+        ≤ unraised_by (is_high now number e.0.0) e.1 =
+        raised_here (is_high now number e.0.0) (is_high new number e.0.0) e.1 (ap (is_high now number) same ∙ low)
+        (ap (is_high new number) same ∙ high) in
         let rest : unraised new number es ≤ unraised now number es = fewer_unraised es in
         omega arith
     raised_at e es later false is =
-        let it : unraised_by (is_high new number e.0.0) e.1 ≤ unraised_by (is_high now number e.0.0) e.1 = less_or_same (is_high now number e.0.0) (is_high new number e.0.0) e.1 (up e.0.0) in
+        let it : unraised_by (is_high new number e.0.0) e.1 ≤ unraised_by (is_high now number e.0.0) e.1 =
+        less_or_same (is_high now number e.0.0) (is_high new number e.0.0) e.1 (up e.0.0) in
         omega arith
 
-    pub raised_once : (entries : List (Key × Keys)) → unraised new number entries + length (keys_of (lookup (is_at (key_cmp key)) entries)) ≤ unraised now number entries
+    pub raised_once : (entries : List (Key × Keys))
+        → unraised new number entries + length (keys_of (lookup (is_at (key_cmp key)) entries))
+        ≤ unraised now number entries
     raised_once [] = omega arith
     raised_once (e ∷ es) = raised_at e es (raised_once es) (is_at (key_cmp key) e.0) refl
 
 module _ (now new : Lateness) (number : ℕ) (key : Key)
-    (becomes : (k : List ℕ) → late_of new k ≡ (if bytes_eq k key.0 && nat_lt (late_of now key.0) number then number else late_of now k)) where
+    (becomes : (k : List ℕ) → late_of new k ≡ (if bytes_eq k key.0 && nat_lt (late_of now key.0) number then number
+    else late_of now k)) where
   rises : (k : List ℕ) → late_of now k ≤ late_of new k
   rises k = by (bytes_eq k key.0) (nat_lt (late_of now key.0) number) refl refl
     where
@@ -227,9 +260,11 @@ module _ (now new : Lateness) (number : ℕ) (key : Key)
   pub was_low : nat_lt (late_of now key.0) number ≡ true → is_high now number key.0 ≡ false
   was_low below = lt-low (ltb-true (late_of now key.0) number below) (decided (is_high now number key.0))
     where
-      lt-low : late_of now key.0 < number → (is_high now number key.0 ≡ true) ⊎ (is_high now number key.0 ≡ false) → is_high now number key.0 ≡ false
+      lt-low : late_of now key.0 < number → (is_high now number key.0 ≡ true) ⊎ (is_high now number key.0 ≡ false)
+          → is_high now number key.0 ≡ false
       lt-low low (inr it) = it
-      lt-low low (inl it) = let high : number ≤ late_of now key.0 = leb-true number (late_of now key.0) it in absurd (omega arith)
+      lt-low low (inl it) = let high : number ≤ late_of now key.0 = leb-true number (late_of now key.0) it in absurd
+          (omega arith)
 
   pub is_high_now : nat_lt (late_of now key.0) number ≡ true → is_high new number key.0 ≡ true
   is_high_now below =

@@ -13,9 +13,12 @@ use Rattle.zb_trace_watch.specs.Sets.{is_carried}
 use Rattle.zb_trace_watch.specs.Terms.{has_term}
 use Rattle.zb_trace_watch.proofs.Truth.{not_both}
 
-pub new_stands : (tools : Tools) (names : List Bytes) (s : Lockout) → s.first ≡ None → IsPast tools names s.past [] → ((d : ℕ) → open_at s.reach.windows d ≡ None) → s.reach.windows.last ≡ 0
-    → ((k b : Bytes) → is_carried s.reach.carriers k b ≡ false) → ((k : Bytes) (d : ℕ) → is_holder s.reach.holders k d ≡ false) → ((k : Bytes) → late_of s.reach.late k ≡ 0)
-    → ((t : Term) → has_term s.evidence.forged t ≡ false) → ((t : Term) (d number : ℕ) → late_by s.evidence d number t ≡ false) → Stands tools names s []
+pub new_stands : (tools : Tools) (names : List Bytes) (s : Lockout) → s.first ≡ None → IsPast tools names s.past []
+    → ((d : ℕ) → open_at s.reach.windows d ≡ None) → s.reach.windows.last ≡ 0
+    → ((k b : Bytes) → is_carried s.reach.carriers k b ≡ false)
+    → ((k : Bytes) (d : ℕ) → is_holder s.reach.holders k d ≡ false) → ((k : Bytes) → late_of s.reach.late k ≡ 0)
+    → ((t : Term) → has_term s.evidence.forged t ≡ false)
+    → ((t : Term) (d number : ℕ) → late_by s.evidence d number t ≡ false) → Stands tools names s []
 unfolding first_unlocked ever terms_of
 new_stands tools names s no_first past shut last uncarried unheld not_late unforged unsealed = record {
   first = no_first;

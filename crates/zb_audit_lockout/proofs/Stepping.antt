@@ -35,37 +35,51 @@ pub moved_whole : (h : List Line) (l : Line) (a b : List Line) → a ++ b ≡ h 
 moved_whole h l a b whole = sym (append_assoc a b (l ∷ [])) ∙ ap (λ (g : List Line). g ++ l ∷ []) whole
 
 -- Where the windows stay and the keys that lead to drawn ones follow.
-module _ (tools : Tools) (old new : Reach) (h : List Line) (l : Line) (reach : IsReach tools old h) (windows : new.windows ≡ old.windows)
-    (leads : (r : ℕ) (b : List Line) → r ≤ old.windows.last → LeadsTo old.carriers (flat_map drawn_in b) (late_from old.late r)
+module _ (tools : Tools) (old new : Reach) (h : List Line) (l : Line) (reach : IsReach tools old h)
+    (windows : new.windows ≡ old.windows)
+    (leads : (r : ℕ) (b : List Line) → r ≤ old.windows.last
+    → LeadsTo old.carriers (flat_map drawn_in b) (late_from old.late r)
     → LeadsTo new.carriers (flat_map drawn_in (b ++ l ∷ [])) (late_from new.late r))
     (held : (k : Bytes) (d : ℕ) → is_holder new.holders k d ≡ holds (ever (h ++ l ∷ []) d) k)
     (carried : (k b : Bytes) → is_carried new.carriers k b ≡ list_any (carries tools b k) (terms_of (h ++ l ∷ [])))
     (early : (k : Bytes) → late_of new.late k ≤ old.windows.last)
     (not_admits : (d : ℕ) → admits d l ≡ false) (no_removal : (Q : Claim) → EachAt Q h l []) where
-  moves : (a : List Line) (d : ℕ) (b : List Line) → IsWindow old h a d b → admits d l ≡ false → IsWindow new (h ++ l ∷ []) a d (b ++ l ∷ [])
+  moves : (a : List Line) (d : ℕ) (b : List Line) → IsWindow old h a d b → admits d l ≡ false
+      → IsWindow new (h ++ l ∷ []) a d (b ++ l ∷ [])
   moves a d b w adm = record {
     whole = moved_whole h l a b w.whole;
-    found = record { opened = w.found.opened; found = ap (λ (x : Windows). open_at x d) windows ∙ w.found.found; early = w.found.early };
+    found =
+        record {
+          opened = w.found.opened;
+          found = ap (λ (x : Windows). open_at x d) windows ∙ w.found.found;
+          early = w.found.early;
+        };
     low = subst (λ (x : Windows). length a ≤ x.last) (sym windows) w.low;
     leads = leads (length a) b w.low w.leads;
   }
 
   pub ahead : EachWindow (λ a d b. admits d l ≡ false → IsWindow new (h ++ l ∷ []) a d (b ++ l ∷ [])) [] h
-  ahead = each_map (IsWindow old h) (λ a d b. admits d l ≡ false → IsWindow new (h ++ l ∷ []) a d (b ++ l ∷ [])) moves [] h reach.windows
+  ahead = each_map (IsWindow old h) (λ a d b. admits d l ≡ false → IsWindow new (h ++ l ∷ []) a d (b ++ l ∷ [])) moves
+      [] h reach.windows
 
-  pub open_before : (d number : ℕ) → open_at new.windows d ≡ Some number → SomeWindow (λ a e b. (e ≡ d) × (length a ≡ number)) [] h
+  pub open_before : (d number : ℕ) → open_at new.windows d ≡ Some number
+      → SomeWindow (λ a e b. (e ≡ d) × (length a ≡ number)) [] h
   open_before d number found = reach.opened d number (ap (λ (x : Windows). open_at x d) (sym windows) ∙ found)
 
   pub reach_on : IsReach tools new (h ++ l ∷ [])
   reach_on = record {
-    windows = each_more (IsWindow old h) (IsWindow new (h ++ l ∷ [])) l moves [] h reach.windows (no_removal (IsWindow new (h ++ l ∷ [])));
+    windows = each_more (IsWindow old h) (IsWindow new (h ++ l ∷ [])) l moves [] h reach.windows
+        (no_removal (IsWindow new (h ++ l ∷ [])));
     opened = λ d number found.
-        some_more (λ a e b. (e ≡ d) × (length a ≡ number)) (λ a e b. (e ≡ d) × (length a ≡ number)) l (λ a e b it. (not_admits e, it)) [] h (open_before d number found);
-    below = λ d number found. subst (λ (x : Windows). number ≤ x.last) (sym windows) (reach.below d number (ap (λ (x : Windows). open_at x d) (sym windows) ∙ found));
+        some_more (λ a e b. (e ≡ d) × (length a ≡ number)) (λ a e b. (e ≡ d) × (length a ≡ number)) l
+        (λ a e b it. (not_admits e, it)) [] h (open_before d number found);
+    below = λ d number found. subst (λ (x : Windows). number ≤ x.last) (sym windows)
+        (reach.below d number (ap (λ (x : Windows). open_at x d) (sym windows) ∙ found));
     held = held;
     carried = carried;
     early = λ k. subst (λ (x : Windows). late_of new.late k ≤ x.last) (sym windows) (early k);
-    last = (let same : new.windows.last ≡ old.windows.last = ap (λ (x : Windows). x.last) windows in let le : old.windows.last ≤ length h = reach.last in let more = longer h l in omega arith);
+    last = (let same : new.windows.last ≡ old.windows.last = ap (λ (x : Windows). x.last) windows in let le :
+        old.windows.last ≤ length h = reach.last in let more = longer h l in omega arith);
   }
 
 -- What comes out for a device follows from who holds which key.
@@ -73,84 +87,116 @@ module _ (tools : Tools) (new : Reach) (h : List Line) (reach : IsReach tools ne
   keeps_in : IsSafe new → (a : List Line) (d : ℕ) (b : List Line) → IsWindow new h a d b → keeps_out tools a b d ≡ true
   unfolding keeps_out
   keeps_in safe a d b w =
-      subst (λ (g : List Line). not (list_any (holds (exposed tools g (well_known ∷ ever g d))) (flat_map drawn_in b)) ≡ true) (sym w.whole)
-      (not_on _ (kept_out tools h new.carriers (flat_map drawn_in b) (late_from new.late (length a)) reach.carried w.leads (well_known ∷ ever h d) none))
+      subst (λ (g : List Line). not (list_any (holds (exposed tools g (well_known ∷ ever g d))) (flat_map drawn_in b))
+      ≡ true) (sym w.whole)
+      (not_on _
+      (kept_out tools h new.carriers (flat_map drawn_in b) (late_from new.late (length a)) reach.carried w.leads
+      (well_known ∷ ever h d) none))
     where
       none : (k : Bytes) → holds (well_known ∷ ever h d) k ≡ true → late_from new.late (length a) k ≡ false
       none k there = elim (leb_tells (length a) (late_of new.late k)) [
         | inl it ↦
-            (let low : late_of new.late k < w.found.opened = safe d w.found.opened k w.found.found (ap (λ (x : Bool). bytes_eq k well_known || x) (reach.held k d) ∙ there) in
+            (let low : late_of new.late k < w.found.opened = safe d w.found.opened k w.found.found
+            (ap (λ (x : Bool). bytes_eq k well_known || x) (reach.held k d) ∙ there) in
             let le : w.found.opened ≤ length a = w.found.early in
             let high : length a ≤ late_of new.late k = it.1 in
             absurd (omega arith))
         | inr it ↦ it.0
       ]
 
-  lets_out : (u : IsUnsafe new) (a b : List Line) → IsWindow new h a u.device b → length a ≡ u.number → keeps_out tools a b u.device ≡ false
+  lets_out : (u : IsUnsafe new) (a b : List Line) → IsWindow new h a u.device b → length a ≡ u.number
+      → keeps_out tools a b u.device ≡ false
   unfolding keeps_out
   lets_out u a b w is =
-      subst (λ (g : List Line). not (list_any (holds (exposed tools g (well_known ∷ ever g u.device))) (flat_map drawn_in b)) ≡ false) (sym w.whole)
+      subst (λ (g : List Line).
+      not (list_any (holds (exposed tools g (well_known ∷ ever g u.device))) (flat_map drawn_in b)) ≡ false)
+      (sym w.whole)
       (not_off _
-      (let_in tools h new.carriers (flat_map drawn_in b) (late_from new.late (length a)) reach.carried w.leads (well_known ∷ ever h u.device) u.key
+      (let_in tools h new.carriers (flat_map drawn_in b) (late_from new.late (length a)) reach.carried w.leads
+      (well_known ∷ ever h u.device) u.key
       (sym (ap (λ (x : Bool). bytes_eq u.key well_known || x) (reach.held u.key u.device)) ∙ u.has)
-      (le-leb (length a) (late_of new.late u.key) (let le : u.number ≤ late_of new.late u.key = u.late in omega arith))))
+      (le-leb (length a) (late_of new.late u.key)
+      (let le : u.number ≤ late_of new.late u.key = u.late in omega arith))))
 
 module _ (tools : Tools) (new : Reach) (h : List Line) (l : Line) (reach : IsReach tools new (h ++ l ∷ []))
     (ahead : EachWindow (λ a d b. admits d l ≡ false → IsWindow new (h ++ l ∷ []) a d (b ++ l ∷ [])) [] h) where
-  pub stays_so : IsSafe new → EachWindow (λ a d b. refuses_line tools d a b l ≡ true) [] h → EachWindow (λ a d b. admits d l ≡ false → goes_on tools a d b l ≡ true) [] h
+  pub stays_so : IsSafe new → EachWindow (λ a d b. refuses_line tools d a b l ≡ true) [] h
+      → EachWindow (λ a d b. admits d l ≡ false → goes_on tools a d b l ≡ true) [] h
   stays_so safe refused =
-      each_map (λ a d b. (admits d l ≡ false → IsWindow new (h ++ l ∷ []) a d (b ++ l ∷ [])) × (refuses_line tools d a b l ≡ true)) (λ a d b. admits d l ≡ false → goes_on tools a d b l ≡ true)
+      each_map (λ a d b. (admits d l ≡ false → IsWindow new (h ++ l ∷ []) a d (b ++ l ∷ []))
+      × (refuses_line tools d a b l ≡ true)) (λ a d b. admits d l ≡ false → goes_on tools a d b l ≡ true)
       (λ a d b it adm. both _ _ (keeps_in tools new (h ++ l ∷ []) reach safe a d (b ++ l ∷ []) (it.0 adm)) it.1) [] h
-      (each_both (λ a d b. admits d l ≡ false → IsWindow new (h ++ l ∷ []) a d (b ++ l ∷ [])) (λ a d b. refuses_line tools d a b l ≡ true) [] h ahead refused)
+      (each_both (λ a d b. admits d l ≡ false → IsWindow new (h ++ l ∷ []) a d (b ++ l ∷ []))
+      (λ a d b. refuses_line tools d a b l ≡ true) [] h ahead refused)
 
-  pub all_refused : ((a : List Line) (d : ℕ) (b : List Line) → refuses_line tools d a b l ≡ true) → EachWindow (λ a d b. refuses_line tools d a b l ≡ true) [] h
+  pub all_refused : ((a : List Line) (d : ℕ) (b : List Line) → refuses_line tools d a b l ≡ true)
+      → EachWindow (λ a d b. refuses_line tools d a b l ≡ true) [] h
   all_refused refused =
-      each_map (λ a d b. admits d l ≡ false → IsWindow new (h ++ l ∷ []) a d (b ++ l ∷ [])) (λ a d b. refuses_line tools d a b l ≡ true) (λ a d b w. refused a d b) [] h ahead
+      each_map (λ a d b. admits d l ≡ false → IsWindow new (h ++ l ∷ []) a d (b ++ l ∷ []))
+      (λ a d b. refuses_line tools d a b l ≡ true) (λ a d b w. refused a d b) [] h ahead
 
-  pub fails_so : (u : IsUnsafe new) → ((d : ℕ) → admits d l ≡ false) → SomeWindow (λ a d b. (d ≡ u.device) × (length a ≡ u.number)) [] h
+  pub fails_so : (u : IsUnsafe new) → ((d : ℕ) → admits d l ≡ false)
+      → SomeWindow (λ a d b. (d ≡ u.device) × (length a ≡ u.number)) [] h
       → SomeWindow (λ a d b. (admits d l ≡ false) × (goes_on tools a d b l ≡ false)) [] h
   fails_so u not_admits some =
-      some_map (λ a d b. (admits d l ≡ false → IsWindow new (h ++ l ∷ []) a d (b ++ l ∷ [])) × ((d ≡ u.device) × (length a ≡ u.number))) (λ a d b. (admits d l ≡ false) × (goes_on tools a d b l ≡ false))
+      some_map (λ a d b. (admits d l ≡ false → IsWindow new (h ++ l ∷ []) a d (b ++ l ∷ []))
+      × ((d ≡ u.device) × (length a ≡ u.number))) (λ a d b. (admits d l ≡ false) × (goes_on tools a d b l ≡ false))
       (λ a d b it. (
         not_admits d,
         off_left _ _
             (ap (λ (x : ℕ). keeps_out tools a (b ++ l ∷ []) x) it.1.0
-            ∙ lets_out tools new (h ++ l ∷ []) reach u a (b ++ l ∷ []) (subst (λ (x : ℕ). IsWindow new (h ++ l ∷ []) a x (b ++ l ∷ [])) it.1.0 (it.0 (not_admits d))) it.1.1),
+            ∙ lets_out tools new (h ++ l ∷ []) reach u a (b ++ l ∷ [])
+            (subst (λ (x : ℕ). IsWindow new (h ++ l ∷ []) a x (b ++ l ∷ [])) it.1.0 (it.0 (not_admits d))) it.1.1),
       )) [] h
-      (each_some (λ a d b. admits d l ≡ false → IsWindow new (h ++ l ∷ []) a d (b ++ l ∷ [])) (λ a d b. (d ≡ u.device) × (length a ≡ u.number)) [] h ahead some)
+      (each_some (λ a d b. admits d l ≡ false → IsWindow new (h ++ l ∷ []) a d (b ++ l ∷ []))
+      (λ a d b. (d ≡ u.device) × (length a ≡ u.number)) [] h ahead some)
 
 -- The evidence after one more line.
-module _ (tools : Tools) (r : Reach) (old new : Evidence) (h : List Line) (l : Line) (reach : IsReach tools r h) (e : IsEvidence old h)
-    (forged : (t : program.Term) → has_term new.forged t ≡ (has_term old.forged t || list_any (same_term (model_term t)) (forged_in l)))
+module _ (tools : Tools) (r : Reach) (old new : Evidence) (h : List Line) (l : Line) (reach : IsReach tools r h)
+    (e : IsEvidence old h)
+    (forged : (t : program.Term) → has_term new.forged t
+    ≡ (has_term old.forged t || list_any (same_term (model_term t)) (forged_in l)))
     (sealed : (a : List Line) (d : ℕ) (b : List Line) → IsWindow r h a d b → (t : program.Term)
-    → late_by new d (length a) t ≡ (late_by old d (length a) t || list_any (same_term (model_term t)) (sealed_by d (declared_in h) l)))
+    → late_by new d (length a) t
+    ≡ (late_by old d (length a) t || list_any (same_term (model_term t)) (sealed_by d (declared_in h) l)))
     (early : (t : program.Term) (d number : ℕ) → late_by new d number t ≡ true → number ≤ length h) where
   abbrev Sealed : Evidence → Claim
-  Sealed x a d b = (t : program.Term) → late_by x d (length a) t ≡ list_any (same_term (model_term t)) (along (sealed_by d) (declared_in a) b)
+  Sealed x a d b = (t : program.Term) → late_by x d (length a) t
+      ≡ list_any (same_term (model_term t)) (along (sealed_by d) (declared_in a) b)
 
-  sealed_moves : (a : List Line) (d : ℕ) (b : List Line) → IsWindow r h a d b × Sealed old a d b → admits d l ≡ false → Sealed new a d (b ++ l ∷ [])
+  sealed_moves : (a : List Line) (d : ℕ) (b : List Line) → IsWindow r h a d b × Sealed old a d b → admits d l ≡ false
+      → Sealed new a d (b ++ l ∷ [])
   sealed_moves a d b it adm t =
       sealed a d b it.0 t
       ∙ (ap (λ (x : Bool). x || list_any (same_term (model_term t)) (sealed_by d (declared_in h) l)) (it.1 t)
-      ∙ (ap (λ (known : List Station). list_any (same_term (model_term t)) (along (sealed_by d) (declared_in a) b) || list_any (same_term (model_term t)) (sealed_by d known l))
+      ∙ (ap (λ (known : List Station). list_any (same_term (model_term t)) (along (sealed_by d) (declared_in a) b)
+      || list_any (same_term (model_term t)) (sealed_by d known l))
       (sym (declared_append a b ∙ ap declared_in it.0.whole))
       ∙ sym (along_more (sealed_by d) (same_term (model_term t)) (declared_in a) b l)))
 
   sealed_begins : (m : Line) → EachAt (Sealed new) h m []
-  sealed_begins (line.Removed event device) = λ stays t. none t (late_by new device.0 (length (h ++ line.Removed event device ∷ [])) t) refl
+  sealed_begins (line.Removed event device) =
+      λ stays t. none t (late_by new device.0 (length (h ++ line.Removed event device ∷ [])) t) refl
     where
-      none : (t : program.Term) (b : Bool) → late_by new device.0 (length (h ++ line.Removed event device ∷ [])) t ≡ b → b ≡ false
+      none : (t : program.Term) (b : Bool) → late_by new device.0 (length (h ++ line.Removed event device ∷ [])) t ≡ b
+          → b ≡ false
       none t false is = refl
       none t true is =
-          let le : length (h ++ line.Removed event device ∷ []) ≤ length h = early t device.0 (length (h ++ line.Removed event device ∷ [])) is in
+          let le : length (h ++ line.Removed event device ∷ []) ≤ length h =
+          early t device.0 (length (h ++ line.Removed event device ∷ [])) is in
           let more = longer h (line.Removed event device) in
           absurd (omega arith)
   sealed_begins _ = tt
 
   pub evidence_on : IsEvidence new (h ++ l ∷ [])
   evidence_on = record {
-    forged = λ t. forged t ∙ (ap (λ (x : Bool). x || list_any (same_term (model_term t)) (forged_in l)) (e.forged t) ∙ sym (forged_more (same_term (model_term t)) h l));
+    forged =
+        λ t. forged t ∙
+        (ap (λ (x : Bool). x || list_any (same_term (model_term t)) (forged_in l)) (e.forged t) ∙ sym
+        (forged_more (same_term (model_term t)) h l));
     sealed =
-        each_more (λ a d b. IsWindow r h a d b × Sealed old a d b) (Sealed new) l sealed_moves [] h (each_both (IsWindow r h) (Sealed old) [] h reach.windows e.sealed) (sealed_begins l);
-    early = λ t d number there. let le : number ≤ length h = early t d number there in let more = longer h l in omega arith;
+        each_more (λ a d b. IsWindow r h a d b × Sealed old a d b) (Sealed new) l sealed_moves [] h
+        (each_both (IsWindow r h) (Sealed old) [] h reach.windows e.sealed) (sealed_begins l);
+    early = λ t d number there. let le : number ≤ length h = early t d number there in let more =
+        longer h l in omega arith;
   }

@@ -50,7 +50,8 @@ was_on true h = refl
 was_on false h = cc
 
 -- Some key of a list passes a test, or none does.
-pub any_at : (p : Bytes → Bool) (q : Bytes) (keys : List Bytes) → holds keys q ≡ true → p q ≡ true → list_any p keys ≡ true
+pub any_at : (p : Bytes → Bool) (q : Bytes) (keys : List Bytes) → holds keys q ≡ true → p q ≡ true → list_any p keys
+    ≡ true
 any_at p q [] there h = cc
 any_at p q (k ∷ keys) there h =
     elim (either (bytes_eq q k) (holds keys q) there) [
@@ -58,11 +59,14 @@ any_at p q (k ∷ keys) there h =
       | inr later ↦ or_right _ _ (any_at p q keys later h)
     ]
 
-pub none_any : (p : Bytes → Bool) (keys : List Bytes) → ((q : Bytes) → holds keys q ≡ true → p q ≡ false) → list_any p keys ≡ false
+pub none_any : (p : Bytes → Bool) (keys : List Bytes) → ((q : Bytes) → holds keys q ≡ true → p q ≡ false)
+    → list_any p keys ≡ false
 none_any p [] none = refl
-none_any p (k ∷ keys) none = both_off _ _ (none k (or_left _ _ (itself k))) (none_any p keys (λ q there. none q (or_right _ _ there)))
+none_any p (k ∷ keys) none = both_off _ _ (none k (or_left _ _ (itself k)))
+    (none_any p keys (λ q there. none q (or_right _ _ there)))
 
-pub any_within : (p q : Bytes → Bool) (keys : List Bytes) → ((k : Bytes) → p k ≡ true → q k ≡ true) → list_any p keys ≡ true → list_any q keys ≡ true
+pub any_within : (p q : Bytes → Bool) (keys : List Bytes) → ((k : Bytes) → p k ≡ true → q k ≡ true) → list_any p keys
+    ≡ true → list_any q keys ≡ true
 any_within p q [] within h = cc
 any_within p q (k ∷ keys) within h =
     elim (either (p k) (list_any p keys) h) [

@@ -53,7 +53,8 @@ use Rattle.zb_trace_watch.proofs.Truth.{and_left, and_right, both, decided, eith
 
 -- What was sealed and forged
 
-same_where : {A : Type 0} (test : A → Bool) (b : Bool) (x : A) → list_any test (if b then x ∷ [] else []) ≡ (test x && b)
+same_where : {A : Type 0} (test : A → Bool) (b : Bool) (x : A) → list_any test (if b then x ∷ [] else [])
+    ≡ (test x && b)
 same_where test true x = or_none _ ∙ alone (test x)
   where
     alone : (a : Bool) → a ≡ (a && true)
@@ -65,12 +66,15 @@ same_where test false x = never (test x)
     never true = refl
     never false = refl
 
-late_is : (r : Reach) (o : Option Eui) (d n : ℕ) → IsOpenBy r d n → n ≤ r.windows.last → is_late_seal r.windows o d n ≡ is_node o d
+late_is : (r : Reach) (o : Option Eui) (d n : ℕ) → IsOpenBy r d n → n ≤ r.windows.last → is_late_seal r.windows o d n
+    ≡ is_node o d
 late_is r None d n window low = refl
 late_is r (Some device) d n window low = elim (decided (nat_eq d device.0)) [
   | inl is ↦
       (let opened : opened_by (open_at r.windows device.0) r.windows.last ≡ true =
-      opened_one (open_at r.windows device.0) r.windows.last window.opened (ap (open_at r.windows) (sym (same_number d device.0 is)) ∙ window.found) (let le : window.opened ≤ n = window.early in omega arith) in
+      opened_one (open_at r.windows device.0) r.windows.last window.opened
+      (ap (open_at r.windows) (sym (same_number d device.0 is)) ∙ window.found)
+      (let le : window.opened ≤ n = window.early in omega arith) in
       both _ _ opened (both _ _ is (le-leb n r.windows.last low)) ∙ sym is)
   | inr other ↦ off_right (opened_by (open_at r.windows device.0) r.windows.last) _ (off_left _ _ other) ∙ sym other
 ]
@@ -78,10 +82,13 @@ late_is r (Some device) d n window low = elim (decided (nat_eq d device.0)) [
 late_early : (w : Windows) (o : Option Eui) (d number : ℕ) → is_late_seal w o d number ≡ true → number ≤ w.last
 late_early w None d number there = cc
 late_early w (Some device) d number there =
-    leb-true number w.last (and_right (nat_eq d device.0) _ (and_right (opened_by (open_at w device.0) w.last) _ there))
+    leb-true number w.last
+    (and_right (nat_eq d device.0) _ (and_right (opened_by (open_at w device.0) w.last) _ there))
 
-pub seal_evidence : (tools : Tools) (names : List Bytes) (r : Reach) (old new : Evidence) (h : List Line) (event : ℕ) (node : ArrayString) (t : program.Term) (who : Who) → IsReach tools r h → IsEvidence old h
-    → IsSpeaker who names (declared_in h) (line.Seal event node t) → Seals r old new (eui_of_node who.node) t → IsEvidence new (h ++ line.Seal event node t ∷ [])
+pub seal_evidence : (tools : Tools) (names : List Bytes) (r : Reach) (old new : Evidence) (h : List Line) (event : ℕ)
+    (node : ArrayString) (t : program.Term) (who : Who) → IsReach tools r h → IsEvidence old h
+    → IsSpeaker who names (declared_in h) (line.Seal event node t) → Seals r old new (eui_of_node who.node) t
+    → IsEvidence new (h ++ line.Seal event node t ∷ [])
 unfolding naming.speaker
 seal_evidence tools names r old new h event node t who reach ev is seals =
     evidence_on tools r old new h (line.Seal event node t) reach ev
@@ -89,133 +96,182 @@ seal_evidence tools names r old new h event node t who reach ev is seals =
     (λ a d b w x.
     seals.sealed x d (length a)
     ∙ ap (λ (y : Bool). late_by old d (length a) x || y)
-    (ap (λ (y : Bool). same_term (model_term x) (model_term t) && y) (late_is r (eui_of_node who.node) d (length a) w.found w.low ∙ own_is (declared_in h) who.node node.bytes d is.eui)
+    (ap (λ (y : Bool). same_term (model_term x) (model_term t) && y)
+    (late_is r (eui_of_node who.node) d (length a) w.found w.low ∙ own_is (declared_in h) who.node node.bytes d
+    is.eui)
     ∙ sym (same_where (same_term (model_term x)) (is_of (declared_in h) d node.bytes) (model_term t))))
     (λ x d number there. elim (either (late_by old d number x) _ (sym (seals.sealed x d number) ∙ there)) [
       | inl before ↦ ev.early x d number before
       | inr it ↦
-          (let low : number ≤ r.windows.last = late_early r.windows (eui_of_node who.node) d number (and_right (same_term (model_term x) (model_term t)) _ it) in
+          (let low : number ≤ r.windows.last = late_early r.windows (eui_of_node who.node) d number
+          (and_right (same_term (model_term x) (model_term t)) _ it) in
           let le : r.windows.last ≤ length h = reach.last in
           omega arith)
     ])
 
-pub forge_evidence : (tools : Tools) (r : Reach) (old new : Evidence) (h : List Line) (event : ℕ) (t : program.Term) → IsReach tools r h → IsEvidence old h → Forges old new t
+pub forge_evidence : (tools : Tools) (r : Reach) (old new : Evidence) (h : List Line) (event : ℕ) (t : program.Term)
+    → IsReach tools r h → IsEvidence old h → Forges old new t
     → IsEvidence new (h ++ line.Forge event t ∷ [])
 forge_evidence tools r old new h event t reach ev forges =
     evidence_on tools r old new h (line.Forge event t) reach ev
     (λ x. forges.forged x ∙ ap (λ (y : Bool). has_term old.forged x || y) (sym (or_none _)))
-    (λ a d b w x. ap (λ (s : Bags program.Term LateSeal). has_seal (items_at term_cmp s x) d (length a)) forges.sealed ∙ sym (or_none _))
-    (λ x d number there. ev.early x d number (ap (λ (s : Bags program.Term LateSeal). has_seal (items_at term_cmp s x) d number) (sym forges.sealed) ∙ there))
+    (λ a d b w x. ap (λ (s : Bags program.Term LateSeal). has_seal (items_at term_cmp s x) d (length a)) forges.sealed
+    ∙ sym (or_none _))
+    (λ x d number there. ev.early x d number
+    (ap (λ (s : Bags program.Term LateSeal). has_seal (items_at term_cmp s x) d number) (sym forges.sealed) ∙
+    there))
 
 -- A device is admitted.
 
-module _ (tools : Tools) (names : List Bytes) (old new : Lockout) (h : List Line) (event : ℕ) (device : Eui) (ready : IsReady tools names old h (line.Live event device))
+module _ (tools : Tools) (names : List Bytes) (old new : Lockout) (h : List Line) (event : ℕ) (device : Eui)
+    (ready : IsReady tools names old h (line.Live event device))
     (admitted : Admits old.reach new.reach device.0) (evidence : new.evidence ≡ old.evidence) where
   abbrev live : Line
   live = line.Live event device
 
   elsewhere : (e : ℕ) → admits e live ≡ false → open_at new.reach.windows e ≡ open_at old.reach.windows e
-  elsewhere e adm = admitted.found e ∙ ap (λ (b : Bool). if b then None else open_at old.reach.windows e) (turned_number e device.0 ∙ adm)
+  elsewhere e adm = admitted.found e ∙ ap (λ (b : Bool). if b then None else open_at old.reach.windows e)
+      (turned_number e device.0 ∙ adm)
 
-  still_open : (e number : ℕ) → open_at new.reach.windows e ≡ Some number → (admits e live ≡ false) × (open_at old.reach.windows e ≡ Some number)
+  still_open : (e number : ℕ) → open_at new.reach.windows e ≡ Some number → (admits e live ≡ false)
+      × (open_at old.reach.windows e ≡ Some number)
   still_open e number found = elim (decided (admits e live)) [
-    | inl is ↦ absurd (gone (sym (admitted.found e ∙ ap (λ (b : Bool). if b then None else open_at old.reach.windows e) (turned_number e device.0 ∙ is)) ∙ found))
+    | inl is ↦ absurd
+        (gone (sym
+        (admitted.found e ∙ ap (λ (b : Bool). if b then None else open_at old.reach.windows e)
+        (turned_number e device.0 ∙ is)) ∙ found))
     | inr adm ↦ (adm, sym (elsewhere e adm) ∙ found)
   ]
     where
       gone : ◌≡◌ {A = Option ℕ} None (Some number) → ⊥
       gone e = cc
 
-  live_moves : (a : List Line) (d : ℕ) (b : List Line) → IsWindow old.reach h a d b → admits d live ≡ false → IsWindow new.reach (h ++ live ∷ []) a d (b ++ live ∷ [])
+  live_moves : (a : List Line) (d : ℕ) (b : List Line) → IsWindow old.reach h a d b → admits d live ≡ false
+      → IsWindow new.reach (h ++ live ∷ []) a d (b ++ live ∷ [])
   live_moves a d b w adm = record {
     whole = moved_whole h live a b w.whole;
     found = record { opened = w.found.opened; found = elsewhere d adm ∙ w.found.found; early = w.found.early };
     low = subst (λ (n : ℕ). length a ≤ n) (sym admitted.last) w.low;
     leads =
-        subst (λ (late : Lateness). LeadsTo new.reach.carriers (flat_map drawn_in (b ++ live ∷ [])) (late_from late (length a))) (sym admitted.late)
-        (subst (λ (c : Holdings Key). LeadsTo c (flat_map drawn_in (b ++ live ∷ [])) (late_from old.reach.late (length a))) (sym admitted.carriers) (drawn_same old.reach.carriers live b (late_from old.reach.late (length a)) refl w.leads));
+        subst (λ (late : Lateness). LeadsTo new.reach.carriers (flat_map drawn_in (b ++ live ∷ []))
+        (late_from late (length a))) (sym admitted.late)
+        (subst (λ (c : Holdings Key). LeadsTo c (flat_map drawn_in (b ++ live ∷ []))
+        (late_from old.reach.late (length a))) (sym admitted.carriers)
+        (drawn_same old.reach.carriers live b (late_from old.reach.late (length a)) refl w.leads));
   }
 
   live_reach : IsReach tools new.reach (h ++ live ∷ [])
   live_reach = record {
-    windows = each_more (IsWindow old.reach h) (IsWindow new.reach (h ++ live ∷ [])) live live_moves [] h ready.reach.windows tt;
+    windows = each_more (IsWindow old.reach h) (IsWindow new.reach (h ++ live ∷ [])) live live_moves [] h
+        ready.reach.windows tt;
     opened = λ d number found.
         let it = still_open d number found in
-        some_more (λ a e b. (e ≡ d) × (length a ≡ number)) (λ a e b. (e ≡ d) × (length a ≡ number)) live (λ a e b same. (ap (λ (x : ℕ). admits x live) same.0 ∙ it.0, same)) [] h (ready.reach.opened d number it.1);
-    below = λ d number found. subst (λ (n : ℕ). number ≤ n) (sym admitted.last) (ready.reach.below d number (still_open d number found).1);
-    held = λ k d. ap (λ (hs : Bags Key Eui). is_holder hs k d) admitted.holders ∙ held_same tools old.reach h live ready.reach (λ e. refl) k d;
-    carried = λ k b. ap (λ (c : Holdings Key). is_carried c k b) admitted.carriers ∙ carried_same tools old.reach h live ready.reach refl k b;
-    early = λ k. subst (λ (n : ℕ). late_of new.reach.late k ≤ n) (sym admitted.last) (subst (λ (late : Lateness). late_of late k ≤ old.reach.windows.last) (sym admitted.late) (ready.reach.early k));
-    last = (let same : new.reach.windows.last ≡ old.reach.windows.last = admitted.last in let le : old.reach.windows.last ≤ length h = ready.reach.last in let more = longer h live in omega arith);
+        some_more (λ a e b. (e ≡ d) × (length a ≡ number)) (λ a e b. (e ≡ d) × (length a ≡ number)) live
+        (λ a e b same. (ap (λ (x : ℕ). admits x live) same.0 ∙ it.0, same)) [] h
+        (ready.reach.opened d number it.1);
+    below = λ d number found. subst (λ (n : ℕ). number ≤ n) (sym admitted.last)
+        (ready.reach.below d number (still_open d number found).1);
+    held = λ k d. ap (λ (hs : Bags Key Eui). is_holder hs k d) admitted.holders ∙ held_same tools old.reach h live
+        ready.reach (λ e. refl) k d;
+    carried = λ k b. ap (λ (c : Holdings Key). is_carried c k b) admitted.carriers ∙ carried_same tools old.reach h
+        live ready.reach refl k b;
+    early = λ k. subst (λ (n : ℕ). late_of new.reach.late k ≤ n) (sym admitted.last)
+        (subst (λ (late : Lateness). late_of late k ≤ old.reach.windows.last) (sym admitted.late)
+        (ready.reach.early k));
+    last = (let same : new.reach.windows.last ≡ old.reach.windows.last = admitted.last in let le :
+        old.reach.windows.last ≤ length h = ready.reach.last in let more = longer h live in omega arith);
   }
 
   live_safe : IsSafe new.reach
   live_safe = λ d number k found has.
       subst (λ (late : Lateness). late_of late k < number) (sym admitted.late)
-      (ready.safe d number k (still_open d number found).1 (ap (λ (hs : Bags Key Eui). bytes_eq k well_known || is_holder hs k d) (sym admitted.holders) ∙ has))
+      (ready.safe d number k (still_open d number found).1
+      (ap (λ (hs : Bags Key Eui). bytes_eq k well_known || is_holder hs k d) (sym admitted.holders) ∙ has))
 
   pub live_judged : IsJudged tools new h live true
   unfolding refuses_line
   live_judged =
-      let front : EachWindow (λ a d b. admits d live ≡ false → IsWindow new.reach (h ++ live ∷ []) a d (b ++ live ∷ [])) [] h =
-      each_map (IsWindow old.reach h) (λ a d b. admits d live ≡ false → IsWindow new.reach (h ++ live ∷ []) a d (b ++ live ∷ [])) live_moves [] h ready.reach.windows in record {
+      let front : EachWindow
+      (λ a d b. admits d live ≡ false → IsWindow new.reach (h ++ live ∷ []) a d (b ++ live ∷ [])) [] h =
+      each_map (IsWindow old.reach h)
+      (λ a d b. admits d live ≡ false → IsWindow new.reach (h ++ live ∷ []) a d (b ++ live ∷ [])) live_moves [] h
+      ready.reach.windows in record {
         reach = live_reach;
-        evidence = subst (λ (e : Evidence). IsEvidence e (h ++ live ∷ [])) (sym evidence) (evidence_same tools old.reach old.evidence h live ready.reach ready.evidence refl (λ d known. refl));
+        evidence = subst (λ (e : Evidence). IsEvidence e (h ++ live ∷ [])) (sym evidence)
+            (evidence_same tools old.reach old.evidence h live ready.reach ready.evidence refl (λ d known. refl));
         safe = λ stay. live_safe;
-        holds = λ stay. stays_so tools new.reach h live live_reach front live_safe (all_refused tools new.reach h live live_reach front (λ a d b. refl));
+        holds = λ stay. stays_so tools new.reach h live live_reach front live_safe
+            (all_refused tools new.reach h live live_reach front (λ a d b. refl));
         fails = λ out. cc;
       }
 
 -- A device is removed.
 
-module _ (tools : Tools) (names : List Bytes) (old new : Lockout) (h : List Line) (event : ℕ) (device : Eui) (number : ℕ) (ready : IsReady tools names old h (line.Removed event device))
-    (removes : Removes old.reach new.reach device.0 number) (number_is : number ≡ length h + 1) (evidence : new.evidence ≡ old.evidence) where
+module _ (tools : Tools) (names : List Bytes) (old new : Lockout) (h : List Line) (event : ℕ) (device : Eui)
+    (number : ℕ) (ready : IsReady tools names old h (line.Removed event device))
+    (removes : Removes old.reach new.reach device.0 number) (number_is : number ≡ length h + 1)
+    (evidence : new.evidence ≡ old.evidence) where
   abbrev gone : Line
   gone = line.Removed event device
 
   low_before : old.reach.windows.last ≤ new.reach.windows.last
-  low_before = let is : new.reach.windows.last ≡ number = removes.last in let le : old.reach.windows.last ≤ length h = ready.reach.last in omega (arith, number_is, is, le)
+  low_before = let is : new.reach.windows.last ≡ number = removes.last in let le : old.reach.windows.last ≤ length h =
+      ready.reach.last in omega (arith, number_is, is, le)
 
   kept_open : (e m : ℕ) → open_at old.reach.windows e ≡ Some m → open_at new.reach.windows e ≡ Some m
-  kept_open e m found = removes.found e ∙ ap (λ (o : Option ℕ). option_or o (if nat_eq e device.0 then Some number else None)) found
+  kept_open e m found =
+      removes.found e ∙ ap (λ (o : Option ℕ). option_or o (if nat_eq e device.0 then Some number else None)) found
 
-  came_open : (e m : ℕ) → open_at new.reach.windows e ≡ Some m → (open_at old.reach.windows e ≡ Some m) ⊎ ((e ≡ device.0) × (m ≡ number))
+  came_open : (e m : ℕ) → open_at new.reach.windows e ≡ Some m → (open_at old.reach.windows e ≡ Some m)
+      ⊎ ((e ≡ device.0) × (m ≡ number))
   came_open e m found = by (open_at old.reach.windows e) (nat_eq e device.0) refl refl (sym (removes.found e) ∙ found)
     where
       some_same : {x y : ℕ} → Some x ≡ Some y → x ≡ y
       some_same is = cc
 
-      by : (o : Option ℕ) (b : Bool) → open_at old.reach.windows e ≡ o → nat_eq e device.0 ≡ b → option_or o (if b then Some number else None) ≡ Some m
+      by : (o : Option ℕ) (b : Bool) → open_at old.reach.windows e ≡ o → nat_eq e device.0 ≡ b
+          → option_or o (if b then Some number else None) ≡ Some m
           → (open_at old.reach.windows e ≡ Some m) ⊎ ((e ≡ device.0) × (m ≡ number))
       by (Some x) b is same it = inl (is ∙ it)
       by None true is same it = inr (same_number e device.0 same, sym (some_same it))
       by None false is same it = cc
 
-  gone_moves : (a : List Line) (d : ℕ) (b : List Line) → IsWindow old.reach h a d b → admits d gone ≡ false → IsWindow new.reach (h ++ gone ∷ []) a d (b ++ gone ∷ [])
+  gone_moves : (a : List Line) (d : ℕ) (b : List Line) → IsWindow old.reach h a d b → admits d gone ≡ false
+      → IsWindow new.reach (h ++ gone ∷ []) a d (b ++ gone ∷ [])
   gone_moves a d b w adm = record {
     whole = moved_whole h gone a b w.whole;
-    found = record { opened = w.found.opened; found = kept_open d w.found.opened w.found.found; early = w.found.early };
-    low = (let le : length a ≤ old.reach.windows.last = w.low in let more : old.reach.windows.last ≤ new.reach.windows.last = low_before in omega arith);
+    found =
+        record { opened = w.found.opened; found = kept_open d w.found.opened w.found.found; early = w.found.early };
+    low = (let le : length a ≤ old.reach.windows.last = w.low in let more : old.reach.windows.last
+        ≤ new.reach.windows.last = low_before in omega arith);
     leads =
-        subst (λ (late : Lateness). LeadsTo new.reach.carriers (flat_map drawn_in (b ++ gone ∷ [])) (late_from late (length a))) (sym removes.late)
-        (subst (λ (c : Holdings Key). LeadsTo c (flat_map drawn_in (b ++ gone ∷ [])) (late_from old.reach.late (length a))) (sym removes.carriers) (drawn_same old.reach.carriers gone b (late_from old.reach.late (length a)) refl w.leads));
+        subst (λ (late : Lateness). LeadsTo new.reach.carriers (flat_map drawn_in (b ++ gone ∷ []))
+        (late_from late (length a))) (sym removes.late)
+        (subst (λ (c : Holdings Key). LeadsTo c (flat_map drawn_in (b ++ gone ∷ []))
+        (late_from old.reach.late (length a))) (sym removes.carriers)
+        (drawn_same old.reach.carriers gone b (late_from old.reach.late (length a)) refl w.leads));
   }
 
   -- no key is as late as the removal
   not_late : (k : Bytes) → late_from new.reach.late (length (h ++ gone ∷ [])) k ≡ true → ⊥
   not_late k there =
-      let high : length (h ++ gone ∷ []) ≤ late_of new.reach.late k = leb-true (length (h ++ gone ∷ [])) (late_of new.reach.late k) there in
-      let same : late_of new.reach.late k ≡ late_of old.reach.late k = ap (λ (l : Lateness). late_of l k) removes.late in
+      let high : length (h ++ gone ∷ []) ≤ late_of new.reach.late k =
+      leb-true (length (h ++ gone ∷ [])) (late_of new.reach.late k) there in
+      let same : late_of new.reach.late k ≡ late_of old.reach.late k = ap (λ (l : Lateness). late_of l k) removes.late
+      in
       let low : late_of old.reach.late k ≤ old.reach.windows.last = ready.reach.early k in
       let le : old.reach.windows.last ≤ length h = ready.reach.last in
       let more = longer h gone in
       omega arith
 
-  gone_opened : (o : Option ℕ) → open_at old.reach.windows device.0 ≡ o → IsOpenBy new.reach device.0 (length (h ++ gone ∷ []))
+  gone_opened : (o : Option ℕ) → open_at old.reach.windows device.0 ≡ o
+      → IsOpenBy new.reach device.0 (length (h ++ gone ∷ []))
   gone_opened (Some m) is = record {
     opened = m;
     found = kept_open device.0 m is;
-    early = (let low : m ≤ old.reach.windows.last = ready.reach.below device.0 m is in let le : old.reach.windows.last ≤ length h = ready.reach.last in let more = longer h gone in omega arith);
+    early =
+        (let low : m ≤ old.reach.windows.last = ready.reach.below device.0 m is in let le : old.reach.windows.last
+        ≤ length h = ready.reach.last in let more = longer h gone in omega arith);
   }
   gone_opened None is = record {
     opened = number;
@@ -227,7 +283,8 @@ module _ (tools : Tools) (names : List Bytes) (old new : Lockout) (h : List Line
   gone_begins = record {
     whole = append-nil (h ++ gone ∷ []);
     found = gone_opened (open_at old.reach.windows device.0) refl;
-    low = (let is : new.reach.windows.last ≡ number = removes.last in let more = longer h gone in omega (arith, number_is, is, more));
+    low = (let is : new.reach.windows.last ≡ number = removes.last in let more = longer h gone in omega
+        (arith, number_is, is, more));
     leads = record {
       has = λ k there. cc;
       bases = λ k b there edge. absurd (not_late k there);
@@ -237,31 +294,50 @@ module _ (tools : Tools) (names : List Bytes) (old new : Lockout) (h : List Line
 
   gone_reach : IsReach tools new.reach (h ++ gone ∷ [])
   gone_reach = record {
-    windows = each_more (IsWindow old.reach h) (IsWindow new.reach (h ++ gone ∷ [])) gone gone_moves [] h ready.reach.windows (λ stays. gone_begins);
+    windows = each_more (IsWindow old.reach h) (IsWindow new.reach (h ++ gone ∷ [])) gone gone_moves [] h
+        ready.reach.windows (λ stays. gone_begins);
     opened = λ d m found. elim (came_open d m found) [
-      | inl before ↦ some_more (λ a e b. (e ≡ d) × (length a ≡ m)) (λ a e b. (e ≡ d) × (length a ≡ m)) gone (λ a e b same. (refl, same)) [] h (ready.reach.opened d m before)
-      | inr it ↦ some_last (λ a e b. (e ≡ d) × (length a ≡ m)) gone [] h (refl, (sym it.0, (let more = longer h gone in let is : m ≡ number = it.1 in omega (arith, number_is, more, is))))
+      | inl before ↦ some_more (λ a e b. (e ≡ d) × (length a ≡ m)) (λ a e b. (e ≡ d) × (length a ≡ m)) gone
+          (λ a e b same. (refl, same)) [] h (ready.reach.opened d m before)
+      | inr it ↦ some_last (λ a e b. (e ≡ d) × (length a ≡ m)) gone [] h (
+        refl,
+        (
+          sym it.0,
+          (let more = longer h gone in let is : m ≡ number = it.1 in omega (arith, number_is, more, is)),
+        ),
+      )
     ];
     below = λ d m found. elim (came_open d m found) [
-      | inl before ↦ (let le : m ≤ old.reach.windows.last = ready.reach.below d m before in let more : old.reach.windows.last ≤ new.reach.windows.last = low_before in omega arith)
-      | inr it ↦ (let is : m ≡ number = it.1 in let last : new.reach.windows.last ≡ number = removes.last in omega arith)
+      | inl before ↦
+          (let le : m ≤ old.reach.windows.last = ready.reach.below d m before in let more : old.reach.windows.last
+          ≤ new.reach.windows.last = low_before in omega arith)
+      | inr it ↦
+          (let is : m ≡ number = it.1 in let last : new.reach.windows.last ≡ number = removes.last in omega arith)
     ];
-    held = λ k d. ap (λ (hs : Bags Key Eui). is_holder hs k d) removes.holders ∙ held_same tools old.reach h gone ready.reach (λ e. refl) k d;
-    carried = λ k b. ap (λ (c : Holdings Key). is_carried c k b) removes.carriers ∙ carried_same tools old.reach h gone ready.reach refl k b;
+    held = λ k d. ap (λ (hs : Bags Key Eui). is_holder hs k d) removes.holders ∙ held_same tools old.reach h gone
+        ready.reach (λ e. refl) k d;
+    carried = λ k b. ap (λ (c : Holdings Key). is_carried c k b) removes.carriers ∙ carried_same tools old.reach h
+        gone ready.reach refl k b;
     early = λ k.
-        (let same : late_of new.reach.late k ≡ late_of old.reach.late k = ap (λ (l : Lateness). late_of l k) removes.late in
+        (let same : late_of new.reach.late k ≡ late_of old.reach.late k = ap (λ (l : Lateness). late_of l k)
+        removes.late in
         let low : late_of old.reach.late k ≤ old.reach.windows.last = ready.reach.early k in
         let more : old.reach.windows.last ≤ new.reach.windows.last = low_before in
         omega arith);
-    last = (let is : new.reach.windows.last ≡ number = removes.last in let more = longer h gone in omega (arith, number_is, is, more));
+    last = (let is : new.reach.windows.last ≡ number = removes.last in let more = longer h gone in omega
+        (arith, number_is, is, more));
   }
 
   gone_safe : IsSafe new.reach
   gone_safe = λ d m k found has.
-      let same : late_of new.reach.late k ≡ late_of old.reach.late k = ap (λ (l : Lateness). late_of l k) removes.late in
+      let same : late_of new.reach.late k ≡ late_of old.reach.late k = ap (λ (l : Lateness). late_of l k) removes.late
+      in
       elim (came_open d m found) [
         | inl before ↦
-            (let low : late_of old.reach.late k < m = ready.safe d m k before (ap (λ (hs : Bags Key Eui). bytes_eq k well_known || is_holder hs k d) (sym removes.holders) ∙ has) in omega arith)
+            (let low : late_of old.reach.late k
+            < m = ready.safe d m k before
+            (ap (λ (hs : Bags Key Eui). bytes_eq k well_known || is_holder hs k d) (sym removes.holders) ∙ has) in
+            omega arith)
         | inr it ↦
             (let is : m ≡ number = it.1 in
             let low : late_of old.reach.late k ≤ old.reach.windows.last = ready.reach.early k in
@@ -272,12 +348,17 @@ module _ (tools : Tools) (names : List Bytes) (old new : Lockout) (h : List Line
   pub gone_judged : IsJudged tools new h gone true
   unfolding refuses_line
   gone_judged =
-      let front : EachWindow (λ a d b. admits d gone ≡ false → IsWindow new.reach (h ++ gone ∷ []) a d (b ++ gone ∷ [])) [] h =
-      each_map (IsWindow old.reach h) (λ a d b. admits d gone ≡ false → IsWindow new.reach (h ++ gone ∷ []) a d (b ++ gone ∷ [])) gone_moves [] h ready.reach.windows in record {
+      let front : EachWindow
+      (λ a d b. admits d gone ≡ false → IsWindow new.reach (h ++ gone ∷ []) a d (b ++ gone ∷ [])) [] h =
+      each_map (IsWindow old.reach h)
+      (λ a d b. admits d gone ≡ false → IsWindow new.reach (h ++ gone ∷ []) a d (b ++ gone ∷ [])) gone_moves [] h
+      ready.reach.windows in record {
         reach = gone_reach;
-        evidence = subst (λ (e : Evidence). IsEvidence e (h ++ gone ∷ [])) (sym evidence) (evidence_same tools old.reach old.evidence h gone ready.reach ready.evidence refl (λ d known. refl));
+        evidence = subst (λ (e : Evidence). IsEvidence e (h ++ gone ∷ [])) (sym evidence)
+            (evidence_same tools old.reach old.evidence h gone ready.reach ready.evidence refl (λ d known. refl));
         safe = λ stay. gone_safe;
-        holds = λ stay. stays_so tools new.reach h gone gone_reach front gone_safe (all_refused tools new.reach h gone gone_reach front (λ a d b. refl));
+        holds = λ stay. stays_so tools new.reach h gone gone_reach front gone_safe
+            (all_refused tools new.reach h gone gone_reach front (λ a d b. refl));
         fails = λ out. cc;
       }
 
@@ -294,20 +375,32 @@ one_late w [] some = cc
 one_late w (s ∷ seals) some = elim (either (opened_by (open_at w s.device.0) s.number) (some_late w seals) some) [
   | inl here ↦
       (let it : IsOpened (open_at w s.device.0) s.number = was_opened (open_at w s.device.0) s.number here in
-      record { device = s.device.0; opened = it.opened; found = it.is; sealed = or_left _ _ (both _ _ (itself_number s.device.0) (le-leb it.opened s.number it.early)) })
-  | inr later ↦ (let it = one_late w seals later in record { device = it.device; opened = it.opened; found = it.found; sealed = or_right _ _ it.sealed })
+      record {
+        device = s.device.0;
+        opened = it.opened;
+        found = it.is;
+        sealed = or_left _ _ (both _ _ (itself_number s.device.0) (le-leb it.opened s.number it.early));
+      })
+  | inr later ↦
+      (let it = one_late w seals later in
+      record { device = it.device; opened = it.opened; found = it.found; sealed = or_right _ _ it.sealed })
 ]
 
-pub late_open : (w : Windows) (d m n : ℕ) (seals : List LateSeal) → open_at w d ≡ Some m → m ≤ n → has_seal seals d n ≡ true → some_late w seals ≡ true
+pub late_open : (w : Windows) (d m n : ℕ) (seals : List LateSeal) → open_at w d ≡ Some m → m ≤ n → has_seal seals d n
+    ≡ true → some_late w seals ≡ true
 late_open w d m n [] found le there = cc
-late_open w d m n (s ∷ seals) found le there = elim (either (nat_eq d s.device.0 && nat_le n s.number) (has_seal seals d n) there) [
-  | inl here ↦
-      (let high : n ≤ s.number = leb-true n s.number (and_right (nat_eq d s.device.0) _ here) in
-      or_left _ _ (opened_one (open_at w s.device.0) s.number m (ap (open_at w) (sym (same_number d s.device.0 (and_left _ _ here))) ∙ found) (omega (arith, high, le))))
-  | inr later ↦ or_right (opened_by (open_at w s.device.0) s.number) _ (late_open w d m n seals found le later)
-]
+late_open w d m n (s ∷ seals) found le there =
+    elim (either (nat_eq d s.device.0 && nat_le n s.number) (has_seal seals d n) there) [
+      | inl here ↦
+          (let high : n ≤ s.number = leb-true n s.number (and_right (nat_eq d s.device.0) _ here) in
+          or_left _ _
+          (opened_one (open_at w s.device.0) s.number m
+          (ap (open_at w) (sym (same_number d s.device.0 (and_left _ _ here))) ∙ found) (omega (arith, high, le))))
+      | inr later ↦ or_right (opened_by (open_at w s.device.0) s.number) _ (late_open w d m n seals found le later)
+    ]
 
-module _ (tools : Tools) (names : List Bytes) (s : Lockout) (h : List Line) (event : ℕ) (node : ArrayString) (t : program.Term) (who : Who) (ready : IsReady tools names s h (line.Accept event node t))
+module _ (tools : Tools) (names : List Bytes) (s : Lockout) (h : List Line) (event : ℕ) (node : ArrayString)
+    (t : program.Term) (who : Who) (ready : IsReady tools names s h (line.Accept event node t))
     (at : place_in names node.bytes ≡ Some who.place) where
   abbrev taken : Line
   taken = line.Accept event node t
@@ -316,47 +409,68 @@ module _ (tools : Tools) (names : List Bytes) (s : Lockout) (h : List Line) (eve
   known_there g = holds_known tools (before_group (g ++ taken ∷ [])) node.bytes
 
   known_is : knows s.past.before who.place ≡ known_there h
-  known_is = knows_is tools names s.past.before (before_group (h ++ taken ∷ [])) node.bytes who.place ready.past.before at
+  known_is = knows_is tools names s.past.before (before_group (h ++ taken ∷ [])) node.bytes who.place
+      ready.past.before at
 
   abbrev Sealed : Claim
-  Sealed a d b = (x : program.Term) → late_by s.evidence d (length a) x ≡ list_any (same_term (model_term x)) (along (sealed_by d) (declared_in a) b)
+  Sealed a d b = (x : program.Term) → late_by s.evidence d (length a) x
+      ≡ list_any (same_term (model_term x)) (along (sealed_by d) (declared_in a) b)
 
   abbrev foul : List Line → ℕ → List Line → Bool
-  foul a d b = list_any (same_term (model_term t)) (along (sealed_by d) (declared_in a) b ++ flat_map forged_in (a ++ b))
+  foul a d b =
+      list_any (same_term (model_term t)) (along (sealed_by d) (declared_in a) b ++ flat_map forged_in (a ++ b))
 
-  forged_is : (a b : List Line) → a ++ b ≡ h → list_any (same_term (model_term t)) (flat_map forged_in (a ++ b)) ≡ has_term s.evidence.forged t
-  forged_is a b whole = ap (λ (g : List Line). list_any (same_term (model_term t)) (flat_map forged_in g)) whole ∙ sym (ready.evidence.forged t)
+  forged_is : (a b : List Line) → a ++ b ≡ h → list_any (same_term (model_term t)) (flat_map forged_in (a ++ b))
+      ≡ has_term s.evidence.forged t
+  forged_is a b whole = ap (λ (g : List Line). list_any (same_term (model_term t)) (flat_map forged_in g)) whole ∙ sym
+      (ready.evidence.forged t)
 
-  windows_open : (a : List Line) (d : ℕ) (b : List Line) → IsWindow s.reach h a d b → some_open s.reach.windows s.reach.windows.last (keys_of s.reach.windows.removals) ≡ true
+  windows_open : (a : List Line) (d : ℕ) (b : List Line) → IsWindow s.reach h a d b
+      → some_open s.reach.windows s.reach.windows.last (keys_of s.reach.windows.removals) ≡ true
   windows_open a d b w =
-      some_key s.reach.windows s.reach.windows.last d w.found.opened w.found.found (let le : w.found.opened ≤ length a = w.found.early in let low : length a ≤ s.reach.windows.last = w.low in omega arith)
+      some_key s.reach.windows s.reach.windows.last d w.found.opened w.found.found
+      (let le : w.found.opened ≤ length a = w.found.early in let low : length a
+      ≤ s.reach.windows.last = w.low in omega arith)
 
   -- where nothing is foul
-  clean : is_foul s.reach.windows s.evidence t ≡ false → (a : List Line) (d : ℕ) (b : List Line) → IsWindow s.reach h a d b × Sealed a d b → foul a d b ≡ false
+  clean : is_foul s.reach.windows s.evidence t ≡ false → (a : List Line) (d : ℕ) (b : List Line)
+      → IsWindow s.reach h a d b × Sealed a d b → foul a d b ≡ false
   clean none a d b it =
       list_any-append (same_term (model_term t)) (along (sealed_by d) (declared_in a) b) (flat_map forged_in (a ++ b))
-      ∙ both_off _ _ (sealed_off (decided (list_any (same_term (model_term t)) (along (sealed_by d) (declared_in a) b)))) (forged_off (decided (has_term s.evidence.forged t)))
+      ∙ both_off _ _
+      (sealed_off (decided (list_any (same_term (model_term t)) (along (sealed_by d) (declared_in a) b))))
+      (forged_off (decided (has_term s.evidence.forged t)))
     where
-      sealed_off : (list_any (same_term (model_term t)) (along (sealed_by d) (declared_in a) b) ≡ true) ⊎ (list_any (same_term (model_term t)) (along (sealed_by d) (declared_in a) b) ≡ false)
+      sealed_off : (list_any (same_term (model_term t)) (along (sealed_by d) (declared_in a) b) ≡ true)
+          ⊎ (list_any (same_term (model_term t)) (along (sealed_by d) (declared_in a) b) ≡ false)
           → list_any (same_term (model_term t)) (along (sealed_by d) (declared_in a) b) ≡ false
       sealed_off (inr off) = off
       sealed_off (inl there) =
-          absurd (not_both (some_late s.reach.windows (seals_of s.evidence t)) (late_open s.reach.windows d it.0.found.opened (length a) (seals_of s.evidence t) it.0.found.found it.0.found.early (it.1 t ∙ there))
+          absurd (not_both (some_late s.reach.windows (seals_of s.evidence t))
+          (late_open s.reach.windows d it.0.found.opened (length a) (seals_of s.evidence t) it.0.found.found
+          it.0.found.early (it.1 t ∙ there))
           (left_off (some_late s.reach.windows (seals_of s.evidence t)) _ none))
 
-      forged_off : (has_term s.evidence.forged t ≡ true) ⊎ (has_term s.evidence.forged t ≡ false) → list_any (same_term (model_term t)) (flat_map forged_in (a ++ b)) ≡ false
+      forged_off : (has_term s.evidence.forged t ≡ true) ⊎ (has_term s.evidence.forged t ≡ false)
+          → list_any (same_term (model_term t)) (flat_map forged_in (a ++ b)) ≡ false
       forged_off (inr off) = forged_is a b it.0.whole ∙ off
       forged_off (inl there) =
-          absurd (not_both (some_open s.reach.windows s.reach.windows.last (keys_of s.reach.windows.removals) && has_term s.evidence.forged t) (both _ _ (windows_open a d b it.0) there)
+          absurd (not_both (some_open s.reach.windows s.reach.windows.last (keys_of s.reach.windows.removals)
+          && has_term s.evidence.forged t) (both _ _ (windows_open a d b it.0) there)
           (right_off (some_late s.reach.windows (seals_of s.evidence t)) _ none))
 
-  refuses_is : (a : List Line) (d : ℕ) (b : List Line) → a ++ b ≡ h → refuses_line tools d a b taken ≡ (is_aps t.layer || (knows s.past.before who.place || not (foul a d b)))
+  refuses_is : (a : List Line) (d : ℕ) (b : List Line) → a ++ b ≡ h → refuses_line tools d a b taken
+      ≡ (is_aps t.layer || (knows s.past.before who.place || not (foul a d b)))
   unfolding refuses_line
-  refuses_is a d b whole = ap (λ (g : List Line). is_aps t.layer || (known_there g || not (foul a d b))) whole ∙ ap (λ (x : Bool). is_aps t.layer || (x || not (foul a d b))) (sym known_is)
+  refuses_is a d b whole = ap (λ (g : List Line). is_aps t.layer || (known_there g || not (foul a d b))) whole ∙ ap
+      (λ (x : Bool). is_aps t.layer || (x || not (foul a d b))) (sym known_is)
 
   -- the answer tells whether each window refuses the term
-  refused : (l : Layer) → t.layer ≡ l → accepts_at l s who.place t ≡ true → (a : List Line) (d : ℕ) (b : List Line) → IsWindow s.reach h a d b × Sealed a d b → refuses_line tools d a b taken ≡ true
-  refused layer.Aps is stay a d b it = refuses_is a d b it.0.whole ∙ ap (λ (l : Layer). is_aps l || (knows s.past.before who.place || not (foul a d b))) is
+  refused : (l : Layer) → t.layer ≡ l → accepts_at l s who.place t ≡ true → (a : List Line) (d : ℕ) (b : List Line)
+      → IsWindow s.reach h a d b × Sealed a d b → refuses_line tools d a b taken ≡ true
+  refused layer.Aps is stay a d b it =
+      refuses_is a d b it.0.whole ∙ ap
+      (λ (l : Layer). is_aps l || (knows s.past.before who.place || not (foul a d b))) is
   refused layer.Nwk is stay a d b it =
       refuses_is a d b it.0.whole
       ∙ or_right (is_aps t.layer) _
@@ -368,57 +482,86 @@ module _ (tools : Tools) (names : List Bytes) (s : Lockout) (h : List Line) (eve
   abbrev Fails : Claim
   Fails a d b = refuses_line tools d a b taken ≡ false
 
-  fails_there : t.layer ≡ layer.Nwk → knows s.past.before who.place ≡ false → (a : List Line) (d : ℕ) (b : List Line) → a ++ b ≡ h → foul a d b ≡ true → Fails a d b
-  fails_there is unknown a d b whole there = refuses_is a d b whole ∙ both_off _ _ (ap is_aps is) (both_off _ _ unknown (not_off _ there))
+  fails_there : t.layer ≡ layer.Nwk → knows s.past.before who.place ≡ false → (a : List Line) (d : ℕ) (b : List Line)
+      → a ++ b ≡ h → foul a d b ≡ true → Fails a d b
+  fails_there is unknown a d b whole there = refuses_is a d b whole ∙ both_off _ _ (ap is_aps is)
+      (both_off _ _ unknown (not_off _ there))
 
   in_each : EachWindow (λ a d b. IsWindow s.reach h a d b × Sealed a d b) [] h
   in_each = each_both (IsWindow s.reach h) Sealed [] h ready.reach.windows ready.evidence.sealed
 
-  out_late : t.layer ≡ layer.Nwk → knows s.past.before who.place ≡ false → IsLate s.reach.windows (seals_of s.evidence t) → SomeWindow Fails [] h
+  out_late : t.layer ≡ layer.Nwk → knows s.past.before who.place ≡ false
+      → IsLate s.reach.windows (seals_of s.evidence t) → SomeWindow Fails [] h
   out_late is unknown late =
-      some_map (λ a d b. (IsWindow s.reach h a d b × Sealed a d b) × ((d ≡ late.device) × (length a ≡ late.opened))) Fails
+      some_map (λ a d b. (IsWindow s.reach h a d b × Sealed a d b) × ((d ≡ late.device) × (length a ≡ late.opened)))
+      Fails
       (λ a d b it.
       fails_there is unknown a d b it.0.0.whole
       (list_any-append (same_term (model_term t)) (along (sealed_by d) (declared_in a) b) (flat_map forged_in (a ++ b))
-      ∙ or_left _ _ (sym (it.0.1 t) ∙ (ap (λ (e : ℕ). has_seal (seals_of s.evidence t) e (length a)) it.1.0 ∙ (ap (λ (n : ℕ). has_seal (seals_of s.evidence t) late.device n) it.1.1 ∙ late.sealed))))) [] h
-      (each_some (λ a d b. IsWindow s.reach h a d b × Sealed a d b) (λ a d b. (d ≡ late.device) × (length a ≡ late.opened)) [] h in_each (ready.reach.opened late.device late.opened late.found))
+      ∙ or_left _ _
+      (sym (it.0.1 t) ∙
+      (ap (λ (e : ℕ). has_seal (seals_of s.evidence t) e (length a)) it.1.0 ∙
+      (ap (λ (n : ℕ). has_seal (seals_of s.evidence t) late.device n) it.1.1 ∙ late.sealed))))) [] h
+      (each_some (λ a d b. IsWindow s.reach h a d b × Sealed a d b)
+      (λ a d b. (d ≡ late.device) × (length a ≡ late.opened)) [] h in_each
+      (ready.reach.opened late.device late.opened late.found))
 
-  out_forged : t.layer ≡ layer.Nwk → knows s.past.before who.place ≡ false → (some_open s.reach.windows s.reach.windows.last (keys_of s.reach.windows.removals) && has_term s.evidence.forged t) ≡ true → SomeWindow Fails [] h
+  out_forged : t.layer ≡ layer.Nwk → knows s.past.before who.place ≡ false
+      → (some_open s.reach.windows s.reach.windows.last (keys_of s.reach.windows.removals)
+      && has_term s.evidence.forged t) ≡ true → SomeWindow Fails [] h
   out_forged is unknown both_so =
-      let one = one_open s.reach.windows s.reach.windows.last (keys_of s.reach.windows.removals) (and_left _ _ both_so) in
-      some_map (λ a d b. (IsWindow s.reach h a d b × Sealed a d b) × ((d ≡ one.device) × (length a ≡ one.opened.opened))) Fails
+      let one = one_open s.reach.windows s.reach.windows.last (keys_of s.reach.windows.removals)
+      (and_left _ _ both_so) in
+      some_map
+      (λ a d b. (IsWindow s.reach h a d b × Sealed a d b) × ((d ≡ one.device) × (length a ≡ one.opened.opened)))
+      Fails
       (λ a d b it.
       fails_there is unknown a d b it.0.0.whole
       (list_any-append (same_term (model_term t)) (along (sealed_by d) (declared_in a) b) (flat_map forged_in (a ++ b))
-      ∙ or_right (list_any (same_term (model_term t)) (along (sealed_by d) (declared_in a) b)) _ (forged_is a b it.0.0.whole ∙ and_right (some_open s.reach.windows s.reach.windows.last (keys_of s.reach.windows.removals)) _ both_so))) [] h
-      (each_some (λ a d b. IsWindow s.reach h a d b × Sealed a d b) (λ a d b. (d ≡ one.device) × (length a ≡ one.opened.opened)) [] h in_each (ready.reach.opened one.device one.opened.opened one.opened.is))
+      ∙ or_right (list_any (same_term (model_term t)) (along (sealed_by d) (declared_in a) b)) _
+      (forged_is a b it.0.0.whole ∙ and_right
+      (some_open s.reach.windows s.reach.windows.last (keys_of s.reach.windows.removals)) _ both_so))) [] h
+      (each_some (λ a d b. IsWindow s.reach h a d b × Sealed a d b)
+      (λ a d b. (d ≡ one.device) × (length a ≡ one.opened.opened)) [] h in_each
+      (ready.reach.opened one.device one.opened.opened one.opened.is))
 
   out : (l : Layer) → t.layer ≡ l → accepts_at l s who.place t ≡ false → SomeWindow Fails [] h
   out layer.Aps is no_stay = cc
   out layer.Nwk is no_stay =
-      let unknown : knows s.past.before who.place ≡ false = right_off (not (is_foul s.reach.windows s.evidence t)) _ no_stay in
-      elim (either (some_late s.reach.windows (seals_of s.evidence t)) _ (was_on _ (left_off (not (is_foul s.reach.windows s.evidence t)) _ no_stay))) [
+      let unknown : knows s.past.before who.place ≡ false = right_off (not (is_foul s.reach.windows s.evidence t)) _
+      no_stay in
+      elim (either (some_late s.reach.windows (seals_of s.evidence t)) _
+      (was_on _ (left_off (not (is_foul s.reach.windows s.evidence t)) _ no_stay))) [
         | inl late ↦ out_late is unknown (one_late s.reach.windows (seals_of s.evidence t) late)
         | inr forged ↦ out_forged is unknown forged
       ]
 
-  accept_leads : (r : ℕ) (b : List Line) → r ≤ s.reach.windows.last → LeadsTo s.reach.carriers (flat_map drawn_in b) (late_from s.reach.late r)
+  accept_leads : (r : ℕ) (b : List Line) → r ≤ s.reach.windows.last → LeadsTo s.reach.carriers (flat_map drawn_in b)
+      (late_from s.reach.late r)
       → LeadsTo s.reach.carriers (flat_map drawn_in (b ++ taken ∷ [])) (late_from s.reach.late r)
   accept_leads r b le leads = drawn_same s.reach.carriers taken b (late_from s.reach.late r) refl leads
 
   taken_reach : IsReach tools s.reach (h ++ taken ∷ [])
   taken_reach =
-      reach_on tools s.reach s.reach h taken ready.reach refl accept_leads (held_same tools s.reach h taken ready.reach (λ e. refl)) (carried_same tools s.reach h taken ready.reach refl) ready.reach.early (λ d. refl) (λ Q. tt)
+      reach_on tools s.reach s.reach h taken ready.reach refl accept_leads
+      (held_same tools s.reach h taken ready.reach (λ e. refl))
+      (carried_same tools s.reach h taken ready.reach refl) ready.reach.early (λ d. refl) (λ Q. tt)
 
   pub accept_judged : IsJudged tools s h taken (accepts_at t.layer s who.place t)
   accept_judged =
-      let front : EachWindow (λ a d b. admits d taken ≡ false → IsWindow s.reach (h ++ taken ∷ []) a d (b ++ taken ∷ [])) [] h =
-      ahead tools s.reach s.reach h taken ready.reach refl accept_leads (held_same tools s.reach h taken ready.reach (λ e. refl)) (carried_same tools s.reach h taken ready.reach refl) ready.reach.early (λ d. refl) (λ Q. tt) in record {
+      let front : EachWindow
+      (λ a d b. admits d taken ≡ false → IsWindow s.reach (h ++ taken ∷ []) a d (b ++ taken ∷ [])) [] h =
+      ahead tools s.reach s.reach h taken ready.reach refl accept_leads
+      (held_same tools s.reach h taken ready.reach (λ e. refl))
+      (carried_same tools s.reach h taken ready.reach refl) ready.reach.early (λ d. refl) (λ Q. tt) in record {
         reach = taken_reach;
         evidence = evidence_same tools s.reach s.evidence h taken ready.reach ready.evidence refl (λ d known. refl);
         safe = λ stay. ready.safe;
         holds = λ stay.
             stays_so tools s.reach h taken taken_reach front ready.safe
-            (each_map (λ a d b. IsWindow s.reach h a d b × Sealed a d b) (λ a d b. refuses_line tools d a b taken ≡ true) (refused t.layer refl stay) [] h in_each);
-        fails = λ no_stay. some_map Fails (λ a d b. (admits d taken ≡ false) × (goes_on tools a d b taken ≡ false)) (λ a d b no. (refl, off_right (keeps_out tools a (b ++ taken ∷ []) d) _ no)) [] h (out t.layer refl no_stay);
+            (each_map (λ a d b. IsWindow s.reach h a d b × Sealed a d b)
+            (λ a d b. refuses_line tools d a b taken ≡ true) (refused t.layer refl stay) [] h in_each);
+        fails = λ no_stay. some_map Fails (λ a d b. (admits d taken ≡ false) × (goes_on tools a d b taken ≡ false))
+            (λ a d b no. (refl, off_right (keeps_out tools a (b ++ taken ∷ []) d) _ no)) [] h
+            (out t.layer refl no_stay);
       }

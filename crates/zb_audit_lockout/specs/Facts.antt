@@ -49,16 +49,20 @@ lives_at live place k = held nat_cmp live place k
 pub record Learnt (old new : Before) (f : Fact) : Type 0 where
   pub settled : IsSettled old.exposure → IsSettled new.exposure
   pub ever : (d : ℕ) (k : List ℕ) → node_has new.exposure.ever d k ≡ (node_has old.exposure.ever d k || holds_in d k f)
-  pub carried : (b k : List ℕ) → is_carried new.exposure.carried b k ≡ (is_carried old.exposure.carried b k || carries_in b k f)
+  pub carried : (b k : List ℕ) → is_carried new.exposure.carried b k
+      ≡ (is_carried old.exposure.carried b k || carries_in b k f)
   pub removed : (d : ℕ) → was_removed new.exposure d ≡ (was_removed old.exposure d || removes_in d f)
   pub live : (place : ℕ) (k : List ℕ) → lives_at new.live place k ≡ living place k (lives_at old.live place k) f
 
 -- What is known with the facts that follow is what these lines say.
 pub record Recalls (tools : Tools) (names : List Bytes) (b : Before) (facts : List Fact) (h : List Line) : Type 0 where
   pub settled : IsSettled b.exposure
-  pub ever : (d : ℕ) (k : List ℕ) → (node_has b.exposure.ever d k || list_any (holds_in d k) facts) ≡ holds (ever h d) k
-  pub carried : (base k : List ℕ) → (is_carried b.exposure.carried base k || list_any (carries_in base k) facts) ≡ list_any (carries tools base k) (terms_of h)
-  pub removed : (d : ℕ) → (was_removed b.exposure d || list_any (removes_in d) facts) ≡ list_any (nat_eq d) (removed_devices h)
+  pub ever : (d : ℕ) (k : List ℕ) → (node_has b.exposure.ever d k || list_any (holds_in d k) facts)
+      ≡ holds (ever h d) k
+  pub carried : (base k : List ℕ) → (is_carried b.exposure.carried base k || list_any (carries_in base k) facts)
+      ≡ list_any (carries tools base k) (terms_of h)
+  pub removed : (d : ℕ) → (was_removed b.exposure d || list_any (removes_in d) facts)
+      ≡ list_any (nat_eq d) (removed_devices h)
   pub live : (name : Bytes) (place : ℕ) → place_in names name ≡ Some place → (k : List ℕ)
       → fold (living place k) (lives_at b.live place k) facts ≡ is_live h name k
 
@@ -84,7 +88,8 @@ stated who (line.GivenNet node key sequence) = fact.Lives who.place key ∷ held
 stated who (line.GivenLink node partner key) = held_fact (eui_of_node who.node) key
 stated who (line.Install event node key sequence) = fact.Lives who.place key ∷ held_fact (eui_of_node who.node) key
 stated who (line.DropNet event node key) = fact.Drops who.place key ∷ []
-stated who (line.Row event node partner key attribute) = held_fact (partner_of who.is_centre partner) key ++ held_fact (eui_of_node who.node) key
+stated who (line.Row event node partner key attribute) = held_fact (partner_of who.is_centre partner) key
+    ++ held_fact (eui_of_node who.node) key
 stated who (line.Pair event node first second key) = fact.Holds first key ∷ fact.Holds second key ∷ []
 stated who (line.Removed event device) = fact.Removed device ∷ []
 stated who (line.Seal event node t) = carried_fact t.base (carried t)

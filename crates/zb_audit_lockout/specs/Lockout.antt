@@ -30,7 +30,8 @@ drawn_in _ = []
 -- it installs itself is among what it ever held.
 unfoldable pub keeps_out : Tools → List Line → List Line → ℕ → Bool
 keeps_out tools h between d =
-    not (list_any (holds (exposed tools (h ++ between) (well_known ∷ ever (h ++ between) d))) (flat_map drawn_in between))
+    not (list_any (holds (exposed tools (h ++ between) (well_known ∷ ever (h ++ between) d)))
+    (flat_map drawn_in between))
 
 -- the terms that a device sealed
 abbrev pub sealed_by : ℕ → List Station → Line → List Term
@@ -48,7 +49,8 @@ unfoldable pub refuses_line : Tools → ℕ → List Line → List Line → Line
 refuses_line tools d h since (line.Accept event node t) =
     is_aps t.layer
     || (holds_known tools (before_group ((h ++ since) ++ line.Accept event node t ∷ [])) node.bytes
-    || not (list_any (same_term (model_term t)) (along (sealed_by d) (declared_in h) since ++ flat_map forged_in (h ++ since))))
+    || not (list_any (same_term (model_term t))
+    (along (sealed_by d) (declared_in h) since ++ flat_map forged_in (h ++ since))))
 refuses_line tools d h since _ = true
 
 unfoldable pub refuses : Tools → ℕ → List Line → List Line → List Line → Bool
@@ -75,7 +77,8 @@ locked tools lines = locked_from tools [] lines
 -- The number of the first line with which lockout fails.
 abbrev pub unlocked_from : Tools → List Line → List Line → Option ℕ
 unlocked_from tools h [] = None
-unlocked_from tools h (l ∷ ls) = if locked tools (h ++ l ∷ []) then unlocked_from tools (h ++ l ∷ []) ls else Some (length h + 1)
+unlocked_from tools h (l ∷ ls) = if locked tools (h ++ l ∷ []) then unlocked_from tools (h ++ l ∷ []) ls
+    else Some (length h + 1)
 
 unfoldable pub first_unlocked : Tools → List Line → Option ℕ
 first_unlocked tools lines = unlocked_from tools [] lines

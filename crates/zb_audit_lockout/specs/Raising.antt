@@ -13,7 +13,8 @@ pub record IsRaised (old new : Lateness) (number : ℕ) (raised : List Key) (k :
   pub among : is_among raised k ≡ true
 
 -- Keys are raised to a number, and with a key that is raised all base keys under which it was carried; no others are.
-pub record Raises (carriers : Holdings Key) (old new : Lateness) (keys : List Key) (number : ℕ) (raised : List Key) : Type 0 where
+pub record Raises (carriers : Holdings Key) (old new : Lateness) (keys : List Key) (number : ℕ) (raised : List Key) :
+    Type 0 where
   pub told : (k : List ℕ) → (late_of new k ≡ late_of old k) ⊎ IsRaised old new number raised k
   pub only : (k : List ℕ) → is_among raised k ≡ true → late_of new k ≡ number
   pub reached : (k : List ℕ) → is_among keys k ≡ true → number ≤ late_of new k

@@ -86,7 +86,8 @@ some_late w seals = list_any (λ (s : LateSeal). opened_by (open_at w s.device.0
 -- whether there is a device, it is this one, and it is removed; and the last removal has at least that number
 abbrev pub is_late_seal : Windows → Option Eui → ℕ → ℕ → Bool
 is_late_seal w None d number = false
-is_late_seal w (Some device) d number = opened_by (open_at w device.0) w.last && (nat_eq d device.0 && nat_le number w.last)
+is_late_seal w (Some device) d number = opened_by (open_at w device.0) w.last
+    && (nat_eq d device.0 && nat_le number w.last)
 
 -- whether a term is one that was forged, or that a removed device sealed, while one is removed
 abbrev pub is_foul : Windows → Evidence → Term → Bool

@@ -54,7 +54,8 @@ pub record LeadsTo (carriers : Holdings Key) (drawn : List Bytes) (T : List ℕ 
   pub has : (k : List ℕ) → holds drawn k ≡ true → T k ≡ true
   pub bases : (k b : List ℕ) → T k ≡ true → is_carried carriers k b ≡ true → T b ≡ true
   pub least : (S : List ℕ → Bool) → ((k : List ℕ) → holds drawn k ≡ true → S k ≡ true)
-      → ((k b : List ℕ) → S k ≡ true → is_carried carriers k b ≡ true → S b ≡ true) → (k : List ℕ) → T k ≡ true → S k ≡ true
+      → ((k b : List ℕ) → S k ≡ true → is_carried carriers k b ≡ true → S b ≡ true) → (k : List ℕ) → T k ≡ true → S k
+      ≡ true
 
 -- the keys whose number is at least that one
 abbrev pub late_from : Lateness → ℕ → List ℕ → Bool
@@ -75,7 +76,8 @@ pub record IsWindow (r : Reach) (h a : List Line) (d : ℕ) (b : List Line) : Ty
 
 pub record IsReach (tools : Tools) (r : Reach) (h : List Line) : Type 0 where
   pub windows : EachWindow (IsWindow r h) [] h
-  pub opened : (d number : ℕ) → open_at r.windows d ≡ Some number → SomeWindow (λ a e b. (e ≡ d) × (length a ≡ number)) [] h
+  pub opened : (d number : ℕ) → open_at r.windows d ≡ Some number
+      → SomeWindow (λ a e b. (e ≡ d) × (length a ≡ number)) [] h
   pub below : (d number : ℕ) → open_at r.windows d ≡ Some number → number ≤ r.windows.last
   pub held : (k : List ℕ) (d : ℕ) → is_holder r.holders k d ≡ holds (ever h d) k
   pub carried : (k b : List ℕ) → is_carried r.carriers k b ≡ list_any (carries tools b k) (terms_of h)
@@ -88,7 +90,8 @@ has_key r d k = bytes_eq k well_known || is_holder r.holders k d
 
 -- No removed device holds a key that leads to one that was drawn since; some does.
 abbrev pub IsSafe : Reach → Type 0
-IsSafe r = (d number : ℕ) (k : List ℕ) → open_at r.windows d ≡ Some number → has_key r d k ≡ true → late_of r.late k < number
+IsSafe r = (d number : ℕ) (k : List ℕ) → open_at r.windows d ≡ Some number → has_key r d k ≡ true → late_of r.late k
+    < number
 
 pub record IsUnsafe (r : Reach) : Type 0 where
   pub device : ℕ
@@ -115,7 +118,8 @@ pub record RaisesOne (old new : Reach) (key : Key) (number : ℕ) : Type 0 where
 pub record Carries (old new : Reach) (base key : Key) : Type 0 where
   pub windows : new.windows ≡ old.windows
   pub holders : new.holders ≡ old.holders
-  pub carriers : (k b : List ℕ) → is_carried new.carriers k b ≡ (is_carried old.carriers k b || (bytes_eq k key.0 && bytes_eq b base.0))
+  pub carriers : (k b : List ℕ) → is_carried new.carriers k b
+      ≡ (is_carried old.carriers k b || (bytes_eq k key.0 && bytes_eq b base.0))
   pub raised : List Key
   pub raises : Raises new.carriers old.late new.late (base ∷ []) (late_of old.late key.0) raised
 
@@ -128,7 +132,8 @@ pub record Holds (old new : Reach) (more : ℕ → List ℕ → Bool) : Type 0 w
 
 -- A device was removed by the line of that number; a device was admitted.
 pub record Removes (old new : Reach) (d number : ℕ) : Type 0 where
-  pub found : (e : ℕ) → open_at new.windows e ≡ option_or (open_at old.windows e) (if nat_eq e d then Some number else None)
+  pub found : (e : ℕ) → open_at new.windows e ≡ option_or (open_at old.windows e) (if nat_eq e d then Some number
+      else None)
   pub last : new.windows.last ≡ number
   pub carriers : new.carriers ≡ old.carriers
   pub holders : new.holders ≡ old.holders
@@ -150,22 +155,27 @@ CarriesSome old new base (Some key) = Carries old new base key
 
 pub record Seals (r : Reach) (old new : Evidence) (device : Option Eui) (term : Term) : Type 0 where
   pub sealed : (t : Term) (d number : ℕ) → late_by new d number t
-      ≡ (late_by old d number t || (same_term (model_term t) (model_term term) && is_late_seal r.windows device d number))
+      ≡ (late_by old d number t
+      || (same_term (model_term t) (model_term term) && is_late_seal r.windows device d number))
   pub forged : new.forged ≡ old.forged
 
 pub record Forges (old new : Evidence) (term : Term) : Type 0 where
-  pub forged : (t : Term) → has_term new.forged t ≡ (has_term old.forged t || same_term (model_term t) (model_term term))
+  pub forged : (t : Term) → has_term new.forged t
+      ≡ (has_term old.forged t || same_term (model_term t) (model_term term))
   pub sealed : new.sealed ≡ old.sealed
 
 -- Seals are forgotten that are late of no device that is removed.
 pub record Forgets (w : Windows) (old new : Evidence) : Type 0 where
   pub forged : new.forged ≡ old.forged
-  pub kept : (t : Term) (d number : ℕ) → opened_by (open_at w d) number ≡ true → late_by new d number t ≡ late_by old d number t
+  pub kept : (t : Term) (d number : ℕ) → opened_by (open_at w d) number ≡ true → late_by new d number t
+      ≡ late_by old d number t
   pub fewer : (t : Term) (d number : ℕ) → late_by new d number t ≡ true → late_by old d number t ≡ true
 
 pub record IsEvidence (e : Evidence) (h : List Line) : Type 0 where
   pub forged : (t : Term) → has_term e.forged t ≡ list_any (same_term (model_term t)) (flat_map forged_in h)
-  pub sealed : EachWindow (λ a d b. (t : Term) → late_by e d (length a) t ≡ list_any (same_term (model_term t)) (along (sealed_by d) (declared_in a) b)) [] h
+  pub sealed : EachWindow
+      (λ a d b. (t : Term) → late_by e d (length a) t
+      ≡ list_any (same_term (model_term t)) (along (sealed_by d) (declared_in a) b)) [] h
   pub early : (t : Term) (d number : ℕ) → late_by e d number t ≡ true → number ≤ length h
 
 -- Lockout

@@ -15,7 +15,8 @@ Claim = List Line → ℕ → List Line → Type 0
 
 -- The claim holds of each window; of some window.
 abbrev pub EachAt : Claim → List Line → Line → List Line → Type 0
-EachAt P h (line.Removed event device) ls = is_shut device.0 ls ≡ false → P (h ++ line.Removed event device ∷ []) device.0 ls
+EachAt P h (line.Removed event device) ls = is_shut device.0 ls ≡ false
+    → P (h ++ line.Removed event device ∷ []) device.0 ls
 EachAt P h _ ls = Unit {0}
 
 abbrev pub EachWindow : Claim → List Line → List Line → Type 0
@@ -23,7 +24,8 @@ EachWindow P h [] = Unit {0}
 EachWindow P h (l ∷ ls) = EachAt P h l ls × EachWindow P (h ++ l ∷ []) ls
 
 abbrev pub SomeAt : Claim → List Line → Line → List Line → Type 0
-SomeAt P h (line.Removed event device) ls = (is_shut device.0 ls ≡ false) × P (h ++ line.Removed event device ∷ []) device.0 ls
+SomeAt P h (line.Removed event device) ls = (is_shut device.0 ls ≡ false)
+    × P (h ++ line.Removed event device ∷ []) device.0 ls
 SomeAt P h _ ls = ⊥
 
 abbrev pub SomeWindow : Claim → List Line → List Line → Type 0

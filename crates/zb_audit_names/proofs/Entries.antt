@@ -24,7 +24,8 @@ use Rattle.zb_audit_names.specs.declared.node.Node.{Node}
 use Rattle.zb_audit_names.specs.declared.node.Who.{Who}
 use Rattle.zb_audit_names.proofs.Places.{apart, itself, place_end, place_kept, same_bytes}
 
-pub stands_for_none : (names : BTreeMap ArrayString Who) → names.entries ≡ [] → Stands (record { names = names; has_centre = false }) [] []
+pub stands_for_none : (names : BTreeMap ArrayString Who) → names.entries ≡ []
+    → Stands (record { names = names; has_centre = false }) [] []
 unfolding place_in station_named centre_name
 stands_for_none names none = record {
   entries = λ name. rw none refl;
@@ -39,7 +40,8 @@ nothing f (Some x) e = cc
 
 -- One name more
 
-told_on : (who : Who) (names later : List Bytes) (known : List Station) (name : Bytes) → Tells who names known name → Tells who (names ++ later) known name
+told_on : (who : Who) (names later : List Bytes) (known : List Station) (name : Bytes) → Tells who names known name
+    → Tells who (names ++ later) known name
 told_on who names later known name told = record {
   place = place_kept names later name who.place told.place;
   eui = told.eui;
@@ -53,7 +55,9 @@ told_on who names later known name told = record {
 no_centre : (same is : Bool) (s : Station) (known : List Station) (name : Bytes) → bytes_eq s.name name ≡ same
     → (station_named known name ≡ None → is_centres known name ≡ false)
     → cond same (Some s) (station_named known name) ≡ None
-    → is_name (option_map (λ (s : Station). s.name) (cond is (Some s) (find (λ (s : Station). is_centre s.role) known))) name ≡ false
+    → is_name
+    (option_map (λ (s : Station). s.name) (cond is (Some s) (find (λ (s : Station). is_centre s.role) known)))
+    name ≡ false
 unfolding is_centres centre_name
 no_centre true is s known name e more f = cc
 no_centre false true s known name e more f = e
@@ -62,7 +66,8 @@ no_centre false false s known name e more f = more f
 centre_known : (known : List Station) (name : Bytes) → station_named known name ≡ None → is_centres known name ≡ false
 unfolding station_named is_centres centre_name
 centre_known [] name none = refl
-centre_known (s ∷ known) name none = no_centre (bytes_eq s.name name) (is_centre s.role) s known name refl (centre_known known name) none
+centre_known (s ∷ known) name none = no_centre (bytes_eq s.name name) (is_centre s.role) s known name refl
+    (centre_known known name) none
 
 -- Which entry is that of a name
 
@@ -70,26 +75,36 @@ at_name : (a b : ArrayString) → is_at (name_cmp a) b ≡ bytes_eq a.bytes b.by
 at_name a b = sym (texts_ties a.bytes b.bytes)
 
 -- The entries after one was written.
-written : (old new : Option Who) (same : Bool) (who : Who) (names : List Bytes) (known : List Station) (name : Bytes) → new ≡ cond same (Some who) old
-    → (same ≡ true → Tells who names known name) → (same ≡ false → IsEntry old names known name) → IsEntry new names known name
+written : (old new : Option Who) (same : Bool) (who : Who) (names : List Bytes) (known : List Station) (name : Bytes)
+    → new ≡ cond same (Some who) old
+    → (same ≡ true → Tells who names known name) → (same ≡ false → IsEntry old names known name)
+    → IsEntry new names known name
 written old new same who names known name is here there = by same refl
   where
     by : (b : Bool) → same ≡ b → IsEntry new names known name
-    by true e = subst (λ (o : Option Who). IsEntry o names known name) (sym (is ∙ ap (λ (b : Bool). cond b (Some who) old) e)) (here e)
-    by false e = subst (λ (o : Option Who). IsEntry o names known name) (sym (is ∙ ap (λ (b : Bool). cond b (Some who) old) e)) (there e)
+    by true e = subst (λ (o : Option Who). IsEntry o names known name)
+        (sym (is ∙ ap (λ (b : Bool). cond b (Some who) old) e)) (here e)
+    by false e = subst (λ (o : Option Who). IsEntry o names known name)
+        (sym (is ∙ ap (λ (b : Bool). cond b (Some who) old) e)) (there e)
 
-absent : (o : Option Who) (names : List Bytes) (known : List Station) (name : Bytes) → o ≡ None → IsEntry o names known name → place_in names name ≡ None
+absent : (o : Option Who) (names : List Bytes) (known : List Station) (name : Bytes) → o ≡ None
+    → IsEntry o names known name → place_in names name ≡ None
 absent o names known name none entry = subst (λ (o : Option Who). IsEntry o names known name) none entry
 
 -- A new name
 
-pub is_new : (d : Directory) (names : List Bytes) (known : List Station) (name : ArrayString) → Stands d names known → get name_cmp d.names name ≡ None → place_in names name.bytes ≡ None
-is_new d names known name stands none = absent (get name_cmp d.names name) names known name.bytes none (stands.entries name)
+pub is_new : (d : Directory) (names : List Bytes) (known : List Station) (name : ArrayString) → Stands d names known
+    → get name_cmp d.names name ≡ None → place_in names name.bytes ≡ None
+is_new d names known name stands none = absent (get name_cmp d.names name) names known name.bytes none
+    (stands.entries name)
 
-end_place : (names : List Bytes) (name : Bytes) → place_in names name ≡ None → place_in (names ++ name ∷ []) name ≡ Some (length names)
-end_place names name new = place_end names name name new ∙ ap (λ (b : Bool). if b then Some (length names) else None) (itself name)
+end_place : (names : List Bytes) (name : Bytes) → place_in names name ≡ None → place_in (names ++ name ∷ []) name
+    ≡ Some (length names)
+end_place names name new = place_end names name name new ∙ ap (λ (b : Bool). if b then Some (length names) else None)
+    (itself name)
 
-pub tells_new : (d : Directory) (place : ℕ) (names : List Bytes) (known : List Station) (name : ArrayString) → place ≡ btree_map_len d.names → Stands d names known → place_in names name.bytes ≡ None
+pub tells_new : (d : Directory) (place : ℕ) (names : List Bytes) (known : List Station) (name : ArrayString) → place
+    ≡ btree_map_len d.names → Stands d names known → place_in names name.bytes ≡ None
     → Tells (record { place = place; node = None; is_centre = false }) (names ++ name.bytes ∷ []) known name.bytes
 unfolding eui_of
 tells_new d place names known name last stands new =
@@ -103,57 +118,76 @@ tells_new d place names known name last stands new =
       centre = sym (centre_known known name.bytes silent);
     }
 
-entry_kept : (o : Option Who) (names : List Bytes) (known : List Station) (name other : Bytes) → bytes_eq name other ≡ false → IsEntry o names known other → IsEntry o (names ++ name ∷ []) known other
-entry_kept None names known name other differ entry = place_end names other name entry ∙ ap (λ (b : Bool). if b then Some (length names) else None) differ
+entry_kept : (o : Option Who) (names : List Bytes) (known : List Station) (name other : Bytes) → bytes_eq name other
+    ≡ false → IsEntry o names known other → IsEntry o (names ++ name ∷ []) known other
+entry_kept None names known name other differ entry =
+    place_end names other name entry ∙ ap (λ (b : Bool). if b then Some (length names) else None) differ
 entry_kept (Some who) names known name other differ entry = told_on who names (name ∷ []) known other entry
 
-still_new : (names : List Bytes) (name other : Bytes) (place : Option ℕ) → place_in names other ≡ place → place_in (names ++ name ∷ []) other ≡ None → place_in names other ≡ None
+still_new : (names : List Bytes) (name other : Bytes) (place : Option ℕ) → place_in names other ≡ place
+    → place_in (names ++ name ∷ []) other ≡ None → place_in names other ≡ None
 still_new names name other None e new = e
 still_new names name other (Some i) e new = cc with_some
   where
     with_some : place_in (names ++ name ∷ []) other ≡ Some i
     with_some = place_kept names (name ∷ []) other i e
 
-one_more : (before : ℕ) (old : Option Who) (after : ℕ) (names : List Bytes) (name : Bytes) → old ≡ None → before ≡ length names → after ≡ before + (if is_some old then 0 else 1) → after ≡ length (names ++ name ∷ [])
-one_more before None after names name none count len = let more = length-append names (name ∷ []) in let is : after ≡ before + 1 = len in omega arith
+one_more : (before : ℕ) (old : Option Who) (after : ℕ) (names : List Bytes) (name : Bytes) → old ≡ None → before
+    ≡ length names → after ≡ before + (if is_some old then 0 else 1) → after ≡ length (names ++ name ∷ [])
+one_more before None after names name none count len = let more = length-append names (name ∷ []) in let is : after
+    ≡ before + 1 = len in omega arith
 one_more before (Some who) after names name none count len = cc
 
-pub stands_new : (d : Directory) (place : ℕ) (entries : BTreeMap ArrayString Who) (old : Option Who) (names : List Bytes) (known : List Station) (name : ArrayString) → place ≡ btree_map_len d.names → Stands d names known → place_in names name.bytes ≡ None
+pub stands_new : (d : Directory) (place : ℕ) (entries : BTreeMap ArrayString Who) (old : Option Who)
+    (names : List Bytes) (known : List Station) (name : ArrayString) → place ≡ btree_map_len d.names
+    → Stands d names known → place_in names name.bytes ≡ None
     → old ≡ None → btree_map_len entries ≡ btree_map_len d.names + (if is_some old then 0 else 1)
-    → ((q : ArrayString) → get name_cmp entries q ≡ cond (is_at (name_cmp name) q) (Some (record { place = place; node = None; is_centre = false })) (get name_cmp d.names q))
+    → ((q : ArrayString) → get name_cmp entries q
+    ≡ cond (is_at (name_cmp name) q) (Some (record { place = place; node = None; is_centre = false }))
+    (get name_cmp d.names q))
     → Stands (record { names = entries; has_centre = d.has_centre }) (names ++ name.bytes ∷ []) known
 stands_new d place entries old names known name last stands new none len updates =
     let who : Who = record { place = place; node = None; is_centre = false } in
     record {
       entries = λ q.
-          written (get name_cmp d.names q) (get name_cmp entries q) (bytes_eq name.bytes q.bytes) who (names ++ name.bytes ∷ []) known q.bytes
+          written (get name_cmp d.names q) (get name_cmp entries q) (bytes_eq name.bytes q.bytes) who
+          (names ++ name.bytes ∷ []) known q.bytes
           (updates q ∙ ap (λ (b : Bool). cond b (Some who) (get name_cmp d.names q)) (at_name name q))
-          (λ same. subst (λ (n : Bytes). Tells who (names ++ name.bytes ∷ []) known n) (same_bytes name.bytes q.bytes same) (tells_new d place names known name last stands new))
+          (λ same. subst (λ (n : Bytes). Tells who (names ++ name.bytes ∷ []) known n)
+          (same_bytes name.bytes q.bytes same) (tells_new d place names known name last stands new))
           (λ differ. entry_kept (get name_cmp d.names q) names known name.bytes q.bytes differ (stands.entries q));
       count = one_more (btree_map_len d.names) old (btree_map_len entries) names name.bytes none stands.count len;
       centre = stands.centre;
-      silent = λ other is_none. stands.silent other (still_new names name.bytes other (place_in names other) refl is_none);
+      silent =
+          λ other is_none. stands.silent other (still_new names name.bytes other (place_in names other) refl is_none);
     }
 
 -- the names with a new one, and with one that isn't
-pub with_new : (names : List Bytes) (name : Bytes) → place_in names name ≡ None → with_name names name ≡ names ++ name ∷ []
+pub with_new : (names : List Bytes) (name : Bytes) → place_in names name ≡ None → with_name names name ≡ names ++ name
+    ∷ []
 unfolding with_name
 with_new names name new = ap (or_new names name) new
 
-pub with_old : (names : List Bytes) (name : Bytes) (i : ℕ) → place_in names name ≡ Some i → with_name names name ≡ names
+pub with_old : (names : List Bytes) (name : Bytes) (i : ℕ) → place_in names name ≡ Some i → with_name names name
+    ≡ names
 unfolding with_name
 with_old names name i there = ap (or_new names name) there
 
-pub told_there : (d : Directory) (names : List Bytes) (known : List Station) (name : ArrayString) (who : Who) → Stands d names known → get name_cmp d.names name ≡ Some who → Tells who names known name.bytes
-told_there d names known name who stands is = subst (λ (o : Option Who). IsEntry o names known name.bytes) is (stands.entries name)
+pub told_there : (d : Directory) (names : List Bytes) (known : List Station) (name : ArrayString) (who : Who)
+    → Stands d names known → get name_cmp d.names name ≡ Some who → Tells who names known name.bytes
+told_there d names known name who stands is = subst (λ (o : Option Who). IsEntry o names known name.bytes) is
+    (stands.entries name)
 
 -- A declared node
 
-pub is_undeclared : (who : Who) (names : List Bytes) (known : List Station) (name : Bytes) → who.node ≡ None → Tells who names known name → station_named known name ≡ None
+pub is_undeclared : (who : Who) (names : List Bytes) (known : List Station) (name : Bytes) → who.node ≡ None
+    → Tells who names known name → station_named known name ≡ None
 unfolding eui_of
-is_undeclared who names known name none tells = nothing (λ (s : Station). s.eui) (station_named known name) (ap (option_map (λ (n : Node). n.eui.0)) (sym none) ∙ tells.eui)
+is_undeclared who names known name none tells = nothing (λ (s : Station). s.eui) (station_named known name)
+    (ap (option_map (λ (n : Node). n.eui.0)) (sym none) ∙ tells.eui)
 
-named_at : (known : List Station) (s : Station) (name : Bytes) → station_named (known ++ s ∷ []) name ≡ option_or (station_named known name) (cond (bytes_eq s.name name) (Some s) None)
+named_at : (known : List Station) (s : Station) (name : Bytes) → station_named (known ++ s ∷ []) name
+    ≡ option_or (station_named known name) (cond (bytes_eq s.name name) (Some s) None)
 unfolding station_named
 named_at known s name = find-append (λ (s : Station). bytes_eq s.name name) known (s ∷ [])
 
@@ -161,33 +195,49 @@ or_none : {A : Type 0} (o : Option A) → option_or o None ≡ o
 or_none None = refl
 or_none (Some x) = refl
 
-named_other : (known : List Station) (s : Station) (name : Bytes) → bytes_eq s.name name ≡ false → station_named (known ++ s ∷ []) name ≡ station_named known name
-named_other known s name differ = named_at known s name ∙ (ap (λ (b : Bool). option_or (station_named known name) (cond b (Some s) None)) differ ∙ or_none (station_named known name))
+named_other : (known : List Station) (s : Station) (name : Bytes) → bytes_eq s.name name ≡ false
+    → station_named (known ++ s ∷ []) name ≡ station_named known name
+named_other known s name differ =
+    named_at known s name ∙
+    (ap (λ (b : Bool). option_or (station_named known name) (cond b (Some s) None)) differ ∙ or_none
+    (station_named known name))
 
-named_it : (known : List Station) (s : Station) (name : Bytes) → station_named known name ≡ None → bytes_eq s.name name ≡ true → station_named (known ++ s ∷ []) name ≡ Some s
+named_it : (known : List Station) (s : Station) (name : Bytes) → station_named known name ≡ None
+    → bytes_eq s.name name ≡ true → station_named (known ++ s ∷ []) name ≡ Some s
 named_it known s name none same =
-    named_at known s name ∙ (ap (λ (o : Option Station). option_or o (cond (bytes_eq s.name name) (Some s) None)) none ∙ ap (λ (b : Bool). cond b (Some s) None) same)
+    named_at known s name ∙
+    (ap (λ (o : Option Station). option_or o (cond (bytes_eq s.name name) (Some s) None)) none ∙ ap
+    (λ (b : Bool). cond b (Some s) None) same)
 
 -- the first centre, with one more node
-first_centre : (known : List Station) (s : Station) → centre_name (known ++ s ∷ []) ≡ option_or (centre_name known) (cond (is_centre s.role) (Some s.name) None)
+first_centre : (known : List Station) (s : Station) → centre_name (known ++ s ∷ [])
+    ≡ option_or (centre_name known) (cond (is_centre s.role) (Some s.name) None)
 unfolding centre_name
-first_centre known s = ap (option_map (λ (s : Station). s.name)) (find-append (λ (s : Station). is_centre s.role) known (s ∷ [])) ∙ mapped (find (λ (s : Station). is_centre s.role) known) (is_centre s.role)
+first_centre known s = ap (option_map (λ (s : Station). s.name))
+    (find-append (λ (s : Station). is_centre s.role) known (s ∷ [])) ∙ mapped
+    (find (λ (s : Station). is_centre s.role) known) (is_centre s.role)
   where
-    mapped : (o : Option Station) (b : Bool) → option_map (λ (s : Station). s.name) (option_or o (cond b (Some s) None)) ≡ option_or (option_map (λ (s : Station). s.name) o) (cond b (Some s.name) None)
+    mapped : (o : Option Station) (b : Bool)
+        → option_map (λ (s : Station). s.name) (option_or o (cond b (Some s) None))
+        ≡ option_or (option_map (λ (s : Station). s.name) o) (cond b (Some s.name) None)
     mapped (Some x) b = refl
     mapped None true = refl
     mapped None false = refl
 
-centre_other : (before : Option Bytes) (b : Bool) (name other : Bytes) → bytes_eq name other ≡ false → is_name (option_or before (cond b (Some name) None)) other ≡ is_name before other
+centre_other : (before : Option Bytes) (b : Bool) (name other : Bytes) → bytes_eq name other ≡ false
+    → is_name (option_or before (cond b (Some name) None)) other ≡ is_name before other
 centre_other (Some x) b name other differ = refl
 centre_other None true name other differ = differ
 centre_other None false name other differ = refl
 
-other_centre : (known : List Station) (s : Station) (other : Bytes) → bytes_eq s.name other ≡ false → is_centres (known ++ s ∷ []) other ≡ is_centres known other
+other_centre : (known : List Station) (s : Station) (other : Bytes) → bytes_eq s.name other ≡ false
+    → is_centres (known ++ s ∷ []) other ≡ is_centres known other
 unfolding is_centres
-other_centre known s other differ = ap (λ (o : Option Bytes). is_name o other) (first_centre known s) ∙ centre_other (centre_name known) (is_centre s.role) s.name other differ
+other_centre known s other differ = ap (λ (o : Option Bytes). is_name o other) (first_centre known s) ∙ centre_other
+    (centre_name known) (is_centre s.role) s.name other differ
 
-centre_it : (before : Option Bytes) (b : Bool) (name : Bytes) → is_name before name ≡ false → is_name (option_or before (cond b (Some name) None)) name ≡ (b && not (is_some before))
+centre_it : (before : Option Bytes) (b : Bool) (name : Bytes) → is_name before name ≡ false
+    → is_name (option_or before (cond b (Some name) None)) name ≡ (b && not (is_some before))
 centre_it (Some x) true name before = before
 centre_it (Some x) false name before = before
 centre_it None true name before = itself name
@@ -198,13 +248,16 @@ its_centre : (known : List Station) (s : Station) (name : Bytes) → s.name ≡ 
 unfolding is_centres
 its_centre known s name is none =
     ap (λ (o : Option Bytes). is_name o name) (first_centre known s)
-    ∙ subst (λ (n : Bytes). is_name (option_or (centre_name known) (cond (is_centre s.role) (Some n) None)) name ≡ (is_centre s.role && not (is_some (centre_name known)))) (sym is)
+    ∙ subst (λ (n : Bytes). is_name (option_or (centre_name known) (cond (is_centre s.role) (Some n) None)) name
+    ≡ (is_centre s.role && not (is_some (centre_name known)))) (sym is)
     (centre_it (centre_name known) (is_centre s.role) name (centre_known known name none))
 
-told_other : (who : Who) (names : List Bytes) (known : List Station) (s : Station) (name : Bytes) → bytes_eq s.name name ≡ false → Tells who names known name → Tells who names (known ++ s ∷ []) name
+told_other : (who : Who) (names : List Bytes) (known : List Station) (s : Station) (name : Bytes)
+    → bytes_eq s.name name ≡ false → Tells who names known name → Tells who names (known ++ s ∷ []) name
 unfolding eui_of
 told_other who names known s name differ told =
-    let same : station_named known name ≡ station_named (known ++ s ∷ []) name = sym (named_other known s name differ) in
+    let same : station_named known name ≡ station_named (known ++ s ∷ []) name =
+    sym (named_other known s name differ) in
     record {
       place = told.place;
       eui = told.eui ∙ ap (option_map (λ (s : Station). s.eui)) same;
@@ -214,74 +267,102 @@ told_other who names known s name differ told =
       centre = told.centre ∙ sym (other_centre known s name differ);
     }
 
-entry_other : (o : Option Who) (names : List Bytes) (known : List Station) (s : Station) (name : Bytes) → bytes_eq s.name name ≡ false → IsEntry o names known name → IsEntry o names (known ++ s ∷ []) name
+entry_other : (o : Option Who) (names : List Bytes) (known : List Station) (s : Station) (name : Bytes)
+    → bytes_eq s.name name ≡ false → IsEntry o names known name → IsEntry o names (known ++ s ∷ []) name
 entry_other None names known s name differ entry = entry
 entry_other (Some who) names known s name differ entry = told_other who names known s name differ entry
 
-told_it : (place : ℕ) (node : Node) (is : Bool) (names : List Bytes) (known : List Station) (s : Station) (name : Bytes) → IsStation s name node → place_in names name ≡ Some place
+told_it : (place : ℕ) (node : Node) (is : Bool) (names : List Bytes) (known : List Station) (s : Station)
+    (name : Bytes) → IsStation s name node → place_in names name ≡ Some place
     → station_named known name ≡ None → is ≡ (is_centre (model_role node.role) && not (is_some (centre_name known)))
     → Tells (record { place = place; node = Some node; is_centre = is }) names (known ++ s ∷ []) name
 unfolding eui_of
 told_it place node is names known s name its there none centre =
-    let it : station_named (known ++ s ∷ []) name ≡ Some s = named_it known s name none (ap (λ (n : Bytes). bytes_eq n name) its.name_is ∙ itself name) in
+    let it : station_named (known ++ s ∷ []) name ≡ Some s =
+    named_it known s name none (ap (λ (n : Bytes). bytes_eq n name) its.name_is ∙ itself name) in
     record {
       place = there;
       eui = ap Some (sym its.eui_is) ∙ ap (option_map (λ (s : Station). s.eui)) (sym it);
       role = ap Some (sym its.role_is) ∙ ap (option_map (λ (s : Station). s.role)) (sym it);
       out_block = ap Some (sym its.out_is) ∙ ap (option_map (λ (s : Station). s.out_block)) (sym it);
       in_block = ap Some (sym its.in_is) ∙ ap (option_map (λ (s : Station). s.in_block)) (sym it);
-      centre = centre ∙ (ap (λ r. is_centre r && not (is_some (centre_name known))) (sym its.role_is) ∙ sym (its_centre known s name its.name_is none));
+      centre =
+          centre ∙
+          (ap (λ r. is_centre r && not (is_some (centre_name known))) (sym its.role_is) ∙ sym
+          (its_centre known s name its.name_is none));
     }
 
-has_one : (before : Option Bytes) (b : Bool) (name : Bytes) → (is_some before || (b && not (is_some before))) ≡ is_some (option_or before (cond b (Some name) None))
+has_one : (before : Option Bytes) (b : Bool) (name : Bytes) → (is_some before || (b && not (is_some before)))
+    ≡ is_some (option_or before (cond b (Some name) None))
 has_one (Some x) true name = refl
 has_one (Some x) false name = refl
 has_one None true name = refl
 has_one None false name = refl
 
-not_there : (d : Directory) (names : List Bytes) (known : List Station) (name : ArrayString) (place : ℕ) → Stands d names known → place_in names name.bytes ≡ Some place → get name_cmp d.names name ≡ None → ⊥
-not_there d names known name place stands there none = let new : place_in names name.bytes ≡ None = is_new d names known name stands none in cc
+not_there : (d : Directory) (names : List Bytes) (known : List Station) (name : ArrayString) (place : ℕ)
+    → Stands d names known → place_in names name.bytes ≡ Some place → get name_cmp d.names name ≡ None → ⊥
+not_there d names known name place stands there none = let new : place_in names name.bytes ≡ None =
+    is_new d names known name stands none in cc
 
-same_count : (before : ℕ) (old : Option Who) (after : ℕ) → (old ≡ None → ⊥) → after ≡ before + (if is_some old then 0 else 1) → after ≡ before
+same_count : (before : ℕ) (old : Option Who) (after : ℕ) → (old ≡ None → ⊥) → after
+    ≡ before + (if is_some old then 0 else 1) → after ≡ before
 same_count before None after is len = absurd (is refl)
 same_count before (Some who) after is len = let it : after ≡ before + 0 = len in omega arith
 
-pub stands_declared : (d : Directory) (entries : BTreeMap ArrayString Who) (old : Option Who) (has is : Bool) (name : ArrayString) (place : ℕ) (node : Node) (names : List Bytes) (known : List Station) (s : Station)
-    → IsStation s name.bytes node → place_in names name.bytes ≡ Some place → station_named known name.bytes ≡ None → Stands d names known
+pub stands_declared : (d : Directory) (entries : BTreeMap ArrayString Who) (old : Option Who) (has is : Bool)
+    (name : ArrayString) (place : ℕ) (node : Node) (names : List Bytes) (known : List Station) (s : Station)
+    → IsStation s name.bytes node → place_in names name.bytes ≡ Some place → station_named known name.bytes ≡ None
+    → Stands d names known
     → is ≡ (is_centre (model_role node.role) && not d.has_centre) → has ≡ (d.has_centre || is)
     → old ≡ get name_cmp d.names name → btree_map_len entries ≡ btree_map_len d.names + (if is_some old then 0 else 1)
-    → ((q : ArrayString) → get name_cmp entries q ≡ cond (is_at (name_cmp name) q) (Some (record { place = place; node = Some node; is_centre = is })) (get name_cmp d.names q))
+    → ((q : ArrayString) → get name_cmp entries q
+    ≡ cond (is_at (name_cmp name) q) (Some (record { place = place; node = Some node; is_centre = is }))
+    (get name_cmp d.names q))
     → Stands (record { names = entries; has_centre = has }) names (known ++ s ∷ [])
-stands_declared d entries old has is name place node names known s its there none stands centre now before len updates =
+stands_declared d entries old has is name place node names known s its there none stands centre now before len
+    updates =
     let who : Who = record { place = place; node = Some node; is_centre = is } in
-    let first : is ≡ (is_centre (model_role node.role) && not (is_some (centre_name known))) = centre ∙ ap (λ (b : Bool). is_centre (model_role node.role) && not b) stands.centre in
+    let first : is ≡ (is_centre (model_role node.role) && not (is_some (centre_name known))) =
+    centre ∙ ap (λ (b : Bool). is_centre (model_role node.role) && not b) stands.centre in
     record {
       entries = λ q.
-          written (get name_cmp d.names q) (get name_cmp entries q) (bytes_eq name.bytes q.bytes) who names (known ++ s ∷ []) q.bytes
+          written (get name_cmp d.names q) (get name_cmp entries q) (bytes_eq name.bytes q.bytes) who names
+          (known ++ s ∷ []) q.bytes
           (updates q ∙ ap (λ (b : Bool). cond b (Some who) (get name_cmp d.names q)) (at_name name q))
-          (λ same. subst (λ (n : Bytes). Tells who names (known ++ s ∷ []) n) (same_bytes name.bytes q.bytes same) (told_it place node is names known s name.bytes its there none first))
-          (λ differ. entry_other (get name_cmp d.names q) names known s q.bytes (ap (λ (n : Bytes). bytes_eq n q.bytes) its.name_is ∙ differ) (stands.entries q));
-      count = same_count (btree_map_len d.names) old (btree_map_len entries) (λ gone. not_there d names known name place stands there (sym before ∙ gone)) len ∙ stands.count;
+          (λ same. subst (λ (n : Bytes). Tells who names (known ++ s ∷ []) n) (same_bytes name.bytes q.bytes same)
+          (told_it place node is names known s name.bytes its there none first))
+          (λ differ. entry_other (get name_cmp d.names q) names known s q.bytes
+          (ap (λ (n : Bytes). bytes_eq n q.bytes) its.name_is ∙ differ) (stands.entries q));
+      count = same_count (btree_map_len d.names) old (btree_map_len entries)
+          (λ gone. not_there d names known name place stands there (sym before ∙ gone)) len ∙ stands.count;
       centre =
           now
           ∙ (ap (λ (b : Bool). d.has_centre || b) first
-          ∙ (ap (λ (b : Bool). b || (is_centre (model_role node.role) && not (is_some (centre_name known)))) stands.centre
+          ∙ (ap (λ (b : Bool). b || (is_centre (model_role node.role) && not (is_some (centre_name known))))
+          stands.centre
           ∙ (has_one (centre_name known) (is_centre (model_role node.role)) s.name
-          ∙ (ap (λ r. is_some (option_or (centre_name known) (cond (is_centre r) (Some s.name) None))) (sym its.role_is)
+          ∙ (ap (λ r. is_some (option_or (centre_name known) (cond (is_centre r) (Some s.name) None)))
+          (sym its.role_is)
           ∙ ap is_some (sym (first_centre known s))))));
       silent = λ other new.
-          named_other known s other (apart s.name other (λ same. let gone : place_in names name.bytes ≡ None = subst (λ (n : Bytes). place_in names n ≡ None) (sym same ∙ its.name_is) new in some_none place (sym there ∙ gone)))
+          named_other known s other
+          (apart s.name other
+          (λ same. let gone : place_in names name.bytes ≡ None = subst (λ (n : Bytes). place_in names n ≡ None)
+          (sym same ∙ its.name_is) new in some_none place (sym there ∙ gone)))
           ∙ stands.silent other new;
     }
   where
     some_none : (i : ℕ) → Some i ≡ None → ⊥
     some_none i e = cc
 
-pub stays_declared : (d : Directory) (names : List Bytes) (known : List Station) (s : Station) (name : Bytes) (node : Node) (who : Who) → who.node ≡ Some node → Tells who names known name → s.name ≡ name
+pub stays_declared : (d : Directory) (names : List Bytes) (known : List Station) (s : Station) (name : Bytes)
+    (node : Node) (who : Who) → who.node ≡ Some node → Tells who names known name → s.name ≡ name
     → Stands d names known → Stands d names (with_station known s)
 unfolding with_station eui_of
 stays_declared d names known s name node who is tells named stands =
-    subst (λ (k : List Station). Stands d names k) (sym (ap (or_added known s) (ap (station_named known) named) ∙ there (station_named known name) (ap (option_map (λ (n : Node). n.eui.0)) (sym is) ∙ tells.eui))) stands
+    subst (λ (k : List Station). Stands d names k)
+    (sym (ap (or_added known s) (ap (station_named known) named) ∙ there (station_named known name)
+    (ap (option_map (λ (n : Node). n.eui.0)) (sym is) ∙ tells.eui))) stands
   where
     there : (o : Option Station) → Some node.eui.0 ≡ option_map (λ (s : Station). s.eui) o → or_added known s o ≡ known
     there None e = cc
@@ -297,39 +378,51 @@ pub if_ok : {T E : Type 0} (r : Result T E) (A B : T → Type 0) → ((x : T) �
 if_ok (Ok x) A B f a = f x a
 if_ok (Err e) A B f a = tt
 
-pub stands_with_new : (d new : Directory) (name : ArrayString) (names : List Bytes) (known : List Station) → get name_cmp d.names name ≡ None → Stands d names known → Stands new (names ++ name.bytes ∷ []) known
+pub stands_with_new : (d new : Directory) (name : ArrayString) (names : List Bytes) (known : List Station)
+    → get name_cmp d.names name ≡ None → Stands d names known → Stands new (names ++ name.bytes ∷ []) known
     → Stands new (with_name names name.bytes) known
-stands_with_new d new name names known none stands after = subst (λ (n : List Bytes). Stands new n known) (sym (with_new names name.bytes (is_new d names known name stands none))) after
+stands_with_new d new name names known none stands after = subst (λ (n : List Bytes). Stands new n known)
+    (sym (with_new names name.bytes (is_new d names known name stands none))) after
 
-pub tells_with_new : (d : Directory) (place : ℕ) (name : ArrayString) (names : List Bytes) (known : List Station) → place ≡ btree_map_len d.names → get name_cmp d.names name ≡ None → Stands d names known
+pub tells_with_new : (d : Directory) (place : ℕ) (name : ArrayString) (names : List Bytes) (known : List Station)
+    → place ≡ btree_map_len d.names → get name_cmp d.names name ≡ None → Stands d names known
     → Tells (record { place = place; node = None; is_centre = false }) (with_name names name.bytes) known name.bytes
 tells_with_new d place name names known last none stands =
     let new : place_in names name.bytes ≡ None = is_new d names known name stands none in
-    subst (λ (n : List Bytes). Tells (record { place = place; node = None; is_centre = false }) n known name.bytes) (sym (with_new names name.bytes new))
+    subst (λ (n : List Bytes). Tells (record { place = place; node = None; is_centre = false }) n known name.bytes)
+    (sym (with_new names name.bytes new))
     (tells_new d place names known name last stands new)
 
-pub stands_with_old : (d : Directory) (name : ArrayString) (who : Who) (names : List Bytes) (known : List Station) → get name_cmp d.names name ≡ Some who → Stands d names known
+pub stands_with_old : (d : Directory) (name : ArrayString) (who : Who) (names : List Bytes) (known : List Station)
+    → get name_cmp d.names name ≡ Some who → Stands d names known
     → Stands d (with_name names name.bytes) known
 stands_with_old d name who names known is stands =
-    subst (λ (n : List Bytes). Stands d n known) (sym (with_old names name.bytes who.place (told_there d names known name who stands is).place)) stands
+    subst (λ (n : List Bytes). Stands d n known)
+    (sym (with_old names name.bytes who.place (told_there d names known name who stands is).place)) stands
 
-pub tells_with_old : (d : Directory) (name : ArrayString) (who : Who) (names : List Bytes) (known : List Station) → get name_cmp d.names name ≡ Some who → Stands d names known
+pub tells_with_old : (d : Directory) (name : ArrayString) (who : Who) (names : List Bytes) (known : List Station)
+    → get name_cmp d.names name ≡ Some who → Stands d names known
     → Tells who (with_name names name.bytes) known name.bytes
 tells_with_old d name who names known is stands =
     let told : Tells who names known name.bytes = told_there d names known name who stands is in
-    subst (λ (n : List Bytes). Tells who n known name.bytes) (sym (with_old names name.bytes who.place told.place)) told
+    subst (λ (n : List Bytes). Tells who n known name.bytes) (sym (with_old names name.bytes who.place told.place))
+    told
 
 -- One line more
 
-pub with_undeclared : (known : List Station) (s : Station) → station_named known s.name ≡ None → with_station known s ≡ known ++ s ∷ []
+pub with_undeclared : (known : List Station) (s : Station) → station_named known s.name ≡ None → with_station known s
+    ≡ known ++ s ∷ []
 unfolding with_station
 with_undeclared known s none = ap (or_added known s) none
 
 -- a line that declares nothing
-pub quiet : (l : Line) → ((name : ArrayString) (r : Role) (eui : Eui) (short : Short) (out_block : ℕ) (in_block : ℕ) → l ≡ line.Node name r eui short out_block in_block → ⊥)
+pub quiet : (l : Line)
+    → ((name : ArrayString) (r : Role) (eui : Eui) (short : Short) (out_block : ℕ) (in_block : ℕ) → l
+    ≡ line.Node name r eui short out_block in_block → ⊥)
     → (known : List Station) → declares known l ≡ known
 unfolding declares
-quiet (line.Node name r eui short out_block in_block) no_node known = absurd (no_node name r eui short out_block in_block refl)
+quiet (line.Node name r eui short out_block in_block) no_node known =
+    absurd (no_node name r eui short out_block in_block refl)
 quiet (line.GivenNet x0 x1 x2) no_node known = refl
 quiet (line.GivenLink x0 x1 x2) no_node known = refl
 quiet (line.Counter x0 x1 x2) no_node known = refl

@@ -47,7 +47,8 @@ same_event (Some event) (Some other) = nat_eq event other
 
 -- a line before groups: it joins the first of them where that is of its event
 abbrev pub onto : Line → List (List Line) → List (List Line)
-onto l ((m ∷ run) ∷ runs) = if same_event (event_of l) (event_of m) then (l ∷ m ∷ run) ∷ runs else (l ∷ []) ∷ (m ∷ run) ∷ runs
+onto l ((m ∷ run) ∷ runs) = if same_event (event_of l) (event_of m) then (l ∷ m ∷ run) ∷ runs
+    else (l ∷ []) ∷ (m ∷ run) ∷ runs
 onto l runs = (l ∷ []) ∷ runs
 
 unfoldable pub groups : List Line → List (List Line)

@@ -24,7 +24,15 @@ with_station known s = or_added known s (station_named known s.name)
 -- The declared nodes, in order: a `0 node` line adds one where its name is new.
 unfoldable pub declares : List Station → Line → List Station
 declares known (line.Node name r eui short out_block in_block) =
-    with_station known (record { name = name.bytes; eui = eui.0; short = short.0; role = model_role r; out_block = out_block; in_block = in_block })
+    with_station known
+    (record {
+      name = name.bytes;
+      eui = eui.0;
+      short = short.0;
+      role = model_role r;
+      out_block = out_block;
+      in_block = in_block;
+    })
 declares known _ = known
 
 unfoldable pub declared_in : List Line → List Station
@@ -85,7 +93,8 @@ speaker _ = None
 -- The place of a name in a list of names: that of its first occurrence.
 unfoldable pub place_in : List Bytes → Bytes → Option ℕ
 place_in [] name = None
-place_in (other ∷ names) name = if bytes_eq other name then Some 0 else option_map (λ (n : ℕ). n + 1) (place_in names name)
+place_in (other ∷ names) name = if bytes_eq other name then Some 0
+    else option_map (λ (n : ℕ). n + 1) (place_in names name)
 
 -- The names that a list of lines speaks of, in the order in which they come first.
 abbrev pub or_new : List Bytes → Bytes → Option ℕ → List Bytes

@@ -38,7 +38,8 @@ held_by d known (line.GivenLink node partner key) = if is_of known d node.bytes 
 held_by d known (line.Install event node key sequence) = if is_of known d node.bytes then key.0 ∷ [] else []
 held_by d known (line.Row event node partner key a) =
     if is_of known d node.bytes || (is_centres known node.bytes && nat_eq partner.0 d) then key.0 ∷ [] else []
-held_by d known (line.Pair event node first second key) = if nat_eq first.0 d || nat_eq second.0 d then key.0 ∷ [] else []
+held_by d known (line.Pair event node first second key) = if nat_eq first.0 d || nat_eq second.0 d then key.0 ∷ []
+    else []
 held_by d known _ = []
 
 unfoldable pub ever : List Line → ℕ → List Bytes
@@ -108,8 +109,10 @@ joins known n = is_joiner (station_named known n)
 -- an earlier term under one of its keys. The second matters where a stop cut the acceptance off.
 unfoldable pub ideal_line : Tools → List Line → Line → Bool
 ideal_line tools h (line.Accept event node t) = list_any (same_term (model_term t)) (terms_of h)
-ideal_line tools h (line.Install event node key sequence) = not (joins (declared_in h) node.bytes) || came_by tools h node.bytes key.0
-ideal_line tools h (line.Row event node partner key a) = not (joins (declared_in h) node.bytes) || came_by tools h node.bytes key.0
+ideal_line tools h (line.Install event node key sequence) = not (joins (declared_in h) node.bytes)
+    || came_by tools h node.bytes key.0
+ideal_line tools h (line.Row event node partner key a) = not (joins (declared_in h) node.bytes)
+    || came_by tools h node.bytes key.0
 ideal_line tools h _ = true
 
 unfoldable pub ideal : Tools → List Line → Bool
@@ -125,7 +128,8 @@ forged_in (line.Forge event t) = model_term t ∷ []
 forged_in _ = []
 
 unfoldable pub passes_on : Tools → List Line → Bool
-passes_on tools lines = list_any (λ (t : Term). holds_some (network_keys lines) (carried tools t)) (flat_map forged_in lines)
+passes_on tools lines = list_any (λ (t : Term). holds_some (network_keys lines) (carried tools t))
+    (flat_map forged_in lines)
 
 unfoldable pub private : Tools → List Line → Bool
 private tools lines = each_line (based_line tools) [] lines && not (passes_on tools lines)

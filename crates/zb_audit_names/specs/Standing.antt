@@ -29,9 +29,12 @@ pub record IsStation (s : Station) (name : Bytes) (node : Node) : Type 0 where
 pub record Tells (who : Who) (names : List Bytes) (known : List Station) (name : Bytes) : Type 0 where
   pub place : place_in names name ≡ Some who.place
   pub eui : option_map (λ (n : Node). n.eui.0) who.node ≡ eui_of known name
-  pub role : option_map (λ (n : Node). model_role n.role) who.node ≡ option_map (λ (s : Station). s.role) (station_named known name)
-  pub out_block : option_map (λ (n : Node). n.out_block) who.node ≡ option_map (λ (s : Station). s.out_block) (station_named known name)
-  pub in_block : option_map (λ (n : Node). n.in_block) who.node ≡ option_map (λ (s : Station). s.in_block) (station_named known name)
+  pub role : option_map (λ (n : Node). model_role n.role) who.node
+      ≡ option_map (λ (s : Station). s.role) (station_named known name)
+  pub out_block : option_map (λ (n : Node). n.out_block) who.node
+      ≡ option_map (λ (s : Station). s.out_block) (station_named known name)
+  pub in_block : option_map (λ (n : Node). n.in_block) who.node
+      ≡ option_map (λ (s : Station). s.in_block) (station_named known name)
   pub centre : who.is_centre ≡ is_centres known name
 
 -- Who the node of a line is, where it speaks of one.

@@ -30,45 +30,57 @@ and_assoc : (a b c : Bool) → ((a && b) && c) ≡ (a && (b && c))
 and_assoc true b c = refl
 and_assoc false b c = refl
 
-any_more : {A X : Type 0} (p : X → Bool) (f : A → List X) (h : List A) (l : A) → list_any p (flat_map f (h ++ l ∷ [])) ≡ (list_any p (flat_map f h) || list_any p (f l))
+any_more : {A X : Type 0} (p : X → Bool) (f : A → List X) (h : List A) (l : A) → list_any p (flat_map f (h ++ l ∷ []))
+    ≡ (list_any p (flat_map f h) || list_any p (f l))
 any_more p f h l =
     ap (list_any p) (flat_map-append f h (l ∷ []))
     ∙ (list_any-append p (flat_map f h) (f l ++ [])
     ∙ ap (λ (b : Bool). list_any p (flat_map f h) || b) (list_any-append p (f l) [] ∙ or_none (list_any p (f l))))
 
-pub terms_more : (p : Term → Bool) (h : List Line) (l : Line) → list_any p (terms_of (h ++ l ∷ [])) ≡ (list_any p (terms_of h) || list_any p (terms_in l))
+pub terms_more : (p : Term → Bool) (h : List Line) (l : Line) → list_any p (terms_of (h ++ l ∷ []))
+    ≡ (list_any p (terms_of h) || list_any p (terms_in l))
 unfolding terms_of
 terms_more p h l = any_more p terms_in h l
 
-pub codes_more : (h : List Line) (l : Line) (n : Bytes) (k : Bytes) → holds (codes_of (h ++ l ∷ []) n) k ≡ (holds (codes_of h n) k || holds (code_in n l) k)
+pub codes_more : (h : List Line) (l : Line) (n : Bytes) (k : Bytes) → holds (codes_of (h ++ l ∷ []) n) k
+    ≡ (holds (codes_of h n) k || holds (code_in n l) k)
 unfolding codes_of
 codes_more h l n k = any_more (bytes_eq k) (code_in n) h l
 
-pub bases_more : (h : List Line) (l : Line) (n : Bytes) (k : Bytes) → holds (bases (h ++ l ∷ []) n) k ≡ (holds (bases h n) k || holds (base_in n l) k)
+pub bases_more : (h : List Line) (l : Line) (n : Bytes) (k : Bytes) → holds (bases (h ++ l ∷ []) n) k
+    ≡ (holds (bases h n) k || holds (base_in n l) k)
 unfolding bases
 bases_more h l n k = any_more (bytes_eq k) (base_in n) h l
 
-pub removed_more : (h : List Line) (l : Line) (d : ℕ) → list_any (nat_eq d) (removed_devices (h ++ l ∷ [])) ≡ (list_any (nat_eq d) (removed_devices h) || list_any (nat_eq d) (removed_in l))
+pub removed_more : (h : List Line) (l : Line) (d : ℕ) → list_any (nat_eq d) (removed_devices (h ++ l ∷ []))
+    ≡ (list_any (nat_eq d) (removed_devices h) || list_any (nat_eq d) (removed_in l))
 unfolding removed_devices
 removed_more h l d = any_more (nat_eq d) removed_in h l
 
-pub network_more : (h : List Line) (l : Line) (k : Bytes) → holds (network_keys (h ++ l ∷ [])) k ≡ (holds (network_keys h) k || holds (network_in l) k)
+pub network_more : (h : List Line) (l : Line) (k : Bytes) → holds (network_keys (h ++ l ∷ [])) k
+    ≡ (holds (network_keys h) k || holds (network_in l) k)
 unfolding network_keys
 network_more h l k = any_more (bytes_eq k) network_in h l
 
-pub forged_more : (p : Term → Bool) (h : List Line) (l : Line) → list_any p (flat_map forged_in (h ++ l ∷ [])) ≡ (list_any p (flat_map forged_in h) || list_any p (forged_in l))
+pub forged_more : (p : Term → Bool) (h : List Line) (l : Line) → list_any p (flat_map forged_in (h ++ l ∷ []))
+    ≡ (list_any p (flat_map forged_in h) || list_any p (forged_in l))
 forged_more p h l = any_more p forged_in h l
 
-along_more : {A : Type 0} (p : A → Bool) (says : List Station → Line → List A) (known : List Station) (h : List Line) (l : Line)
-    → list_any p (along says known (h ++ l ∷ [])) ≡ (list_any p (along says known h) || list_any p (says (fold declares known h) l))
+along_more : {A : Type 0} (p : A → Bool) (says : List Station → Line → List A) (known : List Station) (h : List Line)
+    (l : Line)
+    → list_any p (along says known (h ++ l ∷ []))
+    ≡ (list_any p (along says known h) || list_any p (says (fold declares known h) l))
 along_more p says known [] l = list_any-append p (says known l) [] ∙ or_none (list_any p (says known l))
 along_more p says known (m ∷ h) l =
     list_any-append p (says known m) (along says (declares known m) (h ++ l ∷ []))
     ∙ (ap (λ (b : Bool). list_any p (says known m) || b) (along_more p says (declares known m) h l)
-    ∙ (sym (or_assoc (list_any p (says known m)) (list_any p (along says (declares known m) h)) (list_any p (says (fold declares (declares known m) h) l)))
-    ∙ ap (λ (b : Bool). b || list_any p (says (fold declares (declares known m) h) l)) (sym (list_any-append p (says known m) (along says (declares known m) h)))))
+    ∙ (sym (or_assoc (list_any p (says known m)) (list_any p (along says (declares known m) h))
+    (list_any p (says (fold declares (declares known m) h) l)))
+    ∙ ap (λ (b : Bool). b || list_any p (says (fold declares (declares known m) h) l))
+    (sym (list_any-append p (says known m) (along says (declares known m) h)))))
 
-pub ever_more : (h : List Line) (l : Line) (d : ℕ) (k : Bytes) → holds (ever (h ++ l ∷ []) d) k ≡ (holds (ever h d) k || holds (held_by d (declared_in h) l) k)
+pub ever_more : (h : List Line) (l : Line) (d : ℕ) (k : Bytes) → holds (ever (h ++ l ∷ []) d) k
+    ≡ (holds (ever h d) k || holds (held_by d (declared_in h) l) k)
 unfolding ever declared_in
 ever_more h l d k = along_more (bytes_eq k) (held_by d) [] h l
 
@@ -78,62 +90,86 @@ no_more g = append-nil g
 grouped : (g : List Line) (m : Line) (h : List Line) → (g ++ m ∷ []) ++ h ≡ g ++ m ∷ h
 grouped g m h = append_assoc g (m ∷ []) h
 
-each_more : (test : List Line → Line → Bool) (g h : List Line) (l : Line) → each_line test g (h ++ l ∷ []) ≡ (each_line test g h && test (g ++ h) l)
+each_more : (test : List Line → Line → Bool) (g h : List Line) (l : Line) → each_line test g (h ++ l ∷ [])
+    ≡ (each_line test g h && test (g ++ h) l)
 unfolding each_line
 each_more test g [] l = and_all (test g l) ∙ ap (λ (x : List Line). test x l) (sym (no_more g))
 each_more test g (m ∷ h) l =
-    ap (λ (b : Bool). test g m && b) (each_more test (g ++ m ∷ []) h l ∙ ap (λ (x : List Line). each_line test (g ++ m ∷ []) h && test x l) (grouped g m h))
+    ap (λ (b : Bool). test g m && b)
+    (each_more test (g ++ m ∷ []) h l ∙ ap (λ (x : List Line). each_line test (g ++ m ∷ []) h && test x l)
+    (grouped g m h))
     ∙ sym (and_assoc (test g m) (each_line test (g ++ m ∷ []) h) (test (g ++ m ∷ h) l))
 
-pub ideal_more : (tools : Tools) (h : List Line) (l : Line) → ideal tools (h ++ l ∷ []) ≡ (ideal tools h && ideal_line tools h l)
+pub ideal_more : (tools : Tools) (h : List Line) (l : Line) → ideal tools (h ++ l ∷ [])
+    ≡ (ideal tools h && ideal_line tools h l)
 unfolding ideal
 ideal_more tools h l = each_more (ideal_line tools) [] h l
 
-pub based_more : (tools : Tools) (h : List Line) (l : Line) → each_line (based_line tools) [] (h ++ l ∷ []) ≡ (each_line (based_line tools) [] h && based_line tools h l)
+pub based_more : (tools : Tools) (h : List Line) (l : Line) → each_line (based_line tools) [] (h ++ l ∷ [])
+    ≡ (each_line (based_line tools) [] h && based_line tools h l)
 based_more tools h l = each_more (based_line tools) [] h l
 
 -- Whether a forged term carries a key of the network
 
-pub some_more : (keys more all : List Bytes) (o : Option Bytes) → ((k : Bytes) → holds all k ≡ (holds keys k || holds more k)) → holds_some all o ≡ (holds_some keys o || holds_some more o)
+pub some_more : (keys more all : List Bytes) (o : Option Bytes)
+    → ((k : Bytes) → holds all k ≡ (holds keys k || holds more k)) → holds_some all o
+    ≡ (holds_some keys o || holds_some more o)
 some_more keys more all None so = refl
 some_more keys more all (Some k) so = so k
 
-same_some : (keys all : List Bytes) → ((k : Bytes) → holds all k ≡ holds keys k) → (o : Option Bytes) → holds_some all o ≡ holds_some keys o
+same_some : (keys all : List Bytes) → ((k : Bytes) → holds all k ≡ holds keys k) → (o : Option Bytes)
+    → holds_some all o ≡ holds_some keys o
 same_some keys all so None = refl
 same_some keys all so (Some k) = so k
 
 -- A line that has no key of the network.
 pub passes_by_forged : (tools : Tools) (h : List Line) (l : Line) → network_in l ≡ []
-    → passes_on tools (h ++ l ∷ []) ≡ (passes_on tools h || list_any (λ (t : Term). holds_some (network_keys h) (carried tools t)) (forged_in l))
+    → passes_on tools (h ++ l ∷ [])
+    ≡ (passes_on tools h || list_any (λ (t : Term). holds_some (network_keys h) (carried tools t)) (forged_in l))
 unfolding passes_on
 passes_by_forged tools h l none =
-    list_any_alike (λ (t : Term). holds_some (network_keys (h ++ l ∷ [])) (carried tools t)) (λ (t : Term). holds_some (network_keys h) (carried tools t))
-    (λ t. same_some (network_keys h) (network_keys (h ++ l ∷ [])) (λ k. network_more h l k ∙ (ap (λ (more : List Bytes). holds (network_keys h) k || holds more k) none ∙ or_none (holds (network_keys h) k))) (carried tools t))
+    list_any_alike (λ (t : Term). holds_some (network_keys (h ++ l ∷ [])) (carried tools t))
+    (λ (t : Term). holds_some (network_keys h) (carried tools t))
+    (λ t. same_some (network_keys h) (network_keys (h ++ l ∷ []))
+    (λ k. network_more h l k ∙
+    (ap (λ (more : List Bytes). holds (network_keys h) k || holds more k) none ∙ or_none
+    (holds (network_keys h) k))) (carried tools t))
     (flat_map forged_in (h ++ l ∷ []))
     ∙ forged_more (λ (t : Term). holds_some (network_keys h) (carried tools t)) h l
 
 -- A line that forges nothing.
 pub passes_by_network : (tools : Tools) (h : List Line) (l : Line) → forged_in l ≡ []
-    → passes_on tools (h ++ l ∷ []) ≡ (passes_on tools h || list_any (λ (t : Term). holds_some (network_in l) (carried tools t)) (flat_map forged_in h))
+    → passes_on tools (h ++ l ∷ [])
+    ≡ (passes_on tools h || list_any (λ (t : Term). holds_some (network_in l) (carried tools t))
+    (flat_map forged_in h))
 unfolding passes_on
 passes_by_network tools h l none =
     forged_more (λ (t : Term). holds_some (network_keys (h ++ l ∷ [])) (carried tools t)) h l
-    ∙ (ap (λ (more : List Term). list_any (λ (t : Term). holds_some (network_keys (h ++ l ∷ [])) (carried tools t)) (flat_map forged_in h) || list_any (λ (t : Term). holds_some (network_keys (h ++ l ∷ [])) (carried tools t)) more) none
-    ∙ (or_none (list_any (λ (t : Term). holds_some (network_keys (h ++ l ∷ [])) (carried tools t)) (flat_map forged_in h))
-    ∙ (list_any_alike (λ (t : Term). holds_some (network_keys (h ++ l ∷ [])) (carried tools t)) (λ (t : Term). holds_some (network_keys h) (carried tools t) || holds_some (network_in l) (carried tools t))
+    ∙ (ap (λ (more : List Term). list_any (λ (t : Term). holds_some (network_keys (h ++ l ∷ [])) (carried tools t))
+    (flat_map forged_in h) || list_any (λ (t : Term). holds_some (network_keys (h ++ l ∷ [])) (carried tools t))
+    more) none
+    ∙ (or_none
+    (list_any (λ (t : Term). holds_some (network_keys (h ++ l ∷ [])) (carried tools t)) (flat_map forged_in h))
+    ∙ (list_any_alike (λ (t : Term). holds_some (network_keys (h ++ l ∷ [])) (carried tools t))
+    (λ (t : Term). holds_some (network_keys h) (carried tools t) || holds_some (network_in l) (carried tools t))
     (λ t. some_more (network_keys h) (network_in l) (network_keys (h ++ l ∷ [])) (carried tools t) (network_more h l))
     (flat_map forged_in h)
-    ∙ any_or (λ (t : Term). holds_some (network_keys h) (carried tools t)) (λ (t : Term). holds_some (network_in l) (carried tools t)) (flat_map forged_in h))))
+    ∙ any_or (λ (t : Term). holds_some (network_keys h) (carried tools t))
+    (λ (t : Term). holds_some (network_in l) (carried tools t)) (flat_map forged_in h))))
 
 -- A line that does neither.
-pub passes_nothing : (tools : Tools) (h : List Line) (l : Line) → network_in l ≡ [] → forged_in l ≡ [] → passes_on tools (h ++ l ∷ []) ≡ passes_on tools h
+pub passes_nothing : (tools : Tools) (h : List Line) (l : Line) → network_in l ≡ [] → forged_in l ≡ []
+    → passes_on tools (h ++ l ∷ []) ≡ passes_on tools h
 passes_nothing tools h l none nothing =
     passes_by_forged tools h l none
-    ∙ (ap (λ (more : List Term). passes_on tools h || list_any (λ (t : Term). holds_some (network_keys h) (carried tools t)) more) nothing ∙ or_none (passes_on tools h))
+    ∙ (ap (λ (more : List Term). passes_on tools h
+    || list_any (λ (t : Term). holds_some (network_keys h) (carried tools t)) more) nothing ∙ or_none
+    (passes_on tools h))
 
 -- What came stays so.
 
-any_grows : {X : Type 0} (p q : X → Bool) → ((x : X) → p x ≡ true → q x ≡ true) → (xs : List X) → list_any p xs ≡ true → list_any q xs ≡ true
+any_grows : {X : Type 0} (p q : X → Bool) → ((x : X) → p x ≡ true → q x ≡ true) → (xs : List X) → list_any p xs ≡ true
+    → list_any q xs ≡ true
 any_grows p q more [] it = cc
 any_grows p q more (x ∷ xs) it =
     elim (either (p x) (list_any p xs) it) [
@@ -145,7 +181,8 @@ and_grows : (a b c : Bool) → (a ≡ true → b ≡ true) → (a && c) ≡ true
 and_grows true b c more it = rw (more refl) it
 and_grows false b c more it = cc
 
-pub came_more : (tools : Tools) (h : List Line) (l : Line) (n : Bytes) (key : Bytes) → came_by tools h n key ≡ true → came_by tools (h ++ l ∷ []) n key ≡ true
+pub came_more : (tools : Tools) (h : List Line) (l : Line) (n : Bytes) (key : Bytes) → came_by tools h n key ≡ true
+    → came_by tools (h ++ l ∷ []) n key ≡ true
 unfolding came_by
 came_more tools h l n key it =
     elim (either (holds (codes_of h n) key) (list_any (brings tools (bases h n) key) (terms_of h)) it) [
@@ -155,7 +192,8 @@ came_more tools h l n key it =
           (terms_more (brings tools (bases (h ++ l ∷ []) n) key) h l
           ∙ or_left _ _
           (any_grows (brings tools (bases h n) key) (brings tools (bases (h ++ l ∷ []) n) key)
-          (λ t. and_grows (holds (bases h n) t.base) (holds (bases (h ++ l ∷ []) n) t.base) _ (λ here. bases_more h l n t.base ∙ or_left _ _ here)) (terms_of h) term))
+          (λ t. and_grows (holds (bases h n) t.base) (holds (bases (h ++ l ∷ []) n) t.base) _
+          (λ here. bases_more h l n t.base ∙ or_left _ _ here)) (terms_of h) term))
     ]
 
 -- Both words only fall.
@@ -163,29 +201,38 @@ came_more tools h l n key it =
 pub ideal_before : (tools : Tools) (h : List Line) (l : Line) → ideal tools (h ++ l ∷ []) ≡ true → ideal tools h ≡ true
 ideal_before tools h l it = and_left (ideal tools h) (ideal_line tools h l) (sym (ideal_more tools h l) ∙ it)
 
-some_grows : (keys all : List Bytes) → ((k : Bytes) → holds keys k ≡ true → holds all k ≡ true) → (o : Option Bytes) → holds_some keys o ≡ true → holds_some all o ≡ true
+some_grows : (keys all : List Bytes) → ((k : Bytes) → holds keys k ≡ true → holds all k ≡ true) → (o : Option Bytes)
+    → holds_some keys o ≡ true → holds_some all o ≡ true
 some_grows keys all more None it = cc
 some_grows keys all more (Some k) it = more k it
 
-passes_still : (tools : Tools) (h : List Line) (l : Line) → passes_on tools h ≡ true → passes_on tools (h ++ l ∷ []) ≡ true
+passes_still : (tools : Tools) (h : List Line) (l : Line) → passes_on tools h ≡ true → passes_on tools (h ++ l ∷ [])
+    ≡ true
 unfolding passes_on
 passes_still tools h l it =
     forged_more (λ (t : Term). holds_some (network_keys (h ++ l ∷ [])) (carried tools t)) h l
     ∙ or_left _ _
-    (any_grows (λ (t : Term). holds_some (network_keys h) (carried tools t)) (λ (t : Term). holds_some (network_keys (h ++ l ∷ [])) (carried tools t))
-    (λ t. some_grows (network_keys h) (network_keys (h ++ l ∷ [])) (λ k here. network_more h l k ∙ or_left _ _ here) (carried tools t))
+    (any_grows (λ (t : Term). holds_some (network_keys h) (carried tools t))
+    (λ (t : Term). holds_some (network_keys (h ++ l ∷ [])) (carried tools t))
+    (λ t. some_grows (network_keys h) (network_keys (h ++ l ∷ [])) (λ k here. network_more h l k ∙ or_left _ _ here)
+    (carried tools t))
     (flat_map forged_in h) it)
 
-pub private_before : (tools : Tools) (h : List Line) (l : Line) → private tools (h ++ l ∷ []) ≡ true → private tools h ≡ true
+pub private_before : (tools : Tools) (h : List Line) (l : Line) → private tools (h ++ l ∷ []) ≡ true → private tools h
+    ≡ true
 unfolding private
 private_before tools h l it = both_before (each_line (based_line tools) [] h) (passes_on tools h) refl refl
   where
     based : each_line (based_line tools) [] h ≡ true
-    based = and_left _ (based_line tools h l) (sym (based_more tools h l) ∙ and_left _ (not (passes_on tools (h ++ l ∷ []))) it)
+    based =
+        and_left _ (based_line tools h l)
+        (sym (based_more tools h l) ∙ and_left _ (not (passes_on tools (h ++ l ∷ []))) it)
 
     kept : not (passes_on tools (h ++ l ∷ [])) ≡ true
     kept = and_right (each_line (based_line tools) [] (h ++ l ∷ [])) _ it
 
-    both_before : (a b : Bool) → each_line (based_line tools) [] h ≡ a → passes_on tools h ≡ b → (each_line (based_line tools) [] h && not (passes_on tools h)) ≡ true
-    both_before a true e f = let still : passes_on tools (h ++ l ∷ []) ≡ true = passes_still tools h l f in absurd (not_both (not (passes_on tools (h ++ l ∷ []))) kept (ap not still))
+    both_before : (a b : Bool) → each_line (based_line tools) [] h ≡ a → passes_on tools h ≡ b
+        → (each_line (based_line tools) [] h && not (passes_on tools h)) ≡ true
+    both_before a true e f = let still : passes_on tools (h ++ l ∷ []) ≡ true =
+        passes_still tools h l f in absurd (not_both (not (passes_on tools (h ++ l ∷ []))) kept (ap not still))
     both_before a false e f = rw (based, f) refl

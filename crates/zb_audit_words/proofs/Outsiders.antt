@@ -65,7 +65,8 @@ as_many : (h : List Line) → length (map (logged []) h) ≡ length h
 as_many [] = refl
 as_many (l ∷ h) = ap suc (as_many h)
 
-exposed_same : (tools : Tools) (h : List Line) (from : List Bytes) → model.exposed tools (map (logged []) h) from ≡ exposed tools h from
+exposed_same : (tools : Tools) (h : List Line) (from : List Bytes) → model.exposed tools (map (logged []) h) from
+    ≡ exposed tools h from
 unfolding exposed terms_of model.exposed model.terms_of
 exposed_same tools h from = rw (as_many h, terms_alike h) refl
 
@@ -73,22 +74,29 @@ all_terms : (h : List Line) → model.terms_of (map (logged []) h) ≡ terms_of 
 unfolding terms_of model.terms_of
 all_terms h = terms_alike h
 
-exposed_covers : (tools : Tools) (h : List Line) (from : List Bytes) (k : Bytes) → holds from k ≡ true → holds (exposed tools h from) k ≡ true
-exposed_covers tools h from k there = subst (λ (ks : List Bytes). holds ks k ≡ true) (exposed_same tools h from) (shown.exposed_covers tools (map (logged []) h) from k there)
+exposed_covers : (tools : Tools) (h : List Line) (from : List Bytes) (k : Bytes) → holds from k ≡ true
+    → holds (exposed tools h from) k ≡ true
+exposed_covers tools h from k there = subst (λ (ks : List Bytes). holds ks k ≡ true) (exposed_same tools h from)
+    (shown.exposed_covers tools (map (logged []) h) from k there)
 
-exposed_closed : (tools : Tools) (h : List Line) (from : List Bytes) → IsClosed tools (holds (exposed tools h from)) (terms_of h)
+exposed_closed : (tools : Tools) (h : List Line) (from : List Bytes)
+    → IsClosed tools (holds (exposed tools h from)) (terms_of h)
 exposed_closed tools h from =
     subst (λ (ts : List Term). IsClosed tools (holds (exposed tools h from)) ts) (all_terms h)
-    (subst (λ (ks : List Bytes). IsClosed tools (holds ks) (model.terms_of (map (logged []) h))) (exposed_same tools h from) (shown.exposed_closed tools (map (logged []) h) from))
+    (subst (λ (ks : List Bytes). IsClosed tools (holds ks) (model.terms_of (map (logged []) h)))
+    (exposed_same tools h from) (shown.exposed_closed tools (map (logged []) h) from))
 
-exposed_least : (tools : Tools) (h : List Line) (from : List Bytes) (S : Bytes → Bool) → ((k : Bytes) → holds from k ≡ true → S k ≡ true) → IsClosed tools S (terms_of h)
+exposed_least : (tools : Tools) (h : List Line) (from : List Bytes) (S : Bytes → Bool)
+    → ((k : Bytes) → holds from k ≡ true → S k ≡ true) → IsClosed tools S (terms_of h)
     → (k : Bytes) → holds (exposed tools h from) k ≡ true → S k ≡ true
 exposed_least tools h from S covers closed k there =
-    shown.exposed_least tools (map (logged []) h) from S covers (subst (λ (ts : List Term). IsClosed tools S ts) (sym (all_terms h)) closed) k
+    shown.exposed_least tools (map (logged []) h) from S covers
+    (subst (λ (ts : List Term). IsClosed tools S ts) (sym (all_terms h)) closed) k
     (subst (λ (ks : List Bytes). holds ks k ≡ true) (sym (exposed_same tools h from)) there)
 
 -- What removed devices ever held is among what outsiders may hold, and besides it there is the well-known key.
-outside_has : (f : ℕ → List Bytes) (d : ℕ) (k : Bytes) (ds : List ℕ) → list_any (nat_eq d) ds ≡ true → holds (f d) k ≡ true → holds (flat_map f ds) k ≡ true
+outside_has : (f : ℕ → List Bytes) (d : ℕ) (k : Bytes) (ds : List ℕ) → list_any (nat_eq d) ds ≡ true → holds (f d) k
+    ≡ true → holds (flat_map f ds) k ≡ true
 outside_has f d k [] gone did = cc
 outside_has f d k (x ∷ ds) gone did =
     list_any-append (bytes_eq k) (f x) (flat_map f ds)
@@ -97,23 +105,29 @@ outside_has f d k (x ∷ ds) gone did =
       | inr there ↦ or_right _ _ (outside_has f d k ds there did)
     ]
 
-from_outside : (f : ℕ → List Bytes) (S : Bytes → Bool) (k : Bytes) (ds : List ℕ) → ((d : ℕ) → list_any (nat_eq d) ds ≡ true → holds (f d) k ≡ true → S k ≡ true) → holds (flat_map f ds) k ≡ true → S k ≡ true
+from_outside : (f : ℕ → List Bytes) (S : Bytes → Bool) (k : Bytes) (ds : List ℕ)
+    → ((d : ℕ) → list_any (nat_eq d) ds ≡ true → holds (f d) k ≡ true → S k ≡ true) → holds (flat_map f ds) k ≡ true
+    → S k ≡ true
 from_outside f S k [] covers there = cc
 from_outside f S k (d ∷ ds) covers there =
-    elim (either (holds (f d) k) (holds (flat_map f ds) k) (sym (list_any-append (bytes_eq k) (f d) (flat_map f ds)) ∙ there)) [
+    elim (either (holds (f d) k) (holds (flat_map f ds) k)
+    (sym (list_any-append (bytes_eq k) (f d) (flat_map f ds)) ∙ there)) [
       | inl here ↦ covers d (or_left _ _ (itself_number d)) here
       | inr later ↦ from_outside f S k ds (λ e gone did. covers e (or_right _ _ gone) did) later
     ]
 
 module _ (tools : Tools) (S : Bytes → Bool) where
-  passes_any : (base key : Bytes) (t : Term) (o : Option Bytes) → carried tools t ≡ o → Passes tools S t → S base ≡ true → (bytes_eq base t.base && is_that o key) ≡ true → S key ≡ true
+  passes_any : (base key : Bytes) (t : Term) (o : Option Bytes) → carried tools t ≡ o → Passes tools S t → S base
+      ≡ true → (bytes_eq base t.base && is_that o key) ≡ true → S key ≡ true
   passes_any base key t None is passes known there = cc (and_right (bytes_eq base t.base) false there)
   passes_any base key t (Some k) is passes known there =
-      let here : IfSome (carried tools t) (λ (q : Bytes). S q ≡ true) = passes (ap S (sym (same_bytes base t.base (and_left _ _ there))) ∙ known) in
+      let here : IfSome (carried tools t) (λ (q : Bytes). S q ≡ true) =
+      passes (ap S (sym (same_bytes base t.base (and_left _ _ there))) ∙ known) in
       let it : S k ≡ true = rw is at here in
       ap S (same_bytes key k (and_right _ _ there)) ∙ it
 
-  closed_any : (base key : Bytes) (ts : List Term) → IsClosed tools S ts → S base ≡ true → list_any (carries tools base key) ts ≡ true → S key ≡ true
+  closed_any : (base key : Bytes) (ts : List Term) → IsClosed tools S ts → S base ≡ true
+      → list_any (carries tools base key) ts ≡ true → S key ≡ true
   closed_any base key [] closed known there = cc
   closed_any base key (t ∷ ts) closed known there =
       elim (either (carries tools base key t) (list_any (carries tools base key) ts) there) [
@@ -121,11 +135,15 @@ module _ (tools : Tools) (S : Bytes → Bool) where
         | inr later ↦ closed_any base key ts closed.1 known later
       ]
 
-  passes_one : (t : Term) (o : Option Bytes) → ((key : Bytes) → S t.base ≡ true → (bytes_eq t.base t.base && is_that o key) ≡ true → S key ≡ true) → S t.base ≡ true → IfSome o (λ (key : Bytes). S key ≡ true)
+  passes_one : (t : Term) (o : Option Bytes)
+      → ((key : Bytes) → S t.base ≡ true → (bytes_eq t.base t.base && is_that o key) ≡ true → S key ≡ true) → S t.base
+      ≡ true → IfSome o (λ (key : Bytes). S key ≡ true)
   passes_one t None carries_all known = tt
   passes_one t (Some k) carries_all known = carries_all k known (both _ _ (itself t.base) (itself k))
 
-  closed_from : (ts : List Term) → ((base key : Bytes) → S base ≡ true → list_any (carries tools base key) ts ≡ true → S key ≡ true) → IsClosed tools S ts
+  closed_from : (ts : List Term)
+      → ((base key : Bytes) → S base ≡ true → list_any (carries tools base key) ts ≡ true → S key ≡ true)
+      → IsClosed tools S ts
   closed_from [] carries_all = tt
   closed_from (t ∷ ts) carries_all = (
     passes_one t (carried tools t) (λ key known there. carries_all t.base key known (or_left _ _ there)),
@@ -145,10 +163,12 @@ module _ (tools : Tools) (e : Exposure) (h : List Line)
         let was : list_any (nat_eq d) (removed_devices h) ≡ true = sym (removed_is d) ∙ gone in
         exposed_covers tools h (outside h) k
         (or_right _ _ (outside_has (ever h) d k (removed_devices h) was (sym (ever_is d k) ∙ did)));
-    carried = λ base key known there. closed_any tools (holds (exposed tools h (outside h))) base key (terms_of h) (exposed_closed tools h (outside h)) known (sym (carried_is base key) ∙ there);
+    carried = λ base key known there. closed_any tools (holds (exposed tools h (outside h))) base key (terms_of h)
+        (exposed_closed tools h (outside h)) known (sym (carried_is base key) ∙ there);
   }
 
-  exposed_within : (S : Bytes → Bool) → Covers e S → (k : Bytes) → holds (exposed tools h (outside h)) k ≡ true → S k ≡ true
+  exposed_within : (S : Bytes → Bool) → Covers e S → (k : Bytes) → holds (exposed tools h (outside h)) k ≡ true → S k
+      ≡ true
   unfolding outside
   exposed_within S covers k there =
       exposed_least tools h (outside h) S
@@ -158,18 +178,21 @@ module _ (tools : Tools) (e : Exposure) (h : List Line)
         | inr from ↦ from_outside (ever h) S q (removed_devices h)
             (λ d was did. covers.removed d q (removed_is d ∙ was) (ever_is d q ∙ did)) from
       ])
-      (closed_from tools S (terms_of h) (λ base key known carry. covers.carried base key known (carried_is base key ∙ carry))) k there
+      (closed_from tools S (terms_of h)
+      (λ base key known carry. covers.carried base key known (carried_is base key ∙ carry))) k there
 
   pub known_is_exposed : IsSettled e → (k : Bytes) → has e.known k ≡ holds (exposed tools h (outside h)) k
   known_is_exposed settled k =
-      same_truth _ _ (settled.least (holds (exposed tools h (outside h))) covers_exposed k) (exposed_within (has e.known) settled.covers k)
+      same_truth _ _ (settled.least (holds (exposed tools h (outside h))) covers_exposed k)
+      (exposed_within (has e.known) settled.covers k)
 
   pub exposed_is_settled : ((k : Bytes) → has e.known k ≡ holds (exposed tools h (outside h)) k) → IsSettled e
   exposed_is_settled known_is = record {
     covers = record {
       everybody = known_is well_known ∙ covers_exposed.everybody;
       removed = λ d k gone did. known_is k ∙ covers_exposed.removed d k gone did;
-      carried = λ base key known there. known_is key ∙ covers_exposed.carried base key (sym (known_is base) ∙ known) there;
+      carried = λ base key known there. known_is key ∙ covers_exposed.carried base key (sym (known_is base) ∙ known)
+          there;
     };
     least = λ S covers k known. exposed_within S covers k (sym (known_is k) ∙ known);
   }

@@ -11,12 +11,15 @@ place_has holdings place key = held nat_cmp holdings place key
 
 -- whether the key is that of the node's code, or a term carries it under one of the node's keys
 abbrev pub came : Origins → ℕ → List ℕ → Bool
-came o place key = place_has o.codes place key || meet (keys_at nat_cmp o.bases place) (keys_at key_cmp o.carriers (record { 0 = key }))
+came o place key = place_has o.codes place key
+    || meet (keys_at nat_cmp o.bases place) (keys_at key_cmp o.carriers (record { 0 = key }))
 
 -- What the origins make of a key that a node took in.
 pub record TakesIn (old new : Origins) (place : ℕ) (joins : Bool) (key : List ℕ) : Type 0 where
-  pub ideal : (place_has old.traced place key ≡ true → came old place key ≡ true) → new.ideal ≡ (old.ideal && (not joins || came old place key))
-  pub traced : (n : ℕ) (k : List ℕ) → place_has new.traced n k ≡ true → (place_has old.traced n k ≡ true) ⊎ (((nat_eq n place && bytes_eq k key) ≡ true) × (came old place key ≡ true))
+  pub ideal : (place_has old.traced place key ≡ true → came old place key ≡ true) → new.ideal
+      ≡ (old.ideal && (not joins || came old place key))
+  pub traced : (n : ℕ) (k : List ℕ) → place_has new.traced n k ≡ true → (place_has old.traced n k ≡ true)
+      ⊎ (((nat_eq n place && bytes_eq k key) ≡ true) × (came old place key ≡ true))
   pub terms : new.terms ≡ old.terms
   pub codes : new.codes ≡ old.codes
   pub bases : new.bases ≡ old.bases

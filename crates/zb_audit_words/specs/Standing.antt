@@ -26,19 +26,26 @@ use Rattle.zb_trace_watch.specs.Terms.{has_term}
 pub record Stands (tools : Tools) (names : List Bytes) (w : EndWords) (h : List Line) : Type 0 where
   -- the terms of seal and forge lines, and the keys that they carry, under which
   pub terms : (t : Term) → has_term w.origins.terms t ≡ list_any (same_term (model_term t)) (terms_of h)
-  pub carried : (base key : Bytes) → is_carried w.exposure.carried base key ≡ list_any (carries tools base key) (terms_of h)
-  pub carriers : (base key : Bytes) → is_carried w.origins.carriers key base ≡ list_any (carries tools base key) (terms_of h)
+  pub carried : (base key : Bytes) → is_carried w.exposure.carried base key
+      ≡ list_any (carries tools base key) (terms_of h)
+  pub carriers : (base key : Bytes) → is_carried w.origins.carriers key base
+      ≡ list_any (carries tools base key) (terms_of h)
   -- the keys of each node's code, and those under which it may be sent a key; and what was traced came
-  pub codes : (name : Bytes) (i : ℕ) → place_in names name ≡ Some i → (key : Bytes) → place_has w.origins.codes i key ≡ holds (codes_of h name) key
-  pub bases : (name : Bytes) (i : ℕ) → place_in names name ≡ Some i → (key : Bytes) → place_has w.origins.bases i key ≡ holds (bases h name) key
-  pub traced : (name : Bytes) (i : ℕ) → place_in names name ≡ Some i → (key : Bytes) → place_has w.origins.traced i key ≡ true → came_by tools h name key ≡ true
+  pub codes : (name : Bytes) (i : ℕ) → place_in names name ≡ Some i → (key : Bytes) → place_has w.origins.codes i key
+      ≡ holds (codes_of h name) key
+  pub bases : (name : Bytes) (i : ℕ) → place_in names name ≡ Some i → (key : Bytes) → place_has w.origins.bases i key
+      ≡ holds (bases h name) key
+  pub traced : (name : Bytes) (i : ℕ) → place_in names name ≡ Some i → (key : Bytes)
+      → place_has w.origins.traced i key ≡ true → came_by tools h name key ≡ true
   -- the keys that each device ever held, the removed devices, and what outsiders may know
   pub ever : (device : ℕ) (key : Bytes) → node_has w.exposure.ever device key ≡ holds (ever h device) key
   pub removed : (device : ℕ) → was_removed w.exposure device ≡ list_any (nat_eq device) (removed_devices h)
   pub known : (key : Bytes) → has w.exposure.known key ≡ holds (exposed tools h (outside h)) key
   -- the keys of the network, and those that forged terms carry
   pub network : (key : Bytes) → has w.passing.network key ≡ holds (network_keys h) key
-  pub forged : (key : Bytes) → has w.passing.forged key ≡ list_any (λ (t : model.Term). is_that (Rattle.zb_model.specs.Secrets.carried tools t) key) (flat_map forged_in h)
+  pub forged : (key : Bytes) → has w.passing.forged key
+      ≡ list_any (λ (t : model.Term). is_that (Rattle.zb_model.specs.Secrets.carried tools t) key)
+      (flat_map forged_in h)
   pub passed_on : w.passing.passed_on ≡ passes_on tools h
   -- the two words
   pub ideal : w.origins.ideal ≡ ideal tools h
@@ -46,7 +53,8 @@ pub record Stands (tools : Tools) (names : List Bytes) (w : EndWords) (h : List 
 
 -- A line more: the words after it represent it too.
 abbrev pub Follows : Tools → List Bytes → Who → List Line → Line → EndWords → EndWords → Type 0
-Follows tools names who h l old new = FindKeys tools → IsSpeaker who names (declared_in h) l → Stands tools names old h → Stands tools names new (h ++ l ∷ [])
+Follows tools names who h l old new = FindKeys tools → IsSpeaker who names (declared_in h) l
+    → Stands tools names old h → Stands tools names new (h ++ l ∷ [])
 
 -- the address of a node, and whether it is a router or device
 abbrev pub address_of : Who → Option ℕ

@@ -22,12 +22,15 @@ use Rattle.zb_backup.proofs.Widths.{floor_is, net_is, link_is, pair_is, state_is
 
 -- ---- rows in their lists
 
-pub rows_again : {X : Type 0} (limit : ℕ) (told : Data → Option X) (value : X → Data) (Can : X → Type 0) → ((x : X) → Can x → told (value x) ≡ Some x)
-    → (done xs : List X) → AllByRecursion Can xs → length done + length xs ≤ limit → told_rows limit told done (items_of (map value xs)) ≡ Some (done ++ xs)
+pub rows_again : {X : Type 0} (limit : ℕ) (told : Data → Option X) (value : X → Data) (Can : X → Type 0)
+    → ((x : X) → Can x → told (value x) ≡ Some x)
+    → (done xs : List X) → AllByRecursion Can xs → length done + length xs ≤ limit
+    → told_rows limit told done (items_of (map value xs)) ≡ Some (done ++ xs)
 rows_again limit told value Can again done [] can few = ap Some (sym (append-nil done))
 rows_again limit told value Can again done (x ∷ xs) can few =
     let room : nat_lt (length done) limit ≡ true = lt-ltb (length done) limit (omega arith) in
-    let rest = rows_again limit told value Can again (done ++ x ∷ []) xs can.1 (omega (arith, length-append done (x ∷ []))) in
+    let rest = rows_again limit told value Can again (done ++ x ∷ []) xs can.1
+    (omega (arith, length-append done (x ∷ []))) in
     rw (room, again x can.0) (rest ∙ ap Some (append_assoc done (x ∷ []) xs))
 
 -- ---- one row
@@ -40,7 +43,8 @@ floor_again : (f : SenderFloor) → FloorCan f → floor_told (floor_object f) �
 unfolding floor_told floor_object number_at eui_at text_at
 floor_again f can =
     let w = floor_is f can.fits in
-    rw (le-leb f.stored greatest_counter (omega (arith, w.stored)), eui_again f.sender w.sender) (ap (λ k. Some (record { sender = f.sender; kept = k; stored = f.stored })) can.kept)
+    rw (le-leb f.stored greatest_counter (omega (arith, w.stored)), eui_again f.sender w.sender)
+    (ap (λ k. Some (record { sender = f.sender; kept = k; stored = f.stored })) can.kept)
 
 pub record NetCan (r : NetKey) : Type 0 where
   pub fits : net_fits r ≡ true
@@ -52,10 +56,26 @@ net_again : (r : NetKey) → NetCan r → net_told (net_object r) ≡ Some r
 unfolding net_told net_object rows_at list_at number_at key_at text_at flag_at
 net_again r can =
     let w = net_is r can.fits in
-    rw (rows_again most_senders floor_told floor_object FloorCan floor_again [] r.floors can.floors (omega (arith, can.few)), fixed_again r.key 16 w.key.long w.key.bytes, le-leb r.limit greatest_counter (omega (arith, w.limit)), le-leb r.sequence 255 (omega (arith, w.sequence)))
-    (ap (λ n. Some (record { key = r.key; sequence = r.sequence; live = r.live; started = r.started; limit = r.limit; next = n; floors = r.floors })) can.next)
+    rw (
+      rows_again most_senders floor_told floor_object FloorCan floor_again [] r.floors can.floors
+          (omega (arith, can.few)),
+      fixed_again r.key 16 w.key.long w.key.bytes,
+      le-leb r.limit greatest_counter (omega (arith, w.limit)),
+      le-leb r.sequence 255 (omega (arith, w.sequence)),
+    )
+    (ap (λ n. Some
+    (record {
+      key = r.key;
+      sequence = r.sequence;
+      live = r.live;
+      started = r.started;
+      limit = r.limit;
+      next = n;
+      floors = r.floors;
+    })) can.next)
 
-attribute_again : (a : Attribute) → (up_to 2 (Some (attribute_byte a)) >>= (λ n. option_map model_attribute (attribute_of n))) ≡ Some a
+attribute_again : (a : Attribute)
+    → (up_to 2 (Some (attribute_byte a)) >>= (λ n. option_map model_attribute (attribute_of n))) ≡ Some a
 attribute_again Provisional = refl
 attribute_again Unverified = refl
 attribute_again Verified = refl
@@ -68,8 +88,23 @@ link_again : (r : LinkKey) → LinkCan r → link_told (link_object r) ≡ Some 
 unfolding link_told link_object attribute_at number_at key_at eui_at text_at flag_at
 link_again r can =
     let w = link_is r can.fits in
-    rw (attribute_again r.attribute, le-leb r.stored greatest_counter (omega (arith, w.stored)), fixed_again r.key 16 w.key.long w.key.bytes, eui_again r.partner w.partner)
-    (ap (λ k. Some (record { partner = r.partner; key = r.key; attribute = r.attribute; live = r.live; code = r.code; told = r.told; kept = k; stored = r.stored })) can.kept)
+    rw (
+      attribute_again r.attribute,
+      le-leb r.stored greatest_counter (omega (arith, w.stored)),
+      fixed_again r.key 16 w.key.long w.key.bytes,
+      eui_again r.partner w.partner,
+    )
+    (ap (λ k. Some
+    (record {
+      partner = r.partner;
+      key = r.key;
+      attribute = r.attribute;
+      live = r.live;
+      code = r.code;
+      told = r.told;
+      kept = k;
+      stored = r.stored;
+    })) can.kept)
 
 pub record PairCan (p : PairKey) : Type 0 where
   pub fits : pair_fits p ≡ true
@@ -77,11 +112,14 @@ pub record PairCan (p : PairKey) : Type 0 where
 pair_again : (p : PairKey) → PairCan p → pair_told (pair_object p) ≡ Some p
 unfolding pair_told pair_object key_at eui_at text_at
 pair_again p can =
-    let w = pair_is p can.fits in rw (eui_again p.first w.first, fixed_again p.key 16 w.key.long w.key.bytes, eui_again p.second w.second) refl
+    let w =
+    pair_is p can.fits in rw
+    (eui_again p.first w.first, fixed_again p.key 16 w.key.long w.key.bytes, eui_again p.second w.second) refl
 
 -- ---- what the rows of a centre's tables keep after a boot
 
-floors_can : (fs : List SenderFloor) → map booted_floor fs ≡ fs → list_all floor_fits fs ≡ true → AllByRecursion FloorCan fs
+floors_can : (fs : List SenderFloor) → map booted_floor fs ≡ fs → list_all floor_fits fs ≡ true
+    → AllByRecursion FloorCan fs
 floors_can [] booted fits = tt
 floors_can (f ∷ fs) booted fits =
     let p = and_parts (floor_fits f) (list_all floor_fits fs) fits in
@@ -89,7 +127,8 @@ floors_can (f ∷ fs) booted fits =
     let rest : map booted_floor fs ≡ fs = cc in
     (record { fits = p.0; kept = ap (λ (g : SenderFloor). g.kept) here }, floors_can fs rest p.1)
 
-nets_can : (rows : List NetKey) → map booted_net rows ≡ rows → list_all net_fits rows ≡ true → list_all floors_rule rows ≡ true → AllByRecursion NetCan rows
+nets_can : (rows : List NetKey) → map booted_net rows ≡ rows → list_all net_fits rows ≡ true
+    → list_all floors_rule rows ≡ true → AllByRecursion NetCan rows
 nets_can [] booted fits kept = tt
 nets_can (r ∷ rs) booted fits kept =
     let p = and_parts (net_fits r) (list_all net_fits rs) fits in
@@ -106,7 +145,8 @@ nets_can (r ∷ rs) booted fits kept =
       nets_can rs rest p.1 q.1,
     )
 
-links_can : (rows : List LinkKey) → map booted_link rows ≡ rows → list_all link_fits rows ≡ true → AllByRecursion LinkCan rows
+links_can : (rows : List LinkKey) → map booted_link rows ≡ rows → list_all link_fits rows ≡ true
+    → AllByRecursion LinkCan rows
 links_can [] booted fits = tt
 links_can (r ∷ rs) booted fits =
     let p = and_parts (link_fits r) (list_all link_fits rs) fits in
@@ -116,7 +156,8 @@ links_can (r ∷ rs) booted fits =
 
 pairs_can : (rows : List PairKey) → list_all pair_fits rows ≡ true → AllByRecursion PairCan rows
 pairs_can [] fits = tt
-pairs_can (p ∷ ps) fits = let q = and_parts (pair_fits p) (list_all pair_fits ps) fits in (record { fits = q.0 }, pairs_can ps q.1)
+pairs_can (p ∷ ps) fits = let q = and_parts (pair_fits p) (list_all pair_fits ps) fits in
+    (record { fits = q.0 }, pairs_can ps q.1)
 
 -- ---- the active key
 
@@ -124,14 +165,16 @@ abbrev has_key : Bytes → NetKey → Bool
 has_key key r = same_key r.key key
 
 abbrev IsFound : List NetKey → Bytes → Type 0
-IsFound rows key = (position_or_len (has_key key) rows < length rows) × (record_places.key_of (position_or_len (has_key key) rows) rows ≡ Some key)
+IsFound rows key = (position_or_len (has_key key) rows < length rows)
+    × (record_places.key_of (position_or_len (has_key key) rows) rows ≡ Some key)
 
 -- where a live row has the key, the first row of that key is there
 place_found : (rows : List NetKey) (key : Bytes) → row_is_live (find (has_key key) rows) ≡ true → IsFound rows key
 place_found [] key live = absurd (false≢true live)
 place_found (r ∷ rs) key live = by_test (same_key r.key key) refl live (place_found rs key)
   where
-    by_test : (b : Bool) → same_key r.key key ≡ b → row_is_live (cond b (Some r) (find (has_key key) rs)) ≡ true → (row_is_live (find (has_key key) rs) ≡ true → IsFound rs key)
+    by_test : (b : Bool) → same_key r.key key ≡ b → row_is_live (cond b (Some r) (find (has_key key) rs)) ≡ true
+        → (row_is_live (find (has_key key) rs) ≡ true → IsFound rs key)
         → IsFound (r ∷ rs) key
     by_test true is alive more = rw is (omega arith, ap Some (same_key_is r.key key is))
     by_test false is alive more =
@@ -139,7 +182,8 @@ place_found (r ∷ rs) key live = by_test (same_key r.key key) refl live (place_
         let one : 1 + position_or_len (has_key key) rs ≡ suc (position_or_len (has_key key) rs) = omega arith in
         rw is (omega (arith, later.0), ap (λ k. record_places.key_of k (r ∷ rs)) one ∙ later.1)
 
-active_again : (active : Option Bytes) (s : NodeState) → s.active ≡ active → active_is_live s ≡ true → length s.nets ≤ 256 → place_in s.nets (active_value active s.nets) ≡ Some active
+active_again : (active : Option Bytes) (s : NodeState) → s.active ≡ active → active_is_live s ≡ true → length s.nets
+    ≤ 256 → place_in s.nets (active_value active s.nets) ≡ Some active
 unfolding active_value active_is_live
 active_again None s is live few = refl
 active_again (Some key) s is live few =
@@ -164,7 +208,8 @@ fresh_is Gone h = absurd (false≢true h)
 
 state_is_fresh : (s : NodeState) → s.role ≡ Centre → role_is_kept s ≡ true → s.state ≡ Fresh
 unfolding role_is_kept
-state_is_fresh s role kept = let e : role_is_kept s ≡ is_fresh s.state = rw role refl in fresh_is s.state (sym e ∙ kept)
+state_is_fresh s role kept = let e : role_is_kept s ≡ is_fresh s.state =
+    rw role refl in fresh_is s.state (sym e ∙ kept)
 
 pub state_again : (s : NodeState) → IsOfCentre s → state_told (backup_of s) ≡ Some s
 unfolding state_told backup_of rows_at list_at active_at number_at roll_at text_at after_boot
@@ -172,12 +217,25 @@ state_again s centre =
     let rules = rules_of s centre.rules in
     let w = state_is s centre.widths in
     let booted = centre.booted in
-    let nets = rows_again most_nets net_told net_object NetCan net_again [] s.nets (nets_can s.nets (ap (λ (t : NodeState). t.nets) booted) w.nets rules.floors) (omega (arith, rules.nets_room)) in
-    let few_links : length s.links ≤ 1024 = subst (λ role. length s.links ≤ most_links role) centre.role rules.links_room in
-    let links = rows_again 1024 link_told link_object LinkCan link_again [] s.links (links_can s.links (ap (λ (t : NodeState). t.links) booted) w.links) (omega (arith, few_links)) in
-    let pairs = rows_again most_pairs pair_told pair_object PairCan pair_again [] s.pairs (pairs_can s.pairs w.pairs) (omega (arith, rules.pairs_room)) in
+    let nets = rows_again most_nets net_told net_object NetCan net_again [] s.nets
+    (nets_can s.nets (ap (λ (t : NodeState). t.nets) booted) w.nets rules.floors) (omega (arith, rules.nets_room))
+    in
+    let few_links : length s.links ≤ 1024 = subst (λ role. length s.links ≤ most_links role) centre.role
+    rules.links_room in
+    let links = rows_again 1024 link_told link_object LinkCan link_again [] s.links
+    (links_can s.links (ap (λ (t : NodeState). t.links) booted) w.links) (omega (arith, few_links)) in
+    let pairs = rows_again most_pairs pair_told pair_object PairCan pair_again [] s.pairs (pairs_can s.pairs w.pairs)
+    (omega (arith, rules.pairs_room)) in
     let active = active_again s.active s refl rules.active rules.nets_room in
     let aps = ap (λ (t : NodeState). t.aps_next) booted in
     let fresh = state_is_fresh s centre.role rules.role_kept in
-    rw (nets, links, pairs, active, le-leb s.aps_limit greatest_counter (omega (arith, w.aps_limit)), le-leb s.declared greatest_counter (omega (arith, w.declared)), roll_again s.sending)
+    rw (
+      nets,
+      links,
+      pairs,
+      active,
+      le-leb s.aps_limit greatest_counter (omega (arith, w.aps_limit)),
+      le-leb s.declared greatest_counter (omega (arith, w.declared)),
+      roll_again s.sending,
+    )
     (rw (sym centre.role, sym fresh, aps) refl)

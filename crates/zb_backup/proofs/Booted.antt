@@ -30,7 +30,8 @@ links_same (r ∷ rs) = rw (links_same rs) refl
 abbrev has_key : Bytes → NetKey → Bool
 has_key key r = same_key r.key key
 
-first_same : (key : Bytes) (rows : List NetKey) → position_or_len (has_key key) (map booted_net rows) ≡ position_or_len (has_key key) rows
+first_same : (key : Bytes) (rows : List NetKey) → position_or_len (has_key key) (map booted_net rows)
+    ≡ position_or_len (has_key key) rows
 first_same key [] = refl
 first_same key (r ∷ rs) = rw (first_same key rs) refl
 
@@ -38,7 +39,8 @@ long_same : (rows : List NetKey) → length (map booted_net rows) ≡ length row
 long_same [] = refl
 long_same (r ∷ rs) = rw (long_same rs) refl
 
-active_same : (active : Option Bytes) (rows : List NetKey) → active_value active (map booted_net rows) ≡ active_value active rows
+active_same : (active : Option Bytes) (rows : List NetKey) → active_value active (map booted_net rows)
+    ≡ active_value active rows
 unfolding active_value
 active_same None rows = refl
 active_same (Some key) rows = rw (first_same key rows, long_same rows) refl
@@ -69,10 +71,12 @@ forgets_booted : (s : NodeState) → shown s ≡ s → shown (after_boot s) ≡ 
 unfolding shown after_boot
 forgets_booted s forgets =
     let nets : map shown_net s.nets ≡ s.nets = ap (λ (t : NodeState). t.nets) forgets in
-    let booted : map shown_net (map booted_net s.nets) ≡ map booted_net s.nets = sym (booted_shown s.nets) ∙ ap (map booted_net) nets in
+    let booted : map shown_net (map booted_net s.nets) ≡ map booted_net s.nets =
+    sym (booted_shown s.nets) ∙ ap (map booted_net) nets in
     rw booted refl
 
-pub centre_booted : (s : NodeState) → s.role ≡ Centre → keeps_rules s ≡ true → shown s ≡ s → has_widths s ≡ true → IsOfCentre (after_boot s)
+pub centre_booted : (s : NodeState) → s.role ≡ Centre → keeps_rules s ≡ true → shown s ≡ s → has_widths s ≡ true
+    → IsOfCentre (after_boot s)
 unfolding after_boot
 centre_booted s role rules forgets widths = record {
   role = role;

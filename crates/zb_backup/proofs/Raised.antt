@@ -40,18 +40,21 @@ pub items_raised : (vs : List Value) → items_of (map (λ v. raised (view v)) v
 items_raised [] = refl
 items_raised (v ∷ vs) = ap (item (raised (view v))) (items_raised vs)
 
-members_by_order : (o : Ordering) (a b c : Members) → raised_members (match_ordering o a b c) ≡ match_ordering o (raised_members a) (raised_members b) (raised_members c)
+members_by_order : (o : Ordering) (a b c : Members) → raised_members (match_ordering o a b c)
+    ≡ match_ordering o (raised_members a) (raised_members b) (raised_members c)
 members_by_order Less a b c = refl
 members_by_order Equal a b c = refl
 members_by_order Greater a b c = refl
 
-pub put_raised : (k : List ℕ) (d : Data) (ms : Members) → raised_members (put k d ms) ≡ put k (raised d) (raised_members ms)
+pub put_raised : (k : List ℕ) (d : Data) (ms : Members) → raised_members (put k d ms)
+    ≡ put k (raised d) (raised_members ms)
 put_raised k d no_members = refl
 put_raised k d (member l e ms) = members_by_order (slice_cmp nat_cmp k l) _ _ _ ∙ rw (put_raised k d ms) refl
 
 -- ---- a backup that is written has its digits in upper case
 
-digit_raised : (digits : List ℕ) (n : ℕ) → map to_ascii_uppercase digits ≡ digits → to_ascii_uppercase (slice_index digits n) ≡ slice_index digits n
+digit_raised : (digits : List ℕ) (n : ℕ) → map to_ascii_uppercase digits ≡ digits
+    → to_ascii_uppercase (slice_index digits n) ≡ slice_index digits n
 digit_raised [] n h = refl
 digit_raised (d ∷ ds) zero h = cc
 digit_raised (d ∷ ds) (suc n) h = let rest : map to_ascii_uppercase ds ≡ ds = cc in digit_raised ds n rest
@@ -59,7 +62,8 @@ digit_raised (d ∷ ds) (suc n) h = let rest : map to_ascii_uppercase ds ≡ ds 
 digits_raised : (bytes : List ℕ) → map to_ascii_uppercase (encode_upper bytes) ≡ encode_upper bytes
 unfolding encode_with
 digits_raised [] = refl
-digits_raised (b ∷ bs) = ap₂ ◌∷◌ (digit_raised upper_digits (b / 16) refl) (ap₂ ◌∷◌ (digit_raised upper_digits (b % 16) refl) (digits_raised bs))
+digits_raised (b ∷ bs) = ap₂ ◌∷◌ (digit_raised upper_digits (b / 16) refl)
+    (ap₂ ◌∷◌ (digit_raised upper_digits (b % 16) refl) (digits_raised bs))
 
 either_text : (b : Bool) (xs ys : List ℕ) → xs ≡ ys → cond b xs ys ≡ ys
 either_text true xs ys h = h
@@ -77,7 +81,8 @@ unfolding raised_text
 roll_raised true = refl
 roll_raised false = refl
 
-rows_raised : {X : Type 0} (value : X → Data) → ((x : X) → raised (value x) ≡ value x) → (xs : List X) → raised_items (items_of (map value xs)) ≡ items_of (map value xs)
+rows_raised : {X : Type 0} (value : X → Data) → ((x : X) → raised (value x) ≡ value x) → (xs : List X)
+    → raised_items (items_of (map value xs)) ≡ items_of (map value xs)
 rows_raised value each [] = refl
 rows_raised value each (x ∷ xs) = ap₂ item (each x) (rows_raised value each xs)
 
@@ -101,7 +106,8 @@ place_raised : (place : Option ℕ) → raised (place_value place) ≡ place_val
 place_raised None = refl
 place_raised (Some n) = refl
 
-active_raised : (active : Option Bytes) (nets : List NetKey) → raised (active_value active nets) ≡ active_value active nets
+active_raised : (active : Option Bytes) (nets : List NetKey) → raised (active_value active nets)
+    ≡ active_value active nets
 unfolding active_value
 active_raised None nets = refl
 active_raised (Some key) nets = place_raised _
@@ -109,4 +115,11 @@ active_raised (Some key) nets = place_raised _
 pub backup_raised : (s : NodeState) → raised (backup_of s) ≡ backup_of s
 unfolding backup_of
 backup_raised s =
-    rw (active_raised s.active s.nets, rows_raised link_object link_raised s.links, rows_raised net_object net_raised s.nets, rows_raised pair_object pair_raised s.pairs, roll_raised s.sending) refl
+    rw (
+      active_raised s.active s.nets,
+      rows_raised link_object link_raised s.links,
+      rows_raised net_object net_raised
+          s.nets,
+      rows_raised pair_object pair_raised s.pairs,
+      roll_raised s.sending,
+    ) refl

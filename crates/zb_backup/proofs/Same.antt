@@ -68,7 +68,8 @@ mutual
   same_items_is no_items (item e es) h = absurd (false≢true h)
   same_items_is (item d ds) no_items h = absurd (false≢true h)
   same_items_is (item d ds) (item e es) h =
-      let p = and_parts (same_value d e) (same_items ds es) h in ap₂ item (same_value_is d e p.0) (same_items_is ds es p.1)
+      let p = and_parts (same_value d e) (same_items ds es) h in ap₂ item (same_value_is d e p.0)
+      (same_items_is ds es p.1)
 
   same_members_is : (ms ns : Members) → same_members ms ns ≡ true → ms ≡ ns
   same_members_is no_members no_members h = refl

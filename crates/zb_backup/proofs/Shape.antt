@@ -29,7 +29,8 @@ neither : (a b : Bool) → a ≡ false → b ≡ false → (a || b) ≡ false
 neither false b x y = y
 neither true b x y = x
 
-have_items : {X : Type 0} (n : ℕ) (value : X → Data) → ((x : X) → Has n (value x)) → (xs : List X) → HaveItems n value xs
+have_items : {X : Type 0} (n : ℕ) (value : X → Data) → ((x : X) → Has n (value x)) → (xs : List X)
+    → HaveItems n value xs
 have_items n value each [] = record { same = refl; whole = refl; depth = omega arith }
 have_items n value each (x ∷ xs) =
     let one = each x in
@@ -42,14 +43,22 @@ have_items n value each (x ∷ xs) =
 
 floor_has : (f : SenderFloor) → Has 1 (floor_object f)
 unfolding floor_object
-floor_has f = record { same = rw (number_same f.stored, text_same (eui_text f.sender)) refl; whole = refl; depth = omega arith }
+floor_has f =
+    record { same = rw (number_same f.stored, text_same (eui_text f.sender)) refl; whole = refl; depth = omega arith }
 
 net_has : (r : NetKey) → Has 3 (net_object r)
 unfolding net_object
 net_has r =
     let floors = have_items 1 floor_object floor_has r.floors in
     record {
-      same = rw (floors.same, text_same (encode_upper r.key), number_same r.limit, flag_same r.live, number_same r.sequence, flag_same r.started) refl;
+      same = rw (
+        floors.same,
+        text_same (encode_upper r.key),
+        number_same r.limit,
+        flag_same r.live,
+        number_same r.sequence,
+        flag_same r.started,
+      ) refl;
       whole = rw floors.whole refl;
       depth = omega (arith, floors.depth);
     }
@@ -57,14 +66,28 @@ net_has r =
 link_has : (r : LinkKey) → Has 1 (link_object r)
 unfolding link_object
 link_has r = record {
-  same = rw (number_same (attribute_byte r.attribute), flag_same r.code, number_same r.stored, text_same (encode_upper r.key), flag_same r.live, text_same (eui_text r.partner), flag_same r.told) refl;
+  same = rw (
+    number_same (attribute_byte r.attribute),
+    flag_same r.code,
+    number_same r.stored,
+    text_same (encode_upper r.key),
+    flag_same r.live,
+    text_same (eui_text r.partner),
+    flag_same r.told,
+  ) refl;
   whole = refl;
   depth = omega arith;
 }
 
 pair_has : (p : PairKey) → Has 1 (pair_object p)
 unfolding pair_object
-pair_has p = record { same = rw (text_same (eui_text p.first), text_same (encode_upper p.key), text_same (eui_text p.second)) refl; whole = refl; depth = omega arith }
+pair_has p =
+    record {
+      same = rw (text_same (eui_text p.first), text_same (encode_upper p.key), text_same (eui_text p.second))
+          refl;
+      whole = refl;
+      depth = omega arith;
+    }
 
 place_has : (place : Option ℕ) → Has 0 (place_value place)
 place_has None = record { same = refl; whole = refl; depth = omega arith }
@@ -83,7 +106,15 @@ backup_has s =
     let links = have_items 1 link_object link_has s.links in
     let pairs = have_items 1 pair_object pair_has s.pairs in
     record {
-      same = rw (active.same, number_same s.aps_limit, links.same, nets.same, number_same s.declared, pairs.same, text_same (roll_text s.sending)) refl;
+      same = rw (
+        active.same,
+        number_same s.aps_limit,
+        links.same,
+        nets.same,
+        number_same s.declared,
+        pairs.same,
+        text_same (roll_text s.sending),
+      ) refl;
       whole = rw (active.whole, nets.whole, links.whole, pairs.whole) refl;
       depth = omega (arith, active.depth, nets.depth, links.depth, pairs.depth);
     }

@@ -11,7 +11,8 @@ use Rattle.zb_backup.specs.Reading.{is_byte, is_counter, is_eui, is_key, floor_f
 
 pub bytes_pass : (bytes : List ℕ) → IsBytes bytes → list_all is_byte bytes ≡ true
 bytes_pass [] fit = refl
-bytes_pass (b ∷ bs) fit = and_from (is_byte b) (list_all is_byte bs) (lt-ltb b 256 (fit 0)) (bytes_pass bs (λ i. fit (suc i)))
+bytes_pass (b ∷ bs) fit = and_from (is_byte b) (list_all is_byte bs) (lt-ltb b 256 (fit 0))
+    (bytes_pass bs (λ i. fit (suc i)))
 
 bytes_at : (bytes : List ℕ) → list_all is_byte bytes ≡ true → (i : ℕ) → slice_index bytes i < 256
 bytes_at [] pass i = omega arith
@@ -19,7 +20,8 @@ bytes_at (b ∷ bs) pass zero = ltb-true b 256 (and_parts (is_byte b) (list_all 
 bytes_at (b ∷ bs) pass (suc i) = bytes_at bs (and_parts (is_byte b) (list_all is_byte bs) pass).1 i
 
 -- what a test says of each item of a list
-pub each_is : {X : Type 0} (p : X → Bool) (P : X → Type 0) → ((x : X) → p x ≡ true → P x) → (xs : List X) → list_all p xs ≡ true → AllByRecursion P xs
+pub each_is : {X : Type 0} (p : X → Bool) (P : X → Type 0) → ((x : X) → p x ≡ true → P x) → (xs : List X)
+    → list_all p xs ≡ true → AllByRecursion P xs
 each_is p P h [] all = tt
 each_is p P h (x ∷ xs) all = let q = and_parts (p x) (list_all p xs) all in (h x q.0, each_is p P h xs q.1)
 
@@ -30,7 +32,8 @@ pub record IsKey (key : Bytes) : Type 0 where
 
 pub key_is : (key : Bytes) → is_key key ≡ true → IsKey key
 key_is key fits =
-    let p = and_parts _ (list_all is_byte key) fits in record { long = eqb-true (length key) 16 p.0; bytes = bytes_at key p.1 }
+    let p = and_parts _ (list_all is_byte key) fits in
+    record { long = eqb-true (length key) 16 p.0; bytes = bytes_at key p.1 }
 
 pub counter_is : (n : ℕ) → is_counter n ≡ true → n < 2 ^ 32
 counter_is n fits = ltb-true n 4294967296 fits
@@ -43,7 +46,8 @@ pub record FloorIs (f : SenderFloor) : Type 0 where
   pub stored : f.stored < 2 ^ 32
 
 pub floor_is : (f : SenderFloor) → floor_fits f ≡ true → FloorIs f
-floor_is f fits = let p = and_parts (is_eui f.sender) (is_counter f.stored) fits in record { sender = eui_is f.sender p.0; stored = counter_is f.stored p.1 }
+floor_is f fits = let p = and_parts (is_eui f.sender) (is_counter f.stored) fits in
+    record { sender = eui_is f.sender p.0; stored = counter_is f.stored p.1 }
 
 pub record NetIs (r : NetKey) : Type 0 where
   pub key : IsKey r.key
@@ -56,7 +60,12 @@ net_is r fits =
     let p = and_parts (is_key r.key) _ fits in
     let q = and_parts (is_byte r.sequence) _ p.1 in
     let t = and_parts (is_counter r.limit) _ q.1 in
-    record { key = key_is r.key p.0; sequence = ltb-true r.sequence 256 q.0; limit = counter_is r.limit t.0; floors = t.1 }
+    record {
+      key = key_is r.key p.0;
+      sequence = ltb-true r.sequence 256 q.0;
+      limit = counter_is r.limit t.0;
+      floors = t.1;
+    }
 
 pub record LinkIs (r : LinkKey) : Type 0 where
   pub partner : r.partner < 2 ^ 64
@@ -94,12 +103,22 @@ state_is s fits =
     let q = and_parts (is_counter s.aps_limit) _ p.1 in
     let t = and_parts (list_all net_fits s.nets) _ q.1 in
     let u = and_parts (list_all link_fits s.links) _ t.1 in
-    record { declared = counter_is s.declared p.0; aps_limit = counter_is s.aps_limit q.0; nets = t.0; links = u.0; pairs = u.1 }
+    record {
+      declared = counter_is s.declared p.0;
+      aps_limit = counter_is s.aps_limit q.0;
+      nets = t.0;
+      links = u.0;
+      pairs = u.1;
+    }
 
 net_spelled : (r : NetKey) → net_fits r ≡ true → NetFits r
 net_spelled r fits =
     let n = net_is r fits in
-    record { key = n.key.long; limit = n.limit; floors = each_is floor_fits _ (λ f h. ((floor_is f h).sender, (floor_is f h).stored)) r.floors n.floors }
+    record {
+      key = n.key.long;
+      limit = n.limit;
+      floors = each_is floor_fits _ (λ f h. ((floor_is f h).sender, (floor_is f h).stored)) r.floors n.floors;
+    }
 
 link_spelled : (r : LinkKey) → link_fits r ≡ true → LinkFits r
 link_spelled r fits = let l = link_is r fits in record { partner = l.partner; key = l.key.long; stored = l.stored }

@@ -29,7 +29,8 @@ rows_value value rows = array (items_of (map value rows))
 
 -- the floor of a sender under a network key
 unfoldable pub floor_object : SenderFloor → Data
-floor_object f = object (member (codes "floor") (whole f.stored) (member (codes "sender") (eui_value f.sender) no_members))
+floor_object f =
+    object (member (codes "floor") (whole f.stored) (member (codes "sender") (eui_value f.sender) no_members))
 
 -- a network key: the floors under it, its outgoing limit, whether it is live, its sequence number, whether it was
 -- started
@@ -57,7 +58,8 @@ link_object r = object
 -- a key that the centre gave two devices for one another
 unfoldable pub pair_object : PairKey → Data
 pair_object p = object
-    (member (codes "first") (eui_value p.first) (member (codes "key") (key_value p.key) (member (codes "second") (eui_value p.second) no_members)))
+    (member (codes "first") (eui_value p.first)
+    (member (codes "key") (key_value p.key) (member (codes "second") (eui_value p.second) no_members)))
 
 -- the place of the active network key, from 0, or null
 abbrev pub place_value : Option ℕ → Data

@@ -41,7 +41,9 @@ abbrev pub pair_fits : PairKey → Bool
 pair_fits p = is_eui p.first && (is_eui p.second && is_key p.key)
 
 unfoldable pub has_widths : NodeState → Bool
-has_widths s = is_counter s.declared && (is_counter s.aps_limit && (list_all net_fits s.nets && (list_all link_fits s.links && list_all pair_fits s.pairs)))
+has_widths s = is_counter s.declared
+    && (is_counter s.aps_limit
+    && (list_all net_fits s.nets && (list_all link_fits s.links && list_all pair_fits s.pairs)))
 
 -- The tables of a centre as a boot makes them: they keep the rules for records, no floors of dropped network keys, and
 -- values within their widths; counters go on from their limits.

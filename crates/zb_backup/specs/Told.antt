@@ -40,7 +40,8 @@ eui_at name d = text_at name d >>= eui_of
 -- the rows of a list, after those done: at most so many
 abbrev pub told_rows : {X : Type 0} → ℕ → (Data → Option X) → List X → Items → Option (List X)
 told_rows limit told done no_items = Some done
-told_rows limit told done (item d more) = if nat_lt (length done) limit then told d >>= (λ x. told_rows limit told (done ++ x ∷ []) more) else None
+told_rows limit told done (item d more) = if nat_lt (length done) limit
+    then told d >>= (λ x. told_rows limit told (done ++ x ∷ []) more) else None
 
 unfoldable pub list_at : List ℕ → Data → Option Items
 list_at name d = get name d >>= as_array
@@ -62,7 +63,15 @@ net_told d = do
   live ← flag_at (codes "live") d
   sequence ← number_at 255 (codes "sequence") d
   started ← flag_at (codes "started") d
-  Some (record { key = key; sequence = sequence; live = live; started = started; limit = limit; next = limit; floors = floors })
+  Some (record {
+    key = key;
+    sequence = sequence;
+    live = live;
+    started = started;
+    limit = limit;
+    next = limit;
+    floors = floors;
+  })
 
 unfoldable pub attribute_at : List ℕ → Data → Option Attribute
 attribute_at name d = number_at 2 name d >>= (λ n. option_map model_attribute (attribute_of n))
@@ -76,7 +85,16 @@ link_told d = do
   live ← flag_at (codes "live") d
   partner ← eui_at (codes "partner") d
   told ← flag_at (codes "told") d
-  Some (record { partner = partner; key = key; attribute = attribute; live = live; code = code; told = told; kept = floor; stored = floor })
+  Some (record {
+    partner = partner;
+    key = key;
+    attribute = attribute;
+    live = live;
+    code = code;
+    told = told;
+    kept = floor;
+    stored = floor;
+  })
 
 unfoldable pub pair_told : Data → Option PairKey
 pair_told d = do
@@ -101,7 +119,8 @@ unfoldable pub active_at : List NetKey → List ℕ → Data → Option (Option 
 active_at nets name d = get name d >>= place_in nets
 
 abbrev pub roll_of : List ℕ → Option Bool
-roll_of word = if bytes_eq word (codes "sending") then Some true else if bytes_eq word (codes "idle") then Some false else None
+roll_of word = if bytes_eq word (codes "sending") then Some true else if bytes_eq word (codes "idle") then Some false
+    else None
 
 unfoldable pub roll_at : List ℕ → Data → Option Bool
 roll_at name d = text_at name d >>= roll_of

@@ -21,7 +21,8 @@ use Rattle.zb_player.specs.declared.summary.Summary.{Summary}
 use Rattle.zb_sched.specs.Schedules.{Schedule}
 use Rattle.zb_sched.specs.declared.error.SchedError.{SchedError}
 
-pub behind_both : {A E : Type 0} (xs ys : List A) (r : Result (List A) E) → behind xs (behind ys r) ≡ behind (xs ++ ys) r
+pub behind_both : {A E : Type 0} (xs ys : List A) (r : Result (List A) E) → behind xs (behind ys r)
+    ≡ behind (xs ++ ys) r
 behind_both xs ys (Ok zs) = ap Ok (sym (append_assoc xs ys zs))
 behind_both xs ys (Err e) = refl
 
@@ -38,7 +39,8 @@ next_run start first (suc left) last some is =
     let one : suc left - 1 ≡ left = omega arith in
     rw one (ap (λ r. all_of (r ∷ map (λ i. ending_of_run start i) (range_with_len (first + 1) left))) is)
 
-next_clash : (start first left : ℕ) (e : SchedError) → 0 < left → ending_of_run start first ≡ Err e → endings start first left ≡ Err e
+next_clash : (start first left : ℕ) (e : SchedError) → 0 < left → ending_of_run start first ≡ Err e
+    → endings start first left ≡ Err e
 unfolding endings
 next_clash start first zero e some is = absurd (omega arith)
 next_clash start first (suc left) e some is =
@@ -55,20 +57,24 @@ none_run start first count ends none =
     let all : count - 0 ≡ count = omega arith in
     rw none rw from rw all (sym (behind_none (endings start first count)))
 
-pub one_run_more : (start first count done : ℕ) (old new : List Summary) (end : Summary) → done < count → AreRun start first count done old
-    → ending_of_run start (first + done) ≡ Ok (last_line end) → new ≡ old ++ end ∷ [] → AreRun start first count (done + 1) new
+pub one_run_more : (start first count done : ℕ) (old new : List Summary) (end : Summary) → done < count
+    → AreRun start first count done old
+    → ending_of_run start (first + done) ≡ Ok (last_line end) → new ≡ old ++ end ∷ []
+    → AreRun start first count (done + 1) new
 one_run_more start first count done old new end within so_far is more =
     let from : first + done + 1 ≡ first + (done + 1) = omega arith in
     let rest : count - done - 1 ≡ count - (done + 1) = omega arith in
     let items : map last_line old ++ last_line end ∷ [] ≡ map last_line new =
     sym (map-append last_line old (end ∷ [])) ∙ ap (map last_line) (sym more) in
-    so_far ∙ ap (behind (map last_line old)) (next_run start (first + done) (count - done) (last_line end) (omega arith) is)
+    so_far ∙ ap (behind (map last_line old))
+    (next_run start (first + done) (count - done) (last_line end) (omega arith) is)
     ∙ behind_both (map last_line old) (last_line end ∷ []) (endings start (first + done + 1) (count - done - 1))
     ∙ ap (λ xs. behind xs (endings start (first + done + 1) (count - done - 1))) items
     ∙ ap (λ n. behind (map last_line new) (endings start n (count - done - 1))) from
     ∙ ap (λ n. behind (map last_line new) (endings start (first + (done + 1)) n)) rest
 
-pub a_run_clashes : (start first count done : ℕ) (ends : List Summary) (e : SchedError) → done < count → AreRun start first count done ends
+pub a_run_clashes : (start first count done : ℕ) (ends : List Summary) (e : SchedError) → done < count
+    → AreRun start first count done ends
     → ending_of_run start (first + done) ≡ Err e → endings start first count ≡ Err e
 a_run_clashes start first count done ends e within so_far is =
     so_far ∙ ap (behind (map last_line ends)) (next_clash start (first + done) (count - done) e (omega arith) is)
@@ -89,18 +95,22 @@ all_run start first count done ends past so_far =
 abbrev pub is_of : ℕ → ℕ → Result Schedule SchedError
 is_of start run = made_schedule (start + run) (1 + run % 8)
 
-pub made_clash : (start run : ℕ) (f : GenFault) → Makes (Err f) (is_of start run) → Answers last_line (Err (made_fault f)) (ending_of_run start run)
+pub made_clash : (start run : ℕ) (f : GenFault) → Makes (Err f) (is_of start run)
+    → Answers last_line (Err (made_fault f)) (ending_of_run start run)
 unfolding ending_of_run
 made_clash start run (gen.Clash line cause) is = ap if_made is
 made_clash start run gen.NoMemory is = tt
 
-pub made_ended : (start run : ℕ) (p : Schedule) (end : Summary) → is_of start run ≡ Ok p → Sums p end → ending_of_run start run ≡ Ok (last_line end)
+pub made_ended : (start run : ℕ) (p : Schedule) (end : Summary) → is_of start run ≡ Ok p → Sums p end
+    → ending_of_run start run ≡ Ok (last_line end)
 unfolding ending_of_run
 made_ended start run p end is sums = ap if_made is ∙ ap Ok (sym sums)
 
 -- a run that fails ends the share
-pub a_run_fails : (start first count done : ℕ) (ends : List Summary) (f : CampaignFault) → done < count → AreRun start first count done ends
-    → Answers last_line (Err f) (ending_of_run start (first + done)) → Answers last_lines (Err f) (endings start first count)
+pub a_run_fails : (start first count done : ℕ) (ends : List Summary) (f : CampaignFault) → done < count
+    → AreRun start first count done ends
+    → Answers last_line (Err f) (ending_of_run start (first + done))
+    → Answers last_lines (Err f) (endings start first count)
 a_run_fails start first count done ends fault.Write within so_far is = absurd is
 a_run_fails start first count done ends (fault.Clash line cause) within so_far is =
     a_run_clashes start first count done ends (record { line = line; cause = cause }) within so_far is
@@ -112,7 +122,8 @@ ends_of : {A E : Type 0} → Result (List A) E → ℕ
 ends_of (Ok xs) = length xs
 ends_of (Err e) = 0
 
-behind_length : {A E : Type 0} (x : A) (n : ℕ) (r : Result (List A) E) (ys : List A) → ((zs : List A) → r ≡ Ok zs → length zs ≡ n)
+behind_length : {A E : Type 0} (x : A) (n : ℕ) (r : Result (List A) E) (ys : List A)
+    → ((zs : List A) → r ≡ Ok zs → length zs ≡ n)
     → behind (x ∷ []) r ≡ Ok ys → length ys ≡ suc n
 unfolding ends_of
 behind_length x n (Ok zs) ys each is = sym (ap ends_of is) ∙ ap suc (each zs refl)
@@ -125,14 +136,17 @@ all_of_length (Ok x ∷ xs) ys is = behind_length x (length xs) (all_of xs) ys (
 all_of_length (Err e ∷ xs) ys is = absurd (cc is)
 
 -- each run has one end
-pub as_many : (start first count : ℕ) (ends : List Summary) → endings start first count ≡ Ok (map last_line ends) → length ends ≡ count
+pub as_many : (start first count : ℕ) (ends : List Summary) → endings start first count ≡ Ok (map last_line ends)
+    → length ends ≡ count
 unfolding endings
 as_many start first count ends is =
-    sym (length-map ends last_line) ∙ all_of_length (map (λ i. ending_of_run start i) (range_with_len first count)) (map last_line ends) is
+    sym (length-map ends last_line) ∙ all_of_length (map (λ i. ending_of_run start i) (range_with_len first count))
+    (map last_line ends) is
     ∙ length-map-range_with_len (λ i. ending_of_run start i) first count
 
 -- at a fault of a run nothing is written
-pub not_written : (count start : ℕ) (f : CampaignFault) (before : Option Bytes) (old : ℕ) → Answers last_lines (Err f) (endings start 0 count)
+pub not_written : (count start : ℕ) (f : CampaignFault) (before : Option Bytes) (old : ℕ)
+    → Answers last_lines (Err f) (endings start 0 count)
     → Campaigns (campaigned count start) before before old old (Err f)
 unfolding campaigned
 not_written count start fault.Write before old is = absurd is

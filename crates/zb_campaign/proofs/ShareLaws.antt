@@ -19,13 +19,15 @@ abbrev then_all : {A E : Type 0} → Result (List A) E → Result (List A) E →
 then_all (Ok xs) more = behind xs more
 then_all (Err e) more = Err e
 
-then_behind : {A E : Type 0} (xs : List A) (first more : Result (List A) E) → then_all (behind xs first) more ≡ behind xs (then_all first more)
+then_behind : {A E : Type 0} (xs : List A) (first more : Result (List A) E) → then_all (behind xs first) more
+    ≡ behind xs (then_all first more)
 then_behind xs (Ok ys) more = sym (behind_both xs ys more)
 then_behind xs (Err e) more = refl
 
 all_of_both : {A E : Type 0} (xs ys : List (Result A E)) → all_of (xs ++ ys) ≡ then_all (all_of xs) (all_of ys)
 all_of_both [] ys = sym (behind_none (all_of ys))
-all_of_both (Ok x ∷ xs) ys = ap (behind (x ∷ [])) (all_of_both xs ys) ∙ sym (then_behind (x ∷ []) (all_of xs) (all_of ys))
+all_of_both (Ok x ∷ xs) ys = ap (behind (x ∷ [])) (all_of_both xs ys) ∙ sym
+    (then_behind (x ∷ []) (all_of xs) (all_of ys))
 all_of_both (Err e ∷ xs) ys = refl
 
 range_both : (first a b : ℕ) → range_with_len first (a + b) ≡ range_with_len first a ++ range_with_len (first + a) b
@@ -39,14 +41,17 @@ range_both first (suc a) b =
     rw more rw from (ap (λ xs. first ∷ xs) (range_both (first + 1) a b))
 
 -- the runs of two shares, the second after the first
-endings_both : (start first a b : ℕ) → endings start first (a + b) ≡ then_all (endings start first a) (endings start (first + a) b)
+endings_both : (start first a b : ℕ) → endings start first (a + b)
+    ≡ then_all (endings start first a) (endings start (first + a) b)
 unfolding endings
 endings_both start first a b =
     let f : ℕ → Result Line SchedError = λ i. ending_of_run start i in
-    ap (λ xs. all_of (map f xs)) (range_both first a b) ∙ ap all_of (map-append f (range_with_len first a) (range_with_len (first + a) b))
+    ap (λ xs. all_of (map f xs)) (range_both first a b) ∙ ap all_of
+    (map-append f (range_with_len first a) (range_with_len (first + a) b))
     ∙ all_of_both (map f (range_with_len first a)) (map f (range_with_len (first + a) b))
 
-joined_more : {A E : Type 0} (w : Result (List A) E) (more : List (Result (List A) E)) → joined (w ∷ more) ≡ then_all w (joined more)
+joined_more : {A E : Type 0} (w : Result (List A) E) (more : List (Result (List A) E)) → joined (w ∷ more)
+    ≡ then_all w (joined more)
 joined_more (Ok xs) more = refl
 joined_more (Err e) more = refl
 
@@ -65,16 +70,21 @@ joined_shares start size number first left (share ∷ more) cut =
     ap (λ n. endings start n share.count) cut.1 ∙ ap (λ n. endings start first n) cut.3 in
     joined_more (endings start share.first share.count) (wanted_of start more)
     ∙ ap (λ r. then_all r (joined (wanted_of start more))) here
-    ∙ ap (then_all (endings start first part)) (joined_shares start size (number + 1) (first + part) (left - part) more cut.4)
+    ∙ ap (then_all (endings start first part))
+    (joined_shares start size (number + 1) (first + part) (left - part) more cut.4)
     ∙ sym (endings_both start first part (left - part)) ∙ ap (λ n. endings start first n) whole
 
 -- the start values of all runs are below 2^32
-pub within_all : (start size number first left : ℕ) (shares : List Share) → AreShares size number first left shares → start + first + left < 2 ^ 32
+pub within_all : (start size number first left : ℕ) (shares : List Share) → AreShares size number first left shares
+    → start + first + left < 2 ^ 32
     → AllByRecursion (λ (share : Share). start + share.first + share.count < 2 ^ 32) shares
 within_all start size number first left [] cut within = tt
 within_all start size number first left (share ∷ more) cut within =
-    let part = min size left in
-    (omega (arith, cut.1, cut.3, within), within_all start size (number + 1) (first + part) (left - part) more cut.4 (omega (arith, within)))
+    let part = min size left in (
+      omega (arith, cut.1, cut.3, within),
+      within_all start size (number + 1) (first + part) (left - part) more cut.4
+          (omega (arith, within)),
+    )
 
 -- ---- the results of the shares, from the first on
 
@@ -82,17 +92,21 @@ abbrev pub Came : Type 0
 Came = Result (Vec Summary Global) CampaignFault
 
 abbrev pub AreAnswered : List Came → List (Result (List Line) SchedError) → Type 0
-AreAnswered played wanted = AllZip (λ (came : Came) (should : Result (List Line) SchedError). Answers last_lines came should) played wanted
+AreAnswered played wanted =
+    AllZip (λ (came : Came) (should : Result (List Line) SchedError). Answers last_lines came should) played wanted
 
-joined_at : (played : List Came) (wanted : List (Result (List Line) SchedError)) (i : ℕ) (d : Came) (ends : Vec Summary Global) → i < length played
-    → get_or played i d ≡ Ok ends → AreAnswered played wanted → joined (drop i wanted) ≡ behind (last_lines ends) (joined (drop (suc i) wanted))
+joined_at : (played : List Came) (wanted : List (Result (List Line) SchedError)) (i : ℕ) (d : Came)
+    (ends : Vec Summary Global) → i < length played
+    → get_or played i d ≡ Ok ends → AreAnswered played wanted → joined (drop i wanted)
+    ≡ behind (last_lines ends) (joined (drop (suc i) wanted))
 joined_at [] wanted i d ends within is all = absurd (omega arith)
 joined_at (r ∷ played) [] i d ends within is all = absurd all
 joined_at (r ∷ played) (w ∷ wanted) zero d ends within is all =
     let A : Came → Type 0 = λ came. Answers last_lines came w in
     let should : w ≡ Ok (last_lines ends) = subst A is all.0 in
     ap (λ x. joined (x ∷ wanted)) should
-joined_at (r ∷ played) (w ∷ wanted) (suc i) d ends within is all = joined_at played wanted i d ends (omega arith) is all.1
+joined_at (r ∷ played) (w ∷ wanted) (suc i) d ends within is all = joined_at played wanted i d ends (omega arith) is
+    all.1
 
 -- what the shares so far came to, with what the others are to come to, is what all are to come to
 abbrev pub AreJoined : List Came → ℕ → List Summary → Type 0
@@ -100,16 +114,19 @@ AreJoined played i ends =
     (wanted : List (Result (List Line) SchedError)) → AreAnswered played wanted
     → joined wanted ≡ behind (map last_line ends) (joined (drop i wanted))
 
-pub one_joined_more : (played : List Came) (i : ℕ) (old new : List Summary) (d : Came) (ends : Vec Summary Global) → i < length played
+pub one_joined_more : (played : List Came) (i : ℕ) (old new : List Summary) (d : Came) (ends : Vec Summary Global) → i
+    < length played
     → get_or played i d ≡ Ok ends → new ≡ old ++ ends.items → AreJoined played i old → AreJoined played (i + 1) new
 one_joined_more played i old new d ends within is more so_far = λ wanted all.
-    let items : map last_line old ++ last_lines ends ≡ map last_line new = sym (map-append last_line old ends.items) ∙ ap (map last_line) (sym more) in
+    let items : map last_line old ++ last_lines ends ≡ map last_line new = sym (map-append last_line old ends.items) ∙
+    ap (map last_line) (sym more) in
     let rest = joined (drop (suc i) wanted) in
     so_far wanted all ∙ ap (behind (map last_line old)) (joined_at played wanted i d ends within is all)
     ∙ behind_both (map last_line old) (last_lines ends) rest ∙ ap (λ xs. behind xs rest) items
     ∙ ap (λ n. behind (map last_line new) (joined (drop n wanted))) (sym (add-one i))
 
-past_all : (played : List Came) (wanted : List (Result (List Line) SchedError)) (i : ℕ) → length played ≤ i → AreAnswered played wanted
+past_all : (played : List Came) (wanted : List (Result (List Line) SchedError)) (i : ℕ) → length played ≤ i
+    → AreAnswered played wanted
     → joined (drop i wanted) ≡ Ok []
 past_all [] [] zero past all = refl
 past_all [] [] (suc i) past all = refl
@@ -119,12 +136,15 @@ past_all (r ∷ played) (w ∷ wanted) zero past all = absurd (omega arith)
 past_all (r ∷ played) (w ∷ wanted) (suc i) past all = past_all played wanted i (omega arith) all.1
 
 pub all_joined : (played : List Came) (i : ℕ) (ends : List Summary) → length played ≤ i → AreJoined played i ends
-    → (wanted : List (Result (List Line) SchedError)) → AreAnswered played wanted → joined wanted ≡ Ok (map last_line ends)
+    → (wanted : List (Result (List Line) SchedError)) → AreAnswered played wanted → joined wanted
+    ≡ Ok (map last_line ends)
 all_joined played i ends past so_far wanted all =
-    so_far wanted all ∙ ap (behind (map last_line ends)) (past_all played wanted i past all) ∙ ap Ok (append-nil (map last_line ends))
+    so_far wanted all ∙ ap (behind (map last_line ends)) (past_all played wanted i past all) ∙ ap Ok
+    (append-nil (map last_line ends))
 
 -- the first share that has a fault
-fails_at : (played : List Came) (wanted : List (Result (List Line) SchedError)) (i : ℕ) (d : Came) (f : CampaignFault) → i < length played
+fails_at : (played : List Came) (wanted : List (Result (List Line) SchedError)) (i : ℕ) (d : Came) (f : CampaignFault)
+    → i < length played
     → get_or played i d ≡ Err f → AreAnswered played wanted → Answers last_lines (Err f) (joined (drop i wanted))
 fails_at [] wanted i d f within is all = absurd (omega arith)
 fails_at (r ∷ played) [] i d f within is all = absurd all
@@ -138,17 +158,21 @@ fails_at (r ∷ played) (w ∷ wanted) zero d f within is all =
     by_fault fault.NoMemory is = tt
 fails_at (r ∷ played) (w ∷ wanted) (suc i) d f within is all = fails_at played wanted i d f (omega arith) is all.1
 
-behind_fault : (front : List Line) (f : CampaignFault) (all rest : Result (List Line) SchedError) → all ≡ behind front rest
+behind_fault : (front : List Line) (f : CampaignFault) (all rest : Result (List Line) SchedError) → all
+    ≡ behind front rest
     → Answers last_lines (Err f) rest → Answers last_lines (Err f) all
 behind_fault front fault.Write all rest so_far is = absurd is
 behind_fault front (fault.Clash line cause) all rest so_far is = so_far ∙ ap (behind front) is
 behind_fault front fault.NoMemory all rest so_far is = tt
 
-pub a_share_fails : (played : List Came) (i : ℕ) (ends : List Summary) (d : Came) (f : CampaignFault) → i < length played
+pub a_share_fails : (played : List Came) (i : ℕ) (ends : List Summary) (d : Came) (f : CampaignFault) → i
+    < length played
     → get_or played i d ≡ Err f → AreJoined played i ends
-    → (wanted : List (Result (List Line) SchedError)) → AreAnswered played wanted → Answers last_lines (Err f) (joined wanted)
+    → (wanted : List (Result (List Line) SchedError)) → AreAnswered played wanted
+    → Answers last_lines (Err f) (joined wanted)
 a_share_fails played i ends d f within is so_far wanted all =
-    behind_fault (map last_line ends) f (joined wanted) (joined (drop i wanted)) (so_far wanted all) (fails_at played wanted i d f within is all)
+    behind_fault (map last_line ends) f (joined wanted) (joined (drop i wanted)) (so_far wanted all)
+    (fails_at played wanted i d f within is all)
 
 -- ---- the calls of all shares
 
@@ -160,7 +184,8 @@ zip_from_index R (x ∷ xs) [] same each = absurd (omega arith)
 zip_from_index R (x ∷ xs) (y ∷ ys) same each =
     (each 0 x y (omega arith), zip_from_index R xs ys (omega arith) (λ i d e within. each (suc i) d e (omega arith)))
 
-wanted_at : (start : ℕ) (shares : List Share) (i : ℕ) (e : Result (List Line) SchedError) (d : Share) → i < length shares
+wanted_at : (start : ℕ) (shares : List Share) (i : ℕ) (e : Result (List Line) SchedError) (d : Share) → i
+    < length shares
     → get_or (wanted_of start shares) i e ≡ endings start (get_or shares i d).first (get_or shares i d).count
 wanted_at start [] i e d within = absurd (omega arith)
 wanted_at start (share ∷ shares) zero e d within = refl
@@ -172,16 +197,19 @@ pub each_answered : (start : ℕ) (shares : List Share) (played : List Came) →
     → AreAnswered played (wanted_of start shares)
 each_answered start shares played same each =
     let some : Share = record { number = 0; first = 0; count = 0 } in
-    zip_from_index (λ (came : Came) (should : Result (List Line) SchedError). Answers last_lines came should) played (wanted_of start shares)
+    zip_from_index (λ (came : Came) (should : Result (List Line) SchedError). Answers last_lines came should) played
+    (wanted_of start shares)
     (same ∙ sym (length-map shares (λ (share : Share). endings start share.first share.count)))
     (λ i d e within.
     let inside : i < length shares = omega (arith, within, same) in
     let P : Result (List Line) SchedError → Type 0 = λ should. Answers last_lines (get_or played i d) should in
     subst P (sym (wanted_at start shares i e some inside)) (each i d some inside))
 
-pub played_all : (start size count : ℕ) (shares : List Share) (played : List Came) (r : Came) → AreShares size 0 0 count shares
+pub played_all : (start size count : ℕ) (shares : List Share) (played : List Came) (r : Came)
+    → AreShares size 0 0 count shares
     → AreAnswered played (wanted_of start shares)
-    → ((wanted : List (Result (List Line) SchedError)) → AreAnswered played wanted → Answers last_lines r (joined wanted))
+    → ((wanted : List (Result (List Line) SchedError)) → AreAnswered played wanted
+    → Answers last_lines r (joined wanted))
     → Answers last_lines r (endings start 0 count)
 played_all start size count shares played r cut each gathered =
     let P : Result (List Line) SchedError → Type 0 = λ should. Answers last_lines r should in

@@ -12,7 +12,8 @@ use Rattle.zb_trace_model.specs.Said.{IsLineOf, line_text}
 use Rattle.zb_trace.specs.Text.{text}
 use Rattle.zb_trace.specs.declared.line.Line.{Line}
 
-pub run_shown : (l : Line) (last : log.Line) (number : ℕ) (old one two new : List ℕ) → IsLineOf [] l last → one ≡ old ++ decimal number
+pub run_shown : (l : Line) (last : log.Line) (number : ℕ) (old one two new : List ℕ) → IsLineOf [] l last → one ≡ old
+    ++ decimal number
     → two ≡ one ++ 32 ∷ [] → new ≡ two ++ text l → new ≡ old ++ run_line number last
 unfolding run_line
 run_shown l last number old one two new shown numbered spaced printed =
@@ -20,7 +21,8 @@ run_shown l last number old one two new shown numbered spaced printed =
     printed ∙ ap (λ t. two ++ t) shown.text_is ∙ ap (λ xs. xs ++ words) spaced ∙ append_assoc one (32 ∷ []) words
     ∙ ap (λ xs. xs ++ 32 ∷ words) numbered ∙ append_assoc old (decimal number) (32 ∷ words)
 
-total_is : (count : ℕ) (total : Total) (ends : List Summary) → count ≡ length ends → total.seals ≡ sum_by seals_in (map last_line ends)
+total_is : (count : ℕ) (total : Total) (ends : List Summary) → count ≡ length ends → total.seals
+    ≡ sum_by seals_in (map last_line ends)
     → total.accepts ≡ sum_by accepts_in (map last_line ends) → total.refusals ≡ sum_by refusals_in (map last_line ends)
     → total_text count total ≡ total_of (map last_line ends)
 unfolding total_of
@@ -31,7 +33,8 @@ total_is count total ends counted seals accepts refusals =
     ∙ ap (λ n. total_line (length lasts) (sum_by seals_in lasts) n total.refusals) accepts
     ∙ ap (λ n. total_line (length lasts) (sum_by seals_in lasts) (sum_by accepts_in lasts) n) refusals
 
-pub all_shown : (ends : List Summary) (count : ℕ) (total : Total) (none one two : List ℕ) → none ≡ [] → one ≡ none ++ runs_text 0 (map last_line ends)
+pub all_shown : (ends : List Summary) (count : ℕ) (total : Total) (none one two : List ℕ) → none ≡ [] → one ≡ none
+    ++ runs_text 0 (map last_line ends)
     → two ≡ one ++ total_text count total → count ≡ length ends → total.seals ≡ sum_by seals_in (map last_line ends)
     → total.accepts ≡ sum_by accepts_in (map last_line ends) → total.refusals ≡ sum_by refusals_in (map last_line ends)
     → two ≡ campaign_text (map last_line ends)
@@ -40,7 +43,8 @@ all_shown ends count total none one two empty runs all counted seals accepts ref
     ∙ ap (λ xs. runs_text 0 (map last_line ends) ++ xs) (total_is count total ends counted seals accepts refusals)
 
 -- what is written is the campaign
-pub is_campaign : (count start : ℕ) (ends shown : List Summary) (page piece : Bytes) → endings start 0 count ≡ Ok (map last_line ends) → shown ≡ ends
+pub is_campaign : (count start : ℕ) (ends shown : List Summary) (page piece : Bytes) → endings start 0 count
+    ≡ Ok (map last_line ends) → shown ≡ ends
     → page ≡ campaign_text (map last_line shown) → piece ≡ page → campaigned count start ≡ Ok piece
 unfolding campaigned
 is_campaign count start ends shown page piece are same printed whole =

@@ -75,7 +75,8 @@ refusals_in _ = 0
 -- `total COUNT SEALS ACCEPTS REFUSALS`
 abbrev pub total_line : ℕ → ℕ → ℕ → ℕ → Bytes
 total_line count seals accepts refusals =
-    codes "total" ++ then (decimal count) ++ then (decimal seals) ++ then (decimal accepts) ++ then (decimal refusals) ++ 10 ∷ []
+    codes "total" ++ then (decimal count) ++ then (decimal seals) ++ then (decimal accepts) ++ then (decimal refusals)
+    ++ 10 ∷ []
 
 -- how many runs there are, and what they tell taken together
 unfoldable pub total_of : List Line → Bytes

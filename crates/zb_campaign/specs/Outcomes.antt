@@ -19,8 +19,10 @@ IsBegun (Err e) before after = ⊥
 
 -- At Ok the campaign was written; where the sink failed, a prefix of it; at a clash, and where memory was wanting,
 -- nothing.
-abbrev pub Campaigns : Result Bytes SchedError → Option Bytes → Option Bytes → ℕ → ℕ → Result (Unit {0}) CampaignFault → Type 0
+abbrev pub Campaigns : Result Bytes SchedError → Option Bytes → Option Bytes → ℕ → ℕ → Result (Unit {0}) CampaignFault
+    → Type 0
 Campaigns wanted before after old new (Ok done) = IsWritten wanted before after
 Campaigns wanted before after old new (Err Write) = Rose old new × IsBegun wanted before after
-Campaigns wanted before after old new (Err (Clash line cause)) = (wanted ≡ Err (record { line = line; cause = cause })) × Keeps before after
+Campaigns wanted before after old new (Err (Clash line cause)) =
+    (wanted ≡ Err (record { line = line; cause = cause })) × Keeps before after
 Campaigns wanted before after old new (Err NoMemory) = Keeps before after

@@ -39,7 +39,8 @@ key_fits c d key fit =
       },
     )
 
-key_test : (c d e : Capture) (key : Key) (b : Bool) → (if b then Ok (record d { keys = d.keys ++ key ∷ [] }) else Err TooMany) ≡ Ok e → Fit c e
+key_test : (c d e : Capture) (key : Key) (b : Bool) → (if b then Ok (record d { keys = d.keys ++ key ∷ [] })
+    else Err TooMany) ≡ Ok e → Fit c e
     → Behind (λ x. with_key x (Some key)) c d e
 key_test c d e key true ok fit =
     let is = ok_is (record d { keys = d.keys ++ key ∷ [] }) e _ refl ok in
@@ -51,7 +52,8 @@ key_behind : (c d e : Capture) (o : Option Key) → with_key d o ≡ Ok e → Fi
 key_behind c d e None ok fit = no_ok _ Syntax e _ refl ok
 key_behind c d e (Some key) ok fit = key_test c d e key (nat_lt (length d.keys) 256) ok fit
 
-code_behind : (c d e : Capture) (o : Option (Option Key)) → with_code d o ≡ Ok e → Fit c e → Behind (λ x. with_code x o) c d e
+code_behind : (c d e : Capture) (o : Option (Option Key)) → with_code d o ≡ Ok e → Fit c e
+    → Behind (λ x. with_code x o) c d e
 code_behind c d e None ok fit = no_ok _ Syntax e _ refl ok
 code_behind c d e (Some None) ok fit = no_ok _ BadCode e _ refl ok
 code_behind c d e (Some (Some key)) ok fit = key_behind c d e (Some key) ok fit
@@ -61,7 +63,12 @@ frame_fits : (c d : Capture) (frame : ArrayVec ℕ) → Fit c (record d { frames
     → Behind (λ x. with_frame x (Some frame)) c d (record d { frames = d.frames ++ frame ∷ [] })
 frame_fits c d frame fit =
     let most : length c.frames + (length d.frames + 1) ≤ 100000 =
-    omega (arith, fit.limits.frames, length-append c.frames (d.frames ++ frame ∷ []), length-append d.frames (frame ∷ [])) in
+    omega (
+      arith,
+      fit.limits.frames,
+      length-append c.frames (d.frames ++ frame ∷ []),
+      length-append d.frames (frame ∷ []),
+    ) in
     let less : length (c.frames ++ d.frames) < 100000 = omega (arith, most, length-append c.frames d.frames) in (
       rw (under (length (c.frames ++ d.frames)) 100000 less)
           (ap (λ frames. Ok (record (both c d) { frames = frames })) (append_assoc c.frames d.frames (frame ∷ []))),
@@ -71,7 +78,8 @@ frame_fits c d frame fit =
       },
     )
 
-frame_test : (c d e : Capture) (frame : ArrayVec ℕ) (b : Bool) → (if b then Ok (record d { frames = d.frames ++ frame ∷ [] }) else Err TooMany) ≡ Ok e
+frame_test : (c d e : Capture) (frame : ArrayVec ℕ) (b : Bool)
+    → (if b then Ok (record d { frames = d.frames ++ frame ∷ [] }) else Err TooMany) ≡ Ok e
     → Fit c e → Behind (λ x. with_frame x (Some frame)) c d e
 frame_test c d e frame true ok fit =
     let is = ok_is (record d { frames = d.frames ++ frame ∷ [] }) e _ refl ok in
@@ -79,7 +87,8 @@ frame_test c d e frame true ok fit =
     subst P is (frame_fits c d frame) fit
 frame_test c d e frame false ok fit = no_ok _ TooMany e _ refl ok
 
-frame_behind : (c d e : Capture) (o : Option (ArrayVec ℕ)) → with_frame d o ≡ Ok e → Fit c e → Behind (λ x. with_frame x o) c d e
+frame_behind : (c d e : Capture) (o : Option (ArrayVec ℕ)) → with_frame d o ≡ Ok e → Fit c e
+    → Behind (λ x. with_frame x o) c d e
 frame_behind c d e None ok fit = no_ok _ Syntax e _ refl ok
 frame_behind c d e (Some frame) ok fit = frame_test c d e frame (nat_lt (length d.frames) 100000) ok fit
 
@@ -95,17 +104,22 @@ old_is_not_new : (b : Bool) → not b ≡ true → b ≡ false
 old_is_not_new true new = absurd (cc new)
 old_is_not_new false new = refl
 
-apart_split : (addrs more : List (Short × Eui)) (addr : Short × Eui) → list_all (is_new addrs) (more ++ addr ∷ []) ≡ true
+apart_split : (addrs more : List (Short × Eui)) (addr : Short × Eui) → list_all (is_new addrs) (more ++ addr ∷ [])
+    ≡ true
     → (list_all (is_new addrs) more ≡ true) × (list_any (has_short addr.0) addrs ≡ false)
-apart_split addrs [] addr all = (refl, old_is_not_new (list_any (has_short addr.0) addrs) (and_both (is_new addrs addr) true all).0)
+apart_split addrs [] addr all =
+    (refl, old_is_not_new (list_any (has_short addr.0) addrs) (and_both (is_new addrs addr) true all).0)
 apart_split addrs (x ∷ more) addr all =
     let here = and_both (is_new addrs x) (list_all (is_new addrs) (more ++ addr ∷ [])) all in
-    let rest = apart_split addrs more addr here.1 in (both_and (is_new addrs x) (list_all (is_new addrs) more) here.0 rest.0, rest.1)
+    let rest =
+    apart_split addrs more addr here.1 in
+    (both_and (is_new addrs x) (list_all (is_new addrs) more) here.0 rest.0, rest.1)
 
 neither : (a b : Bool) → a ≡ false → b ≡ false → (a || b) ≡ false
 neither a b e f = rw (e, f) refl
 
-addr_fits : (c d : Capture) (addr : Short × Eui) → list_any (has_short addr.0) d.addrs ≡ false → Fit c (record d { addrs = d.addrs ++ addr ∷ [] })
+addr_fits : (c d : Capture) (addr : Short × Eui) → list_any (has_short addr.0) d.addrs ≡ false
+    → Fit c (record d { addrs = d.addrs ++ addr ∷ [] })
     → Behind (λ x. with_addr x (Some addr)) c d (record d { addrs = d.addrs ++ addr ∷ [] })
 addr_fits c d addr new fit =
     let split = apart_split c.addrs d.addrs addr fit.apart in
@@ -121,14 +135,16 @@ addr_fits c d addr new fit =
     )
 
 addr_test : (c d e : Capture) (addr : Short × Eui) (b : Bool) → list_any (has_short addr.0) d.addrs ≡ b
-    → (if b then Err AddressTaken else Ok (record d { addrs = d.addrs ++ addr ∷ [] })) ≡ Ok e → Fit c e → Behind (λ x. with_addr x (Some addr)) c d e
+    → (if b then Err AddressTaken else Ok (record d { addrs = d.addrs ++ addr ∷ [] })) ≡ Ok e → Fit c e
+    → Behind (λ x. with_addr x (Some addr)) c d e
 addr_test c d e addr true is ok fit = no_ok _ AddressTaken e _ refl ok
 addr_test c d e addr false new ok fit =
     let is = ok_is (record d { addrs = d.addrs ++ addr ∷ [] }) e _ refl ok in
     let P : Capture → Type 0 = λ x. Fit c x → Behind (λ y. with_addr y (Some addr)) c d x in
     subst P is (addr_fits c d addr new) fit
 
-addr_behind : (c d e : Capture) (o : Option (Short × Eui)) → with_addr d o ≡ Ok e → Fit c e → Behind (λ x. with_addr x o) c d e
+addr_behind : (c d e : Capture) (o : Option (Short × Eui)) → with_addr d o ≡ Ok e → Fit c e
+    → Behind (λ x. with_addr x o) c d e
 addr_behind c d e None ok fit = no_ok _ Syntax e _ refl ok
 addr_behind c d e (Some addr) ok fit = addr_test c d e addr (list_any (has_short addr.0) d.addrs) refl ok fit
 
@@ -141,33 +157,41 @@ by_kind f k o a more c =
     else if a then with_addr c (addr_in more)
     else Err Syntax
 
-kind_behind : (c d e : Capture) (more : List (List ℕ)) (f k o a : Bool) → by_kind f k o a more d ≡ Ok e → Fit c e → Behind (by_kind f k o a more) c d e
+kind_behind : (c d e : Capture) (more : List (List ℕ)) (f k o a : Bool) → by_kind f k o a more d ≡ Ok e → Fit c e
+    → Behind (by_kind f k o a more) c d e
 kind_behind c d e more true k o a ok fit = frame_behind c d e (frame_in more) ok fit
 kind_behind c d e more false true o a ok fit = key_behind c d e (key_in more) ok fit
 kind_behind c d e more false false true a ok fit = code_behind c d e (code_in more) ok fit
 kind_behind c d e more false false false true ok fit = addr_behind c d e (addr_in more) ok fit
 kind_behind c d e more false false false false ok fit = no_ok _ Syntax e _ refl ok
 
-words_behind : (c d e : Capture) (line : List (List ℕ)) → with_words d line ≡ Ok e → Fit c e → Behind (λ x. with_words x line) c d e
+words_behind : (c d e : Capture) (line : List (List ℕ)) → with_words d line ≡ Ok e → Fit c e
+    → Behind (λ x. with_words x line) c d e
 words_behind c d e [] ok fit = no_ok _ Syntax e _ refl ok
 words_behind c d e (kind ∷ more) ok fit =
-    kind_behind c d e more (bytes_eq kind (codes "frame")) (bytes_eq kind (codes "key")) (bytes_eq kind (codes "code")) (bytes_eq kind (codes "addr")) ok fit
+    kind_behind c d e more (bytes_eq kind (codes "frame")) (bytes_eq kind (codes "key"))
+    (bytes_eq kind (codes "code")) (bytes_eq kind (codes "addr")) ok fit
 
-skip_behind : (c d e : Capture) (line : List (List ℕ)) (b : Bool) → (if b then Ok d else with_words d line) ≡ Ok e → Fit c e
+skip_behind : (c d e : Capture) (line : List (List ℕ)) (b : Bool) → (if b then Ok d else with_words d line) ≡ Ok e
+    → Fit c e
     → Behind (λ x. if b then Ok x else with_words x line) c d e
 skip_behind c d e line true ok fit =
-    let P : Capture → Type 0 = λ x. Fit c x → Behind (λ y. Ok y) c d x in subst P (ok_is d e _ refl ok) (λ f. (refl, f)) fit
+    let P : Capture → Type 0 = λ x. Fit c x → Behind (λ y. Ok y) c d x in subst P (ok_is d e _ refl ok)
+    (λ f. (refl, f)) fit
 skip_behind c d e line false ok fit = words_behind c d e line ok fit
 
-line_behind : (c d e : Capture) (line : List ℕ) → with_line d line ≡ Ok e → Fit c e → Behind (λ x. with_line x line) c d e
+line_behind : (c d e : Capture) (line : List ℕ) → with_line d line ≡ Ok e → Fit c e
+    → Behind (λ x. with_line x line) c d e
 unfolding with_line
 line_behind c d e line ok fit = skip_behind c d e (words (Some line)) (is_skipped line) ok fit
 
 -- lines, and what stands after them
 abbrev Carried : ℕ → Capture → Capture → Capture → List (List ℕ) → List (List ℕ) → Type 0
-Carried n c d e piece rest = (with_lines n (both c d) (piece ++ rest) ≡ with_lines (n + length piece) (both c e) rest) × Fit c d
+Carried n c d e piece rest = (with_lines n (both c d) (piece ++ rest) ≡ with_lines (n + length piece) (both c e) rest)
+    × Fit c d
 
-carried_on : (n m : ℕ) (c d e : Capture) (line : List ℕ) (piece rest : List (List ℕ)) (r : Result Capture CaptureCause) → with_line d line ≡ r
+carried_on : (n m : ℕ) (c d e : Capture) (line : List ℕ) (piece rest : List (List ℕ))
+    (r : Result Capture CaptureCause) → with_line d line ≡ r
     → at_line m r (λ next. with_lines (m + 1) next piece) ≡ Ok e
     → ((next : Capture) → with_lines (m + 1) next piece ≡ Ok e → Carried (n + 1) c next e piece rest)
     → Carried n c d e (line ∷ piece) rest
@@ -181,7 +205,8 @@ carried_on n m c d e line piece rest (Ok next) is ok more =
       here.1,
     )
 
-carried : (n m : ℕ) (c d e : Capture) (piece rest : List (List ℕ)) → with_lines m d piece ≡ Ok e → Fit c e → Carried n c d e piece rest
+carried : (n m : ℕ) (c d e : Capture) (piece rest : List (List ℕ)) → with_lines m d piece ≡ Ok e → Fit c e
+    → Carried n c d e piece rest
 carried n m c d e [] rest ok fit =
     let P : Capture → Type 0 = λ x. Fit c x → Carried n c d x [] rest in
     subst P (ok_is d e _ refl ok) (λ f. (ap (λ k. with_lines k (both c d) rest) (no_more n), f)) fit
@@ -194,7 +219,8 @@ behind_nothing : (c : Capture) → both c empty ≡ c
 behind_nothing c = rw (append-nil c.keys, append-nil c.addrs, append-nil c.frames) refl
 
 -- a piece that was read from nothing, after other lines
-pub lead_behind : (r new more : Reading) (piece : List (List ℕ)) → Lead no_lines piece more → Fit r.capture more.capture
+pub lead_behind : (r new more : Reading) (piece : List (List ℕ)) → Lead no_lines piece more
+    → Fit r.capture more.capture
     → new.lines ≡ r.lines + more.lines → new.capture ≡ both r.capture more.capture → Lead r piece new
 lead_behind r new more piece lead fit count is =
     let on = carried (r.lines + 1) 1 r.capture empty more.capture piece [] lead.gives fit in

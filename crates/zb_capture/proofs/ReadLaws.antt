@@ -27,10 +27,12 @@ parts_of f (piece ∷ done) left =
 
 with_part : {A : Type 0} (f : List ℕ → List A) (done : List Found) (piece : Found)
     → flat_map f (all_found (done ++ piece ∷ [])) ≡ flat_map f (all_found done) ++ f piece.text.now
-with_part f done piece = parts_of f done (piece ∷ []) ∙ ap (λ zs. flat_map f (all_found done) ++ zs) (append-nil (f piece.text.now))
+with_part f done piece = parts_of f done (piece ∷ []) ∙ ap (λ zs. flat_map f (all_found done) ++ zs)
+    (append-nil (f piece.text.now))
 
 -- there is room for the next
-pub has_room : (old now : Reading) (text : List ℕ) (done left more : List Found) (piece : Found) (most : ℕ) → IsUnderWay old now text done left
+pub has_room : (old now : Reading) (text : List ℕ) (done left more : List Found) (piece : Found) (most : ℕ)
+    → IsUnderWay old now text done left
     → left ≡ piece ∷ more → old.lines + length text < most → now.lines + length piece.text.now < most
 has_room old now text done left more piece most is next room =
     let rest = flat_map (λ part. part) (all_found more) in
@@ -47,7 +49,8 @@ has_room old now text done left more piece most is next room =
     )
 
 -- the next was taken
-pub one_taken : (old now then : Reading) (text : List ℕ) (done left more : List Found) (piece : Found) → IsUnderWay old now text done left
+pub one_taken : (old now then : Reading) (text : List ℕ) (done left more : List Found) (piece : Found)
+    → IsUnderWay old now text done left
     → left ≡ piece ∷ more → Lead now (lines piece.text.now) then → then.lines ≤ now.lines + length piece.text.now
     → IsUnderWay old then text (done ++ piece ∷ []) more
 one_taken old now then text done left more piece is next lead count =
@@ -55,7 +58,8 @@ one_taken old now then text done left more piece is next lead count =
     let C : List Found → Type 0 = λ ps. AreCut text (all_found ps) in
     let F : List Found → Type 0 = λ ps. AllByRecursion IsFound ps in
     record {
-      lead = subst L (sym (with_part lines done piece)) (leads old now then (flat_map lines (all_found done)) (lines piece.text.now) is.lead lead);
+      lead = subst L (sym (with_part lines done piece))
+          (leads old now then (flat_map lines (all_found done)) (lines piece.text.now) is.lead lead);
       count = omega (
         arith,
         is.count,
@@ -68,22 +72,28 @@ one_taken old now then text done left more piece is next lead count =
     }
 
 -- the next has a bad line
-bad_next : (old now : Reading) (text : List ℕ) (done left more : List Found) (piece : Found) (fault : CaptureError) → IsUnderWay old now text done left
+bad_next : (old now : Reading) (text : List ℕ) (done left more : List Found) (piece : Found) (fault : CaptureError)
+    → IsUnderWay old now text done left
     → left ≡ piece ∷ more → with_more now (lines piece.text.now) ≡ Err fault → with_more old (lines text) ≡ Err fault
 bad_next old now text done left more piece fault is next bad =
     let before = flat_map lines (all_found done) in
     let behind = flat_map lines (all_found more) in
     ap (with_more old)
-    (sym is.cut.lines ∙ parts_of lines done left ∙ ap (λ (ps : List Found). before ++ flat_map lines (all_found ps)) next)
+    (sym is.cut.lines ∙ parts_of lines done left ∙ ap (λ (ps : List Found). before ++ flat_map lines (all_found ps))
+    next)
     ∙ lead_then old now before (lines piece.text.now ++ behind) is.lead
     ∙ bad_then now (lines piece.text.now) behind fault bad
 
-pub not_taken : (old now then : Reading) (text : List ℕ) (done left more : List Found) (piece : Found) (fault : OrMemory CaptureError)
-    → IsUnderWay old now text done left → left ≡ piece ∷ more → AreRead (Err fault) now then piece.text.now → AreRead (Err fault) old then text
-not_taken old now then text done left more piece (error.Fault fault) is next bad = bad_next old now text done left more piece fault is next bad
+pub not_taken : (old now then : Reading) (text : List ℕ) (done left more : List Found) (piece : Found)
+    (fault : OrMemory CaptureError)
+    → IsUnderWay old now text done left → left ≡ piece ∷ more → AreRead (Err fault) now
+    then piece.text.now → AreRead (Err fault) old then text
+not_taken old now then text done left more piece (error.Fault fault) is next bad =
+    bad_next old now text done left more piece fault is next bad
 not_taken old now then text done left more piece error.NoMemory is next bad = tt
 
-pub passed_on : (r : Result (Unit {0}) (OrMemory CaptureError)) (fault : OrMemory CaptureError) (P : Result (Unit {0}) (OrMemory CaptureError) → Type 0)
+pub passed_on : (r : Result (Unit {0}) (OrMemory CaptureError)) (fault : OrMemory CaptureError)
+    (P : Result (Unit {0}) (OrMemory CaptureError) → Type 0)
     → IsErrAnd r (λ e. e ≡ fault) → P (Err fault) → P r
 passed_on (Ok done) fault P is p = absurd is
 passed_on (Err e) fault P is p = let Q : OrMemory CaptureError → Type 0 = λ x. P (Err x) in subst Q (sym is) p

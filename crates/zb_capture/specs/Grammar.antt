@@ -33,7 +33,8 @@ key_in line = do
 
 -- a string of bytes: `-` for none, or two hexadecimal digits each
 abbrev pub is_hex : List ℕ → Bool
-is_hex word = bytes_eq word (codes "-") || (nat_lt 0 (length word) && length word % 2 == 0 && list_all is_ascii_hexdigit word)
+is_hex word = bytes_eq word (codes "-")
+    || (nat_lt 0 (length word) && length word % 2 == 0 && list_all is_ascii_hexdigit word)
 
 abbrev pub hex_in : List ℕ → Option (List ℕ)
 hex_in word = if is_hex word then Some word else None
@@ -120,7 +121,8 @@ unfoldable pub with_line : Capture → List ℕ → Result Capture CaptureCause
 with_line c line = if is_skipped line then Ok c else with_words c (words (Some line))
 
 -- what comes of a line with its number, and then of the lines after it
-abbrev pub at_line : ℕ → Result Capture CaptureCause → (Capture → Result Capture CaptureError) → Result Capture CaptureError
+abbrev pub at_line : ℕ → Result Capture CaptureCause → (Capture → Result Capture CaptureError)
+    → Result Capture CaptureError
 at_line number (Err cause) after = Err (record { line = number; cause = cause })
 at_line number (Ok c) after = after c
 

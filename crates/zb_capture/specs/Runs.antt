@@ -6,7 +6,8 @@ use Rattle.arrayvec.specs.ArrayVec.{ArrayVec}
 -- the frames of a text, of which the first starts at `start` and each ends where the next one starts
 abbrev pub frames_in : List ℕ → ℕ → List ℕ → List (ArrayVec ℕ)
 frames_in bytes start [] = []
-frames_in bytes start (end ∷ ends) = record { items = take (end - start) (drop start bytes) } ∷ frames_in bytes end ends
+frames_in bytes start (end ∷ ends) = record { items = take (end - start) (drop start bytes) }
+    ∷ frames_in bytes end ends
 
 -- frames of at most 127 bytes, the last of which ends where the text of `all` bytes does
 abbrev pub AreEnds : ℕ → ℕ → List ℕ → Type 0

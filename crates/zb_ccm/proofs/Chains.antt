@@ -56,7 +56,8 @@ blocks_of-more bytes h =
     let count : block_count (length bytes) ≡ block_count (length bytes - 16) + 1 = omega arith in
     rw (size, count, add-one) (ap (λ l. block_at bytes 0 ∷ l) (shifted bytes 0 (block_count (length bytes - 16))))
 
-pub chain-with_length_none : (key value a : List ℕ) → length a ≡ 0 → value ≡ chain key value (blocks_of (with_length a))
+pub chain-with_length_none : (key value a : List ℕ) → length a ≡ 0 → value
+    ≡ chain key value (blocks_of (with_length a))
 chain-with_length_none key value [] h = rw blocks_of-nil refl
 chain-with_length_none key value (x ∷ xs) h = absurd (omega arith)
 
@@ -79,7 +80,9 @@ chain-with_length_some key value (x ∷ xs) block total first result count h p q
     let rest : result ≡ chain key first (blocks_of (drop 14 (x ∷ xs))) =
     s ∙ ap (λ l. chain key first (blocks_of l)) (dropped (x ∷ xs) count e) in
     let blocks = blocks_of-more (with_length (x ∷ xs)) (omega arith) in
-    rw blocks (rest ∙ ap (λ l. chain key l (blocks_of (drop 14 (x ∷ xs)))) (r ∙ ap (enciphered key) (q ∙ ap (xored value) p)))
+    rw blocks
+    (rest ∙ ap (λ l. chain key l (blocks_of (drop 14 (x ∷ xs))))
+    (r ∙ ap (enciphered key) (q ∙ ap (xored value) p)))
 
 -- The whole MIC, from what its parts are.
 pub mic_built : (key nonce a message first start middle value last total : List ℕ) (size : ℕ) → length nonce ≡ 13
@@ -94,7 +97,9 @@ mic_built key nonce a message first start middle value last total size l p q r s
     omega (arith, length-append (flags a size ∷ nonce) (to_be_bytes w16 (length message))) in
     let begun : start ≡ chained key (replicate 16 0) block =
     q ∙ ap (enciphered key) (p ∙ sym (xored-zeros 16 block long)) in
-    let whole : value ≡ chain key (chained key (replicate 16 0) block) (blocks_of (with_length a) ++ blocks_of message) =
+    let whole : value ≡ chain key (chained key (replicate 16 0) block)
+    (blocks_of (with_length a) ++ blocks_of message) =
     s ∙ ap (λ v. chain key v (blocks_of message)) (r ∙ ap (λ v. chain key v (blocks_of (with_length a))) begun)
-    ∙ sym (fold-append (chained key) (chained key (replicate 16 0) block) (blocks_of (with_length a)) (blocks_of message)) in
+    ∙ sym (fold-append (chained key) (chained key (replicate 16 0) block) (blocks_of (with_length a))
+    (blocks_of message)) in
     rw (u, whole, t) refl

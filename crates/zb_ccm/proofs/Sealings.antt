@@ -38,7 +38,8 @@ length-mic : (key nonce a message : List ℕ) (size : ℕ) → length key ≡ 16
 unfolding mic_of
 length-mic key nonce a message size h g =
     let value : List ℕ = chain key (replicate 16 0) (authenticated_blocks nonce a message size) in
-    let long : length value ≡ 16 = length-chain key (replicate 16 0) (authenticated_blocks nonce a message size) h refl in
+    let long : length value ≡ 16 = length-chain key (replicate 16 0) (authenticated_blocks nonce a message size) h
+    refl in
     let total = length-xored value (stream_block key nonce 0) (omega (arith, length-stream_block key nonce 0 h)) in
     omega (arith, length-take size (xored value (stream_block key nonce 0)))
 
@@ -64,7 +65,8 @@ pub sealed-opens : (key nonce a text mic message : List ℕ) → length key ≡ 
     → sealed key nonce a message (length mic) ≡ record { text = text; mic = mic }
 unfolding opens sealed
 sealed-opens key nonce a text mic message h e =
-    let found = chosen (bytes_eq (mic_of key nonce a (crypted key nonce text) (length mic)) mic) (crypted key nonce text)
+    let found = chosen (bytes_eq (mic_of key nonce a (crypted key nonce text) (length mic)) mic)
+    (crypted key nonce text)
     message e in
     let same : mic_of key nonce a message (length mic) ≡ mic =
     ap (λ m. mic_of key nonce a m (length mic)) (sym found.1)

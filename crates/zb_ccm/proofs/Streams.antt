@@ -23,14 +23,16 @@ range-more a n =
     sym (map-id (range_with_len a (n + 1))) ∙ map-range_with_len_more (λ x. x) a n (a + n) refl
     ∙ ap (λ l. l ++ (a + n) ∷ []) (map-id (range_with_len a n))
 
-pub stream-more : (key nonce : List ℕ) (n : ℕ) → stream key nonce (n + 1) ≡ stream key nonce n ++ stream_block key nonce (n + 1)
+pub stream-more : (key nonce : List ℕ) (n : ℕ) → stream key nonce (n + 1) ≡ stream key nonce n
+    ++ stream_block key nonce (n + 1)
 unfolding stream
 stream-more key nonce n =
     let e : 1 + n ≡ n + 1 = omega arith in
     ap (flat_map (stream_block key nonce)) (range-more 1 n)
     ∙ flat_map-append (stream_block key nonce) (range_with_len 1 n) ((1 + n) ∷ [])
     ∙ ap (λ j. flat_map (stream_block key nonce) (range_with_len 1 n) ++ (stream_block key nonce j ++ [])) e
-    ∙ ap (λ l. flat_map (stream_block key nonce) (range_with_len 1 n) ++ l) (append-nil (stream_block key nonce (n + 1)))
+    ∙ ap (λ l. flat_map (stream_block key nonce) (range_with_len 1 n) ++ l)
+    (append-nil (stream_block key nonce (n + 1)))
 
 pub crypted_none : (key nonce text : List ℕ) → IsCrypted key nonce text text 0
 unfolding stream xored
@@ -52,7 +54,8 @@ piece_of before at end e =
       | inr h ↦ let k : end - at ≡ 16 = omega arith in ap (λ n. take n (drop at before)) k
     ]
 
-rest_of : (before : List ℕ) (at end : ℕ) → end ≡ min (length before) (at + 16) → drop end before ≡ drop (at + 16) before
+rest_of : (before : List ℕ) (at end : ℕ) → end ≡ min (length before) (at + 16) → drop end before
+    ≡ drop (at + 16) before
 rest_of before at end e =
     elim (cases_lt (length before) (at + 16)) [
       | inl h ↦ drop_all end before (omega arith) ∙ sym (drop_all (at + 16) before (omega arith))

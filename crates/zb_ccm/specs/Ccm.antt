@@ -68,7 +68,8 @@ opens key nonce associated text mic =
     if bytes_eq (mic_of key nonce associated message (length mic)) mic then Some message else None
 
 -- What opening returned and left in place of a text: its message where the MIC is right, and else the text as it was.
-pub record IsOpening {E : Type 0} (key nonce associated text mic left : List ℕ) (result : Result (Unit {0}) E) : Type 0 where
+pub record IsOpening {E : Type 0} (key nonce associated text mic left : List ℕ) (result : Result (Unit {0}) E) : Type
+    0 where
   pub opened : OnOk result (opens key nonce associated text mic ≡ Some left)
   pub refused : OnErr result (opens key nonce associated text mic ≡ None)
   pub kept : OnErr result (left ≡ text)

@@ -23,7 +23,8 @@ abbrev is_own : Task → Bool
 is_own (Received bytes draw) = false
 is_own _ = true
 
-own_plan_is : (c : Setting) (s : NodeState) (task : Task) → is_own task ≡ true → plan_of real c s task ≡ own_plan (own real c s task)
+own_plan_is : (c : Setting) (s : NodeState) (task : Task) → is_own task ≡ true → plan_of real c s task
+    ≡ own_plan (own real c s task)
 unfolding plan_of
 own_plan_is c s (SayTo to bytes) e = refl
 own_plan_is c s (TellTo partner bytes) e = refl
@@ -40,11 +41,13 @@ own_plan_is c s (DoAgain device) e = refl
 own_plan_is c s (DoShare device partner) e = refl
 own_plan_is c s (Received bytes draw) e = absurd (cc)
 
-centre_own : (c : Setting) (s : NodeState) (task : Task) → is_centre c.me.role ≡ true → own real c s task ≡ own_at_centre c s task
+centre_own : (c : Setting) (s : NodeState) (task : Task) → is_centre c.me.role ≡ true → own real c s task
+    ≡ own_at_centre c s task
 unfolding own
 centre_own c s task centre = rw centre refl
 
-not_delivered : (e : CentreEvent) → ((bytes : ArrayVec ℕ) (draw : Option Key) → e ≡ Deliver bytes draw → ⊥) → is_own (task_of e) ≡ true
+not_delivered : (e : CentreEvent) → ((bytes : ArrayVec ℕ) (draw : Option Key) → e ≡ Deliver bytes draw → ⊥)
+    → is_own (task_of e) ≡ true
 not_delivered (Provision device key) other = refl
 not_delivered (Remove device via) other = refl
 not_delivered (Roll draw) other = refl
@@ -57,7 +60,10 @@ not_delivered (Say to bytes) other = refl
 not_delivered (Share device partner) other = refl
 
 -- what is planned by the rule of an event's task is the answer to it
-pub event_answer : (c : Setting) (s : NodeState) (e : CentreEvent) (r : Plan (Outcome Term Refusal)) → is_centre c.me.role ≡ true → ((bytes : ArrayVec ℕ) (draw : Option Key) → e ≡ Deliver bytes draw → ⊥)
-    → IsAnswer r (answer_to real c s (own_plan (own_at_centre c s (task_of e)))) → IsAnswer r (answer real c s (task_of e))
+pub event_answer : (c : Setting) (s : NodeState) (e : CentreEvent) (r : Plan (Outcome Term Refusal))
+    → is_centre c.me.role ≡ true → ((bytes : ArrayVec ℕ) (draw : Option Key) → e ≡ Deliver bytes draw → ⊥)
+    → IsAnswer r (answer_to real c s (own_plan (own_at_centre c s (task_of e))))
+    → IsAnswer r (answer real c s (task_of e))
 unfolding answer
-event_answer c s e r centre other a = rw (own_plan_is c s (task_of e) (not_delivered e other), centre_own c s (task_of e) centre) a
+event_answer c s e r centre other a =
+    rw (own_plan_is c s (task_of e) (not_delivered e other), centre_own c s (task_of e) centre) a

@@ -14,8 +14,10 @@ is_request_form c s m = is_centre c.me.role && under_current s m
 
 -- Request-Key of a key with a partner: likewise, and the partner is neither the sender nor the centre
 abbrev pub is_app_request_form : Setting → NodeState → Heard → ℕ → Bool
-is_app_request_form c s m partner = is_centre c.me.role && (under_current s m && not (nat_eq partner m.sender || nat_eq partner c.me.eui))
+is_app_request_form c s m partner = is_centre c.me.role
+    && (under_current s m && not (nat_eq partner m.sender || nat_eq partner c.me.eui))
 
 -- Verify-Key: in clear, type 4, and the source that it names is that of the NWK term
 abbrev pub is_verify_form : Setting → Heard → ℕ → ℕ → Bool
-is_verify_form c m kind device = is_centre c.me.role && (is_clear m && (nat_eq kind 4 && names_eui device m.nwk_source))
+is_verify_form c m kind device = is_centre c.me.role
+    && (is_clear m && (nat_eq kind 4 && names_eui device m.nwk_source))

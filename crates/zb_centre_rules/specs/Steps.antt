@@ -12,7 +12,9 @@ newest_to c s device =
     found_or (newest s) NoKey (λ new.
     found_or (current s device) WrongState (λ row.
     unless (both_spent s) CounterSpent (
-    Does (Told device ∷ []) (sends (short_of c device) true (Secret ForTransport row.key (TransportNet new.key new.sequence device c.me.eui))))))
+    Does (Told device ∷ [])
+    (sends (short_of c device) true
+    (Secret ForTransport row.key (TransportNet new.key new.sequence device c.me.eui))))))
 
 -- a new network key is drawn, and is to be sent to each device
 abbrev pub rolled : NodeState → NetKey → Bytes → List Move

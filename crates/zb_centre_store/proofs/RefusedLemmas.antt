@@ -15,7 +15,8 @@ use Rattle.zb_plan.specs.Storing.{own_plan}
 abbrev answer_with : Setting → NodeState → Plan → Answer
 answer_with c s p = answer_by real c s (counting_of c s p) p
 
-own_plan_is : (c : Setting) (s : NodeState) (task : Task) → is_own task ≡ true → plan_of real c s task ≡ own_plan (own real c s task)
+own_plan_is : (c : Setting) (s : NodeState) (task : Task) → is_own task ≡ true → plan_of real c s task
+    ≡ own_plan (own real c s task)
 unfolding plan_of
 own_plan_is c s (SayTo to bytes) is = refl
 own_plan_is c s (TellTo partner bytes) is = refl
@@ -32,25 +33,31 @@ own_plan_is c s (DoAgain device) is = refl
 own_plan_is c s (DoShare device partner) is = refl
 own_plan_is c s (Received bytes draw) is = absurd (cc)
 
-no_edits : (c : Setting) (s : NodeState) (o : Outcome) → is_some (answer_with c s (own_plan o)).refusal ≡ true → (answer_with c s (own_plan o)).edits ≡ []
+no_edits : (c : Setting) (s : NodeState) (o : Outcome) → is_some (answer_with c s (own_plan o)).refusal ≡ true
+    → (answer_with c s (own_plan o)).edits ≡ []
 unfolding answer_by counting_of edits_of reserve_of
 no_edits c s (Stop reason) some = refl
 no_edits c s (Does moves sending) some = absurd (cc)
 
-no_effect : (c : Setting) (s : NodeState) (o : Outcome) → is_some (answer_with c s (own_plan o)).refusal ≡ true → answered (answer_with c s (own_plan o)) s ≡ s
+no_effect : (c : Setting) (s : NodeState) (o : Outcome) → is_some (answer_with c s (own_plan o)).refusal ≡ true
+    → answered (answer_with c s (own_plan o)) s ≡ s
 unfolding answer_by counting_of edits_of reserve_of out_of may_seal answered applied_all
 no_effect c s (Stop reason) some = refl
 no_effect c s (Does moves sending) some = absurd (cc)
 
-pub refused_edits : (c : Setting) (s : NodeState) (task : Task) → is_own task ≡ true → is_some (answer real c s task).refusal ≡ true → (answer real c s task).edits ≡ []
+pub refused_edits : (c : Setting) (s : NodeState) (task : Task) → is_own task ≡ true
+    → is_some (answer real c s task).refusal ≡ true → (answer real c s task).edits ≡ []
 unfolding answer
 refused_edits c s task is =
-    subst (λ (p : Plan). is_some (answer_with c s p).refusal ≡ true → (answer_with c s p).edits ≡ []) (sym (own_plan_is c s task is)) (no_edits c s (own real c s task))
+    subst (λ (p : Plan). is_some (answer_with c s p).refusal ≡ true → (answer_with c s p).edits ≡ [])
+    (sym (own_plan_is c s task is)) (no_edits c s (own real c s task))
 
-pub refused_effect : (c : Setting) (s : NodeState) (task : Task) → is_own task ≡ true → is_some (answer real c s task).refusal ≡ true → answered (answer real c s task) s ≡ s
+pub refused_effect : (c : Setting) (s : NodeState) (task : Task) → is_own task ≡ true
+    → is_some (answer real c s task).refusal ≡ true → answered (answer real c s task) s ≡ s
 unfolding answer
 refused_effect c s task is =
-    subst (λ (p : Plan). is_some (answer_with c s p).refusal ≡ true → answered (answer_with c s p) s ≡ s) (sym (own_plan_is c s task is)) (no_effect c s (own real c s task))
+    subst (λ (p : Plan). is_some (answer_with c s p).refusal ≡ true → answered (answer_with c s p) s ≡ s)
+    (sym (own_plan_is c s task is)) (no_effect c s (own real c s task))
 
 pub none_changed : (changes : List Change) → edits changes ≡ [] → changes ≡ []
 none_changed [] e = refl

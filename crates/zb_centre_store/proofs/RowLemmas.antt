@@ -8,7 +8,8 @@ use Rattle.zb_model.specs.State.{LinkKey, NetKey, NodeState, is_centre}
 use Rattle.law_change_fits.proofs.Parts.{rules_of}
 use Rattle.zb_text.specs.Pages.{ended, page}
 
-numbered_more : {Y : Type 0} (line : ℕ → Y → Bytes) (n : ℕ) (xs : List Y) (y : Y) → page (numbered line n (xs ++ y ∷ [])) ≡ page (numbered line n xs) ++ ended (line (n + length xs) y)
+numbered_more : {Y : Type 0} (line : ℕ → Y → Bytes) (n : ℕ) (xs : List Y) (y : Y)
+    → page (numbered line n (xs ++ y ∷ [])) ≡ page (numbered line n xs) ++ ended (line (n + length xs) y)
 numbered_more line n [] y = append-nil (ended (line n y)) ∙ ap (λ m. ended (line m y)) here
   where
     here : n ≡ n + 0
@@ -21,8 +22,10 @@ numbered_more line n (x ∷ xs) y =
     there : n + 1 + length xs ≡ n + length (x ∷ xs)
     there = omega arith
 
-pub numbered_step : {X Y : Type 0} (line : ℕ → Y → Bytes) (f : X → Y) (rows : List X) (i : ℕ) (d x : X) (front now next : List ℕ) → i < length rows → x ≡ get_or rows i d
-    → now ≡ front ++ page (numbered line 0 (map f (take i rows))) → next ≡ now ++ ended (line i (f x)) → next ≡ front ++ page (numbered line 0 (map f (take (i + 1) rows)))
+pub numbered_step : {X Y : Type 0} (line : ℕ → Y → Bytes) (f : X → Y) (rows : List X) (i : ℕ) (d x : X)
+    (front now next : List ℕ) → i < length rows → x ≡ get_or rows i d
+    → now ≡ front ++ page (numbered line 0 (map f (take i rows))) → next ≡ now ++ ended (line i (f x)) → next ≡ front
+    ++ page (numbered line 0 (map f (take (i + 1) rows)))
 numbered_step line f rows i d x front now next lt here so is =
     is ∙ ap (λ l. l ++ ended (line i (f x))) so
     ∙ ap (λ y. front ++ page (numbered line 0 (map f (take i rows))) ++ ended (line i (f y))) here
@@ -52,21 +55,25 @@ most_1024 role = by_role (is_centre role)
     by_role true = omega arith
     by_role false = omega arith
 
-pub few_nets : {X : Type 0} (f : X → NetKey) (xs : List X) (s : NodeState) → map f xs ≡ s.nets → keeps_rules s ≡ true → length xs < 2 ^ 32
+pub few_nets : {X : Type 0} (f : X → NetKey) (xs : List X) (s : NodeState) → map f xs ≡ s.nets → keeps_rules s ≡ true
+    → length xs < 2 ^ 32
 few_nets f xs s same kept =
     let few : length s.nets ≤ 256 = (rules_of s kept).nets_room in
     let is : length xs ≡ length s.nets = sym (length-map xs f) ∙ ap length same in
     omega (arith, few, is)
 
-pub few_links : {X : Type 0} (f : X → LinkKey) (xs : List X) (s : NodeState) → map f xs ≡ s.links → keeps_rules s ≡ true → length xs < 2 ^ 32
+pub few_links : {X : Type 0} (f : X → LinkKey) (xs : List X) (s : NodeState) → map f xs ≡ s.links → keeps_rules s
+    ≡ true → length xs < 2 ^ 32
 few_links f xs s same kept =
     let few : length s.links ≤ most_links s.role = (rules_of s kept).links_room in
     let most : most_links s.role ≤ 1024 = most_1024 s.role in
     let is : length xs ≡ length s.links = sym (length-map xs f) ∙ ap length same in
     omega (arith, few, most, is)
 
-pub all_listed : (s : NodeState) (active : Option Bytes) (nets : List NetKey) (links : List LinkKey) (front between now : List ℕ) → active ≡ s.active → nets ≡ s.nets → links ≡ s.links
-    → between ≡ front ++ page (numbered (net_line active) 0 nets) → now ≡ between ++ page (numbered link_line 0 links) → now ≡ front ++ page (listed s)
+pub all_listed : (s : NodeState) (active : Option Bytes) (nets : List NetKey) (links : List LinkKey)
+    (front between now : List ℕ) → active ≡ s.active → nets ≡ s.nets → links ≡ s.links
+    → between ≡ front ++ page (numbered (net_line active) 0 nets) → now ≡ between ++ page (numbered link_line 0 links)
+    → now ≡ front ++ page (listed s)
 unfolding listed
 all_listed s active nets links front between now a n l first second =
     second ∙ ap (λ x. x ++ page (numbered link_line 0 links)) first

@@ -10,12 +10,17 @@ use Rattle.zb_text.specs.Words.{then}
 -- a network key: its place from 0, the key, its sequence number, and whether it is used
 unfoldable pub net_line : Option Bytes → ℕ → NetKey → Bytes
 net_line active place r =
-    codes "net" ++ (then (decimal place) ++ (then (encode_upper r.key) ++ (then (decimal r.sequence) ++ then (net_word active r))))
+    codes "net"
+    ++ (then (decimal place)
+    ++ (then (encode_upper r.key) ++ (then (decimal r.sequence) ++ then (net_word active r))))
 
 -- a link key: its place from 0, the partner, the key, its attribute, and whether it is used
 unfoldable pub link_line : ℕ → LinkKey → Bytes
 link_line place r =
-    codes "link" ++ (then (decimal place) ++ (then (eui_text r.partner) ++ (then (encode_upper r.key) ++ (then (attribute_word r.attribute) ++ then (live_word r.live)))))
+    codes "link"
+    ++ (then (decimal place)
+    ++ (then (eui_text r.partner)
+    ++ (then (encode_upper r.key) ++ (then (attribute_word r.attribute) ++ then (live_word r.live)))))
 
 -- a line for each of some rows, the first of which has this place
 abbrev pub numbered : {X : Type 0} → (ℕ → X → Bytes) → ℕ → List X → List Bytes

@@ -41,13 +41,17 @@ takes_all : (c : Command) (x : ℕ) (rest : List ℕ) → (x ∷ rest ≡ []) �
 takes_all c x rest (inl never) = absurd cc
 takes_all c x rest (inr takes) = takes
 
-found_behind : (bytes : List ℕ) (e : CmdError) (c : Command) (rest : List ℕ) → command_of bytes ≡ Err e → ((cut : CmdError) → command_at cut bytes ≡ Ok (c, rest)) → BeginsWith bytes c rest → (rest ≡ []) ⊎ TakesAll c → HasFault bytes e
+found_behind : (bytes : List ℕ) (e : CmdError) (c : Command) (rest : List ℕ) → command_of bytes ≡ Err e
+    → ((cut : CmdError) → command_at cut bytes ≡ Ok (c, rest)) → BeginsWith bytes c rest → (rest ≡ []) ⊎ TakesAll c
+    → HasFault bytes e
 unfolding command_of
-found_behind bytes e c [] given read begins ends = let same = rw (read (error.Short (length bytes))) at given in absurd cc
+found_behind bytes e c [] given read begins ends = let same = rw (read (error.Short (length bytes))) at given in
+    absurd cc
 found_behind bytes e c (x ∷ rest) given read begins ends =
     let behind : eqb (length (x ∷ rest)) 0 ≡ false = ne_eqb _ _ (λ zero. absurd (omega (arith, zero))) in
     let same = rw (read (error.Short (length bytes)), behind) at given in
-    subst (λ (f : CmdError). HasFault bytes f) (err_is (error.Trailing (length (x ∷ rest))) e same) (c, x ∷ rest, begins, takes_all c x rest ends, refl, omega arith)
+    subst (λ (f : CmdError). HasFault bytes f) (err_is (error.Trailing (length (x ∷ rest))) e same)
+    (c, x ∷ rest, begins, takes_all c x rest ends, refl, omega arith)
 
 pub fault_found : (bytes : List ℕ) → IsBytes bytes → (e : CmdError) → command_of bytes ≡ Err e → HasFault bytes e
 unfolding command_of
@@ -68,13 +72,17 @@ not_inner : (xs : List ℕ) → bit (get_or xs 2 0) 5 ≡ false → is_inner xs 
 not_inner xs plain = rw plain (and_false (leb 19 (length xs)))
 
 -- a Tunnel without the extended nonce is cut whatever the fault of a missing byte is
-plain_cut : (cut : CmdError) (bytes : List ℕ) (destination : Eui) (inner : List ℕ) → LacksNonce bytes destination inner → command_at cut bytes ≡ Err cut
+plain_cut : (cut : CmdError) (bytes : List ℕ) (destination : Eui) (inner : List ℕ)
+    → LacksNonce bytes destination inner → command_at cut bytes ≡ Err cut
 unfolding command_at body_of tunnel_at inner_at
 plain_cut cut bytes destination inner lacks =
     let no_inner : is_inner inner ≡ false = not_inner inner lacks.plain in
-    ap (command_at cut) lacks.parts ∙ rw (eui_again cut destination inner lacks.in_range, inner_front inner, no_inner) refl
+    ap (command_at cut) lacks.parts ∙ rw (eui_again cut destination inner lacks.in_range, inner_front inner, no_inner)
+    refl
 
-stays_not : (bytes : List ℕ) (e : CmdError) → ((cut : CmdError) (more : List ℕ) → command_at cut (bytes ++ more) ≡ Err e) → CanGoOn bytes ⊎ ((destination : Eui) × (inner : List ℕ) × LacksNonce bytes destination inner) → ⊥
+stays_not : (bytes : List ℕ) (e : CmdError)
+    → ((cut : CmdError) (more : List ℕ) → command_at cut (bytes ++ more) ≡ Err e) → CanGoOn bytes
+    ⊎ ((destination : Eui) × (inner : List ℕ) × LacksNonce bytes destination inner) → ⊥
 stays_not bytes e wrong (inl (more, c, begins)) =
     let cut = error.Unknown 0 in
     let t = begins_read cut (bytes ++ more) c [] begins in
@@ -82,8 +90,10 @@ stays_not bytes e wrong (inl (more, c, begins)) =
     let bad = wrong cut more in
     cc (read, bad)
 stays_not bytes e wrong (inr (destination, inner, lacks)) =
-    let one = sym (plain_cut (error.Unknown 0) bytes destination inner lacks) ∙ ap (command_at (error.Unknown 0)) (sym (append-nil bytes)) ∙ wrong (error.Unknown 0) [] in
-    let other = sym (plain_cut (error.KeyType 0) bytes destination inner lacks) ∙ ap (command_at (error.KeyType 0)) (sym (append-nil bytes)) ∙ wrong (error.KeyType 0) [] in
+    let one = sym (plain_cut (error.Unknown 0) bytes destination inner lacks) ∙ ap (command_at (error.Unknown 0))
+    (sym (append-nil bytes)) ∙ wrong (error.Unknown 0) [] in
+    let other = sym (plain_cut (error.KeyType 0) bytes destination inner lacks) ∙ ap (command_at (error.KeyType 0))
+    (sym (append-nil bytes)) ∙ wrong (error.KeyType 0) [] in
     cc (one, other)
 
 -- a command takes the bytes that it ends with
@@ -104,31 +114,43 @@ ends_there (Confirm status kind destination) rest takes = tt
 pair : (a b c d : ℕ) (tail : List ℕ) → a ≡ c → b ≡ d → c ∷ d ∷ tail ≡ a ∷ b ∷ tail
 pair a b c d tail p q = rw (p, q) refl
 
-unknown_body : (cut : CmdError) (id : ℕ) (rest : List ℕ) → ((c : Command) (tail : List ℕ) → command c ≢ id ∷ tail) → command_at cut (id ∷ rest) ≡ Err (error.Unknown id)
+unknown_body : (cut : CmdError) (id : ℕ) (rest : List ℕ) → ((c : Command) (tail : List ℕ) → command c ≢ id ∷ tail)
+    → command_at cut (id ∷ rest) ≡ Err (error.Unknown id)
 unfolding command_at body_of
 unknown_body cut id rest none =
     let k : Key = record { 0 = [] } in
     let e : Eui = record { 0 = 0 } in
     rw (
-      ne_eqb id 5 (λ is. none (TransportLink k e e) (4 ∷ (k.0 ++ eui e ++ eui e)) (ap (λ n. n ∷ (4 ∷ (k.0 ++ eui e ++ eui e))) (sym is))),
-      ne_eqb id 6 (λ is. none (Update e (record { 0 = 0 }) 0) (eui e ++ (0 ∷ 0 ∷ 0 ∷ [])) (ap (λ n. n ∷ (eui e ++ (0 ∷ 0 ∷ 0 ∷ []))) (sym is))),
+      ne_eqb id 5
+          (λ is. none (TransportLink k e e) (4 ∷ (k.0 ++ eui e ++ eui e))
+          (ap (λ n. n ∷ (4 ∷ (k.0 ++ eui e ++ eui e))) (sym is))),
+      ne_eqb id 6
+          (λ is. none (Update e (record { 0 = 0 }) 0) (eui e ++ (0 ∷ 0 ∷ 0 ∷ []))
+          (ap (λ n. n ∷ (eui e ++ (0 ∷ 0 ∷ 0 ∷ []))) (sym is))),
       ne_eqb id 7 (λ is. none (Remove e) (eui e) (ap (λ n. n ∷ eui e) (sym is))),
       ne_eqb id 8 (λ is. none RequestLink (4 ∷ []) (ap (λ n. n ∷ 4 ∷ []) (sym is))),
       ne_eqb id 9 (λ is. none (Switch 0) (0 ∷ []) (ap (λ n. n ∷ 0 ∷ []) (sym is))),
-      ne_eqb id 14 (λ is. none (Tunnel e (record { items = [] })) (eui e ++ []) (ap (λ n. n ∷ (eui e ++ [])) (sym is))),
+      ne_eqb id 14
+          (λ is. none (Tunnel e (record { items = [] })) (eui e ++ []) (ap (λ n. n ∷ (eui e ++ [])) (sym is))),
       ne_eqb id 15 (λ is. none (Verify 0 e []) (0 ∷ (eui e ++ [])) (ap (λ n. n ∷ (0 ∷ (eui e ++ []))) (sym is))),
       ne_eqb id 16 (λ is. none (Confirm 0 0 e) (0 ∷ 0 ∷ eui e) (ap (λ n. n ∷ 0 ∷ 0 ∷ eui e) (sym is))),
     ) refl
 
-unknown_kind : (cut : CmdError) (id found : ℕ) (rest : List ℕ) → (id ≡ 5) ⊎ (id ≡ 8) → ((c : Command) (tail : List ℕ) → command c ≢ id ∷ found ∷ tail) → command_at cut (id ∷ found ∷ rest) ≡ Err (error.KeyType found)
+unknown_kind : (cut : CmdError) (id found : ℕ) (rest : List ℕ) → (id ≡ 5) ⊎ (id ≡ 8)
+    → ((c : Command) (tail : List ℕ) → command c ≢ id ∷ found ∷ tail) → command_at cut (id ∷ found ∷ rest)
+    ≡ Err (error.KeyType found)
 unfolding command_at body_of transport_at transport_of request_at request_of
 unknown_kind cut id found rest (inl five) none =
     let k : Key = record { 0 = [] } in
     let e : Eui = record { 0 = 0 } in
     rw (
       five,
-      ne_eqb found 1 (λ is. none (TransportNetwork k 0 e e) (0 ∷ (eui e ++ eui e)) (pair id found 5 1 (0 ∷ (eui e ++ eui e)) five is)),
-      ne_eqb found 3 (λ is. none (TransportApplication k e 0) (eui e ++ (0 ∷ [])) (pair id found 5 3 (eui e ++ (0 ∷ [])) five is)),
+      ne_eqb found 1
+          (λ is. none (TransportNetwork k 0 e e) (0 ∷ (eui e ++ eui e))
+          (pair id found 5 1 (0 ∷ (eui e ++ eui e)) five is)),
+      ne_eqb found 3
+          (λ is. none (TransportApplication k e 0) (eui e ++ (0 ∷ []))
+          (pair id found 5 3 (eui e ++ (0 ∷ [])) five is)),
       ne_eqb found 4 (λ is. none (TransportLink k e e) (eui e ++ eui e) (pair id found 5 4 (eui e ++ eui e) five is)),
     ) refl
 unknown_kind cut id found rest (inr eight) none =
@@ -143,11 +165,13 @@ pub fault_only : (bytes : List ℕ) → IsBytes bytes → (e : CmdError) → Has
 unfolding command_of
 fault_only bytes fits (error.Unknown id) (rest, parts, none) =
     let cut = error.Short (length bytes) in
-    let read : command_at cut bytes ≡ Err (error.Unknown id) = ap (command_at cut) parts ∙ unknown_body cut id rest none in
+    let read : command_at cut bytes ≡ Err (error.Unknown id) = ap (command_at cut) parts ∙ unknown_body cut id rest
+    none in
     rw read refl
 fault_only bytes fits (error.KeyType found) (id, rest, parts, which, none) =
     let cut = error.Short (length bytes) in
-    let read : command_at cut bytes ≡ Err (error.KeyType found) = ap (command_at cut) parts ∙ unknown_kind cut id found rest which none in
+    let read : command_at cut bytes ≡ Err (error.KeyType found) = ap (command_at cut) parts ∙ unknown_kind cut id
+    found rest which none in
     rw read refl
 fault_only bytes fits (error.Short place) (at, is_cut) =
     elim (command_end bytes fits) [
@@ -157,15 +181,18 @@ fault_only bytes fits (error.Short place) (at, is_cut) =
     ]
 fault_only bytes fits (error.Trailing count) (c, rest, begins, takes, is, some) =
     let cut = error.Short (length bytes) in
-    let read : command_at cut bytes ≡ Ok (c, rest) = ap (command_at cut) begins.parts ∙ command_again cut c rest begins.in_range begins.shaped (ends_there c rest takes) in
+    let read : command_at cut bytes ≡ Ok (c, rest) = ap (command_at cut) begins.parts ∙ command_again cut c rest
+    begins.in_range begins.shaped (ends_there c rest takes) in
     let behind : eqb (length rest) 0 ≡ false = ne_eqb _ _ (λ zero. absurd (omega (arith, zero, is, some))) in
     rw (read, behind, is) refl
 
-whole_is_spelled : (bytes : List ℕ) (c d : Command) (rest : List ℕ) → command_of bytes ≡ Ok c → ((cut : CmdError) → command_at cut bytes ≡ Ok (d, rest)) → BeginsWith bytes d rest → IsSmall d → Spells bytes c
+whole_is_spelled : (bytes : List ℕ) (c d : Command) (rest : List ℕ) → command_of bytes ≡ Ok c
+    → ((cut : CmdError) → command_at cut bytes ≡ Ok (d, rest)) → BeginsWith bytes d rest → IsSmall d → Spells bytes c
 unfolding command_of
 whole_is_spelled bytes c d [] given read begins small =
     let same = rw (read (error.Short (length bytes))) at given in
-    subst (λ (f : Command). Spells bytes f) (ok_is d c same) (spelled_whole bytes d [] begins.in_range begins.shaped small begins.parts refl)
+    subst (λ (f : Command). Spells bytes f) (ok_is d c same)
+    (spelled_whole bytes d [] begins.in_range begins.shaped small begins.parts refl)
 whole_is_spelled bytes c d (x ∷ rest) given read begins small =
     let behind : eqb (length (x ∷ rest)) 0 ≡ false = ne_eqb _ _ (λ zero. absurd (omega (arith, zero))) in
     let same = rw (read (error.Short (length bytes)), behind) at given in
@@ -200,35 +227,44 @@ leave_ok_is l m same = cc
 
 of_four : (rest : List ℕ) (e : CmdError) → leave_of (4 ∷ rest) ≡ Err e → HasLeaveFault (4 ∷ rest) e
 unfolding leave_of leave_at leave_body
-of_four [] e given = subst (λ (f : CmdError). HasLeaveFault (4 ∷ []) f) (leave_err_is (error.Short 1) e given) (refl, inr refl)
+of_four [] e given = subst (λ (f : CmdError). HasLeaveFault (4 ∷ []) f) (leave_err_is (error.Short 1) e given)
+    (refl, inr refl)
 of_four (options ∷ []) e given = absurd cc
 of_four (options ∷ x ∷ rest) e given =
     let behind : eqb (length (x ∷ rest)) 0 ≡ false = ne_eqb _ _ (λ zero. absurd (omega (arith, zero))) in
     let same = rw behind at given in
-    subst (λ (f : CmdError). HasLeaveFault (4 ∷ options ∷ x ∷ rest) f) (leave_err_is (error.Trailing (length (x ∷ rest))) e same) (record { options = options }, x ∷ rest, refl, refl, omega arith)
+    subst (λ (f : CmdError). HasLeaveFault (4 ∷ options ∷ x ∷ rest) f)
+    (leave_err_is (error.Trailing (length (x ∷ rest))) e same)
+    (record { options = options }, x ∷ rest, refl, refl, omega arith)
 
 pub leave_fault_found : (bytes : List ℕ) (e : CmdError) → leave_of bytes ≡ Err e → HasLeaveFault bytes e
 unfolding leave_of leave_at leave_body
-leave_fault_found [] e given = subst (λ (f : CmdError). HasLeaveFault [] f) (leave_err_is (error.Short 0) e given) (refl, inl refl)
+leave_fault_found [] e given = subst (λ (f : CmdError). HasLeaveFault [] f) (leave_err_is (error.Short 0) e given)
+    (refl, inl refl)
 leave_fault_found (id ∷ rest) e given =
     elim (eqb_tells id 4) [
-      | inl yes_four ↦ subst (λ (n : ℕ). HasLeaveFault (n ∷ rest) e) (sym yes_four.1) (of_four rest e (ap (λ (n : ℕ). leave_of (n ∷ rest)) (sym yes_four.1) ∙ given))
+      | inl yes_four ↦ subst (λ (n : ℕ). HasLeaveFault (n ∷ rest) e) (sym yes_four.1)
+          (of_four rest e (ap (λ (n : ℕ). leave_of (n ∷ rest)) (sym yes_four.1) ∙ given))
       | inr no_four ↦
           let same = rw no_four.0 at given in
-          subst (λ (f : CmdError). HasLeaveFault (id ∷ rest) f) (leave_err_is (error.Unknown id) e same) (rest, refl, no_four.1)
+          subst (λ (f : CmdError). HasLeaveFault (id ∷ rest) f) (leave_err_is (error.Unknown id) e same)
+          (rest, refl, no_four.1)
     ]
 
 pub leave_fault_only : (bytes : List ℕ) (e : CmdError) → HasLeaveFault bytes e → leave_of bytes ≡ Err e
 unfolding leave_of leave_at leave_body
 leave_fault_only bytes (error.Unknown id) (rest, parts, ne) = ap leave_of parts ∙ rw (ne_eqb id 4 ne) refl
 leave_fault_only bytes (error.KeyType found) never = absurd never
-leave_fault_only bytes (error.Short place) (at, inl nothing) = ap leave_of nothing ∙ ap (λ (n : ℕ). Err (error.Short n)) (sym (at ∙ ap (length {A = ℕ}) nothing))
-leave_fault_only bytes (error.Short place) (at, inr one) = ap leave_of one ∙ ap (λ (n : ℕ). Err (error.Short n)) (sym (at ∙ ap (length {A = ℕ}) one))
+leave_fault_only bytes (error.Short place) (at, inl nothing) =
+    ap leave_of nothing ∙ ap (λ (n : ℕ). Err (error.Short n)) (sym (at ∙ ap (length {A = ℕ}) nothing))
+leave_fault_only bytes (error.Short place) (at, inr one) = ap leave_of one ∙ ap (λ (n : ℕ). Err (error.Short n))
+    (sym (at ∙ ap (length {A = ℕ}) one))
 leave_fault_only bytes (error.Trailing count) (l, rest, parts, is, some) =
     let behind : eqb (length rest) 0 ≡ false = ne_eqb _ _ (λ zero. absurd (omega (arith, zero, is, some))) in
     ap leave_of parts ∙ rw (behind, is) refl
 
-leave_whole : (bytes : List ℕ) (options : ℕ) (rest : List ℕ) (l : Leave) → leave_of (4 ∷ options ∷ rest) ≡ Ok l → leave l ≡ 4 ∷ options ∷ rest
+leave_whole : (bytes : List ℕ) (options : ℕ) (rest : List ℕ) (l : Leave) → leave_of (4 ∷ options ∷ rest) ≡ Ok l
+    → leave l ≡ 4 ∷ options ∷ rest
 unfolding leave_of leave_at leave_body
 leave_whole bytes options [] l given = ap leave (leave_ok_is l (record { options = options }) (sym given))
 leave_whole bytes options (x ∷ rest) l given =
@@ -246,6 +282,7 @@ unfolding leave_of leave_at leave_body
 leave_is_spelled [] l given = absurd cc
 leave_is_spelled (id ∷ rest) l given =
     elim (eqb_tells id 4) [
-      | inl yes_four ↦ of_four_read rest l (ap (λ (n : ℕ). leave_of (n ∷ rest)) (sym yes_four.1) ∙ given) ∙ ap (λ (n : ℕ). n ∷ rest) (sym yes_four.1)
+      | inl yes_four ↦ of_four_read rest l (ap (λ (n : ℕ). leave_of (n ∷ rest)) (sym yes_four.1) ∙ given) ∙ ap
+          (λ (n : ℕ). n ∷ rest) (sym yes_four.1)
       | inr no_four ↦ let same = rw no_four.0 at given in absurd cc
     ]

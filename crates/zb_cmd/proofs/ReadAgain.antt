@@ -38,7 +38,8 @@ inner_front xs =
     ]
 
 -- what is read of a Tunnel's inner frame is all of it, where it has 118 bytes or nothing stands after it
-pub inner_again : (cut : CmdError) (xs rest : List ℕ) → is_inner xs ≡ true → (length xs ≡ 118) ⊎ ((rest ≡ []) × (length xs ≤ 118)) → inner_at cut (xs ++ rest) ≡ Ok (record { items = xs }, rest)
+pub inner_again : (cut : CmdError) (xs rest : List ℕ) → is_inner xs ≡ true → (length xs ≡ 118)
+    ⊎ ((rest ≡ []) × (length xs ≤ 118)) → inner_at cut (xs ++ rest) ≡ Ok (record { items = xs }, rest)
 unfolding inner_at
 inner_again cut xs rest inner (inl full) =
     let n : min (length (xs ++ rest)) 118 ≡ 118 = omega (arith, full, length-append xs rest) in
@@ -52,20 +53,37 @@ abbrev pub Ends : Command → List ℕ → Type 0
 Ends (Tunnel destination inner) rest = (length inner.items ≡ 118) ⊎ ((rest ≡ []) × (length inner.items ≤ 118))
 Ends _ rest = Unit {0}
 
-pub command_again : (cut : CmdError) (c : Command) (rest : List ℕ) → InRange c → IsCommand c → Ends c rest → command_at cut (command c ++ rest) ≡ Ok (c, rest)
-unfolding command_at body_of transport_at transport_of network_at application_at link_at update_at remove_at request_at request_of partner_at switch_at tunnel_at verify_at confirm_at
+pub command_again : (cut : CmdError) (c : Command) (rest : List ℕ) → InRange c → IsCommand c → Ends c rest
+    → command_at cut (command c ++ rest) ≡ Ok (c, rest)
+unfolding command_at body_of transport_at transport_of network_at application_at link_at update_at remove_at
+    request_at request_of partner_at switch_at tunnel_at verify_at confirm_at
 command_again cut (TransportNetwork k sequence destination source) rest fits is ends =
-    ap (λ (t : List ℕ). command_at cut (5 ∷ 1 ∷ t)) (regroup4 (key k) (byte sequence) (eui destination) (eui source) rest)
-    ∙ rw (key_again cut k (byte sequence ++ (eui destination ++ (eui source ++ rest))) fits.0, eui_again cut destination (eui source ++ rest) fits.2, eui_again cut source rest fits.3) refl
+    ap (λ (t : List ℕ). command_at cut (5 ∷ 1 ∷ t))
+    (regroup4 (key k) (byte sequence) (eui destination) (eui source) rest)
+    ∙ rw (
+      key_again cut k (byte sequence ++ (eui destination ++ (eui source ++ rest))) fits.0,
+      eui_again cut destination (eui source ++ rest) fits.2,
+      eui_again cut source rest fits.3,
+    ) refl
 command_again cut (TransportApplication k partner initiator) rest fits is ends =
     ap (λ (t : List ℕ). command_at cut (5 ∷ 3 ∷ t)) (regroup3 (key k) (eui partner) (byte initiator) rest)
-    ∙ rw (key_again cut k (eui partner ++ (byte initiator ++ rest)) fits.0, eui_again cut partner (byte initiator ++ rest) fits.1) refl
+    ∙ rw (
+      key_again cut k (eui partner ++ (byte initiator ++ rest)) fits.0,
+      eui_again cut partner (byte initiator ++ rest) fits.1,
+    ) refl
 command_again cut (TransportLink k destination source) rest fits is ends =
     ap (λ (t : List ℕ). command_at cut (5 ∷ 4 ∷ t)) (regroup3 (key k) (eui destination) (eui source) rest)
-    ∙ rw (key_again cut k (eui destination ++ (eui source ++ rest)) fits.0, eui_again cut destination (eui source ++ rest) fits.1, eui_again cut source rest fits.2) refl
+    ∙ rw (
+      key_again cut k (eui destination ++ (eui source ++ rest)) fits.0,
+      eui_again cut destination (eui source ++ rest) fits.1,
+      eui_again cut source rest fits.2,
+    ) refl
 command_again cut (Update device address status) rest fits is ends =
     ap (λ (t : List ℕ). command_at cut (6 ∷ t)) (regroup3 (eui device) (short address) (byte status) rest)
-    ∙ rw (eui_again cut device (short address ++ (byte status ++ rest)) fits.0, short_again cut address (byte status ++ rest) fits.1) refl
+    ∙ rw (
+      eui_again cut device (short address ++ (byte status ++ rest)) fits.0,
+      short_again cut address (byte status ++ rest) fits.1,
+    ) refl
 command_again cut (Remove target) rest fits is ends = rw (eui_again cut target rest fits) refl
 command_again cut (RequestApplication partner) rest fits is ends = rw (eui_again cut partner rest fits) refl
 command_again cut RequestLink rest fits is ends = refl
@@ -99,14 +117,24 @@ unfolding command_of
 spelled_again bytes c spells =
     let cut = error.Short (length bytes) in
     let reads : command_at cut bytes ≡ Ok (c, []) =
-    ap (command_at cut) (spells.text ∙ sym (append-nil (command c))) ∙ command_again cut c [] spells.in_range spells.shaped (ends_whole c (subst (λ (b : List ℕ). length b ≤ 127) spells.text spells.fits)) in
+    ap (command_at cut) (spells.text ∙ sym (append-nil (command c))) ∙ command_again cut c [] spells.in_range
+    spells.shaped (ends_whole c (subst (λ (b : List ℕ). length b ≤ 127) spells.text spells.fits)) in
     rw reads refl
 
 -- what is small has at most 127 bytes
 pub small_fits : (c : Command) → InRange c → IsSmall c → length (command c) ≤ 127
-small_fits (TransportNetwork k sequence destination source) fits small = omega (arith, fits.0, length-append k.0 (byte sequence), length-append (key k ++ byte sequence) (eui destination), length-append (key k ++ byte sequence ++ eui destination) (eui source))
-small_fits (TransportApplication k partner initiator) fits small = omega (arith, fits.0, length-append k.0 (eui partner), length-append (key k ++ eui partner) (byte initiator))
-small_fits (TransportLink k destination source) fits small = omega (arith, fits.0, length-append k.0 (eui destination), length-append (key k ++ eui destination) (eui source))
+small_fits (TransportNetwork k sequence destination source) fits small =
+    omega (
+      arith,
+      fits.0,
+      length-append k.0 (byte sequence),
+      length-append (key k ++ byte sequence) (eui destination),
+      length-append (key k ++ byte sequence ++ eui destination) (eui source),
+    )
+small_fits (TransportApplication k partner initiator) fits small =
+    omega (arith, fits.0, length-append k.0 (eui partner), length-append (key k ++ eui partner) (byte initiator))
+small_fits (TransportLink k destination source) fits small =
+    omega (arith, fits.0, length-append k.0 (eui destination), length-append (key k ++ eui destination) (eui source))
 small_fits (Update device address status) fits small = omega arith
 small_fits (Remove target) fits small = omega arith
 small_fits (RequestApplication partner) fits small = omega arith
@@ -127,7 +155,14 @@ leave_spelled_again bytes l spells =
     let reads : leave_at cut bytes ≡ Ok (l, []) = ap (leave_at cut) spells.text ∙ leave_again cut l [] in
     rw reads refl
 
-pub spelled_whole : (bytes : List ℕ) (c : Command) (rest : List ℕ) → InRange c → IsCommand c → IsSmall c → bytes ≡ command c ++ rest → rest ≡ [] → Spells bytes c
+pub spelled_whole : (bytes : List ℕ) (c : Command) (rest : List ℕ) → InRange c → IsCommand c → IsSmall c → bytes
+    ≡ command c ++ rest → rest ≡ [] → Spells bytes c
 spelled_whole bytes c rest fits is small parts nothing =
     let text : bytes ≡ command c = parts ∙ ap (λ (r : List ℕ). command c ++ r) nothing ∙ append-nil (command c) in
-    record { in_range = fits; shaped = is; text = text; fits = subst (λ (b : List ℕ). length b ≤ 127) (sym text) (small_fits c fits small) }
+    record {
+      in_range = fits;
+      shaped = is;
+      text = text;
+      fits = subst (λ (b : List ℕ). length b ≤ 127) (sym text)
+          (small_fits c fits small);
+    }

@@ -40,14 +40,18 @@ TakesAll _ = Unit {0}
 
 -- The bytes have the fault.
 abbrev pub HasFault : List ℕ → CmdError → Type 0
-HasFault bytes (Unknown id) = (rest : List ℕ) × (bytes ≡ id ∷ rest) × ((c : Command) (tail : List ℕ) → command c ≢ id ∷ tail)
-HasFault bytes (KeyType found) = (id : ℕ) × (rest : List ℕ) × (bytes ≡ id ∷ found ∷ rest) × ((id ≡ 5) ⊎ (id ≡ 8)) × ((c : Command) (tail : List ℕ) → command c ≢ id ∷ found ∷ tail)
+HasFault bytes (Unknown id) = (rest : List ℕ) × (bytes ≡ id ∷ rest)
+    × ((c : Command) (tail : List ℕ) → command c ≢ id ∷ tail)
+HasFault bytes (KeyType found) = (id : ℕ) × (rest : List ℕ) × (bytes ≡ id ∷ found ∷ rest) × ((id ≡ 5) ⊎ (id ≡ 8))
+    × ((c : Command) (tail : List ℕ) → command c ≢ id ∷ found ∷ tail)
 HasFault bytes (Short place) = (place ≡ length bytes) × IsCut bytes
-HasFault bytes (Trailing count) = (c : Command) × (rest : List ℕ) × BeginsWith bytes c rest × TakesAll c × (length rest ≡ count) × (0 < count)
+HasFault bytes (Trailing count) = (c : Command) × (rest : List ℕ) × BeginsWith bytes c rest × TakesAll c
+    × (length rest ≡ count) × (0 < count)
 
 -- The same of bytes that are to be a Leave.
 abbrev pub HasLeaveFault : List ℕ → CmdError → Type 0
 HasLeaveFault bytes (Unknown id) = (rest : List ℕ) × (bytes ≡ id ∷ rest) × (id ≢ 4)
 HasLeaveFault bytes (KeyType found) = ⊥
 HasLeaveFault bytes (Short place) = (place ≡ length bytes) × ((bytes ≡ []) ⊎ (bytes ≡ 4 ∷ []))
-HasLeaveFault bytes (Trailing count) = (l : Leave) × (rest : List ℕ) × (bytes ≡ leave l ++ rest) × (length rest ≡ count) × (0 < count)
+HasLeaveFault bytes (Trailing count) = (l : Leave) × (rest : List ℕ) × (bytes ≡ leave l ++ rest)
+    × (length rest ≡ count) × (0 < count)

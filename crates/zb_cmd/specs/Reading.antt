@@ -35,7 +35,8 @@ link_at = do
 -- the type byte of a key: network (1), application (3) or link (4)
 unfoldable pub transport_of : ℕ → Reading CmdError Command
 transport_of kind cut bytes =
-    if kind == 1 then network_at cut bytes else if kind == 3 then application_at cut bytes else if kind == 4 then link_at cut bytes else refuse (KeyType kind) cut bytes
+    if kind == 1 then network_at cut bytes else if kind == 3 then application_at cut bytes
+    else if kind == 4 then link_at cut bytes else refuse (KeyType kind) cut bytes
 
 unfoldable pub transport_at : Reading CmdError Command
 transport_at = do
@@ -61,7 +62,8 @@ partner_at = do
 
 -- the type byte of a key that is asked for: application (2) or link (4)
 unfoldable pub request_of : ℕ → Reading CmdError Command
-request_of kind cut bytes = if kind == 2 then partner_at cut bytes else if kind == 4 then give RequestLink cut bytes else refuse (KeyType kind) cut bytes
+request_of kind cut bytes = if kind == 2 then partner_at cut bytes else if kind == 4 then give RequestLink cut bytes
+    else refuse (KeyType kind) cut bytes
 
 unfoldable pub request_at : Reading CmdError Command
 request_at = do
@@ -75,7 +77,8 @@ switch_at = do
 
 -- the frame in a Tunnel is all that is left, up to the 127th byte of the command
 unfoldable pub inner_at : Reading CmdError (ArrayVec ℕ)
-inner_at cut bytes = if is_inner (take (min (length bytes) 118) bytes) then Ok (record { items = take (min (length bytes) 118) bytes }, drop (min (length bytes) 118) bytes) else Err cut
+inner_at cut bytes = if is_inner (take (min (length bytes) 118) bytes)
+    then Ok (record { items = take (min (length bytes) 118) bytes }, drop (min (length bytes) 118) bytes) else Err cut
 
 unfoldable pub tunnel_at : Reading CmdError Command
 tunnel_at = do
@@ -117,7 +120,8 @@ command_at = do
 
 -- What a reader of the fields after `prefix` returned, and what it left of the bytes: all that reading says, and of a
 -- command that it is spelled so.
-pub record IsRead (reading : Reading CmdError Command) (front : List ℕ) (cut : CmdError) (old new : List ℕ) (result : Result Command CmdError) : Type 0 where
+pub record IsRead (reading : Reading CmdError Command) (front : List ℕ) (cut : CmdError) (old new : List ℕ)
+    (result : Result Command CmdError) : Type 0 where
   pub exact : Gives result new (reading cut old)
   pub spelled : IfOk result (λ c. front ++ old ≡ command c ++ new)
   pub shaped : IfOk result (λ c. IsCommand c)
@@ -135,7 +139,9 @@ unfoldable pub command_of : List ℕ → Result Command CmdError
 command_of bytes = whole (command_at (Short (length bytes)) bytes)
 
 unfoldable pub leave_body : ℕ → Reading CmdError Leave
-leave_body id cut bytes = if id == 4 then follow (byte_at cut bytes) (λ options rest. Ok (record { options = options }, rest)) else refuse (Unknown id) cut bytes
+leave_body id cut bytes = if id == 4
+    then follow (byte_at cut bytes) (λ options rest. Ok (record { options = options }, rest))
+    else refuse (Unknown id) cut bytes
 
 unfoldable pub leave_at : Reading CmdError Leave
 leave_at = do

@@ -29,7 +29,8 @@ abbrev pub most_bytes : ℕ
 most_bytes = 35
 
 abbrev pub InRange : Command → Type 0
-InRange (TransportNetwork k sequence destination source) = (length k.0 ≡ 16) × (sequence < 2 ^ 8) × (destination.0 < 2 ^ 64) × (source.0 < 2 ^ 64)
+InRange (TransportNetwork k sequence destination source) = (length k.0 ≡ 16) × (sequence < 2 ^ 8)
+    × (destination.0 < 2 ^ 64) × (source.0 < 2 ^ 64)
 InRange (TransportApplication k partner initiator) = (length k.0 ≡ 16) × (partner.0 < 2 ^ 64) × (initiator < 2 ^ 8)
 InRange (TransportLink k destination source) = (length k.0 ≡ 16) × (destination.0 < 2 ^ 64) × (source.0 < 2 ^ 64)
 InRange (Update device address status) = (device.0 < 2 ^ 64) × (address.0 < 2 ^ 16) × (status < 2 ^ 8)

@@ -7,7 +7,8 @@ use Rattle.zb_cmd.specs.declared.command.Command.TheVariants.{TransportNetwork, 
 use Rattle.zb_cmd.specs.declared.leave.Leave.{Leave}
 
 abbrev pub command : Command → List ℕ
-command (TransportNetwork k sequence destination source) = 5 ∷ 1 ∷ (key k ++ byte sequence ++ eui destination ++ eui source)
+command (TransportNetwork k sequence destination source) = 5 ∷ 1
+    ∷ (key k ++ byte sequence ++ eui destination ++ eui source)
 command (TransportApplication k partner initiator) = 5 ∷ 3 ∷ (key k ++ eui partner ++ byte initiator)
 command (TransportLink k destination source) = 5 ∷ 4 ∷ (key k ++ eui destination ++ eui source)
 command (Update device address status) = 6 ∷ (eui device ++ short address ++ byte status)

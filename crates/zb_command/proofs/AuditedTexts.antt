@@ -36,18 +36,24 @@ begun bytes a stands = record {
 }
 
 -- one line more
-pub taken : (bytes rest after : Bytes) (count : ℕ) (a b : Auditor) (l : Line) → IsAudited bytes rest count a → IsProper l → rest ≡ text l ++ after
-    → ((tools : Tools) (h : List Line) → FindKeys tools → Stands tools a h → Stands tools b (h ++ l ∷ [])) → IsAudited bytes after (count + 1) b
+pub taken : (bytes rest after : Bytes) (count : ℕ) (a b : Auditor) (l : Line) → IsAudited bytes rest count a
+    → IsProper l → rest ≡ text l ++ after
+    → ((tools : Tools) (h : List Line) → FindKeys tools → Stands tools a h → Stands tools b (h ++ l ∷ []))
+    → IsAudited bytes after (count + 1) b
 taken bytes rest after count a b l s proper cut goes = record {
   lines = s.lines ++ l ∷ [];
   proper = proper_more s.lines l s.proper proper;
-  parts = s.parts ∙ (ap (λ r. texts s.lines ++ r) cut ∙ (sym (append_assoc (texts s.lines) (text l) after) ∙ ap (λ t. t ++ after) (sym (texts_more s.lines l))));
+  parts =
+      s.parts ∙
+      (ap (λ r. texts s.lines ++ r) cut ∙
+      (sym (append_assoc (texts s.lines) (text l) after) ∙ ap (λ t. t ++ after) (sym (texts_more s.lines l))));
   count_is = ap (λ n. n + 1) s.count_is ∙ sym (length-append s.lines (l ∷ []));
   stands = goes real s.lines readers_find s.stands;
 }
 
 -- nothing is left
-pub whole : (bytes rest : Bytes) (count : ℕ) (a : Auditor) (s : IsAudited bytes rest count a) → rest ≡ [] → IsTranscript bytes s.lines
+pub whole : (bytes rest : Bytes) (count : ℕ) (a : Auditor) (s : IsAudited bytes rest count a) → rest ≡ []
+    → IsTranscript bytes s.lines
 whole bytes rest count a s none = record {
   proper = s.proper;
   text = s.parts ∙ (ap (λ r. texts s.lines ++ r) none ∙ append-nil (texts s.lines));
@@ -57,7 +63,8 @@ empty_of : (xs : Bytes) → length xs ≡ 0 → xs ≡ []
 empty_of [] none = refl
 empty_of (x ∷ xs) none = absurd (omega (arith, none))
 
-pub sound_of : (bytes rest : Bytes) (count : ℕ) (a : Auditor) (s : IsAudited bytes rest count a) (r : Result Verdict AuditFault) (v : Verdict) → r ≡ Ok v
+pub sound_of : (bytes rest : Bytes) (count : ℕ) (a : Auditor) (s : IsAudited bytes rest count a)
+    (r : Result Verdict AuditFault) (v : Verdict) → r ≡ Ok v
     → IsAnswer real s.lines r → length rest ≡ 0 → IsSoundText bytes v
 sound_of bytes rest count a s r v is answer none =
     let sound = subst (λ (x : Result Verdict AuditFault). IsAnswer real s.lines x) is answer in
@@ -68,10 +75,12 @@ sound_of bytes rest count a s r v is answer none =
       claims = claims_hold real v s.lines sound;
     }
 
-pub broken_of : (bytes rest : Bytes) (count : ℕ) (a : Auditor) (s : IsAudited bytes rest count a) (r : Result Verdict AuditFault) (f : AuditFault) (line clause : ℕ)
+pub broken_of : (bytes rest : Bytes) (count : ℕ) (a : Auditor) (s : IsAudited bytes rest count a)
+    (r : Result Verdict AuditFault) (f : AuditFault) (line clause : ℕ)
     → r ≡ Err f → f ≡ Broken line clause → IsAnswer real s.lines r → length rest ≡ 0 → IsBrokenText bytes line clause
 broken_of bytes rest count a s r f line clause is fault answer none =
-    let at : IsAnswer real s.lines (Err (Broken line clause)) = subst (λ (x : Result Verdict AuditFault). IsAnswer real s.lines x) (is ∙ ap Err fault) answer in
+    let at : IsAnswer real s.lines (Err (Broken line clause)) =
+    subst (λ (x : Result Verdict AuditFault). IsAnswer real s.lines x) (is ∙ ap Err fault) answer in
     record {
       lines = s.lines;
       transcript = whole bytes rest count a s (empty_of rest none);

@@ -18,7 +18,8 @@ take_behind (x ∷ xs) ys n = let r = take_behind xs ys n in (suc r.0, ap (λ l.
 pub front_within : (a b : Option Bytes) (xs ys : Bytes) → AppendsFront a b xs → AppendsFront a b (xs ++ ys)
 front_within a b xs ys f = let r = take_front xs ys f.0 in (r.0, subst (Appends a b) (sym r.1) f.1)
 
-pub front_behind : (a b c : Option Bytes) (xs ys page : Bytes) → Appends a b xs → page ≡ ys → AppendsFront b c page → AppendsFront a c (xs ++ ys)
+pub front_behind : (a b c : Option Bytes) (xs ys page : Bytes) → Appends a b xs → page ≡ ys → AppendsFront b c page
+    → AppendsFront a c (xs ++ ys)
 front_behind a b c xs ys page first is second =
     let P : Bytes → Type 0 = λ l. AppendsFront b c l in
     let f : AppendsFront b c ys = subst P is second in

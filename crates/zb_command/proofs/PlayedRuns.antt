@@ -13,8 +13,11 @@ use Rattle.zb_sched.specs.Schedules.{Schedule}
 use Rattle.zb_command.specs.Outcomes.{Played}
 
 -- an input that the source tells was read whole
-pub told : (rest : Option Bytes) (bytes read : Bytes) (plan : Schedule) (before after : Option Bytes) → IfSome rest (λ input. bytes ≡ input) → read ≡ bytes
-    → schedule_in read ≡ Ok plan → Holds (schedule_of plan) → NodesAreSound (schedule_of plan) → RunAgrees real (schedule_of plan) → Appends before after (transcript_text plan) → IfSome rest (λ input. Played input before after)
+pub told : (rest : Option Bytes) (bytes read : Bytes) (plan : Schedule) (before after : Option Bytes)
+    → IfSome rest (λ input. bytes ≡ input) → read ≡ bytes
+    → schedule_in read ≡ Ok plan → Holds (schedule_of plan) → NodesAreSound (schedule_of plan)
+    → RunAgrees real (schedule_of plan) → Appends before after (transcript_text plan)
+    → IfSome rest (λ input. Played input before after)
 told None bytes read plan before after whole same reads holds nodes says written = tt
 told (Some input) bytes read plan before after whole same reads holds nodes says written = record {
   schedule = plan;

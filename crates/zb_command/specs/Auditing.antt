@@ -34,7 +34,8 @@ pub record IsAudited (bytes rest : Bytes) (count : ℕ) (a : Auditor) : Type 0 w
   pub stands : Stands real a lines
 
 -- They are that of lines on which this is the verdict, and of which the claims hold: no seal under one key and nonce
--- twice, no counter accepted twice, only stored keys confirmed, and removed devices locked out where the verdict says so.
+-- twice, no counter accepted twice, only stored keys confirmed, and removed devices locked out where the verdict says
+-- so.
 pub record IsSoundText (bytes : Bytes) (v : Verdict) : Type 0 where
   pub lines : List Line
   pub transcript : IsTranscript bytes lines
@@ -59,7 +60,8 @@ lock_word false = codes "open"
 
 -- `sound SEALS ACCEPTS WORD`
 abbrev pub sound_line : Verdict → Bytes
-sound_line v = codes "sound" ++ then (decimal v.seals) ++ then (decimal v.accepts) ++ then (lock_word v.locked) ++ 10 ∷ []
+sound_line v = codes "sound" ++ then (decimal v.seals) ++ then (decimal v.accepts) ++ then (lock_word v.locked) ++ 10
+    ∷ []
 
 -- how the writing of a line ends
 abbrev pub IsTold : Status → Bytes → Option Bytes → Option Bytes → ℕ → ℕ → Type 0
@@ -80,12 +82,16 @@ abbrev pub Audits : Status → Option Bytes → Option Bytes → Option Bytes �
 Audits status.Ok rest before after old new = IfSome rest (λ input. IsVerdictOn input (Appends before after))
 Audits status.Usage rest before after old new = ⊥
 Audits status.ReadFault rest before after old new = Keeps before after
-Audits status.WriteFault rest before after old new = IfSome rest (λ input. IsVerdictOn input (AppendsFront before after)) × Rose old new
-Audits (status.Refused line c) rest before after old new = IfSome rest (λ input. IsFaultIn input (IsFirstBad input line)) × (c ≡ cause.Syntax) × Keeps before after
+Audits status.WriteFault rest before after old new =
+    IfSome rest (λ input. IsVerdictOn input (AppendsFront before after)) × Rose old new
+Audits (status.Refused line c) rest before after old new =
+    IfSome rest (λ input. IsFaultIn input (IsFirstBad input line)) × (c ≡ cause.Syntax) × Keeps before after
 Audits status.NoMemory rest before after old new = Keeps before after
 Audits status.DiskFault rest before after old new = ⊥
 Audits status.NoStore rest before after old new = ⊥
-Audits (status.TooLong limit) rest before after old new = (limit ≡ longest) × IfSome rest (λ input. longest < length input) × Keeps before after
-Audits (status.Broken line clause) rest before after old new = IfSome rest (λ input. IsFaultIn input (IsBrokenText input line clause)) × Keeps before after
+Audits (status.TooLong limit) rest before after old new = (limit ≡ longest)
+    × IfSome rest (λ input. longest < length input) × Keeps before after
+Audits (status.Broken line clause) rest before after old new =
+    IfSome rest (λ input. IsFaultIn input (IsBrokenText input line clause)) × Keeps before after
 Audits (status.BadStore at) rest before after old new = ⊥
 Audits status.Worn rest before after old new = ⊥

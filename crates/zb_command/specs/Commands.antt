@@ -84,4 +84,5 @@ word_and_more word operand _ = None
 abbrev pub invocation_of : List Bytes → Option Invocation
 invocation_of [] = None
 invocation_of (word ∷ []) = lone_word word
-invocation_of (word ∷ operand ∷ more) = if bytes_eq word (codes "sniff") then sniff_words operand more else word_and_more word operand more
+invocation_of (word ∷ operand ∷ more) = if bytes_eq word (codes "sniff") then sniff_words operand more
+    else word_and_more word operand more

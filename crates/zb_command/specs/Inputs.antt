@@ -25,7 +25,8 @@ abbrev pub TakesAtMost : Option (List ℕ) → Option (List ℕ) → ℕ → Typ
 TakesAtMost old new limit = (taken : List ℕ) × Consumes old new taken × (length taken ≤ limit)
 
 -- Bytes that were read on, and how that ended: at Ok there are as many as may be, or the source has no more.
-pub record IsReadOn (result : Result (Unit {0}) InputFault) (old new : Option (List ℕ)) (before after : List ℕ) (limit faults faults_after : ℕ) : Type 0 where
+pub record IsReadOn (result : Result (Unit {0}) InputFault) (old new : Option (List ℕ)) (before after : List ℕ)
+    (limit faults faults_after : ℕ) : Type 0 where
   pub grown : OnOk result (Grows old new before after)
   pub end : OnOk result (length after < limit → IsAtEnd new)
   pub short : length after ≤ limit
@@ -39,7 +40,8 @@ abbrev pub IsPastAll : Option (List ℕ) → Option (List ℕ) → ℕ → Type 
 IsPastAll old new count = (taken : List ℕ) × Consumes old new taken × (16777216 < count + length taken)
 
 -- Bytes came after others, and `true` is answered where there are as many as were asked for.
-pub record IsFilled (result : Result Bool InputFault) (old new : Option (List ℕ)) (before after : Incoming) (size faults faults_after : ℕ) : Type 0 where
+pub record IsFilled (result : Result Bool InputFault) (old new : Option (List ℕ)) (before after : Incoming)
+    (size faults faults_after : ℕ) : Type 0 where
   pub grown : OnOk result (Grows old new before.part.items after.part.items)
   pub count : OnOk result (after.count + length before.part.items ≡ before.count + length after.part.items)
   pub within : OnOk result (after.count ≤ 16777216)
@@ -52,11 +54,15 @@ pub record IsFilled (result : Result Bool InputFault) (old new : Option (List �
 
 -- Bytes came after others, what stands after the whole lines of all these was split off, and these lines were read by
 -- themselves.
-pub record IsTaken (result : Result Taken InputFault) (old new : Option (List ℕ)) (before after : Incoming) (faults faults_after : ℕ) : Type 0 where
+pub record IsTaken (result : Result Taken InputFault) (old new : Option (List ℕ)) (before after : Incoming)
+    (faults faults_after : ℕ) : Type 0 where
   pub grown : IfOk result (λ taken. Grows old new before.part.items (after.part.items ++ taken.rest.part.items))
-  pub count : IfOk result (λ taken. taken.rest.count + length before.part.items ≡ before.count + length (after.part.items ++ taken.rest.part.items))
+  pub count : IfOk result
+      (λ taken. taken.rest.count + length before.part.items
+      ≡ before.count + length (after.part.items ++ taken.rest.part.items))
   pub within : IfOk result (λ taken. taken.rest.count ≤ 16777216)
-  pub cut : IfOk result (λ taken. (more : List ℕ) → lines ((after.part.items ++ taken.rest.part.items) ++ more) ≡ lines after.part.items ++ lines (taken.rest.part.items ++ more))
+  pub cut : IfOk result (λ taken. (more : List ℕ) → lines ((after.part.items ++ taken.rest.part.items) ++ more)
+      ≡ lines after.part.items ++ lines (taken.rest.part.items ++ more))
   pub alone : IfOk result (λ taken. IsReadAlone taken.alone after.part.items)
   pub few : TakesAtMost old new (16777217 - before.count)
   pub later : faults ≤ faults_after
@@ -66,8 +72,10 @@ pub record IsTaken (result : Result Taken InputFault) (old new : Option (List �
 
 -- Lines of what came were read: whatever comes after that gives the same after what is left.
 abbrev pub AreLinesRead : Result (Unit {0}) (OrMemory CaptureError) → Reading → Reading → List ℕ → List ℕ → Type 0
-AreLinesRead (Ok done) old new before after = (more : List ℕ) → with_more old (lines (before ++ more)) ≡ with_more new (lines (after ++ more))
-AreLinesRead (Err (error.Fault fault)) old new before after = (more : List ℕ) → with_more old (lines (before ++ more)) ≡ Err fault
+AreLinesRead (Ok done) old new before after = (more : List ℕ) → with_more old (lines (before ++ more))
+    ≡ with_more new (lines (after ++ more))
+AreLinesRead (Err (error.Fault fault)) old new before after = (more : List ℕ) → with_more old (lines (before ++ more))
+    ≡ Err fault
 AreLinesRead (Err error.NoMemory) old new before after = Unit {0}
 
 -- Lines were read after those before them, or have a fault; it says nothing where memory is wanting.
@@ -77,7 +85,8 @@ AreLines (Err (error.Fault fault)) old new more = with_more old more ≡ Err fau
 AreLines (Err error.NoMemory) old new more = Unit {0}
 
 -- Bytes came after others, lines of all these were read, and what is left may go on.
-pub record IsRead (read : Result (Unit {0}) (OrMemory CaptureError)) (old new : Option (List ℕ)) (before after : Incoming) (reading next : Reading) : Type 0 where
+pub record IsRead (read : Result (Unit {0}) (OrMemory CaptureError)) (old new : Option (List ℕ))
+    (before after : Incoming) (reading next : Reading) : Type 0 where
   pub all : List ℕ
   pub grown : Grows old new before.part.items all
   pub count : after.count + length before.part.items ≡ before.count + length all
@@ -86,13 +95,15 @@ pub record IsRead (read : Result (Unit {0}) (OrMemory CaptureError)) (old new : 
   pub room : OnOk read (next.lines + length after.part.items ≤ reading.lines + length all)
 
 -- One round of reading, in which bytes came and lines were read.
-pub record IsRound (result : Result (Result (Unit {0}) (OrMemory CaptureError)) InputFault) (old new : Option (List ℕ)) (before after : Incoming) (reading next : Reading) (faults faults_after : ℕ) : Type 0 where
-  pub came : IfOk result (λ read. IsRead read old new before after reading next)
-  pub few : TakesAtMost old new (16777217 - before.count)
-  pub later : faults ≤ faults_after
-  pub read : result ≡ Err input.Read → Rose faults faults_after
-  pub unrisen : result ≢ Err input.Read → Unrisen faults faults_after
-  pub too_long : result ≡ Err input.TooLong → IsPastAll old new before.count
+pub record IsRound (result : Result (Result (Unit {0}) (OrMemory CaptureError)) InputFault)
+    (old new : Option (List ℕ)) (before after : Incoming) (reading next : Reading) (faults faults_after : ℕ) : Type 0
+  where
+    pub came : IfOk result (λ read. IsRead read old new before after reading next)
+    pub few : TakesAtMost old new (16777217 - before.count)
+    pub later : faults ≤ faults_after
+    pub read : result ≡ Err input.Read → Rose faults faults_after
+    pub unrisen : result ≢ Err input.Read → Unrisen faults faults_after
+    pub too_long : result ≡ Err input.TooLong → IsPastAll old new before.count
 
 -- all that the source had came, and is no longer than an input may be
 abbrev pub IsAll : Option (List ℕ) → Option (List ℕ) → ℕ → Type 0
@@ -113,7 +124,8 @@ IsWhyNot (fault.Input input.NoMemory) rest faults later = Unit {0}
 IsWhyNot (fault.Text e) rest faults later = IfSome rest (λ text. (length text ≤ 16777216) × (captured text ≡ Err e))
 
 -- What reading an input as a capture comes to. A text that a capture has is at most 16,777,216 bytes long.
-pub record IsReadAsCapture (result : Result Capture CaptureFault) (old new : Option (List ℕ)) (faults later : ℕ) : Type 0 where
+pub record IsReadAsCapture (result : Result Capture CaptureFault) (old new : Option (List ℕ)) (faults later : ℕ) :
+    Type 0 where
   pub exact : IfOk result (λ c. IfSome old (λ text. (length text ≤ 16777216) × (captured text ≡ Ok c)))
   pub valid : IfOk result (λ c. IsCapture c)
   pub end : OnOk result (IsAtEnd new)

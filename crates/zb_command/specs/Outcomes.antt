@@ -35,12 +35,15 @@ abbrev pub Ends : Status → Option Answer → Option Bytes → Option Bytes →
 Ends status.Ok wanted before after old new = IfSome wanted (λ answer. IsWritten answer before after)
 Ends status.Usage wanted before after old new = ⊥
 Ends status.ReadFault wanted before after old new = Keeps before after
-Ends status.WriteFault wanted before after old new = IfSome wanted (λ answer. IsBegun answer before after) × Rose old new
-Ends (status.Refused line cause) wanted before after old new = IfSome wanted (λ answer. answer ≡ Refuses line cause) × Keeps before after
+Ends status.WriteFault wanted before after old new = IfSome wanted (λ answer. IsBegun answer before after)
+    × Rose old new
+Ends (status.Refused line cause) wanted before after old new = IfSome wanted (λ answer. answer ≡ Refuses line cause)
+    × Keeps before after
 Ends status.NoMemory wanted before after old new = IfSome wanted (λ answer. IsBegun answer before after)
 Ends status.DiskFault wanted before after old new = ⊥
 Ends status.NoStore wanted before after old new = ⊥
-Ends (status.TooLong limit) wanted before after old new = (limit ≡ longest) × IfSome wanted (λ answer. answer ≡ Exceeds) × Keeps before after
+Ends (status.TooLong limit) wanted before after old new = (limit ≡ longest)
+    × IfSome wanted (λ answer. answer ≡ Exceeds) × Keeps before after
 Ends (status.Broken line clause) wanted before after old new = ⊥
 Ends (status.BadStore at) wanted before after old new = ⊥
 Ends status.Worn wanted before after old new = ⊥
@@ -77,7 +80,8 @@ WritesFront status.NoMemory answer before after = IsBegun answer before after
 WritesFront s answer before after = Unit {0}
 
 -- The input is a schedule, and the text of its transcript was written. Everything holds of that transcript that the
--- laws over runs say, and it is the only list of lines that the schedule gives. No rule's filler decides in it, and what
+-- laws over runs say, and it is the only list of lines that the schedule gives. No rule's filler decides in it, and
+-- what
 -- a node sends may be sealed; what its lines say last of a thing is what the states of its nodes say.
 pub record Played (input : Bytes) (before after : Option Bytes) : Type 0 where
   pub schedule : sched.Schedule

@@ -16,7 +16,8 @@ use Rattle.zb_command.specs.declared.status.Status.{Status}
 use Rattle.zb_command.specs.declared.status.Status.TheVariants as status
 
 -- The input is a script, no longer than inputs may be, and it was served so far over a store and a sink.
-pub record IsServed {D W : Type 0} (x : Outside D W) (rest : Option Bytes) (old : D) (before : W) (result : Ended) (new : D) (after : W) : Type 0 where
+pub record IsServed {D W : Type 0} (x : Outside D W) (rest : Option Bytes) (old : D) (before : W) (result : Ended)
+    (new : D) (after : W) : Type 0 where
   pub script : Script
   pub short : IfSome rest (λ input. length input ≤ longest)
   pub reads : IfSome rest (λ input. script_in input ≡ Ok (script_of script))
@@ -40,13 +41,17 @@ Serviced x status.Ok rest old before new after = IsServed x rest old before (Ok 
 Serviced x status.Usage rest old before new after = ⊥
 Serviced x status.ReadFault rest old before new after = IsIdle old before new after
 Serviced x status.WriteFault rest old before new after = IsServed x rest old before (Err fault.Write) new after
-Serviced x (status.Refused line c) rest old before new after = IfSome rest (λ input. IsNoScript input line c) × IsIdle old before new after
-Serviced x status.NoMemory rest old before new after = IsIdle old before new after ⊎ IsServed x rest old before (Err fault.NoMemory) new after
+Serviced x (status.Refused line c) rest old before new after = IfSome rest (λ input. IsNoScript input line c)
+    × IsIdle old before new after
+Serviced x status.NoMemory rest old before new after = IsIdle old before new after
+    ⊎ IsServed x rest old before (Err fault.NoMemory) new after
 Serviced x status.DiskFault rest old before new after = IsServed x rest old before (Err fault.Disk) new after
 Serviced x status.NoStore rest old before new after = IsServed x rest old before (Err fault.NoStore) new after
-Serviced x (status.TooLong limit) rest old before new after = IfSome rest (λ input. longest < length input) × IsIdle old before new after
+Serviced x (status.TooLong limit) rest old before new after = IfSome rest (λ input. longest < length input)
+    × IsIdle old before new after
 Serviced x (status.Broken line clause) rest old before new after = ⊥
-Serviced x (status.BadStore at) rest old before new after = IsServed x rest old before (Err (fault.BadStore at)) new after
+Serviced x (status.BadStore at) rest old before new after = IsServed x rest old before (Err (fault.BadStore at)) new
+    after
 Serviced x status.Worn rest old before new after = IsServed x rest old before (Err fault.Worn) new after
 
 -- What that says of the output alone.

@@ -74,11 +74,11 @@ pub fn run<T: Threads + Sync, R: Source, W: Sink, D: Disk>(
     // A fault of the source or of the sink is reported as nothing else.
     ensures no_read_fault { result ≢ Status.ReadFault → Unrisen (R.faults input.old) (R.faults input.new) }
     ensures no_write_fault { result ≢ Status.WriteFault → Unrisen (W.faults output.old) (W.faults output.new) }
-    ensures refused { (job : Invocation) (line : ℕ) (cause : Cause) → invocation_of (map string_bytes words.now) ≡ Some job
-        → result ≡ Status.Refused line cause
+    ensures refused { (job : Invocation) (line : ℕ) (cause : Cause)
+        → invocation_of (map string_bytes words.now) ≡ Some job → result ≡ Status.Refused line cause
         → IfSome (wanted job (R.rest input.old)) (λ answer. answer ≡ Refuses line cause) }
-    ensures too_long { (job : Invocation) (limit : ℕ) → invocation_of (map string_bytes words.now) ≡ Some job → result
-        ≡ Status.TooLong limit
+    ensures too_long { (job : Invocation) (limit : ℕ)
+        → invocation_of (map string_bytes words.now) ≡ Some job → result ≡ Status.TooLong limit
         → (limit ≡ longest) × IfSome (wanted job (R.rest input.old)) (λ answer. answer ≡ Exceeds) }
     // What was written at these.
     ensures nothing { WritesNothing result (W.taken output.old) (W.taken output.new) }
@@ -86,8 +86,8 @@ pub fn run<T: Threads + Sync, R: Source, W: Sink, D: Disk>(
         → IfSome (wanted job (R.rest input.old))
         (λ answer. WritesFront result answer (W.taken output.old) (W.taken output.new)) }
     // Where neither the source nor the sink fails, only the status of the answer comes, or out of memory.
-    ensures complete { (job : Invocation) (answer : Answer) → invocation_of (map string_bytes words.now) ≡ Some job → wanted job
-        (R.rest input.old) ≡ Some answer
+    ensures complete { (job : Invocation) (answer : Answer)
+        → invocation_of (map string_bytes words.now) ≡ Some job → wanted job (R.rest input.old) ≡ Some answer
         → (Rose (R.faults input.old) (R.faults input.new) → ⊥) → (Rose (W.faults output.old) (W.faults output.new) → ⊥)
         → (result ≡ status_of answer) ⊎ (result ≡ Status.NoMemory) }
 {

@@ -31,14 +31,18 @@ two_parts first (Some t) = refl
 abbrev Below : model.Term → Type 0
 Below t = t.counter < greatest_counter
 
-below_parts : (first second : Option Term) → AllByRecursion Below (terms first second) → IsBelowLast first × IsBelowLast second
+below_parts : (first second : Option Term) → AllByRecursion Below (terms first second) → IsBelowLast first
+    × IsBelowLast second
 below_parts None None all = (tt, tt)
 below_parts None (Some t) all = (tt, all.0)
 below_parts (Some t) None all = (all.0, tt)
 below_parts (Some t) (Some u) all = (all.0, all.1.0)
 
-pub heard_below : (c : CoreValue) (p : CorePlan) → CanBeCarriedOut c p → IsBelowLast p.out.accepted_nwk × IsBelowLast p.out.accepted_aps
-heard_below c p can = below_parts p.out.accepted_nwk p.out.accepted_aps (subst (AllByRecursion Below) (sym can.answer_is.accepts) (answer_below_last real real_opens c.setting c.tables can.task))
+pub heard_below : (c : CoreValue) (p : CorePlan) → CanBeCarriedOut c p → IsBelowLast p.out.accepted_nwk
+    × IsBelowLast p.out.accepted_aps
+heard_below c p can = below_parts p.out.accepted_nwk p.out.accepted_aps
+    (subst (AllByRecursion Below) (sym can.answer_is.accepts)
+    (answer_below_last real real_opens c.setting c.tables can.task))
 
 -- ---- what is sealed
 
@@ -46,7 +50,8 @@ same_next : (layer : Layer) (key : Bytes) (s : NodeState) → keys.next_under la
 same_next Nwk key s = refl
 same_next Aps key s = refl
 
-pub counted_next : (t : Term) (s : NodeState) → SealsNext s (one (Some t)) → keys.IsNext (model_layer t.layer) t.base.0 s (model_term t)
+pub counted_next : (t : Term) (s : NodeState) → SealsNext s (one (Some t))
+    → keys.IsNext (model_layer t.layer) t.base.0 s (model_term t)
 counted_next t s next = record {
   layer_is = refl;
   base_is = refl;
@@ -54,8 +59,10 @@ counted_next t s next = record {
   below_last = next.0.below_last;
 }
 
-heard_parts : (p : CorePlan) (s : NodeState) → accepted_all (accepts p) s ≡ accepted_all (one p.out.accepted_aps) (accepted_all (one p.out.accepted_nwk) s)
-heard_parts p s = ap (λ (ts : List model.Term). accepted_all ts s) (two_parts p.out.accepted_nwk p.out.accepted_aps) ∙ accepted_parts (one p.out.accepted_nwk) (one p.out.accepted_aps) s
+heard_parts : (p : CorePlan) (s : NodeState) → accepted_all (accepts p) s
+    ≡ accepted_all (one p.out.accepted_aps) (accepted_all (one p.out.accepted_nwk) s)
+heard_parts p s = ap (λ (ts : List model.Term). accepted_all ts s) (two_parts p.out.accepted_nwk p.out.accepted_aps) ∙
+    accepted_parts (one p.out.accepted_nwk) (one p.out.accepted_aps) s
 
 -- the state in which a plan's seals are made
 abbrev before : CorePlan → NodeState → NodeState
@@ -70,13 +77,18 @@ sealed_next c p can =
     let is = can.answer_is in
     let a = answer real c.setting s can.task in
     subst (λ (ts : List model.Term). SealsNext (before p s) ts) (sym is.seals)
-    (subst (λ (ts : List model.Term). SealsNext (accepted_all ts (shown (applied_all (edits p.changes.items) s))) a.seals) (sym is.accepts)
-    (subst (λ (es : List Edit). SealsNext (accepted_all a.accepts (shown (applied_all es s))) a.seals) (sym is.changes) (answer_next real c.setting s can.task)))
+    (subst (λ (ts : List model.Term). SealsNext (accepted_all ts (shown (applied_all (edits p.changes.items) s)))
+    a.seals) (sym is.accepts)
+    (subst (λ (es : List Edit). SealsNext (accepted_all a.accepts (shown (applied_all es s))) a.seals)
+    (sym is.changes) (answer_next real c.setting s can.task)))
 
-pub sealed_in_parts : (c : CoreValue) (p : CorePlan) → CanBeCarriedOut c p → SealsNext (after_heard p c.tables) (one p.out.sealed_aps) × SealsNext (after_aps p c.tables) (one p.out.sealed_nwk)
+pub sealed_in_parts : (c : CoreValue) (p : CorePlan) → CanBeCarriedOut c p
+    → SealsNext (after_heard p c.tables) (one p.out.sealed_aps)
+    × SealsNext (after_aps p c.tables) (one p.out.sealed_nwk)
 sealed_in_parts c p can =
     next_parts (one p.out.sealed_aps) (one p.out.sealed_nwk) (after_heard p c.tables)
-    (subst (λ (ts : List model.Term). SealsNext (after_heard p c.tables) ts) (two_parts p.out.sealed_aps p.out.sealed_nwk)
+    (subst (λ (ts : List model.Term). SealsNext (after_heard p c.tables) ts)
+    (two_parts p.out.sealed_aps p.out.sealed_nwk)
     (subst (λ (s : NodeState). SealsNext s (seals p)) (before_is p c.tables) (sealed_next c p can)))
 
 -- ---- the tables after a plan
@@ -91,6 +103,8 @@ abbrev with_tables : CoreValue → NodeState → CoreValue
 with_tables c s = record { setting = c.setting; tables = s }
 
 -- the core after a plan was carried out over its tables
-pub carried : (c v : CoreValue) (p : CorePlan) (tables : NodeState) → v ≡ c → tables ≡ after_plan p v.tables → IsCoreAfter c p (with_tables v tables)
+pub carried : (c v : CoreValue) (p : CorePlan) (tables : NodeState) → v ≡ c → tables ≡ after_plan p v.tables
+    → IsCoreAfter c p (with_tables v tables)
 carried c v p tables view is =
-    ap (with_tables v) (is ∙ after_is p v.tables) ∙ ap (λ (x : CoreValue). with_tables x (tables_after p.changes.items (accepts p) (seals p) x.tables)) view
+    ap (with_tables v) (is ∙ after_is p v.tables) ∙ ap
+    (λ (x : CoreValue). with_tables x (tables_after p.changes.items (accepts p) (seals p) x.tables)) view

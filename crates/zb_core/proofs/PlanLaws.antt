@@ -11,9 +11,11 @@ use Rattle.zb_stored_tables.specs.Stored.{IsStorable}
 use Rattle.zb_stored_tables.proofs.CoreValues.{value_leads}
 
 -- what a core's `plan` shows, with what `NodeCore::keep` says
-pub core_plan : {E : Type 0} (role : Role) (stands_for : E → Task → Type 0) (c : CoreValue) (e : E) (p : CorePlan) → c.setting.me.role ≡ role → (task : Task) × stands_for e task
+pub core_plan : {E : Type 0} (role : Role) (stands_for : E → Task → Type 0) (c : CoreValue) (e : E) (p : CorePlan)
+    → c.setting.me.role ≡ role → (task : Task) × stands_for e task
     → ((task : Task) → stands_for e task → IsAnswer p (answer real c.setting c.tables task))
-    → ((task : Task) → IsAnswer p (answer real c.setting c.tables task) → IsStorable c.setting.me.role c.tables p.changes.items) → IsCorePlan role stands_for c e p
+    → ((task : Task) → IsAnswer p (answer real c.setting c.tables task)
+    → IsStorable c.setting.me.role c.tables p.changes.items) → IsCorePlan role stands_for c e p
 core_plan role stands_for c e p own some answers storable = record {
   some = some;
   answer_is = answers;
@@ -23,10 +25,14 @@ core_plan role stands_for c e p own some answers storable = record {
 
 -- ---- where a plan leads
 
-pub answer_leads : (c d : CoreValue) (p : CorePlan) (task : Task) → IsAnswer p (answer real c.setting c.tables task) → IsCoreAfter c p d
+pub answer_leads : (c d : CoreValue) (p : CorePlan) (task : Task) → IsAnswer p (answer real c.setting c.tables task)
+    → IsCoreAfter c p d
     → d ≡ record { setting = c.setting; tables = shown (answered (answer real c.setting c.tables task) c.tables) }
-answer_leads c d p task is = value_leads p.changes.items (accepts p) (seals p) (answer real c.setting c.tables task) c d is.changes is.accepts is.seals
+answer_leads c d p task is = value_leads p.changes.items (accepts p) (seals p) (answer real c.setting c.tables task) c
+    d is.changes is.accepts is.seals
 
-pub core_plan_leads : {E : Type 0} (role : Role) (stands_for : E → Task → Type 0) (c d : CoreValue) (e : E) (p : CorePlan) → IsCorePlan role stands_for c e p → IsCoreAfter c p d → (task : Task) → stands_for e task
+pub core_plan_leads : {E : Type 0} (role : Role) (stands_for : E → Task → Type 0) (c d : CoreValue) (e : E)
+    (p : CorePlan) → IsCorePlan role stands_for c e p → IsCoreAfter c p d → (task : Task) → stands_for e task
     → d ≡ record { setting = c.setting; tables = shown (answered (answer real c.setting c.tables task) c.tables) }
-core_plan_leads role stands_for c d e p plan after task stands = answer_leads c d p task (plan.answer_is task stands) after
+core_plan_leads role stands_for c d e p plan after task stands = answer_leads c d p task (plan.answer_is task stands)
+    after

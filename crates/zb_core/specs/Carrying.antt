@@ -20,7 +20,9 @@ IsBelowLast (Some t) = t.counter < greatest_counter
 
 -- after the changes and what was accepted
 abbrev pub after_heard : CorePlan → NodeState → NodeState
-after_heard p s = accepted_all (one p.out.accepted_aps) (accepted_all (one p.out.accepted_nwk) (shown (applied_all (edits p.changes.items) s)))
+after_heard p s =
+    accepted_all (one p.out.accepted_aps)
+    (accepted_all (one p.out.accepted_nwk) (shown (applied_all (edits p.changes.items) s)))
 
 -- and after the seal of APS
 abbrev pub after_aps : CorePlan → NodeState → NodeState

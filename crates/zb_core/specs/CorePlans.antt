@@ -26,7 +26,8 @@ seals p = terms p.out.sealed_aps p.out.sealed_nwk
 
 -- A plan of a core of this role for an event: it is the policy's answer to each task that the event represents, of
 -- which there is one, and its changes can be stored.
-pub record IsCorePlan {E : Type 0} (role : Role) (stands_for : E → Task → Type 0) (c : CoreValue) (e : E) (p : CorePlan) : Type 0 where
+pub record IsCorePlan {E : Type 0} (role : Role) (stands_for : E → Task → Type 0) (c : CoreValue) (e : E)
+    (p : CorePlan) : Type 0 where
   pub some : (task : Task) × stands_for e task
   pub answer_is : (task : Task) → stands_for e task → IsAnswer p (answer real c.setting c.tables task)
   pub role_is : c.setting.me.role ≡ role

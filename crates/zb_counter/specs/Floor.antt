@@ -11,4 +11,5 @@ store_to_of f counter block = if nat_lt counter f.stored then None else Some (bl
 
 -- how a received number is judged: the last number never, then those below the floor, then the fresh ones
 abbrev pub judge_of : Floor → ℕ → ℕ → Judge
-judge_of f counter block = if counter == last_counter then Max else (if nat_lt counter f.kept then Stale f.kept else Fresh (store_to_of f counter block))
+judge_of f counter block = if counter == last_counter then Max
+    else (if nat_lt counter f.kept then Stale f.kept else Fresh (store_to_of f counter block))

@@ -15,7 +15,8 @@ block_beyond from block = min (from + block) last_counter
 
 -- what a draw answers
 abbrev pub draw_of : Outgoing → Draw
-draw_of o = if o.next == last_counter then Spent else (if o.next == o.limit then Reserve (block_beyond o.next o.block) else Ready o.next)
+draw_of o = if o.next == last_counter then Spent
+    else (if o.next == o.limit then Reserve (block_beyond o.next o.block) else Ready o.next)
 
 -- the counter after a draw: one further where a number was handed out, else as it was
 abbrev pub after_draw : Outgoing → Outgoing

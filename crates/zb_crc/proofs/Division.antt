@@ -83,7 +83,8 @@ odd_step register bit n rest h g e =
     ∙ ap (added rest) (sym (bits-xor (register / 2) 0x8408 16 0)))
 
 pub even_step : (register bit n : ℕ) (rest : List ℕ) → register < 2 ^ 16 → bit < 2 → (bit_xor register bit % 2 ≡ 1 → ⊥)
-    → divided (n + 1) (added (bit ∷ rest) (bits_from 16 register)) ≡ divided n (added rest (bits_from 16 (register / 2)))
+    → divided (n + 1) (added (bit ∷ rest) (bits_from 16 register))
+    ≡ divided n (added rest (bits_from 16 (register / 2)))
 even_step register bit n rest h g ne =
     let test : (bit_xor bit (register % 2) == 1) ≡ false = ne_eqb _ _ (λ e. ne (head register bit g ∙ e)) in
     step n register bit rest h
@@ -92,7 +93,8 @@ even_step register bit n rest h g ne =
 
 -- The whole message, byte after byte: what is left to divide after some of its bytes.
 abbrev pub left : List ℕ → ℕ → ℕ → List ℕ
-left bytes i register = divided (8 * (length bytes - i)) (added (message_bits (drop i bytes) ++ replicate 16 0) (bits_from 16 register))
+left bytes i register =
+    divided (8 * (length bytes - i)) (added (message_bits (drop i bytes) ++ replicate 16 0) (bits_from 16 register))
 
 pub message_init : (bytes : List ℕ) (start : ℕ) → remainder start bytes ≡ left bytes 0 start
 unfolding remainder
@@ -101,7 +103,9 @@ message_init bytes start =
     ap (λ n. divided (8 * n) (added (message_bits bytes ++ replicate 16 0) (bits_from 16 start))) e
 
 pub message_more : (whole bytes : List ℕ) (register next i : ℕ) → i < length bytes → whole ≡ left bytes i register
-    → ((n : ℕ) (rest : List ℕ) → divided (n + 8) (added (bits_from 8 (get_or bytes i 0) ++ rest) (bits_from 16 register)) ≡ divided n (added rest (bits_from 16 next)))
+    → ((n : ℕ) (rest : List ℕ)
+    → divided (n + 8) (added (bits_from 8 (get_or bytes i 0) ++ rest) (bits_from 16 register))
+    ≡ divided n (added rest (bits_from 16 next)))
     → whole ≡ left bytes (i + 1) next
 unfolding message_bits
 message_more whole bytes register next i h p q =
@@ -115,7 +119,8 @@ message_more whole bytes register next i h p q =
     (append_assoc (bits_from 8 (get_or bytes i 0)) rest (replicate 16 0))
     ∙ q (8 * (length bytes - (i + 1))) (rest ++ replicate 16 0)
 
-pub message_end : (whole bytes : List ℕ) (register i : ℕ) → i ≡ length bytes → whole ≡ left bytes i register → bits_from 16 register ≡ whole
+pub message_end : (whole bytes : List ℕ) (register i : ℕ) → i ≡ length bytes → whole ≡ left bytes i register
+    → bits_from 16 register ≡ whole
 unfolding message_bits divided
 message_end whole bytes register i e p =
     let none : 8 * (length bytes - i) ≡ 0 = omega arith in

@@ -10,7 +10,8 @@ abbrev pub Reading : Type 0 → Type 0 → Type 0
 Reading E A = E → List ℕ → Result (A × List ℕ) E
 
 -- goes on with what was read
-abbrev pub follow : {E A B : Type 0} → Result (A × List ℕ) E → (A → List ℕ → Result (B × List ℕ) E) → Result (B × List ℕ) E
+abbrev pub follow : {E A B : Type 0} → Result (A × List ℕ) E → (A → List ℕ → Result (B × List ℕ) E)
+    → Result (B × List ℕ) E
 follow (Ok x) next = next x.0 x.1
 follow (Err e) next = Err e
 
@@ -41,14 +42,16 @@ all_at cut bytes = Ok (bytes, [])
 
 -- all bytes that are left: a body, and after it a message integrity code of 4 bytes
 unfoldable pub body_and_mic_at : {E : Type 0} → Reading E (List ℕ × List ℕ)
-body_and_mic_at cut bytes = if nat_lt (length bytes) 4 then Err cut else Ok ((take (length bytes - 4) bytes, drop (length bytes - 4) bytes), [])
+body_and_mic_at cut bytes = if nat_lt (length bytes) 4 then Err cut
+    else Ok ((take (length bytes - 4) bytes, drop (length bytes - 4) bytes), [])
 
 -- the next n bytes
 unfoldable pub bytes_at : {E : Type 0} → ℕ → Reading E (List ℕ)
 bytes_at n cut bytes = if nat_lt (length bytes) n then Err cut else Ok (take n bytes, drop n bytes)
 
 unfoldable pub number_at : {E : Type 0} → Width → Reading E ℕ
-number_at w cut bytes = if nat_lt (length bytes) (byte_len w) then Err cut else Ok (from_le_bytes w (take (byte_len w) bytes), drop (byte_len w) bytes)
+number_at w cut bytes = if nat_lt (length bytes) (byte_len w) then Err cut
+    else Ok (from_le_bytes w (take (byte_len w) bytes), drop (byte_len w) bytes)
 
 unfoldable pub short_at : {E : Type 0} → Reading E Short
 short_at cut bytes = follow (number_at w16 cut bytes) (λ n rest. Ok (record { 0 = n }, rest))
@@ -67,7 +70,8 @@ optional_at true read cut bytes = follow (read cut bytes) (λ x rest. Ok (Some x
 -- so many fields one after the other
 unfoldable pub times_at : {E A : Type 0} → Reading E A → ℕ → Reading E (List A)
 times_at read zero cut bytes = Ok ([], bytes)
-times_at read (suc n) cut bytes = follow (read cut bytes) (λ x rest. follow (times_at read n cut rest) (λ xs end. Ok (x ∷ xs, end)))
+times_at read (suc n) cut bytes =
+    follow (read cut bytes) (λ x rest. follow (times_at read n cut rest) (λ xs end. Ok (x ∷ xs, end)))
 
 -- What a call returned and left in its reader is what reading gives.
 abbrev pub Gives : {E A : Type 0} → Result A E → List ℕ → Result (A × List ℕ) E → Type 0

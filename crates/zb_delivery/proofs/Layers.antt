@@ -32,17 +32,20 @@ abbrev OnGood : {A : Type 0} → (A → Type 0) → Verdict A → Type 0
 OnGood P (Not place reason) = ⊤
 OnGood P (Good it) = P it
 
-after_reject : {A : Type 0} (P : A → Type 0) (bad : Bool) (place : Place) (reason : Reason) (rest : Verdict A) → OnGood P rest → OnGood P (reject bad place reason rest)
+after_reject : {A : Type 0} (P : A → Type 0) (bad : Bool) (place : Place) (reason : Reason) (rest : Verdict A)
+    → OnGood P rest → OnGood P (reject bad place reason rest)
 unfolding reject
 after_reject P true place reason rest k = tt
 after_reject P false place reason rest k = k
 
-after_need : {A B : Type 0} (P : B → Type 0) (o : Option A) (place : Place) (reason : Reason) (rest : A → Verdict B) → ((a : A) → o ≡ Some a → OnGood P (rest a)) → OnGood P (need o place reason rest)
+after_need : {A B : Type 0} (P : B → Type 0) (o : Option A) (place : Place) (reason : Reason) (rest : A → Verdict B)
+    → ((a : A) → o ≡ Some a → OnGood P (rest a)) → OnGood P (need o place reason rest)
 unfolding need
 after_need P None place reason rest k = tt
 after_need P (Some a) place reason rest k = k a refl
 
-after_test : {A : Type 0} (P : A → Type 0) (bad : Bool) (place : Place) (reason : Reason) (rest : Verdict A) → (bad ≡ false → OnGood P rest) → OnGood P (reject bad place reason rest)
+after_test : {A : Type 0} (P : A → Type 0) (bad : Bool) (place : Place) (reason : Reason) (rest : Verdict A)
+    → (bad ≡ false → OnGood P rest) → OnGood P (reject bad place reason rest)
 unfolding reject
 after_test P true place reason rest k = tt
 after_test P false place reason rest k = k refl
@@ -53,7 +56,8 @@ abbrev OfNwk : Option Term → Type 0
 OfNwk None = ⊤
 OfNwk (Some t) = t.layer ≡ Nwk
 
-net_layer : (c : Setting) (s : NodeState) (bytes : Bytes) (f : NwkShown) (aux : NwkAuxiliary) → real.read_nwk bytes ≡ Some f → f.auxiliary ≡ Some aux → OnGood (λ (t : Term). t.layer ≡ Nwk) (judge_net real c s bytes aux)
+net_layer : (c : Setting) (s : NodeState) (bytes : Bytes) (f : NwkShown) (aux : NwkAuxiliary) → real.read_nwk bytes
+    ≡ Some f → f.auxiliary ≡ Some aux → OnGood (λ (t : Term). t.layer ≡ Nwk) (judge_net real c s bytes aux)
 unfolding judge_net
 net_layer c s bytes f aux read shown =
     after_need (λ (t : Term). t.layer ≡ Nwk) _ _ _ _ (λ row found.
@@ -83,14 +87,23 @@ last_of false false c d e = absurd cc
 last_of false true true d e = absurd cc
 last_of false true false false e = absurd cc
 
-security_layer : (c : Setting) (s : NodeState) (bytes : Bytes) (f : NwkShown) (x : Option NwkAuxiliary) → real.read_nwk bytes ≡ Some f → f.auxiliary ≡ x → OnGood Passed (judge_security real c s bytes f x)
-security_layer c s bytes f None read shown = after_test Passed _ _ _ _ (λ e. (tt, last_of (is_centre c.me.role) (waits_for_key s.state) f.is_command (sealed_for_transport (real.read_aps f.body)) e))
-security_layer c s bytes f (Some aux) read shown = carried f (judge_net real c s bytes aux) (net_layer c s bytes f aux read shown)
+security_layer : (c : Setting) (s : NodeState) (bytes : Bytes) (f : NwkShown) (x : Option NwkAuxiliary)
+    → real.read_nwk bytes ≡ Some f → f.auxiliary ≡ x → OnGood Passed (judge_security real c s bytes f x)
+security_layer c s bytes f None read shown =
+    after_test Passed _ _ _ _
+    (λ e. (
+      tt,
+      last_of (is_centre c.me.role) (waits_for_key s.state) f.is_command
+          (sealed_for_transport (real.read_aps f.body)) e,
+    ))
+security_layer c s bytes f (Some aux) read shown = carried f (judge_net real c s bytes aux)
+    (net_layer c s bytes f aux read shown)
 
 nwk_layer : (c : Setting) (s : NodeState) (bytes : Bytes) → OnGood Passed (judge_nwk real c s bytes)
 unfolding judge_nwk
 nwk_layer c s bytes =
-    after_need Passed (real.read_nwk bytes) _ _ _ (λ f read. after_reject Passed _ _ _ _ (security_layer c s bytes f f.auxiliary read refl))
+    after_need Passed (real.read_nwk bytes) _ _ _
+    (λ f read. after_reject Passed _ _ _ _ (security_layer c s bytes f f.auxiliary read refl))
 
 nwk_is : (l : Layer) → model_layer l ≡ Nwk → l ≡ layer.Nwk
 nwk_is layer.Nwk e = refl
@@ -100,22 +113,27 @@ of_term : (o : Option program.Term) → OfNwk (option_map model_term o) → IsNw
 of_term None e = tt
 of_term (Some t) e = nwk_is t.layer e
 
-in_clear : (o : Option program.Term) (shown : Option ApsShown) → InClear (option_map model_term o) shown → PassesInClear o shown
+in_clear : (o : Option program.Term) (shown : Option ApsShown) → InClear (option_map model_term o) shown
+    → PassesInClear o shown
 in_clear None shown e = e
 in_clear (Some t) shown e = tt
 
-passed : (c : Setting) (s : NodeState) (bytes : Bytes) (f : NwkFrame) (t : Option program.Term) → Good (carrier_seen f t) ≡ judge_nwk real c s bytes → Passed (carrier_seen f t)
+passed : (c : Setting) (s : NodeState) (bytes : Bytes) (f : NwkFrame) (t : Option program.Term)
+    → Good (carrier_seen f t) ≡ judge_nwk real c s bytes → Passed (carrier_seen f t)
 passed c s bytes f t e = subst (λ v. OnGood Passed v) (sym e) (nwk_layer c s bytes)
 
-pub accepted_nwk : (c : Setting) (s : NodeState) (bytes : Bytes) (f : NwkFrame) (t : Option program.Term) → Good (carrier_seen f t) ≡ judge_nwk real c s bytes → IsNwk t
+pub accepted_nwk : (c : Setting) (s : NodeState) (bytes : Bytes) (f : NwkFrame) (t : Option program.Term)
+    → Good (carrier_seen f t) ≡ judge_nwk real c s bytes → IsNwk t
 accepted_nwk c s bytes f t e = of_term t (passed c s bytes f t e).0
 
-pub passes_in_clear : (c : Setting) (s : NodeState) (bytes : Bytes) (f : NwkFrame) (t : Option program.Term) → Good (carrier_seen f t) ≡ judge_nwk real c s bytes → PassesInClear t (real.read_aps f.body.items)
+pub passes_in_clear : (c : Setting) (s : NodeState) (bytes : Bytes) (f : NwkFrame) (t : Option program.Term)
+    → Good (carrier_seen f t) ≡ judge_nwk real c s bytes → PassesInClear t (real.read_aps f.body.items)
 passes_in_clear c s bytes f t e = in_clear t (real.read_aps f.body.items) (passed c s bytes f t e).1
 
 -- the APS layer
 
-pub read_is : (bytes : Bytes) (part : ApsFrame) → frame_of bytes ≡ Ok part → real.read_aps bytes ≡ Some (aps_frame_shown part)
+pub read_is : (bytes : Bytes) (part : ApsFrame) → frame_of bytes ≡ Ok part → real.read_aps bytes
+    ≡ Some (aps_frame_shown part)
 unfolding real
 read_is bytes part e = rw e refl
 
@@ -123,7 +141,9 @@ pub unread_is : (bytes : Bytes) (fault : ApsError) → frame_of bytes ≡ Err fa
 unfolding real
 unread_is bytes fault e = rw e refl
 
-aps_layer : (c : Setting) (s : NodeState) (f : NwkShown) (bytes : Bytes) (part : ApsFrame) (aux : ApsAux) → frame_of bytes ≡ Ok part → part.aux ≡ Some aux → OnGood (λ (u : judging.Unsealed). u.term.layer ≡ Aps) (judge_aps real c s f bytes (auxiliary aux))
+aps_layer : (c : Setting) (s : NodeState) (f : NwkShown) (bytes : Bytes) (part : ApsFrame) (aux : ApsAux)
+    → frame_of bytes ≡ Ok part → part.aux ≡ Some aux → OnGood (λ (u : judging.Unsealed). u.term.layer ≡ Aps)
+    (judge_aps real c s f bytes (auxiliary aux))
 unfolding judge_aps
 aps_layer c s f bytes part aux read shown =
     after_need (λ (u : judging.Unsealed). u.term.layer ≡ Aps) _ _ _ _ (λ source named.
@@ -131,11 +151,17 @@ aps_layer c s f bytes part aux read shown =
     after_reject (λ (u : judging.Unsealed). u.term.layer ≡ Aps) _ _ _ _ (
     after_reject (λ (u : judging.Unsealed). u.term.layer ≡ Aps) _ _ _ _ (
     after_need (λ (u : judging.Unsealed). u.term.layer ≡ Aps) (real.open_aps bytes row.key source) _ _ _ (λ t opened.
-    (aps-opens bytes row.key source (aps_frame_shown part) (auxiliary aux) t (read_is bytes part read) (ap (λ o. option_map auxiliary o) shown) opened).0)))))
+    (aps-opens bytes row.key source (aps_frame_shown part) (auxiliary aux) t (read_is bytes part read)
+    (ap (λ o. option_map auxiliary o) shown) opened).0)))))
 
 aps_is : (l : Layer) → model_layer l ≡ Aps → l ≡ layer.Aps
 aps_is layer.Nwk e = absurd cc
 aps_is layer.Aps e = refl
 
-pub accepted_aps : (c : Setting) (s : NodeState) (f : NwkShown) (bytes : Bytes) (part : ApsFrame) (aux : ApsAux) (u : Unsealed) → frame_of bytes ≡ Ok part → part.aux ≡ Some aux → Good (unsealed_seen u) ≡ judge_aps real c s f bytes (auxiliary aux) → IsAps (Some u.term)
-accepted_aps c s f bytes part aux u read shown e = aps_is u.term.layer (subst (λ v. OnGood (λ (u : judging.Unsealed). u.term.layer ≡ Aps) v) (sym e) (aps_layer c s f bytes part aux read shown))
+pub accepted_aps : (c : Setting) (s : NodeState) (f : NwkShown) (bytes : Bytes) (part : ApsFrame) (aux : ApsAux)
+    (u : Unsealed) → frame_of bytes ≡ Ok part → part.aux ≡ Some aux → Good (unsealed_seen u)
+    ≡ judge_aps real c s f bytes (auxiliary aux) → IsAps (Some u.term)
+accepted_aps c s f bytes part aux u read shown e =
+    aps_is u.term.layer
+    (subst (λ v. OnGood (λ (u : judging.Unsealed). u.term.layer ≡ Aps) v) (sym e)
+    (aps_layer c s f bytes part aux read shown))

@@ -23,7 +23,8 @@ abbrev pub is_own : Task → Bool
 is_own (Received bytes draw) = false
 is_own _ = true
 
-own_plan_is : (c : Setting) (s : NodeState) (task : Task) → is_own task ≡ true → plan_of real c s task ≡ own_plan (own real c s task)
+own_plan_is : (c : Setting) (s : NodeState) (task : Task) → is_own task ≡ true → plan_of real c s task
+    ≡ own_plan (own real c s task)
 unfolding plan_of
 own_plan_is c s (SayTo to bytes) e = refl
 own_plan_is c s (TellTo partner bytes) e = refl
@@ -40,12 +41,15 @@ own_plan_is c s (DoAgain device) e = refl
 own_plan_is c s (DoShare device partner) e = refl
 own_plan_is c s (Received bytes draw) e = absurd cc
 
-member_own : (c : Setting) (s : NodeState) (task : Task) → is_centre c.me.role ≡ false → own real c s task ≡ own_at_member real c s task
+member_own : (c : Setting) (s : NodeState) (task : Task) → is_centre c.me.role ≡ false → own real c s task
+    ≡ own_at_member real c s task
 unfolding own
 member_own c s task member = rw member refl
 
 -- what is planned by the rule of the task is the answer to it
-pub member_answer : (c : Setting) (s : NodeState) (known task : Task) (o : model.Outcome) (r : Plan (Outcome Term Refusal)) → is_centre c.me.role ≡ false → is_own known ≡ true → own_at_member real c s known ≡ o
+pub member_answer : (c : Setting) (s : NodeState) (known task : Task) (o : model.Outcome)
+    (r : Plan (Outcome Term Refusal)) → is_centre c.me.role ≡ false → is_own known ≡ true
+    → own_at_member real c s known ≡ o
     → task ≡ known → IsAnswer r (answer_to real c s (own_plan o)) → IsAnswer r (answer real c s task)
 unfolding answer
 member_answer c s known task o r member is_its rule same a =
@@ -60,7 +64,8 @@ not_delivered (Say to bytes) other = refl
 not_delivered (Ask partner) other = refl
 not_delivered (Tell partner bytes) other = refl
 
-the_task : (e : DeviceEvent) (task : Task) → ((bytes : ArrayVec ℕ) → e ≡ Deliver bytes → ⊥) → IsTaskOf e task → task ≡ own_task e
+the_task : (e : DeviceEvent) (task : Task) → ((bytes : ArrayVec ℕ) → e ≡ Deliver bytes → ⊥) → IsTaskOf e task → task
+    ≡ own_task e
 the_task Knock task other is = is
 the_task Rejoin task other is = is
 the_task (Deliver bytes) task other is = absurd (other bytes refl)
@@ -70,8 +75,14 @@ the_task (Ask partner) task other is = is
 the_task (Tell partner bytes) task other is = is
 
 -- what is planned by the rule of an event's task is the answer to it
-pub event_answer : (c : Setting) (s : NodeState) (e : DeviceEvent) (task : Task) (r : Plan (Outcome Term Refusal)) → is_centre c.me.role ≡ false → ((bytes : ArrayVec ℕ) → e ≡ Deliver bytes → ⊥)
-    → IsTaskOf e task → IsAnswer r (answer_to real c s (own_plan (own_at_member real c s (own_task e)))) → IsAnswer r (answer real c s task)
+pub event_answer : (c : Setting) (s : NodeState) (e : DeviceEvent) (task : Task) (r : Plan (Outcome Term Refusal))
+    → is_centre c.me.role ≡ false → ((bytes : ArrayVec ℕ) → e ≡ Deliver bytes → ⊥)
+    → IsTaskOf e task → IsAnswer r (answer_to real c s (own_plan (own_at_member real c s (own_task e))))
+    → IsAnswer r (answer real c s task)
 unfolding answer
 event_answer c s e task r member other is a =
-    rw (the_task e task other is, own_plan_is c s (own_task e) (not_delivered e other), member_own c s (own_task e) member) a
+    rw (
+      the_task e task other is,
+      own_plan_is c s (own_task e) (not_delivered e other),
+      member_own c s (own_task e) member,
+    ) a

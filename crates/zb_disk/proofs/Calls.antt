@@ -12,7 +12,8 @@ use Rattle.zb_disk.specs.MemoryLaws.{image_seen}
 use Rattle.zb_disk.proofs.Lists.{overwrite_spread}
 use Rattle.zb_disk.proofs.Images.{stored_is, torn_from, torn_to, one_image, lowered}
 
-later_stop : (calls k : ℕ) (t : Bool) → (calls == 0) ≡ t → refuses (if t then Stopped else Stop (calls - 1)) k ≡ nat_le calls (k + 1)
+later_stop : (calls k : ℕ) (t : Bool) → (calls == 0) ≡ t → refuses (if t then Stopped else Stop (calls - 1)) k
+    ≡ nat_le calls (k + 1)
 later_stop calls k true none = sym (le-leb calls (k + 1) (omega (arith, eqb-true calls 0 none)))
 later_stop calls k false some = grind (arith, nat_tests)
 
@@ -22,7 +23,8 @@ later_refusals (Stop calls) k = later_stop calls k (calls == 0) refl
 later_refusals (Fail call) k = grind (arith, nat_tests)
 later_refusals Stopped k = refl
 
-later_off_stop : (calls k : ℕ) (t : Bool) → (calls == 0) ≡ t → off_after (if t then Stopped else Stop (calls - 1)) k ≡ nat_lt calls (k + 1)
+later_off_stop : (calls k : ℕ) (t : Bool) → (calls == 0) ≡ t → off_after (if t then Stopped else Stop (calls - 1)) k
+    ≡ nat_lt calls (k + 1)
 later_off_stop calls k true none = sym (lt-ltb calls (k + 1) (omega (arith, eqb-true calls 0 none)))
 later_off_stop calls k false some = grind (arith, nat_tests)
 
@@ -51,7 +53,8 @@ pub refuses_none : (a : Arming) → ((k : ℕ) → refuses a k ≡ false) → wi
 refuses_none Unarmed none = refl
 refuses_none (Stop calls) none = absurd (false≢true (sym (none calls) ∙ le-leb calls calls (omega arith)))
 refuses_none (Fail zero) none = refl
-refuses_none (Fail (suc call)) none = absurd (false≢true (sym (none call) ∙ eq-eqb (call + 1) (suc call) (omega arith)))
+refuses_none (Fail (suc call)) none =
+    absurd (false≢true (sym (none call) ∙ eq-eqb (call + 1) (suc call) (omega arith)))
 refuses_none Stopped none = absurd (false≢true (sym (none 0)))
 
 on_after : (a : Arming) → refuses a 0 ≡ false → off_after (after_call a) 0 ≡ false
@@ -61,15 +64,22 @@ on_after (Fail call) goes = refl
 on_after Stopped goes = absurd (false≢true (sym goes))
 
 elapses : (old new : Medium) → Elapses memory_tells (memory_view old) (memory_view new)
-elapses old new = record { later = omega arith; nothing_else = λ t c before left. inr left; kept = λ told. absurd (false≢true told) }
+elapses old new =
+    record { later = omega arith; nothing_else = λ t c before left. inr left; kept = λ told. absurd (false≢true told) }
 
 -- a call that went through
-counted_ok : {E : Type 0} (m new : Medium) → refuses m.arming 0 ≡ false → m.faults ≤ (counted m).faults → new.arming ≡ (counted m).arming → new.torn ≡ m.torn → new.calls ≡ (counted m).calls → new.faults ≡ (counted m).faults
+counted_ok : {E : Type 0} (m new : Medium) → refuses m.arming 0 ≡ false → m.faults ≤ (counted m).faults → new.arming
+    ≡ (counted m).arming → new.torn ≡ m.torn → new.calls ≡ (counted m).calls → new.faults ≡ (counted m).faults
     → IsCounted {T = Unit {0}} {E = E} memory_tells (memory_view m) (memory_view new) (Ok tt)
 unfolding counted
 counted_ok m new goes later arming torn calls faults = record {
   calls = calls;
-  cause = record { later = omega arith; unrisen = faults ∙ ap (λ b. cond b (risen m.faults 1) m.faults) goes; failed = tt };
+  cause =
+      record {
+        later = omega arith;
+        unrisen = faults ∙ ap (λ b. cond b (risen m.faults 1) m.faults) goes;
+        failed = tt;
+      };
   time = elapses m new;
   foretold = λ told. record {
     refusal = sym goes;
@@ -81,20 +91,35 @@ counted_ok m new goes later arming torn calls faults = record {
 }
 
 -- a call that was refused
-counted_err : {E : Type 0} (m : Medium) (e : E) → refuses m.arming 0 ≡ true → m.faults ≤ (counted m).faults → IsCounted {T = Unit {0}} {E = E} memory_tells (memory_view m) (memory_view (counted m)) (Err e)
+counted_err : {E : Type 0} (m : Medium) (e : E) → refuses m.arming 0 ≡ true → m.faults ≤ (counted m).faults
+    → IsCounted {T = Unit {0}} {E = E} memory_tells (memory_view m) (memory_view (counted m)) (Err e)
 unfolding counted
 counted_err m e refused later = record {
   calls = refl;
-  cause = record { later = later; unrisen = tt; failed = subst (λ b. risen m.faults 1 ≤ cond b (risen m.faults 1) m.faults) (sym refused) (omega arith) };
+  cause =
+      record {
+        later = later;
+        unrisen = tt;
+        failed = subst (λ b. risen m.faults 1 ≤ cond b (risen m.faults 1) m.faults) (sym refused) (omega arith);
+      };
   time = elapses m (counted m);
-  foretold = λ told. record { refusal = sym refused; later = λ k. later_refusals m.arming k; off = λ k. later_off m.arming k; on = tt; torn = refl };
+  foretold =
+      λ told. record {
+        refusal = sym refused;
+        later = λ k. later_refusals m.arming k;
+        off = λ k. later_off m.arming k;
+        on = tt;
+        torn = refl;
+      };
 }
 
 torn_same : (at n : ℕ) (c : List ℕ) → Torn at n c c
 torn_same at n c = record { before = λ m until within. refl; after = λ m from. refl; no_shorter = omega arith }
 
-pub write_ok : {E : Type 0} (m : Medium) (at : ℕ) (piece : List ℕ) → refuses m.arming 0 ≡ false → m.faults ≤ (counted m).faults
-    → IsWrite {T = Unit {0}} {E = E} memory_tells at piece (memory_view m) (memory_view (stored (counted m) at piece)) (Ok tt)
+pub write_ok : {E : Type 0} (m : Medium) (at : ℕ) (piece : List ℕ) → refuses m.arming 0 ≡ false → m.faults
+    ≤ (counted m).faults
+    → IsWrite {T = Unit {0}} {E = E} memory_tells at piece (memory_view m) (memory_view (stored (counted m) at piece))
+    (Ok tt)
 unfolding counted stored
 write_ok m at piece goes later = record {
   written = λ told. overwrite_spread m.bytes piece at;
@@ -104,7 +129,8 @@ write_ok m at piece goes later = record {
   counted = counted_ok m (stored (counted m) at piece) goes later refl refl refl refl;
 }
 
-pub write_err : {E : Type 0} (m : Medium) (at : ℕ) (piece : List ℕ) (e : E) → refuses m.arming 0 ≡ true → m.faults ≤ (counted m).faults
+pub write_err : {E : Type 0} (m : Medium) (at : ℕ) (piece : List ℕ) (e : E) → refuses m.arming 0 ≡ true → m.faults
+    ≤ (counted m).faults
     → IsWrite {T = Unit {0}} {E = E} memory_tells at piece (memory_view m) (memory_view (counted m)) (Err e)
 unfolding counted
 write_err m at piece e refused later = record {
@@ -123,7 +149,8 @@ sync_ok m goes later =
     record {
       durable = only;
       seen = refl;
-      images = λ c image. subst (λ (l : List ℕ). IsImage m.bytes m.written m.grown l) (sym (only c image)) (image_seen m.bytes m.written m.grown);
+      images = λ c image. subst (λ (l : List ℕ). IsImage m.bytes m.written m.grown l) (sym (only c image))
+          (image_seen m.bytes m.written m.grown);
       images_kept = tt;
       counted = counted_ok m (synced (counted m)) goes later refl refl refl refl;
     }

@@ -4,49 +4,66 @@ use Rattle.zb_disk.specs.View.{Telling, View, IsStill, LeavesOnly}
 use Rattle.zb_disk.specs.Calls.{Elapses}
 
 -- before the first call
-pub started : (v : View) (P : List ℕ → Type 0) → ((c : List ℕ) → v.since v.moment c → v.images c) → ((c : List ℕ) → v.images c → P c) → LeavesOnly v v P
-started v P only_now here = record { later = omega arith; each = λ c left. here c (only_now c left); now = here; before = λ t c before left. inl left }
+pub started : (v : View) (P : List ℕ → Type 0) → ((c : List ℕ) → v.since v.moment c → v.images c)
+    → ((c : List ℕ) → v.images c → P c) → LeavesOnly v v P
+started v P only_now here =
+    record {
+      later = omega arith;
+      each = λ c left. here c (only_now c left);
+      now = here;
+      before = λ t c before left. inl left;
+    }
 
 -- one call more, after which a crash leaves what has P
-pub goes_on : {tells : Telling} (old mid new : View) (P : List ℕ → Type 0) → LeavesOnly old mid P → Elapses tells mid new → ((c : List ℕ) → new.images c → P c) → LeavesOnly old new P
+pub goes_on : {tells : Telling} (old mid new : View) (P : List ℕ → Type 0) → LeavesOnly old mid P
+    → Elapses tells mid new → ((c : List ℕ) → new.images c → P c) → LeavesOnly old new P
 goes_on old mid new P so_far time here = record {
   later = omega (arith, so_far.later, time.later);
   each = λ c left. ⊎_elim (so_far.each c) (here c) (time.nothing_else old.moment c so_far.later left);
   now = here;
-  before = λ t c before left. ⊎_elim (so_far.before t c before) (λ (now : new.images c). inr (here c now)) (time.nothing_else t c (omega (arith, before, so_far.later)) left);
+  before = λ t c before left. ⊎_elim (so_far.before t c before) (λ (now : new.images c). inr (here c now))
+      (time.nothing_else t c (omega (arith, before, so_far.later)) left);
 }
 
 -- one run after another
-pub goes_through : (old mid new : View) (P : List ℕ → Type 0) → LeavesOnly old mid P → LeavesOnly mid new P → LeavesOnly old new P
+pub goes_through : (old mid new : View) (P : List ℕ → Type 0) → LeavesOnly old mid P → LeavesOnly mid new P
+    → LeavesOnly old new P
 goes_through old mid new P first second = record {
   later = omega (arith, first.later, second.later);
   each = λ c left. ⊎_elim (first.each c) (λ (it : P c). it) (second.before old.moment c first.later left);
   now = second.now;
-  before = λ t c before left. ⊎_elim (first.before t c before) (λ (it : P c). inr it) (second.before t c (omega (arith, before, first.later)) left);
+  before = λ t c before left. ⊎_elim (first.before t c before) (λ (it : P c). inr it)
+      (second.before t c (omega (arith, before, first.later)) left);
 }
 
 -- what has P has Q
-pub weakened : (old new : View) (P Q : List ℕ → Type 0) → ((c : List ℕ) → P c → Q c) → LeavesOnly old new P → LeavesOnly old new Q
+pub weakened : (old new : View) (P Q : List ℕ → Type 0) → ((c : List ℕ) → P c → Q c) → LeavesOnly old new P
+    → LeavesOnly old new Q
 weakened old new P Q weaker run = record {
   later = run.later;
   each = λ c left. weaker c (run.each c left);
   now = λ c left. weaker c (run.now c left);
-  before = λ t c before left. ⊎_elim (λ (past : old.since t c). inl past) (λ (it : P c). inr (weaker c it)) (run.before t c before left);
+  before = λ t c before left. ⊎_elim (λ (past : old.since t c). inl past) (λ (it : P c). inr (weaker c it))
+      (run.before t c before left);
 }
 
 -- a run that begins with calls that change nothing
-pub still_then : (old mid new : View) (P : List ℕ → Type 0) → IsStill old mid → LeavesOnly mid new P → LeavesOnly old new P
+pub still_then : (old mid new : View) (P : List ℕ → Type 0) → IsStill old mid → LeavesOnly mid new P
+    → LeavesOnly old new P
 still_then old mid new P still run =
     let same = still.moment in
     record {
       later = omega (arith, same, run.later);
       each = λ c left. run.each c (subst (λ t. new.since t c) (sym same) left);
       now = run.now;
-      before = λ t c before left. ⊎_elim (λ (past : mid.since t c). inl (still.since t c past)) (λ (it : P c). inr it) (run.before t c (omega (arith, same, before)) left);
+      before = λ t c before left. ⊎_elim (λ (past : mid.since t c). inl (still.since t c past)) (λ (it : P c). inr it)
+          (run.before t c (omega (arith, same, before)) left);
     }
 
 -- calls that change nothing, alone
-pub still_leaves : (old new : View) (P : List ℕ → Type 0) → IsStill old new → ((c : List ℕ) → old.since old.moment c → old.images c) → ((c : List ℕ) → old.images c → P c) → LeavesOnly old new P
+pub still_leaves : (old new : View) (P : List ℕ → Type 0) → IsStill old new
+    → ((c : List ℕ) → old.since old.moment c → old.images c) → ((c : List ℕ) → old.images c → P c)
+    → LeavesOnly old new P
 still_leaves old new P still only_now here =
     let same = still.moment in
     record {

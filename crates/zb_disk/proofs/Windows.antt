@@ -12,7 +12,13 @@ unfolding flags_around
 length-around base w n within =
     let front = replicate base false ++ w in
     let back = replicate (n - base - length w) false in
-    omega (arith, length-append front back, length-append (replicate base false) w, length-replicate base false, length-replicate (n - base - length w) false)
+    omega (
+      arith,
+      length-append front back,
+      length-append (replicate base false) w,
+      length-replicate base false,
+      length-replicate (n - base - length w) false,
+    )
 
 -- before the window all flags are lowered
 pub around_before : (base : ℕ) (w : List Bool) (n k : ℕ) → k < base → get_or (flags_around base w n) k false ≡ false
@@ -20,50 +26,63 @@ unfolding flags_around
 around_before base w n k low =
     let front = replicate base false in
     let back = replicate (n - base - length w) false in
-    ap (λ (l : List Bool). get_or l k false) (append_assoc front w back) ∙ get_or_append_left front (w ++ back) false k (omega (arith, length-replicate base false)) ∙ get_or-replicate base k false false low
+    ap (λ (l : List Bool). get_or l k false) (append_assoc front w back) ∙ get_or_append_left front (w ++ back) false
+    k (omega (arith, length-replicate base false)) ∙ get_or-replicate base k false false low
 
 -- from its beginning on they are the window's
-pub around_from : (base : ℕ) (w : List Bool) (n k : ℕ) → base ≤ k → get_or (flags_around base w n) k false ≡ get_or w (k - base) false
+pub around_from : (base : ℕ) (w : List Bool) (n k : ℕ) → base ≤ k → get_or (flags_around base w n) k false
+    ≡ get_or w (k - base) false
 unfolding flags_around
 around_from base w n k from =
     let front = replicate base false in
     let m = n - base - length w in
-    ap (λ (l : List Bool). get_or l k false) (append_assoc front w (replicate m false)) ∙ get_or-append_right front (w ++ replicate m false) base k false (length-replicate base false) from
-    ∙ ap (λ (i : ℕ). get_or (w ++ replicate i false) (k - base) false) (omega arith) ∙ get_or-spread w (m + length w) (k - base) false
+    ap (λ (l : List Bool). get_or l k false) (append_assoc front w (replicate m false)) ∙ get_or-append_right front
+    (w ++ replicate m false) base k false (length-replicate base false) from
+    ∙ ap (λ (i : ℕ). get_or (w ++ replicate i false) (k - base) false) (omega arith) ∙ get_or-spread w (m + length w)
+    (k - base) false
 
 -- where nothing was written, all are lowered
 pub around_none : (base n : ℕ) → base ≤ n → flags_around base [] n ≡ replicate n false
 unfolding flags_around
 around_none base n within =
     let all : base + (n - base - 0) ≡ n = omega arith in
-    append_assoc (replicate base false) [] (replicate (n - base - 0) false) ∙ replicate-append-replicate base (n - base - 0) false ∙ ap (λ (i : ℕ). replicate i false) all
+    append_assoc (replicate base false) [] (replicate (n - base - 0) false) ∙ replicate-append-replicate base
+    (n - base - 0) false ∙ ap (λ (i : ℕ). replicate i false) all
 
 -- lowered flags may be put before the window
-pub around_more : (start more base : ℕ) (w : List Bool) (n : ℕ) → start + more ≡ base → flags_around start (replicate more false ++ w) n ≡ flags_around base w n
+pub around_more : (start more base : ℕ) (w : List Bool) (n : ℕ) → start + more ≡ base
+    → flags_around start (replicate more false ++ w) n ≡ flags_around base w n
 unfolding flags_around
 around_more start more base w n is =
     let front = replicate start false in
     let lower = replicate more false in
-    let long : length (lower ++ w) ≡ more + length w = omega (arith, length-append lower w, length-replicate more false) in
+    let long : length (lower ++ w) ≡ more + length w =
+    omega (arith, length-append lower w, length-replicate more false) in
     let rest : n - start - length (lower ++ w) ≡ n - base - length w = omega arith in
-    let both : front ++ lower ≡ replicate base false = replicate-append-replicate start more false ∙ ap (λ (i : ℕ). replicate i false) is in
+    let both : front ++ lower ≡ replicate base false = replicate-append-replicate start more false ∙ ap
+    (λ (i : ℕ). replicate i false) is in
     ap (λ (i : ℕ). front ++ (lower ++ w) ++ replicate i false) rest
-    ∙ ap (λ (l : List Bool). l ++ replicate (n - base - length w) false) (sym (append_assoc front lower w) ∙ ap (λ (l : List Bool). l ++ w) both)
+    ∙ ap (λ (l : List Bool). l ++ replicate (n - base - length w) false)
+    (sym (append_assoc front lower w) ∙ ap (λ (l : List Bool). l ++ w) both)
 
 -- a longer disk has more lowered flags
-pub around_spread : (base : ℕ) (w : List Bool) (n end new : ℕ) → base + length w ≤ n → new ≡ max n end → spread (flags_around base w n) end false ≡ flags_around base w new
+pub around_spread : (base : ℕ) (w : List Bool) (n end new : ℕ) → base + length w ≤ n → new ≡ max n end
+    → spread (flags_around base w n) end false ≡ flags_around base w new
 around_spread base w n end new within is =
     let long = length-around base w n within in
     let long_new : length (flags_around base w new) ≡ new = length-around base w new (omega arith) in
-    ext_get_or false (spread (flags_around base w n) end false) (flags_around base w new) (omega (arith, length-spread (flags_around base w n) end false)) (λ k in_it.
+    ext_get_or false (spread (flags_around base w n) end false) (flags_around base w new)
+    (omega (arith, length-spread (flags_around base w n) end false)) (λ k in_it.
     get_or-spread (flags_around base w n) end k false ∙ elim (cases_lt k base) [
       | inl low ↦ around_before base w n k low ∙ sym (around_before base w new k low)
       | inr from ↦ around_from base w n k from ∙ sym (around_from base w new k from)
     ])
 
 -- flags that are set in the window are set on the disk
-pub around_patch : (base : ℕ) (w piece : List Bool) (start end n : ℕ) → base + length w ≤ n → base ≤ start → end ≡ start + length piece → end ≤ n
-    → flags_around base (patch (spread w (end - base) false) (start - base) piece) n ≡ patch (flags_around base w n) start piece
+pub around_patch : (base : ℕ) (w piece : List Bool) (start end n : ℕ) → base + length w ≤ n → base ≤ start → end
+    ≡ start + length piece → end ≤ n
+    → flags_around base (patch (spread w (end - base) false) (start - base) piece) n
+    ≡ patch (flags_around base w n) start piece
 around_patch base w piece start end n within from is fits =
     let s = spread w (end - base) false in
     let size : length s ≡ max (length w) (end - base) = length-spread w (end - base) false in
@@ -74,40 +93,51 @@ around_patch base w piece start end n within from is fits =
     let old_long = length-around base w n within in
     let in_old : start + length piece ≤ length old = omega arith in
     let new_long = length-around base p n (omega arith) in
-    ext_get_or false (flags_around base p n) (patch old start piece) (omega (arith, length-patch old piece start in_old)) (λ k in_it. elim (cases_lt k base) [
-      | inl low ↦ around_before base p n k low ∙ sym (get_or-patch_before old piece start k false in_old (omega arith) ∙ around_before base w n k low)
+    ext_get_or false (flags_around base p n) (patch old start piece)
+    (omega (arith, length-patch old piece start in_old)) (λ k in_it. elim (cases_lt k base) [
+      | inl low ↦ around_before base p n k low ∙ sym
+          (get_or-patch_before old piece start k false in_old (omega arith) ∙ around_before base w n k low)
       | inr high ↦ around_from base p n k high ∙ elim (cases_lt k start) [
-        | inl before ↦ get_or-patch_before s piece (start - base) (k - base) false in_s (omega arith) ∙ get_or-spread w (end - base) (k - base) false
+        | inl before ↦ get_or-patch_before s piece (start - base) (k - base) false in_s (omega arith) ∙ get_or-spread
+            w (end - base) (k - base) false
             ∙ sym (get_or-patch_before old piece start k false in_old before ∙ around_from base w n k high)
         | inr later ↦ elim (cases_lt k end) [
           | inl to ↦
               let same : k - base - (start - base) ≡ k - start = omega arith in
-              get_or-patch_in s piece (start - base) (k - base) false in_s (omega arith) (omega arith) ∙ ap (λ (i : ℕ). get_or piece i false) same
+              get_or-patch_in s piece (start - base) (k - base) false in_s (omega arith) (omega arith) ∙ ap
+              (λ (i : ℕ). get_or piece i false) same
               ∙ sym (get_or-patch_in old piece start k false in_old later (omega arith))
-          | inr after ↦ get_or-patch_after s piece (start - base) (k - base) false in_s (omega arith) ∙ get_or-spread w (end - base) (k - base) false
+          | inr after ↦ get_or-patch_after s piece (start - base) (k - base) false in_s (omega arith) ∙ get_or-spread
+              w (end - base) (k - base) false
               ∙ sym (get_or-patch_after old piece start k false in_old (omega arith) ∙ around_from base w n k high)
         ]
       ]
     ])
 
 -- and so they are once the window is emptied
-pub around_emptied : (base : ℕ) (w new : List Bool) (n : ℕ) → base + length w ≤ n → new ≡ [] → flags_around base new n ≡ replicate (length (flags_around base w n)) false
+pub around_emptied : (base : ℕ) (w new : List Bool) (n : ℕ) → base + length w ≤ n → new ≡ [] → flags_around base new n
+    ≡ replicate (length (flags_around base w n)) false
 around_emptied base w new n within none =
-    ap (λ (l : List Bool). flags_around base l n) none ∙ around_none base n (omega arith) ∙ ap (λ (i : ℕ). replicate i false) (sym (length-around base w n within))
+    ap (λ (l : List Bool). flags_around base l n) none ∙ around_none base n (omega arith) ∙ ap
+    (λ (i : ℕ). replicate i false) (sym (length-around base w n within))
 
 -- over them stand those of the last write
 pub patch_none : (xs : List Bool) (at : ℕ) → patch xs at [] ≡ xs
 patch_none xs at =
     let here : at + 0 ≡ at = omega arith in
-    ap (λ (l : List Bool). l ++ drop (at + 0) xs) (append-nil (take at xs)) ∙ ap (λ (i : ℕ). take at xs ++ drop i xs) here ∙ take-append-drop at xs
+    ap (λ (l : List Bool). l ++ drop (at + 0) xs) (append-nil (take at xs)) ∙ ap (λ (i : ℕ). take at xs ++ drop i xs)
+    here ∙ take-append-drop at xs
 
-pub length-flags : (base : ℕ) (w : List Bool) (n from to : ℕ) → base + length w ≤ n → from ≤ to → to ≤ n → length (patch (flags_around base w n) from (replicate (to - from) true)) ≡ n
+pub length-flags : (base : ℕ) (w : List Bool) (n from to : ℕ) → base + length w ≤ n → from ≤ to → to ≤ n
+    → length (patch (flags_around base w n) from (replicate (to - from) true)) ≡ n
 length-flags base w n from to within order last =
     let long = length-around base w n within in
-    length-patch (flags_around base w n) (replicate (to - from) true) from (omega (arith, length-replicate (to - from) true)) ∙ long
+    length-patch (flags_around base w n) (replicate (to - from) true) from
+    (omega (arith, length-replicate (to - from) true)) ∙ long
 
 -- a list that was written over is filled up like any other
-spread_patch : (xs piece : List Bool) (start end : ℕ) → start + length piece ≤ length xs → spread (patch xs start piece) end false ≡ patch (spread xs end false) start piece
+spread_patch : (xs piece : List Bool) (start end : ℕ) → start + length piece ≤ length xs
+    → spread (patch xs start piece) end false ≡ patch (spread xs end false) start piece
 spread_patch xs piece start end fits =
     let m = length xs in
     let more = replicate (end - m) false in
@@ -120,7 +150,8 @@ spread_patch xs piece start end fits =
     ∙ ap (λ (l : List Bool). l ++ piece ++ drop stop (xs ++ more)) (sym front)
 
 -- what a write leaves: the flags of the one before it are in the window
-pub around_written : (base : ℕ) (w : List Bool) (base' : ℕ) (w' piece : List Bool) (start end n new : ℕ) → base + length w ≤ n → new ≡ max n end → start + length piece ≤ n
+pub around_written : (base : ℕ) (w : List Bool) (base' : ℕ) (w' piece : List Bool) (start end n new : ℕ)
+    → base + length w ≤ n → new ≡ max n end → start + length piece ≤ n
     → flags_around base' w' new ≡ patch (flags_around base w new) start piece
     → flags_around base' w' new ≡ spread (patch (flags_around base w n) start piece) end false
 around_written base w base' w' piece start end n new within is fits same =
@@ -129,9 +160,47 @@ around_written base w base' w' piece start end n new within is fits same =
 
 -- a disk that has just been made
 pub fresh_is : (bytes items torn : List ℕ) (w : List Bool) → items ≡ bytes → w ≡ [] → torn ≡ []
-    → ◌≡◌ {A = Medium} (record { bytes = items; written = flags_around 0 w (length bytes); grown = 0; arming = Unarmed; torn = torn; calls = 0; faults = 0 }) (fresh bytes)
+    → ◌≡◌ {A = Medium}
+    (record {
+      bytes = items;
+      written = flags_around 0 w (length bytes);
+      grown = 0;
+      arming = Unarmed;
+      torn = torn;
+      calls = 0;
+      faults = 0;
+    }) (fresh bytes)
 fresh_is bytes items torn w same none no_pattern =
-    ap (λ (x : List ℕ). let n : Medium = record { bytes = x; written = flags_around 0 w (length bytes); grown = 0; arming = Unarmed; torn = torn; calls = 0; faults = 0 } in n) same
-    ∙ ap (λ (x : List Bool). let n : Medium = record { bytes = bytes; written = flags_around 0 x (length bytes); grown = 0; arming = Unarmed; torn = torn; calls = 0; faults = 0 } in n) none
-    ∙ ap (λ (x : List Bool). let n : Medium = record { bytes = bytes; written = x; grown = 0; arming = Unarmed; torn = torn; calls = 0; faults = 0 } in n) (around_none 0 (length bytes) (omega arith))
-    ∙ ap (λ (x : List ℕ). let n : Medium = record { bytes = bytes; written = replicate (length bytes) false; grown = 0; arming = Unarmed; torn = x; calls = 0; faults = 0 } in n) no_pattern
+    ap (λ (x : List ℕ). let n : Medium =
+    record {
+      bytes = x;
+      written = flags_around 0 w (length bytes);
+      grown = 0;
+      arming = Unarmed;
+      torn = torn;
+      calls = 0;
+      faults = 0;
+    } in n) same
+    ∙ ap (λ (x : List Bool). let n : Medium =
+    record {
+      bytes = bytes;
+      written = flags_around 0 x (length bytes);
+      grown = 0;
+      arming = Unarmed;
+      torn = torn;
+      calls = 0;
+      faults = 0;
+    } in n) none
+    ∙ ap (λ (x : List Bool). let n : Medium =
+    record { bytes = bytes; written = x; grown = 0; arming = Unarmed; torn = torn; calls = 0; faults = 0 } in n)
+    (around_none 0 (length bytes) (omega arith))
+    ∙ ap (λ (x : List ℕ). let n : Medium =
+    record {
+      bytes = bytes;
+      written = replicate (length bytes) false;
+      grown = 0;
+      arming = Unarmed;
+      torn = x;
+      calls = 0;
+      faults = 0;
+    } in n) no_pattern

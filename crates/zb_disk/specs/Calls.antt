@@ -31,7 +31,8 @@ pub record IsRead {T E : Type 0} (tells : Telling) (old new : View) (result : Re
   pub refusal : IsTrue tells.refusals → is_err result ≡ old.off 0
 
 -- a write: at Ok the bytes are read, and exactly the images torn there may be left; where it failed, no others
-pub record IsWrite {T E : Type 0} (tells : Telling) (at : ℕ) (bytes : List ℕ) (old new : View) (result : Result T E) : Type 0 where
+pub record IsWrite {T E : Type 0} (tells : Telling) (at : ℕ) (bytes : List ℕ) (old new : View) (result : Result T E) :
+    Type 0 where
   pub written : OnOk result (IsTrue tells.content → new.seen ≡ overwrite old.seen at bytes)
   pub torn : Follows (Torn at (length bytes)) old.images new.images
   pub opens : OnOk result (Opens (Torn at (length bytes)) old.images new.images)

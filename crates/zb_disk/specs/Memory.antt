@@ -69,7 +69,8 @@ abbrev pub tear : List ℕ → ℕ → List ℕ → List Bool → List ℕ
 tear pattern phase [] written = []
 tear pattern phase (b ∷ bytes) [] = b ∷ bytes
 tear pattern phase (b ∷ bytes) (w ∷ written) =
-    if w then get_or pattern (phase % length pattern) 0 ∷ tear pattern (phase + 1) bytes written else b ∷ tear pattern 0 bytes written
+    if w then get_or pattern (phase % length pattern) 0 ∷ tear pattern (phase + 1) bytes written
+    else b ∷ tear pattern 0 bytes written
 
 -- the bytes that a stop leaves: torn where there is a pattern
 abbrev pub torn_by : List ℕ → List ℕ → List Bool → List ℕ

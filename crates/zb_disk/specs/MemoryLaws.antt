@@ -5,4 +5,5 @@ use Rattle.zb_disk.specs.Memory.{IsImage}
 
 -- what is read is one of the images
 pub image_seen : (bytes : List ℕ) (written : List Bool) (grown : ℕ) → IsImage bytes written grown bytes
-image_seen bytes written grown = record { no_shorter = omega arith; no_longer = omega arith; others = λ k in_it down. refl }
+image_seen bytes written grown =
+    record { no_shorter = omega arith; no_longer = omega arith; others = λ k in_it down. refl }

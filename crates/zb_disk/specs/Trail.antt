@@ -50,7 +50,8 @@ trail_view t = record {
 
 -- a new disk
 abbrev pub fresh_trail : List ℕ → ℕ → ℕ → Trail
-fresh_trail bytes calls room = record { start = bytes; steps = []; calls_room = calls; bytes_room = room; taken = 0; calls = 0; faults = 0 }
+fresh_trail bytes calls room =
+    record { start = bytes; steps = []; calls_room = calls; bytes_room = room; taken = 0; calls = 0; faults = 0 }
 
 -- the steps that a log and the bytes of all its writes represent, the oldest first
 abbrev pub steps_of : List Logged → List ℕ → List Step
@@ -73,7 +74,8 @@ unfoldable pub refused : Trail → Trail
 refused t = record t { calls = risen t.calls 1; faults = risen t.faults 1 }
 
 unfoldable pub kept_write : Trail → ℕ → List ℕ → Trail
-kept_write t at bytes = record t { steps = writes at bytes ∷ t.steps; taken = t.taken + length bytes; calls = risen t.calls 1 }
+kept_write t at bytes =
+    record t { steps = writes at bytes ∷ t.steps; taken = t.taken + length bytes; calls = risen t.calls 1 }
 
 unfoldable pub kept_sync : Trail → Trail
 kept_sync t = record t { steps = syncs ∷ t.steps; calls = risen t.calls 1 }

@@ -34,7 +34,37 @@ length-added (x ∷ xs) [] = refl
 length-added (x ∷ xs) (y ∷ ys) = ap suc (length-added xs ys)
 
 divisor_bits : AreBits divisor
-divisor_bits = (omega arith, (omega arith, (omega arith, (omega arith, (omega arith, (omega arith, (omega arith, (omega arith, (omega arith, (omega arith, (omega arith, (omega arith, (omega arith, (omega arith, (omega arith, (omega arith, tt))))))))))))))))
+divisor_bits = (
+  omega arith,
+  (
+    omega arith,
+    (
+      omega arith,
+      (
+        omega arith,
+        (
+          omega arith,
+          (
+            omega arith,
+            (
+              omega arith,
+              (
+                omega arith,
+                (
+                  omega arith,
+                  (
+                    omega arith,
+                    (omega arith, (omega arith, (omega arith, (omega arith, (omega arith, (omega arith, tt)))))),
+                  ),
+                ),
+              ),
+            ),
+          ),
+        ),
+      ),
+    ),
+  ),
+)
 
 either_bits : (b : Bool) (xs ys : List ℕ) → AreBits xs → AreBits ys → AreBits (if b then xs else ys)
 either_bits true xs ys p q = p
@@ -49,7 +79,8 @@ unfolding divided
 divided_bits zero bits p = p
 divided_bits (suc n) [] p = tt
 divided_bits (suc n) (b ∷ bits) p =
-    divided_bits n (if b == 1 then added bits divisor else bits) (either_bits (b == 1) (added bits divisor) bits (added_bits bits divisor p.1 divisor_bits) p.1)
+    divided_bits n (if b == 1 then added bits divisor else bits)
+    (either_bits (b == 1) (added bits divisor) bits (added_bits bits divisor p.1 divisor_bits) p.1)
 
 length-divided : (n m : ℕ) (bits : List ℕ) → length bits ≡ n + m → length (divided n bits) ≡ m
 unfolding divided
@@ -62,18 +93,80 @@ length-divided (suc n) m (b ∷ bits) e =
 all_message_bits : (bytes : List ℕ) → AreBits (message_bits bytes)
 unfolding message_bits
 all_message_bits [] = tt
-all_message_bits (b ∷ bytes) = both_bits (bits_from 8 b) (message_bits bytes) (number_bits 8 b) (all_message_bits bytes)
+all_message_bits (b ∷ bytes) = both_bits (bits_from 8 b) (message_bits bytes) (number_bits 8 b)
+    (all_message_bits bytes)
 
 length-message_bits : (bytes : List ℕ) → length (message_bits bytes) ≡ 8 * length bytes
 unfolding message_bits
 length-message_bits [] = omega arith
-length-message_bits (b ∷ bytes) = omega (arith, length-append (bits_from 8 b) (message_bits bytes), length-message_bits bytes)
+length-message_bits (b ∷ bytes) =
+    omega (arith, length-append (bits_from 8 b) (message_bits bytes), length-message_bits bytes)
 
 zeros : AreBits (replicate 16 0)
-zeros = (omega arith, (omega arith, (omega arith, (omega arith, (omega arith, (omega arith, (omega arith, (omega arith, (omega arith, (omega arith, (omega arith, (omega arith, (omega arith, (omega arith, (omega arith, (omega arith, tt))))))))))))))))
+zeros = (
+  omega arith,
+  (
+    omega arith,
+    (
+      omega arith,
+      (
+        omega arith,
+        (
+          omega arith,
+          (
+            omega arith,
+            (
+              omega arith,
+              (
+                omega arith,
+                (
+                  omega arith,
+                  (
+                    omega arith,
+                    (omega arith, (omega arith, (omega arith, (omega arith, (omega arith, (omega arith, tt)))))),
+                  ),
+                ),
+              ),
+            ),
+          ),
+        ),
+      ),
+    ),
+  ),
+)
 
 ones : AreBits (replicate 16 1)
-ones = (omega arith, (omega arith, (omega arith, (omega arith, (omega arith, (omega arith, (omega arith, (omega arith, (omega arith, (omega arith, (omega arith, (omega arith, (omega arith, (omega arith, (omega arith, (omega arith, tt))))))))))))))))
+ones = (
+  omega arith,
+  (
+    omega arith,
+    (
+      omega arith,
+      (
+        omega arith,
+        (
+          omega arith,
+          (
+            omega arith,
+            (
+              omega arith,
+              (
+                omega arith,
+                (
+                  omega arith,
+                  (
+                    omega arith,
+                    (omega arith, (omega arith, (omega arith, (omega arith, (omega arith, (omega arith, tt)))))),
+                  ),
+                ),
+              ),
+            ),
+          ),
+        ),
+      ),
+    ),
+  ),
+)
 
 number_small : (bits : List ℕ) → AreBits bits → number_of bits < 2 ^ length bits
 number_small [] p = omega arith
@@ -83,18 +176,27 @@ remainder_bits : (start : ℕ) (bytes : List ℕ) → AreBits (remainder start b
 unfolding remainder
 remainder_bits start bytes =
     divided_bits (8 * length bytes) (added (message_bits bytes ++ replicate 16 0) (bits_from 16 start))
-    (added_bits (message_bits bytes ++ replicate 16 0) (bits_from 16 start) (both_bits (message_bits bytes) (replicate 16 0) (all_message_bits bytes) zeros) (number_bits 16 start))
+    (added_bits (message_bits bytes ++ replicate 16 0) (bits_from 16 start)
+    (both_bits (message_bits bytes) (replicate 16 0) (all_message_bits bytes) zeros) (number_bits 16 start))
 
 length-remainder : (start : ℕ) (bytes : List ℕ) → length (remainder start bytes) ≡ 16
 unfolding remainder
 length-remainder start bytes =
     length-divided (8 * length bytes) 16 (added (message_bits bytes ++ replicate 16 0) (bits_from 16 start))
-    (omega (arith, length-added (message_bits bytes ++ replicate 16 0) (bits_from 16 start), length-append (message_bits bytes) (replicate 16 0), length-message_bits bytes))
+    (omega (
+      arith,
+      length-added (message_bits bytes ++ replicate 16 0) (bits_from 16 start),
+      length-append (message_bits bytes) (replicate 16 0),
+      length-message_bits bytes,
+    ))
 
 pub crc_fits : (bytes : List ℕ) → crc bytes < 2 ^ 16
 unfolding crc
 crc_fits bytes =
-    let long : length (added (remainder 0xffff bytes) (replicate 16 1)) ≡ 16 = omega (arith, length-added (remainder 0xffff bytes) (replicate 16 1), length-remainder 0xffff bytes) in
-    let small : number_of (added (remainder 0xffff bytes) (replicate 16 1)) < 2 ^ length (added (remainder 0xffff bytes) (replicate 16 1)) =
-    number_small (added (remainder 0xffff bytes) (replicate 16 1)) (added_bits (remainder 0xffff bytes) (replicate 16 1) (remainder_bits 0xffff bytes) ones) in
+    let long : length (added (remainder 0xffff bytes) (replicate 16 1))
+    ≡ 16 = omega (arith, length-added (remainder 0xffff bytes) (replicate 16 1), length-remainder 0xffff bytes) in
+    let small : number_of (added (remainder 0xffff bytes) (replicate 16 1))
+    < 2 ^ length (added (remainder 0xffff bytes) (replicate 16 1)) =
+    number_small (added (remainder 0xffff bytes) (replicate 16 1))
+    (added_bits (remainder 0xffff bytes) (replicate 16 1) (remainder_bits 0xffff bytes) ones) in
     rw long at small

@@ -23,7 +23,8 @@ role_word i = if i % 5 == 1 then codes "router" else codes "device"
 
 -- The word of the install code of node i, from 1: a key and its CRC, low byte first.
 abbrev pub code_word : ℕ → ℕ → List ℕ
-code_word start i = encode_upper (key_at start (4 * (i - 1))) ++ encode_upper (to_le_bytes w16 (crc (key_at start (4 * (i - 1)))))
+code_word start i = encode_upper (key_at start (4 * (i - 1)))
+    ++ encode_upper (to_le_bytes w16 (crc (key_at start (4 * (i - 1)))))
 
 -- ---- lines
 
@@ -32,7 +33,8 @@ centre_line = codes "node c centre 00124B0000000001 0000 8 4"
 
 abbrev pub node_line : ℕ → List ℕ
 node_line i =
-    line_of_words (codes "node" ∷ node_name i ∷ role_word i ∷ eui_text (0x00124B0000000100 + i) ∷ short_text (0x1000 + i) ∷ codes "8" ∷ codes "4" ∷ [])
+    line_of_words (codes "node" ∷ node_name i ∷ role_word i ∷ eui_text (0x00124B0000000100 + i)
+    ∷ short_text (0x1000 + i) ∷ codes "8" ∷ codes "4" ∷ [])
 
 abbrev pub code_line : ℕ → ℕ → List ℕ
 code_line start i = line_of_words (codes "code" ∷ node_name i ∷ code_word start i ∷ [])
@@ -55,8 +57,10 @@ deliver_line frame i = line_of_words (codes "deliver" ∷ decimal frame ∷ node
 abbrev pub join_lines : ℕ → ℕ → List (List ℕ)
 join_lines start i =
     line_of_words (codes "provision" ∷ node_name i ∷ code_word start i ∷ []) ∷ own_line (codes "knock") i
-    ∷ line_of_words (codes "child" ∷ codes "c" ∷ node_name i ∷ codes "join" ∷ []) ∷ deliver_line (5 * (i - 1) + 1) i ∷ own_line (codes "timer") i
-    ∷ deliver_line (5 * (i - 1) + 2) 0 ∷ deliver_line (5 * (i - 1) + 3) i ∷ own_line (codes "timer") i ∷ deliver_line (5 * (i - 1) + 4) 0
+    ∷ line_of_words (codes "child" ∷ codes "c" ∷ node_name i ∷ codes "join" ∷ []) ∷ deliver_line (5 * (i - 1) + 1) i
+    ∷ own_line (codes "timer") i
+    ∷ deliver_line (5 * (i - 1) + 2) 0 ∷ deliver_line (5 * (i - 1) + 3) i ∷ own_line (codes "timer") i
+    ∷ deliver_line (5 * (i - 1) + 4) 0
     ∷ deliver_line (5 * (i - 1) + 5) i ∷ []
 
 -- `say NAME FFFF BYTE`.
@@ -78,7 +82,8 @@ step_of n kind i p q =
 
 -- The four words of a step from that place on: the kind, the node, p and q.
 abbrev pub step_lines : ℕ → ℕ → ℕ → List (List ℕ)
-step_lines start n place = step_of n (word start place % 8) (word start (place + 1) % (n + 1)) (word start (place + 2)) (word start (place + 3))
+step_lines start n place = step_of n (word start place % 8) (word start (place + 1) % (n + 1))
+    (word start (place + 2)) (word start (place + 3))
 
 -- The two words of a late delivery from that place on: the node and p.
 abbrev pub late_line : ℕ → ℕ → ℕ → List ℕ
@@ -86,12 +91,16 @@ late_line start n place = deliver_line (1 + word start (place + 1) % (20 * n)) (
 
 abbrev pub rollover_lines : ℕ → List (List ℕ)
 rollover_lines n =
-    codes "remove d1 via c" ∷ codes "roll" ∷ (map (λ k. codes "timer c") (range_with_len 0 (n - 1)) ++ codes "switch" ∷ [])
+    codes "remove d1 via c" ∷ codes "roll"
+    ∷ (map (λ k. codes "timer c") (range_with_len 0 (n - 1)) ++ codes "switch" ∷ [])
 
 unfoldable pub made_lines : ℕ → ℕ → List (List ℕ)
 made_lines start n =
-    centre_line ∷ (map node_line (range_with_len 1 n) ++ (map (λ i. code_line start i) (range_with_len 1 n) ++ (netkey_line start n
-    ∷ (map (λ j. draw_line start n j) (range_with_len 0 (n + 1)) ++ (flat_map (λ i. join_lines start i) (range_with_len 1 n)
+    centre_line
+    ∷ (map node_line (range_with_len 1 n)
+    ++ (map (λ i. code_line start i) (range_with_len 1 n) ++ (netkey_line start n
+    ∷ (map (λ j. draw_line start n j) (range_with_len 0 (n + 1))
+    ++ (flat_map (λ i. join_lines start i) (range_with_len 1 n)
     ++ (flat_map (λ k. step_lines start n (8 * n + 8 + 4 * k)) (range_with_len 0 (20 * n)) ++ (rollover_lines n
     ++ map (λ k. late_line start n (88 * n + 8 + 2 * k)) (range_with_len 0 (10 * n)))))))))
 

@@ -15,7 +15,9 @@ word start place = word_at 4 (key_words start) 0 place
 -- Four words as a key, each low byte first.
 abbrev pub key_at : ℕ → ℕ → List ℕ
 key_at start place =
-    to_le_bytes w32 (word start place) ++ (to_le_bytes w32 (word start (place + 1)) ++ (to_le_bytes w32 (word start (place + 2)) ++ to_le_bytes w32 (word start (place + 3))))
+    to_le_bytes w32 (word start place)
+    ++ (to_le_bytes w32 (word start (place + 1))
+    ++ (to_le_bytes w32 (word start (place + 2)) ++ to_le_bytes w32 (word start (place + 3))))
 
 -- A generator that stands at a word.
 pub record Place : Type 0 where

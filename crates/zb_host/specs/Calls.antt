@@ -20,8 +20,10 @@ pub record Words (C D : Type 0) : Type 1 where
   pub payload : List Change → List ℕ
 
 -- the ghost members of a core and of a disk, as such words
-abbrev pub words_of : {C D : Type 0} → Telling → (D → View) → Restoring → (C → List ℕ) → (List Change → List ℕ) → Words C D
-words_of tells state restored recorded payload = record { tells = tells; state = state; restored = restored; recorded = recorded; payload = payload }
+abbrev pub words_of : {C D : Type 0} → Telling → (D → View) → Restoring → (C → List ℕ) → (List Change → List ℕ)
+    → Words C D
+words_of tells state restored recorded payload =
+    record { tells = tells; state = state; restored = restored; recorded = recorded; payload = payload }
 
 -- what `handle` answers: the changes and what goes out, or why not
 abbrev pub Handled : Type 0 → Type 0
@@ -33,28 +35,40 @@ handled (Ok u) p = Ok (p.changes, p.out)
 handled (Err fault) p = Err (told_fault fault p.changes)
 
 -- a call of `handle`
-pub record IsHandled {C D O : Type 0} (words : Words C D) (before : Hosted C) (old : D) (result : Handled O) (after : Hosted C) (new : D) : Type 0 where
+pub record IsHandled {C D O : Type 0} (words : Words C D) (before : Hosted C) (old : D) (result : Handled O)
+    (after : Hosted C) (new : D) : Type 0 where
   -- a crash at any moment leaves the old record's core or the new one's
-  pub moments : (s : Standing) → IsCurrent words.restored words.recorded s before (words.state old) → IsTrue words.tells.content
-      → LeavesOnly (words.state old) (words.state new) (StandsForEither words.restored (words.recorded before.core) (words.recorded after.core))
+  pub moments : (s : Standing) → IsCurrent words.restored words.recorded s before (words.state old)
+      → IsTrue words.tells.content
+      → LeavesOnly (words.state old) (words.state new)
+      (StandsForEither words.restored (words.recorded before.core) (words.recorded after.core))
   -- what goes out goes out where every image represents the new, with its changes in one commit
-  pub kept : IfOk result (λ r. r.0.items ≢ [] → (s : Standing) → IsCurrent words.restored words.recorded s before (words.state old) → IsTrue words.tells.content
-      → IsCurrent words.restored words.recorded (next_standing (writes_whole before) s (words.recorded after.core) (words.payload r.0.items)) after (words.state new))
+  pub kept : IfOk result
+      (λ r. r.0.items ≢ [] → (s : Standing) → IsCurrent words.restored words.recorded s before (words.state old)
+      → IsTrue words.tells.content
+      → IsCurrent words.restored words.recorded
+      (next_standing (writes_whole before) s (words.recorded after.core) (words.payload r.0.items)) after
+      (words.state new))
   -- and without changes where every image represents the same as before
-  pub idle_kept : IfOk result (λ r. r.0.items ≡ [] → (s : Standing) → IsCurrent words.restored words.recorded s before (words.state old)
+  pub idle_kept : IfOk result
+      (λ r. r.0.items ≡ [] → (s : Standing) → IsCurrent words.restored words.recorded s before (words.state old)
       → IsCurrent words.restored words.recorded s after (words.state new))
   -- after a fault it is down
   pub down : OnErr result (after.store ≡ None)
 
 -- a call of `boot`
-pub record IsBooted {C D : Type 0} (words : Words C D) (old : D) (result : Result (Hosted C) HostFault) (new : D) : Type 0 where
+pub record IsBooted {C D : Type 0} (words : Words C D) (old : D) (result : Result (Hosted C) HostFault) (new : D) :
+    Type 0 where
   -- its core is that of the record and the entries that the disk as it reads represents
   pub answer : IfOk result (λ h. IsTrue words.tells.content → (s : Standing) × (stands (words.state old).seen ≡ Some s)
-      × Gives words.restored s (words.recorded h.core) × (h.store ≡ Some (place_of s)) × (h.whole ≡ (get_or s.content 0 0 == 1)))
+      × Gives words.restored s (words.recorded h.core) × (h.store ≡ Some (place_of s))
+      × (h.whole ≡ (get_or s.content 0 0 == 1)))
   -- and every image represents them
-  pub ready : IfOk result (λ h. AllWhole (words.state old) → IsTrue words.tells.content → (s : Standing) → stands (words.state old).seen ≡ Some s
+  pub ready : IfOk result (λ h. AllWhole (words.state old) → IsTrue words.tells.content → (s : Standing)
+      → stands (words.state old).seen ≡ Some s
       → IsCurrent words.restored words.recorded s h (words.state new))
   -- each image at each moment represents what one at entry stood for
-  pub moments : AllWhole (words.state old) → IsTrue words.tells.content → LeavesOnly (words.state old) (words.state new) (WasThere (words.state old))
+  pub moments : AllWhole (words.state old) → IsTrue words.tells.content
+      → LeavesOnly (words.state old) (words.state new) (WasThere (words.state old))
   -- when each fault comes
   pub faults : IfErr result (IsBootFault words.tells words.restored (words.state old) (words.state new))

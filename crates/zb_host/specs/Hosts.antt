@@ -44,7 +44,8 @@ pub record Hosted (C : Type 0) : Type 0 where
 
 -- A host that is up: its store is ready, and what is held gives its core. Where its next commit may be an entry, the
 -- record isn't of the first version.
-pub record IsCurrent {C : Type 0} (restored : Restoring) (recorded : C → List ℕ) (s : Standing) (host : Hosted C) (v : View) : Type 0 where
+pub record IsCurrent {C : Type 0} (restored : Restoring) (recorded : C → List ℕ) (s : Standing) (host : Hosted C)
+    (v : View) : Type 0 where
   pub place : host.store ≡ Some (place_of s)
   pub held : IsHeld s v
   pub gives_it : Gives restored s (recorded host.core)
@@ -61,7 +62,8 @@ writes_whole host = host.whole || is_full host.store
 
 -- its next commit would need one generation more than there are
 abbrev pub IsWorn : {C : Type 0} → Hosted C → Type 0
-IsWorn host = (writes_whole host ≡ true) × ((p : Place) × (host.store ≡ Some p) × (p.generation ≡ 18446744073709551615))
+IsWorn host = (writes_whole host ≡ true)
+    × ((p : Place) × (host.store ≡ Some p) × (p.generation ≡ 18446744073709551615))
 
 -- what the next commit leaves
 abbrev pub next_standing : Bool → Standing → List ℕ → List ℕ → Standing
@@ -80,7 +82,8 @@ CommitStop tells false s content payload old new = AppendStop tells s payload ol
 
 -- where a commit stopped, and that what it would have left gives the core of the record
 abbrev pub HasStopped : Telling → Restoring → Bool → Standing → List ℕ → List ℕ → View → View → Type 0
-HasStopped tells restored whole s content payload old new = CommitStop tells whole s content payload old new × Gives restored (next_standing whole s content payload) content
+HasStopped tells restored whole s content payload old new = CommitStop tells whole s content payload old new
+    × Gives restored (next_standing whole s content payload) content
 
 -- of a commit: the disk, where its count of faults rose, or the last generation where the whole record is written
 abbrev pub IsCommitFault : Bool → Place → View → View → StoreFault → Type 0
@@ -91,11 +94,16 @@ IsCommitFault whole store old new NoMemory = ⊥
 IsCommitFault whole store old new Worn = (whole ≡ true) × (store.generation ≡ 18446744073709551615)
 
 -- a record or a payload is stored
-pub record IsCommit (tells : Telling) (whole : Bool) (content payload : List ℕ) (store : Place) (old new : View) (result : Result Place StoreFault) : Type 0 where
-  pub moments : (s : Standing) → IsReady store s old → IsTrue tells.content → LeavesOnly old new (IsWholeEither s (next_standing whole s content payload))
-  pub ready : IfOk result (λ after. (s : Standing) → IsReady store s old → IsTrue tells.content → IsReady after (next_standing whole s content payload) new)
+pub record IsCommit (tells : Telling) (whole : Bool) (content payload : List ℕ) (store : Place) (old new : View)
+    (result : Result Place StoreFault) : Type 0 where
+  pub moments : (s : Standing) → IsReady store s old → IsTrue tells.content
+      → LeavesOnly old new (IsWholeEither s (next_standing whole s content payload))
+  pub ready : IfOk result
+      (λ after. (s : Standing) → IsReady store s old → IsTrue tells.content
+      → IsReady after (next_standing whole s content payload) new)
   pub through : OnOk result (WentThrough tells (commit_calls whole) old new)
-  pub stopped : IsErrOf result Disk → (s : Standing) → IsReady store s old → IsTrue tells.content → IsTrue tells.steady → CommitStop tells whole s content payload old new
+  pub stopped : IsErrOf result Disk → (s : Standing) → IsReady store s old → IsTrue tells.content
+      → IsTrue tells.steady → CommitStop tells whole s content payload old new
   pub faults : IfErr result (IsCommitFault whole store old new)
   pub worn : whole ≡ true → store.generation ≡ 18446744073709551615 → result ≡ Err Worn
   pub untouched : IsErrOf result Worn → IsStill old new

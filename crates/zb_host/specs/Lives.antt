@@ -22,7 +22,8 @@ disk_after (boot result disk) = disk
 -- the call keeps its contract; `handle` is called of a host that is up, and `boot` at any time
 abbrev pub IsCall : {C D O : Type 0} → Words C D → Option (Hosted C) → D → Call C D O → Type 0
 IsCall words host old (boot result disk) = IsBooted words old result disk
-IsCall words (Some host) old (handle result after disk) = IsTrue (is_some host.store) × IsHandled words host old result after disk
+IsCall words (Some host) old (handle result after disk) = IsTrue (is_some host.store)
+    × IsHandled words host old result after disk
 IsCall words None old (handle result after disk) = ⊥
 
 -- A step: a call returns; or a crash cuts it short at a moment of it, and it never returns: then it is given as it
@@ -36,10 +37,13 @@ pub data Step (C D O : Type 0) : Type 0 where
 -- images
 abbrev pub AreSteps : {C D O : Type 0} → Words C D → Option (Hosted C) → D → List (Step C D O) → Type 0
 AreSteps words host disk [] = Unit {0}
-AreSteps words host disk (returns call ∷ steps) = IsCall words host disk call × AreSteps words (host_after call) (disk_after call) steps
+AreSteps words host disk (returns call ∷ steps) = IsCall words host disk call
+    × AreSteps words (host_after call) (disk_after call) steps
 AreSteps words host disk (cut_short call left ∷ steps) = IsCall words host disk call
-    × ((c : List ℕ) → (words.state left).images c → (words.state (disk_after call)).since (words.state disk).moment c) × AreSteps words None left steps
-AreSteps words host disk (crash left ∷ steps) = ((c : List ℕ) → (words.state left).images c → (words.state disk).images c) × AreSteps words None left steps
+    × ((c : List ℕ) → (words.state left).images c → (words.state (disk_after call)).since (words.state disk).moment c)
+    × AreSteps words None left steps
+AreSteps words host disk (crash left ∷ steps) =
+    ((c : List ℕ) → (words.state left).images c → (words.state disk).images c) × AreSteps words None left steps
 
 -- an event that was handled: the record of the core that it leads to, and whether what it sends was handed out
 pub record Event : Type 0 where
@@ -76,11 +80,16 @@ IsSpared Worn = ⊥
 -- first of the events since the boot before it, and nothing was handed out from the others.
 abbrev pub EachGoesOn : {C D O : Type 0} → (C → List ℕ) → List ℕ → List Event → List (Step C D O) → Type 0
 EachGoesOn recorded booted es [] = Unit {0}
-EachGoesOn recorded booted es (returns (boot (Ok host) disk) ∷ steps) = IsAfterFirst booted es (recorded host.core) × EachGoesOn recorded (recorded host.core) [] steps
-EachGoesOn recorded booted es (returns (boot (Err fault) disk) ∷ steps) = IsSpared fault × EachGoesOn recorded booted es steps
-EachGoesOn recorded booted es (returns (handle (Ok r) after disk) ∷ steps) = EachGoesOn recorded booted (es ++ record { after = recorded after.core; out = true } ∷ []) steps
-EachGoesOn recorded booted es (returns (handle (Err fault) after disk) ∷ steps) = EachGoesOn recorded booted (es ++ record { after = recorded after.core; out = false } ∷ []) steps
-EachGoesOn recorded booted es (cut_short (handle result after disk) left ∷ steps) = EachGoesOn recorded booted (es ++ record { after = recorded after.core; out = false } ∷ []) steps
+EachGoesOn recorded booted es (returns (boot (Ok host) disk) ∷ steps) = IsAfterFirst booted es (recorded host.core)
+    × EachGoesOn recorded (recorded host.core) [] steps
+EachGoesOn recorded booted es (returns (boot (Err fault) disk) ∷ steps) = IsSpared fault
+    × EachGoesOn recorded booted es steps
+EachGoesOn recorded booted es (returns (handle (Ok r) after disk) ∷ steps) =
+    EachGoesOn recorded booted (es ++ record { after = recorded after.core; out = true } ∷ []) steps
+EachGoesOn recorded booted es (returns (handle (Err fault) after disk) ∷ steps) =
+    EachGoesOn recorded booted (es ++ record { after = recorded after.core; out = false } ∷ []) steps
+EachGoesOn recorded booted es (cut_short (handle result after disk) left ∷ steps) =
+    EachGoesOn recorded booted (es ++ record { after = recorded after.core; out = false } ∷ []) steps
 EachGoesOn recorded booted es (cut_short (boot result disk) left ∷ steps) = EachGoesOn recorded booted es steps
 EachGoesOn recorded booted es (crash left ∷ steps) = EachGoesOn recorded booted es steps
 

@@ -14,14 +14,16 @@ found_text (Some place) = then (codes "found") ++ then (decimal place.0) ++ then
 
 -- the line of a key, and those of keys, the first of which has the number `number`
 unfoldable pub key_line : ℕ → RingKey → List ℕ
-key_line number known = codes "key" ++ then (decimal number) ++ then (encode_upper known.key.0) ++ found_text known.found ++ 10 ∷ []
+key_line number known = codes "key" ++ then (decimal number) ++ then (encode_upper known.key.0)
+    ++ found_text known.found ++ 10 ∷ []
 
 abbrev pub keys_text : ℕ → List RingKey → List ℕ
 keys_text number [] = []
 keys_text number (known ∷ more) = key_line number known ++ keys_text (number + 1) more
 
 unfoldable pub end_line : ℕ → ℕ → ℕ → List ℕ
-end_line frames keys rounds = codes "end" ++ then (decimal frames) ++ then (decimal keys) ++ then (decimal rounds) ++ 10 ∷ []
+end_line frames keys rounds = codes "end" ++ then (decimal frames) ++ then (decimal keys) ++ then (decimal rounds)
+    ++ 10 ∷ []
 
 -- what follows the lines of the frames
 abbrev pub tail_text : ℕ → Ring → List ℕ
@@ -29,7 +31,8 @@ tail_text frames ring = keys_text 1 ring.keys ++ end_line frames (length ring.ke
 
 -- The report under a ring: what each frame shows under its keys, the keys, and the counts
 abbrev pub report_text : Capture → Ring → List ℕ
-report_text c ring = frames_text 1 (frames_shown c.addrs (keys_of ring.keys) c.frames) ++ tail_text (length c.frames) ring
+report_text c ring = frames_text 1 (frames_shown c.addrs (keys_of ring.keys) c.frames)
+    ++ tail_text (length c.frames) ring
 
 -- The report on a capture, under its last ring.
 unfoldable pub report_of : Capture → List ℕ

@@ -25,8 +25,10 @@ use Rattle.zb_inspect_frame.specs.declared.shown.Below.{Below}
 use Rattle.zb_inspect_frame.specs.declared.shown.Shown.{Shown}
 
 -- what others give under further keys is what they give, and one key before them changes nothing in that
-one_before : (s : Envelope) (source : Eui) (number m : ℕ) (key : Key) (fresh : List Key) (found : Option (List ℕ)) (more before : Finding)
-    → more ≡ tried m fresh before → unsealed s source number key found more ≡ tried m fresh (unsealed s source number key found before)
+one_before : (s : Envelope) (source : Eui) (number m : ℕ) (key : Key) (fresh : List Key) (found : Option (List ℕ))
+    (more before : Finding)
+    → more ≡ tried m fresh before → unsealed s source number key found more
+    ≡ tried m fresh (unsealed s source number key found before)
 one_before s source number m key fresh None more before same = same
 one_before s source number m key fresh (Some content) more before same = refl
 
@@ -34,9 +36,11 @@ opened_further : (s : Envelope) (source : Eui) (number : ℕ) (keys fresh : List
     → opened_by s source number (keys ++ fresh) ≡ tried (number + length keys) fresh (opened_by s source number keys)
 opened_further s source number [] fresh = ap (λ m. opened_by s source m fresh) (sym (add-zero number))
 opened_further s source number (key ∷ keys) fresh =
-    one_before s source (number + 1) (number + suc (length keys)) key fresh (content_of s (sealing_key s.label key.0) source)
+    one_before s source (number + 1) (number + suc (length keys)) key fresh
+    (content_of s (sealing_key s.label key.0) source)
     (opened_by s source (number + 1) (keys ++ fresh)) (opened_by s source (number + 1) keys)
-    (opened_further s source (number + 1) keys fresh ∙ ap (λ m. tried m fresh (opened_by s source (number + 1) keys)) (omega arith))
+    (opened_further s source (number + 1) keys fresh ∙ ap (λ m. tried m fresh (opened_by s source (number + 1) keys))
+    (omega arith))
 
 -- Trying keys and then further ones is trying all of them.
 pub tried_further : (number : ℕ) (keys fresh : List Key) (x : Finding)
@@ -95,7 +99,8 @@ tunnel_of_frame : (number : ℕ) (fresh : List Key) (aps : Finding) (f : ApsFram
 tunnel_of_frame number fresh Malformed f i e = e
 tunnel_of_frame number fresh NotSecured f i e = e
 tunnel_of_frame number fresh NoSource f i e = e
-tunnel_of_frame number fresh (Closed s source) f i e = absurd (closed_tunnel (aps_shape.kind f.header.control == 1) i e)
+tunnel_of_frame number fresh (Closed s source) f i e =
+    absurd (closed_tunnel (aps_shape.kind f.header.control == 1) i e)
 tunnel_of_frame number fresh (Opened key term) f i e = e
 
 pub tunnel_kept : (number : ℕ) (fresh : List Key) (aps : Finding) (r : Result ApsFrame ApsError) (i : ArrayVec ℕ)
@@ -104,9 +109,12 @@ tunnel_kept number fresh aps (Err fault) i e = e
 tunnel_kept number fresh aps (Ok f) i e = tunnel_of_frame number fresh aps f i e
 
 -- the frame in a Tunnel that was known, under further keys
-inner_of_tunnel : (known : ℕ) (keys : List Key) (given : Option Eui) (aps : Finding) (r : Result ApsFrame ApsError) (t : Option (ArrayVec ℕ)) (inner : Finding)
-    → known ≤ length keys → tunnelled aps r ≡ t → option_map (λ (i : ArrayVec ℕ). found_aps (take known keys) given i.items) t ≡ Some inner
-    → option_map (λ (i : ArrayVec ℕ). found_aps keys given i.items) (tunnelled (tried known (drop known keys) aps) r) ≡ Some (tried known (drop known keys) inner)
+inner_of_tunnel : (known : ℕ) (keys : List Key) (given : Option Eui) (aps : Finding) (r : Result ApsFrame ApsError)
+    (t : Option (ArrayVec ℕ)) (inner : Finding)
+    → known ≤ length keys → tunnelled aps r ≡ t
+    → option_map (λ (i : ArrayVec ℕ). found_aps (take known keys) given i.items) t ≡ Some inner
+    → option_map (λ (i : ArrayVec ℕ). found_aps keys given i.items) (tunnelled (tried known (drop known keys) aps) r)
+    ≡ Some (tried known (drop known keys) inner)
 inner_of_tunnel known keys given aps r None inner within is e = cc
 inner_of_tunnel known keys given aps r (Some i) inner within is e =
     ap (option_map (λ (j : ArrayVec ℕ). found_aps keys given j.items)) (tunnel_kept known (drop known keys) aps r i is)
@@ -120,17 +128,24 @@ same_below : (a b : Finding) (i j : Option Finding) → a ≡ b → i ≡ j → 
 same_below a b i j e f = cc
 
 -- What is below the NWK layer, where a Tunnel was known in it.
-pub below_further : (known : ℕ) (keys : List Key) (given : Option Eui) (payload : List ℕ) (seen : Below) (inner : Finding)
+pub below_further : (known : ℕ) (keys : List Key) (given : Option Eui) (payload : List ℕ) (seen : Below)
+    (inner : Finding)
     → known ≤ length keys → seen ≡ below (take known keys) given payload → seen.inner ≡ Some inner
-    → below keys given payload ≡ record { aps = tried known (drop known keys) seen.aps; inner = Some (tried known (drop known keys) inner) }
+    → below keys given payload
+    ≡ record { aps = tried known (drop known keys) seen.aps; inner = Some (tried known (drop known keys) inner) }
 below_further known keys given payload seen inner within is some =
     let aps : found_aps keys given payload ≡ tried known (drop known keys) seen.aps =
-    sym (aps_further known keys given payload within) ∙ ap (λ (b : Below). tried known (drop known keys) b.aps) (sym is) in
-    let inside = inner_of_tunnel known keys given (found_aps (take known keys) given payload) (aps_reading.frame_of payload)
+    sym (aps_further known keys given payload within) ∙ ap (λ (b : Below). tried known (drop known keys) b.aps)
+    (sym is) in
+    let inside = inner_of_tunnel known keys given (found_aps (take known keys) given payload)
+    (aps_reading.frame_of payload)
     (tunnelled (found_aps (take known keys) given payload) (aps_reading.frame_of payload)) inner within refl
     (ap (λ (b : Below). b.inner) (sym is) ∙ some) in
-    let inner_is : option_map (λ (i : ArrayVec ℕ). found_aps keys given i.items) (tunnelled (found_aps keys given payload) (aps_reading.frame_of payload)) ≡ Some (tried known (drop known keys) inner) =
-    ap (λ (a : Finding). option_map (λ (i : ArrayVec ℕ). found_aps keys given i.items) (tunnelled a (aps_reading.frame_of payload))) (sym (aps_further known keys given payload within)) ∙ inside in
+    let inner_is : option_map (λ (i : ArrayVec ℕ). found_aps keys given i.items)
+    (tunnelled (found_aps keys given payload) (aps_reading.frame_of payload))
+    ≡ Some (tried known (drop known keys) inner) =
+    ap (λ (a : Finding). option_map (λ (i : ArrayVec ℕ). found_aps keys given i.items)
+    (tunnelled a (aps_reading.frame_of payload))) (sym (aps_further known keys given payload within)) ∙ inside in
     same_below _ _ _ _ aps inner_is
 
 from_old : (f g : List ℕ → Below) (o now : Option (List ℕ)) (old new : Below) → option_map f o ≡ Some old
@@ -145,7 +160,8 @@ abbrev frame_of : List ℕ → Result NwkFrame NwkError
 frame_of bytes = nwk_reading.frame_of bytes
 
 pub shown_parts : (addrs : List (Short × Eui)) (keys : List Key) (nwk : Finding) (r : Result NwkFrame NwkError)
-    → shown_under addrs keys nwk r ≡ record { nwk = nwk; below = option_map (below keys (given_in addrs r)) (payload_in nwk r) }
+    → shown_under addrs keys nwk r
+    ≡ record { nwk = nwk; below = option_map (below keys (given_in addrs r)) (payload_in nwk r) }
 shown_parts addrs keys nwk (Err fault) = refl
 shown_parts addrs keys nwk (Ok f) = refl
 
@@ -153,19 +169,24 @@ abbrev whole : Finding → Option Below → Shown
 whole nwk b = record { nwk = nwk; below = b }
 
 -- A frame that is looked at again below its NWK layer.
-pub frame_anew : (known : ℕ) (addrs : List (Short × Eui)) (keys : List Key) (bytes : List ℕ) (seen : Shown) → known ≤ length keys
+pub frame_anew : (known : ℕ) (addrs : List (Short × Eui)) (keys : List Key) (bytes : List ℕ) (seen : Shown) → known
+    ≤ length keys
     → seen ≡ frame_shown addrs (take known keys) bytes
     → shown_under addrs keys (tried known (drop known keys) seen.nwk) (frame_of bytes) ≡ frame_shown addrs keys bytes
 unfolding frame_shown
 frame_anew known addrs keys bytes seen within is =
     let first = take known keys in
-    let nwk_is : seen.nwk ≡ found_nwk first bytes = ap (λ (s : Shown). s.nwk) (is ∙ shown_parts addrs first (found_nwk first bytes) (frame_of bytes)) in
-    ap (λ n. shown_under addrs keys n (frame_of bytes)) (ap (tried known (drop known keys)) nwk_is ∙ nwk_further known keys bytes within)
+    let nwk_is : seen.nwk ≡ found_nwk first bytes =
+    ap (λ (s : Shown). s.nwk) (is ∙ shown_parts addrs first (found_nwk first bytes) (frame_of bytes)) in
+    ap (λ n. shown_under addrs keys n (frame_of bytes))
+    (ap (tried known (drop known keys)) nwk_is ∙ nwk_further known keys bytes within)
 
 -- A frame whose data was known under the first keys.
-frame_further : (known : ℕ) (addrs : List (Short × Eui)) (keys : List Key) (bytes : List ℕ) (seen : Shown) (old new : Below)
+frame_further : (known : ℕ) (addrs : List (Short × Eui)) (keys : List Key) (bytes : List ℕ) (seen : Shown)
+    (old new : Below)
     → known ≤ length keys → seen ≡ frame_shown addrs (take known keys) bytes → seen.below ≡ Some old
-    → IfSome (payload_in (tried known (drop known keys) seen.nwk) (frame_of bytes)) (λ p. new ≡ below keys (given_in addrs (frame_of bytes)) p)
+    → IfSome (payload_in (tried known (drop known keys) seen.nwk) (frame_of bytes))
+    (λ p. new ≡ below keys (given_in addrs (frame_of bytes)) p)
     → record { nwk = tried known (drop known keys) seen.nwk; below = Some new } ≡ frame_shown addrs keys bytes
 unfolding frame_shown
 frame_further known addrs keys bytes seen old new within is some under =
@@ -175,18 +196,22 @@ frame_further known addrs keys bytes seen old new within is some under =
     let parts = is ∙ shown_parts addrs first (found_nwk first bytes) r in
     let nwk_is : seen.nwk ≡ found_nwk first bytes = ap (λ (s : Shown). s.nwk) parts in
     let was : option_map (below first (given_in addrs r)) (payload_in seen.nwk r) ≡ Some old =
-    ap (λ n. option_map (below first (given_in addrs r)) (payload_in n r)) nwk_is ∙ sym (ap (λ (s : Shown). s.below) parts) ∙ some in
-    let all : tried known fresh seen.nwk ≡ found_nwk keys bytes = ap (tried known fresh) nwk_is ∙ nwk_further known keys bytes within in
+    ap (λ n. option_map (below first (given_in addrs r)) (payload_in n r)) nwk_is ∙ sym
+    (ap (λ (s : Shown). s.below) parts) ∙ some in
+    let all : tried known fresh seen.nwk ≡ found_nwk keys bytes = ap (tried known fresh) nwk_is ∙ nwk_further known
+    keys bytes within in
     let now = from_old (below first (given_in addrs r)) (below keys (given_in addrs r)) (payload_in seen.nwk r)
     (payload_in (tried known fresh seen.nwk) r) old new was (payload_kept known fresh seen.nwk r) under in
-    ap (λ b. whole (tried known fresh seen.nwk) b) (sym now) ∙ sym (shown_parts addrs keys (tried known fresh seen.nwk) r)
+    ap (λ b. whole (tried known fresh seen.nwk) b) (sym now) ∙ sym
+    (shown_parts addrs keys (tried known fresh seen.nwk) r)
     ∙ ap (λ n. shown_under addrs keys n r) all
 
 if_some : (now : Option (List ℕ)) (Q : List ℕ → Type 0) → ((p : List ℕ) → now ≡ Some p → Q p) → IfSome now Q
 if_some None Q each = tt
 if_some (Some p) Q each = each p refl
 
-old_is : (f : List ℕ → Below) (o now : Option (List ℕ)) (old : Below) → option_map f o ≡ Some old → ((p : List ℕ) → o ≡ Some p → now ≡ Some p)
+old_is : (f : List ℕ → Below) (o now : Option (List ℕ)) (old : Below) → option_map f o ≡ Some old
+    → ((p : List ℕ) → o ≡ Some p → now ≡ Some p)
     → (p : List ℕ) → now ≡ Some p → old ≡ f p
 old_is f None now old e keeps p is = cc
 old_is f (Some q) now old e keeps p is = let kept : now ≡ Some q = keeps q refl in cc
@@ -194,8 +219,10 @@ old_is f (Some q) now old e keeps p is = let kept : now ≡ Some q = keeps q ref
 -- The same, where `nwk` is what the NWK layer is found to be under all keys: what was known below it, and what is
 -- known then.
 
-pub below_before : (known : ℕ) (addrs : List (Short × Eui)) (keys : List Key) (bytes : List ℕ) (seen : Shown) (nwk : Finding) (old : Below)
-    → seen ≡ frame_shown addrs (take known keys) bytes → nwk ≡ tried known (drop known keys) seen.nwk → seen.below ≡ Some old
+pub below_before : (known : ℕ) (addrs : List (Short × Eui)) (keys : List Key) (bytes : List ℕ) (seen : Shown)
+    (nwk : Finding) (old : Below)
+    → seen ≡ frame_shown addrs (take known keys) bytes → nwk ≡ tried known (drop known keys) seen.nwk → seen.below
+    ≡ Some old
     → IfSome (payload_in nwk (frame_of bytes)) (λ p. old ≡ below (take known keys) (given_in addrs (frame_of bytes)) p)
 unfolding frame_shown
 below_before known addrs keys bytes seen nwk old is found some =
@@ -205,19 +232,26 @@ below_before known addrs keys bytes seen nwk old is found some =
     let parts = is ∙ shown_parts addrs first (found_nwk first bytes) r in
     let nwk_is : seen.nwk ≡ found_nwk first bytes = ap (λ (s : Shown). s.nwk) parts in
     let was : option_map (below first (given_in addrs r)) (payload_in seen.nwk r) ≡ Some old =
-    ap (λ n. option_map (below first (given_in addrs r)) (payload_in n r)) nwk_is ∙ sym (ap (λ (s : Shown). s.below) parts) ∙ some in
+    ap (λ n. option_map (below first (given_in addrs r)) (payload_in n r)) nwk_is ∙ sym
+    (ap (λ (s : Shown). s.below) parts) ∙ some in
     let P : Finding → Type 0 = λ n. IfSome (payload_in n r) (λ p. old ≡ below first (given_in addrs r) p) in
-    subst P (sym found) (if_some (payload_in (tried known fresh seen.nwk) r) (λ p. old ≡ below first (given_in addrs r) p)
-    (old_is (below first (given_in addrs r)) (payload_in seen.nwk r) (payload_in (tried known fresh seen.nwk) r) old was
+    subst P (sym found)
+    (if_some (payload_in (tried known fresh seen.nwk) r) (λ p. old ≡ below first (given_in addrs r) p)
+    (old_is (below first (given_in addrs r)) (payload_in seen.nwk r) (payload_in (tried known fresh seen.nwk) r) old
+    was
     (payload_kept known fresh seen.nwk r)))
 
-pub frame_found : (known : ℕ) (addrs : List (Short × Eui)) (keys : List Key) (bytes : List ℕ) (seen : Shown) (nwk : Finding) (old new : Below)
-    → known ≤ length keys → seen ≡ frame_shown addrs (take known keys) bytes → nwk ≡ tried known (drop known keys) seen.nwk → seen.below ≡ Some old
+pub frame_found : (known : ℕ) (addrs : List (Short × Eui)) (keys : List Key) (bytes : List ℕ) (seen : Shown)
+    (nwk : Finding) (old new : Below)
+    → known ≤ length keys → seen ≡ frame_shown addrs (take known keys) bytes → nwk
+    ≡ tried known (drop known keys) seen.nwk → seen.below ≡ Some old
     → IfSome (payload_in nwk (frame_of bytes)) (λ p. new ≡ below keys (given_in addrs (frame_of bytes)) p)
     → record { nwk = nwk; below = Some new } ≡ frame_shown addrs keys bytes
 frame_found known addrs keys bytes seen nwk old new within is found some under =
-    let P : Finding → Type 0 = λ n. IfSome (payload_in n (frame_of bytes)) (λ p. new ≡ below keys (given_in addrs (frame_of bytes)) p) in
-    ap (λ n. whole n (Some new)) found ∙ frame_further known addrs keys bytes seen old new within is some (subst P found under)
+    let P : Finding → Type 0 = λ n. IfSome (payload_in n (frame_of bytes))
+    (λ p. new ≡ below keys (given_in addrs (frame_of bytes)) p) in
+    ap (λ n. whole n (Some new)) found ∙ frame_further known addrs keys bytes seen old new within is some
+    (subst P found under)
 
 none_either : (b : Bool) (f : List ℕ → Below) → option_map f (if b then None else None) ≡ None
 none_either true f = refl
@@ -229,23 +263,32 @@ closed_below addrs keys Malformed f e = cc
 closed_below addrs keys NotSecured f e = cc
 closed_below addrs keys NoSource f e = cc
 closed_below addrs keys (Closed s source) f e =
-    ap (whole (Closed s source)) (none_either (nwk_shape.kind f.header.control == 0) (below keys (source_known addrs f.header)))
+    ap (whole (Closed s source))
+    (none_either (nwk_shape.kind f.header.control == 0) (below keys (source_known addrs f.header)))
 closed_below addrs keys (Opened key term) f e = cc
 
 -- Nothing is known below a closed layer.
-pub closed_frame : (addrs : List (Short × Eui)) (keys : List Key) (nwk : Finding) (r : Result NwkFrame NwkError) → is_closed nwk ≡ true
+pub closed_frame : (addrs : List (Short × Eui)) (keys : List Key) (nwk : Finding) (r : Result NwkFrame NwkError)
+    → is_closed nwk ≡ true
     → shown_under addrs keys nwk r ≡ whole nwk None
 closed_frame addrs keys nwk (Err fault) e = refl
 closed_frame addrs keys nwk (Ok f) e = closed_below addrs keys nwk f e
 
 -- What is below the NWK layer, where no Tunnel was known in it.
-pub below_anew : (o : Option (List ℕ)) (known : ℕ) (keys : List Key) (given : Option Eui) (seen : Below) (aps : Finding) (inner : Option Finding)
+pub below_anew : (o : Option (List ℕ)) (known : ℕ) (keys : List Key) (given : Option Eui) (seen : Below)
+    (aps : Finding) (inner : Option Finding)
     → known ≤ length keys → aps ≡ tried known (drop known keys) seen.aps
     → IfSome o (λ payload. seen ≡ below (take known keys) given payload)
-    → IfSome o (λ payload. inner ≡ option_map (λ (i : ArrayVec ℕ). found_aps keys given i.items) (tunnelled aps (aps_reading.frame_of payload)))
+    → IfSome o
+    (λ payload. inner ≡ option_map (λ (i : ArrayVec ℕ). found_aps keys given i.items)
+    (tunnelled aps (aps_reading.frame_of payload)))
     → IfSome o (λ payload. both aps inner ≡ below keys given payload)
 below_anew None known keys given seen aps inner within is before under = tt
 below_anew (Some payload) known keys given seen aps inner within is before under =
     let all : aps ≡ found_aps keys given payload =
-    is ∙ ap (λ (b : Below). tried known (drop known keys) b.aps) before ∙ aps_further known keys given payload within in
-    same_below _ _ _ _ all (under ∙ ap (λ (a : Finding). option_map (λ (i : ArrayVec ℕ). found_aps keys given i.items) (tunnelled a (aps_reading.frame_of payload))) all)
+    is ∙ ap (λ (b : Below). tried known (drop known keys) b.aps) before ∙ aps_further known keys given payload within
+    in
+    same_below _ _ _ _ all
+    (under ∙ ap
+    (λ (a : Finding). option_map (λ (i : ArrayVec ℕ). found_aps keys given i.items)
+    (tunnelled a (aps_reading.frame_of payload))) all)

@@ -15,7 +15,8 @@ alike a b = grind arith
 same : (a b : ℕ) → (a == b) ≡ true → a ≡ b
 same a b e = grind arith
 
-first_value : (b : Bool) (old : Option Eui) (x : Eui) → (b ≡ true → old ≡ None) → cond b (Some x) old ≡ option_or old (if b then Some x else None)
+first_value : (b : Bool) (old : Option Eui) (x : Eui) → (b ≡ true → old ≡ None) → cond b (Some x) old
+    ≡ option_or old (if b then Some x else None)
 first_value true old x none = rw (none refl) refl
 first_value false None x none = refl
 first_value false (Some y) x none = refl
@@ -32,17 +33,20 @@ pub nothing_there : (o : Option Eui) → is_some o ≡ false → o ≡ None
 nothing_there None h = refl
 nothing_there (Some x) h = cc
 
-or_next : (o : Option Eui) (b : Bool) (x : Eui) (rest : Option Eui) → option_or (option_or o (if b then Some x else None)) rest ≡ option_or o (if b then Some x else rest)
+or_next : (o : Option Eui) (b : Bool) (x : Eui) (rest : Option Eui)
+    → option_or (option_or o (if b then Some x else None)) rest ≡ option_or o (if b then Some x else rest)
 or_next None true x rest = refl
 or_next None false x rest = refl
 or_next (Some y) b x rest = refl
 
-left_of : (list : List (Short × Eui)) (i : ℕ) → i < length list → drop i list ≡ get_or list i (record { 0 = 0 }, record { 0 = 0 }) ∷ drop (i + 1) list
+left_of : (list : List (Short × Eui)) (i : ℕ) → i < length list → drop i list
+    ≡ get_or list i (record { 0 = 0 }, record { 0 = 0 }) ∷ drop (i + 1) list
 left_of list i within = rw add-one (drop-cons list i (record { 0 = 0 }, record { 0 = 0 }) within)
 
 -- one address of a list more
 pub next_noted : (old new : BTreeMap Short Eui) (list : List (Short × Eui)) (i q : ℕ) → i < length list
-    → known_of new q ≡ option_or (known_of old q) (if (get_or list i (record { 0 = 0 }, record { 0 = 0 })).0.0 == q then Some (get_or list i (record { 0 = 0 }, record { 0 = 0 })).1 else None)
+    → known_of new q ≡ option_or (known_of old q) (if (get_or list i (record { 0 = 0 }, record { 0 = 0 })).0.0 == q
+    then Some (get_or list i (record { 0 = 0 }, record { 0 = 0 })).1 else None)
     → option_or (known_of old q) (addr_of (record { 0 = q }) (drop i list)) ≡ addr_of (record { 0 = q }) list
     → option_or (known_of new q) (addr_of (record { 0 = q }) (drop (i + 1) list)) ≡ addr_of (record { 0 = q }) list
 next_noted old new list i q within told so_far =

@@ -23,15 +23,18 @@ use Rattle.zb_inspect_frame.specs.Shows.{below, frame_shown, shown_under, tunnel
 abbrev nwk_by : List (Short × Eui) → List Key → Result NwkFrame NwkError → Shown
 nwk_by addrs keys r = shown_under addrs keys (tried 0 keys (looked (nwk_seen r) None)) r
 
-is_nwk_by : (addrs : List (Short × Eui)) (keys : List Key) (bytes : List ℕ) → nwk_by addrs keys (nwk_reading.frame_of bytes) ≡ frame_shown addrs keys bytes
+is_nwk_by : (addrs : List (Short × Eui)) (keys : List Key) (bytes : List ℕ)
+    → nwk_by addrs keys (nwk_reading.frame_of bytes) ≡ frame_shown addrs keys bytes
 unfolding frame_shown found_nwk seen_nwk
 is_nwk_by addrs keys bytes = refl
 
-pub frame_read : (addrs : List (Short × Eui)) (keys : List Key) (bytes : List ℕ) (f : NwkFrame) → Ok f ≡ nwk_reading.frame_of bytes
+pub frame_read : (addrs : List (Short × Eui)) (keys : List Key) (bytes : List ℕ) (f : NwkFrame) → Ok f
+    ≡ nwk_reading.frame_of bytes
     → shown_under addrs keys (tried 0 keys (looked (nwk_envelope f f.aux) None)) (Ok f) ≡ frame_shown addrs keys bytes
 frame_read addrs keys bytes f is = ap (nwk_by addrs keys) is ∙ is_nwk_by addrs keys bytes
 
-pub frame_bad : (addrs : List (Short × Eui)) (keys : List Key) (bytes : List ℕ) (e : NwkError) → Err e ≡ nwk_reading.frame_of bytes
+pub frame_bad : (addrs : List (Short × Eui)) (keys : List Key) (bytes : List ℕ) (e : NwkError) → Err e
+    ≡ nwk_reading.frame_of bytes
     → record { nwk = Malformed; below = None } ≡ frame_shown addrs keys bytes
 frame_bad addrs keys bytes e is = ap (nwk_by addrs keys) is ∙ is_nwk_by addrs keys bytes
 
@@ -44,18 +47,24 @@ abbrev both : Finding → Option Finding → Below
 both aps inner = record { aps = aps; inner = inner }
 
 abbrev aps_by : List Key → Option Eui → Result ApsFrame ApsError → Below
-aps_by keys given r = both (tried 0 keys (looked (aps_seen r) given)) (inside keys given (tried 0 keys (looked (aps_seen r) given)) r)
+aps_by keys given r = both (tried 0 keys (looked (aps_seen r) given))
+    (inside keys given (tried 0 keys (looked (aps_seen r) given)) r)
 
-is_aps_by : (keys : List Key) (given : Option Eui) (payload : List ℕ) → aps_by keys given (aps_reading.frame_of payload) ≡ below keys given payload
+is_aps_by : (keys : List Key) (given : Option Eui) (payload : List ℕ)
+    → aps_by keys given (aps_reading.frame_of payload) ≡ below keys given payload
 unfolding found_aps seen_aps
 is_aps_by keys given payload = refl
 
-pub payload_read : (keys : List Key) (given : Option Eui) (payload : List ℕ) (f : ApsFrame) (aps : Finding) (inner : Option Finding)
-    → Ok f ≡ aps_reading.frame_of payload → aps ≡ tried 0 keys (looked (aps_envelope f f.aux) given) → inner ≡ inside keys given aps (Ok f)
+pub payload_read : (keys : List Key) (given : Option Eui) (payload : List ℕ) (f : ApsFrame) (aps : Finding)
+    (inner : Option Finding)
+    → Ok f ≡ aps_reading.frame_of payload → aps ≡ tried 0 keys (looked (aps_envelope f f.aux) given) → inner
+    ≡ inside keys given aps (Ok f)
     → both aps inner ≡ below keys given payload
 payload_read keys given payload f aps inner is found in_it =
-    ap (both aps) in_it ∙ ap (λ a. both a (inside keys given a (Ok f))) found ∙ ap (aps_by keys given) is ∙ is_aps_by keys given payload
+    ap (both aps) in_it ∙ ap (λ a. both a (inside keys given a (Ok f))) found ∙ ap (aps_by keys given) is ∙ is_aps_by
+    keys given payload
 
-pub payload_bad : (keys : List Key) (given : Option Eui) (payload : List ℕ) (e : ApsError) → Err e ≡ aps_reading.frame_of payload
+pub payload_bad : (keys : List Key) (given : Option Eui) (payload : List ℕ) (e : ApsError) → Err e
+    ≡ aps_reading.frame_of payload
     → both Malformed None ≡ below keys given payload
 payload_bad keys given payload e is = ap (aps_by keys given) is ∙ is_aps_by keys given payload

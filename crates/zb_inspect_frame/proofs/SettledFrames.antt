@@ -33,15 +33,19 @@ tried_same number fresh NoSource e = refl
 tried_same number fresh (Closed s source) e = cc
 tried_same number fresh (Opened key term) e = refl
 
-nwk_same : (known : ℕ) (keys : List Key) (bytes : List ℕ) → known ≤ length keys → is_closed (found_nwk (take known keys) bytes) ≡ false
+nwk_same : (known : ℕ) (keys : List Key) (bytes : List ℕ) → known ≤ length keys
+    → is_closed (found_nwk (take known keys) bytes) ≡ false
     → found_nwk keys bytes ≡ found_nwk (take known keys) bytes
 nwk_same known keys bytes within e =
-    sym (nwk_further known keys bytes within) ∙ tried_same known (drop known keys) (found_nwk (take known keys) bytes) e
+    sym (nwk_further known keys bytes within) ∙ tried_same known (drop known keys) (found_nwk (take known keys) bytes)
+    e
 
-aps_same : (known : ℕ) (keys : List Key) (given : Option Eui) (bytes : List ℕ) → known ≤ length keys → is_closed (found_aps (take known keys) given bytes) ≡ false
+aps_same : (known : ℕ) (keys : List Key) (given : Option Eui) (bytes : List ℕ) → known ≤ length keys
+    → is_closed (found_aps (take known keys) given bytes) ≡ false
     → found_aps keys given bytes ≡ found_aps (take known keys) given bytes
 aps_same known keys given bytes within e =
-    sym (aps_further known keys given bytes within) ∙ tried_same known (drop known keys) (found_aps (take known keys) given bytes) e
+    sym (aps_further known keys given bytes within) ∙ tried_same known (drop known keys)
+    (found_aps (take known keys) given bytes) e
 
 abbrev inside : List Key → Option Eui → Option (ArrayVec ℕ) → Option Finding
 inside keys given t = option_map (λ (i : ArrayVec ℕ). found_aps keys given i.items) t
@@ -49,7 +53,8 @@ inside keys given t = option_map (λ (i : ArrayVec ℕ). found_aps keys given i.
 inner_same : (known : ℕ) (keys : List Key) (given : Option Eui) (t : Option (ArrayVec ℕ)) → known ≤ length keys
     → inner_settled (inside (take known keys) given t) ≡ true → inside keys given t ≡ inside (take known keys) given t
 inner_same known keys given None within e = refl
-inner_same known keys given (Some i) within e = ap (λ x. Some x) (aps_same known keys given i.items within (is_false _ e))
+inner_same known keys given (Some i) within e =
+    ap (λ x. Some x) (aps_same known keys given i.items within (is_false _ e))
 
 abbrev both : Finding → Option Finding → Below
 both aps inner = record { aps = aps; inner = inner }
@@ -58,14 +63,16 @@ same_below : (a b : Finding) (i j : Option Finding) → a ≡ b → i ≡ j → 
 same_below a b i j e f = cc
 
 below_same : (known : ℕ) (keys : List Key) (given : Option Eui) (payload : List ℕ) → known ≤ length keys
-    → below_settled (Some (below (take known keys) given payload)) ≡ true → below keys given payload ≡ below (take known keys) given payload
+    → below_settled (Some (below (take known keys) given payload)) ≡ true → below keys given payload
+    ≡ below (take known keys) given payload
 below_same known keys given payload within e =
     let first = take known keys in
     let r = aps_reading.frame_of payload in
     let parts = both_true _ _ e in
     let aps = aps_same known keys given payload within (is_false _ parts.0) in
     same_below _ _ _ _ aps
-    (ap (λ (a : Finding). inside keys given (tunnelled a r)) aps ∙ inner_same known keys given (tunnelled (found_aps first given payload) r) within parts.1)
+    (ap (λ (a : Finding). inside keys given (tunnelled a r)) aps ∙ inner_same known keys given
+    (tunnelled (found_aps first given payload) r) within parts.1)
 
 under_same : (known : ℕ) (keys : List Key) (given : Option Eui) (o : Option (List ℕ)) → known ≤ length keys
     → below_settled (option_map (below (take known keys) given) o) ≡ true
@@ -77,7 +84,8 @@ abbrev whole : Finding → Option Below → Shown
 whole nwk b = record { nwk = nwk; below = b }
 
 pub settled_same : (known : ℕ) (addrs : List (Short × Eui)) (keys : List Key) (bytes : List ℕ) → known ≤ length keys
-    → is_settled (frame_shown addrs (take known keys) bytes) ≡ true → frame_shown addrs keys bytes ≡ frame_shown addrs (take known keys) bytes
+    → is_settled (frame_shown addrs (take known keys) bytes) ≡ true → frame_shown addrs keys bytes
+    ≡ frame_shown addrs (take known keys) bytes
 unfolding frame_shown
 settled_same known addrs keys bytes within e =
     let first = take known keys in
@@ -87,10 +95,12 @@ settled_same known addrs keys bytes within e =
     let parts = both_true _ _ (ap is_settled (sym old) ∙ e) in
     let nwk = nwk_same known keys bytes within (is_false _ parts.0) in
     ap (λ n. shown_under addrs keys n r) nwk ∙ shown_parts addrs keys (found_nwk first bytes) r
-    ∙ ap (whole (found_nwk first bytes)) (under_same known keys given (payload_in (found_nwk first bytes) r) within parts.1)
+    ∙ ap (whole (found_nwk first bytes))
+    (under_same known keys given (payload_in (found_nwk first bytes) r) within parts.1)
     ∙ sym old
 
 pub shows_no_more : (b : Bool) (seen : Shown) → (b ≡ true → is_settled seen ≡ true) → OnTrue b (ShowsNoMore seen)
 shows_no_more false seen settled = tt
 shows_no_more true seen settled =
-    λ known addrs keys bytes within is. settled_same known addrs keys bytes within (ap is_settled (sym is) ∙ settled refl) ∙ sym is
+    λ known addrs keys bytes within is. settled_same known addrs keys bytes within
+    (ap is_settled (sym is) ∙ settled refl) ∙ sym is

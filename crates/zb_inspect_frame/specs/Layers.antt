@@ -26,13 +26,15 @@ looked (Ok s) given = with_source s (source_of s.source given)
 -- a key of a number, with the content that it gives, or else what other keys give
 abbrev pub unsealed : Envelope → Eui → ℕ → Key → Option (List ℕ) → Finding → Finding
 unsealed s source number key None others = others
-unsealed s source number key (Some content) others = Opened number (term_of (record s { text = record { items = content } }) key source)
+unsealed s source number key (Some content) others =
+    Opened number (term_of (record s { text = record { items = content } }) key source)
 
 -- A frame is opened by the first key that opens it; `number` keys stand before these.
 abbrev pub opened_by : Envelope → Eui → ℕ → List Key → Finding
 opened_by s source number [] = Closed s source
 opened_by s source number (key ∷ more) =
-    unsealed s source (number + 1) key (content_of s (sealing_key s.label key.0) source) (opened_by s source (number + 1) more)
+    unsealed s source (number + 1) key (content_of s (sealing_key s.label key.0) source)
+    (opened_by s source (number + 1) more)
 
 abbrev pub tried : ℕ → List Key → Finding → Finding
 tried number keys (Closed s source) = opened_by s source number keys

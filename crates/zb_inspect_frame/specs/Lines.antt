@@ -20,7 +20,8 @@ label_text layer.Aps sealed = then (choices.label_text sealed)
 
 -- SOURCE COUNTER CONTENT
 abbrev pub opened_text : Term → List ℕ
-opened_text term = label_text term.layer term.label ++ then (eui_text term.source.0) ++ then (decimal term.counter) ++ then (bytes_text term.content.items)
+opened_text term = label_text term.layer term.label ++ then (eui_text term.source.0) ++ then (decimal term.counter)
+    ++ then (bytes_text term.content.items)
 
 -- what was found at a layer
 abbrev pub finding_text : Finding → List ℕ

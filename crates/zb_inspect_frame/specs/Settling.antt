@@ -32,4 +32,5 @@ ShowsNoMore seen = (known : ℕ) (addrs : List (Short × Eui)) (keys : List Key)
 
 -- A frame that shows this under some keys shows the same under none.
 abbrev pub ShowsNothing : Shown → Type 0
-ShowsNothing seen = (addrs : List (Short × Eui)) (keys : List Key) (bytes : List ℕ) → seen ≡ frame_shown addrs keys bytes → frame_shown addrs [] bytes ≡ seen
+ShowsNothing seen = (addrs : List (Short × Eui)) (keys : List Key) (bytes : List ℕ) → seen
+    ≡ frame_shown addrs keys bytes → frame_shown addrs [] bytes ≡ seen

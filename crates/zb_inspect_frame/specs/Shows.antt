@@ -61,12 +61,14 @@ tunnelled aps (Ok frame) = option_and_then tunnel_of (command_in aps frame)
 abbrev pub below : List Key → Option Eui → List ℕ → Below
 below keys given payload = record {
   aps = found_aps keys given payload;
-  inner = option_map (λ inner. found_aps keys given inner.items) (tunnelled (found_aps keys given payload) (aps_reading.frame_of payload));
+  inner = option_map (λ inner. found_aps keys given inner.items)
+      (tunnelled (found_aps keys given payload) (aps_reading.frame_of payload));
 }
 
 abbrev pub shown_under : List (Short × Eui) → List Key → Finding → Result NwkFrame NwkError → Shown
 shown_under addrs keys nwk (Err fault) = record { nwk = nwk; below = None }
-shown_under addrs keys nwk (Ok frame) = record { nwk = nwk; below = option_map (below keys (source_known addrs frame.header)) (data_in nwk frame) }
+shown_under addrs keys nwk (Ok frame) =
+    record { nwk = nwk; below = option_map (below keys (source_known addrs frame.header)) (data_in nwk frame) }
 
 -- what a frame shows
 unfoldable pub frame_shown : List (Short × Eui) → List Key → List ℕ → Shown

@@ -20,8 +20,10 @@ use Rattle.zb_inspect_ring.proofs.FreshLeads.{both_true, settled_frames}
 use Rattle.zb_inspect_ring.proofs.Lists.{Half, half_get, half_more, all_at, flat_next}
 
 -- lines that are kept are those under further keys
-pub lines_stay : (known : ℕ) (frames : List (ArrayVec ℕ)) (addrs : List (Short × Eui)) (keys : List Key) (b : Block) (lines : Vec ℕ Global) → known ≤ length keys
-    → Lines lines ≡ b.seen → Sees frames addrs (take known keys) b → StandsFor b.first (found_in frames addrs keys b) (Lines lines)
+pub lines_stay : (known : ℕ) (frames : List (ArrayVec ℕ)) (addrs : List (Short × Eui)) (keys : List Key) (b : Block)
+    (lines : Vec ℕ Global) → known ≤ length keys
+    → Lines lines ≡ b.seen → Sees frames addrs (take known keys) b → StandsFor b.first (found_in frames addrs keys b)
+    (Lines lines)
 lines_stay known frames addrs keys b lines within is seen =
     let P : Seen → Type 0 = λ s. MayStandFor b.first (found_in frames addrs (take known keys) b) s in
     let may = subst P (sym is) seen in
@@ -29,31 +31,41 @@ lines_stay known frames addrs keys b lines within is seen =
     (may.0 ∙ ap (frames_text b.first) (sym same), ap (list_all is_settled) same ∙ may.1)
 
 -- frames that no key opened show what they show under no keys
-pub unopened_frames : (addrs : List (Short × Eui)) (keys : List Key) (frames : List (ArrayVec ℕ)) → list_all is_unopened (frames_shown addrs keys frames) ≡ true
+pub unopened_frames : (addrs : List (Short × Eui)) (keys : List Key) (frames : List (ArrayVec ℕ))
+    → list_all is_unopened (frames_shown addrs keys frames) ≡ true
     → frames_shown addrs [] frames ≡ frames_shown addrs keys frames
 unopened_frames addrs keys [] all = refl
 unopened_frames addrs keys (f ∷ frames) all =
-    let parts = both_true (is_unopened (frame_shown addrs keys f.items)) (list_all is_unopened (frames_shown addrs keys frames)) all in
+    let parts = both_true (is_unopened (frame_shown addrs keys f.items))
+    (list_all is_unopened (frames_shown addrs keys frames)) all in
     ap (λ s. s ∷ frames_shown addrs [] frames) (sym (unopened_same addrs keys f.items parts.0))
     ∙ ap (λ zs. frame_shown addrs keys f.items ∷ zs) (unopened_frames addrs keys frames parts.1)
 
 -- one block more that is looked at
-pub next_half : (frames : List (ArrayVec ℕ)) (addrs : List (Short × Eui)) (keys : List Key) (i : ℕ) (old now : List Block) (d y : Block) → i < length old
-    → Half (IsNext frames addrs keys) i old now → SameFrames (get_or now i d) y → IsShown frames addrs keys y → Half (IsNext frames addrs keys) (i + 1) old (slice_set now i y)
+pub next_half : (frames : List (ArrayVec ℕ)) (addrs : List (Short × Eui)) (keys : List Key) (i : ℕ)
+    (old now : List Block) (d y : Block) → i < length old
+    → Half (IsNext frames addrs keys) i old now → SameFrames (get_or now i d) y → IsShown frames addrs keys y
+    → Half (IsNext frames addrs keys) (i + 1) old (slice_set now i y)
 next_half frames addrs keys i old now d y within half same shown =
     let P : Block → Type 0 = λ b. SameFrames b y in
-    half_more (IsNext frames addrs keys) i old now d y within half (subst P (half_get (IsNext frames addrs keys) i old now d within half) same, shown)
+    half_more (IsNext frames addrs keys) i old now d y within half
+    (subst P (half_get (IsNext frames addrs keys) i old now d within half) same, shown)
 
-pub next_fresh : (frames : List (ArrayVec ℕ)) (addrs : List (Short × Eui)) (keys : List Key) (i : ℕ) (old now : List Block) (d : Block) (before so_far after : List Lead) → i < length old
-    → Half (IsNext frames addrs keys) i old now → so_far ≡ before ++ all_fresh frames addrs keys (take i old) → after ≡ so_far ++ fresh frames addrs keys (get_or now i d)
+pub next_fresh : (frames : List (ArrayVec ℕ)) (addrs : List (Short × Eui)) (keys : List Key) (i : ℕ)
+    (old now : List Block) (d : Block) (before so_far after : List Lead) → i < length old
+    → Half (IsNext frames addrs keys) i old now → so_far ≡ before ++ all_fresh frames addrs keys (take i old) → after
+    ≡ so_far ++ fresh frames addrs keys (get_or now i d)
     → after ≡ before ++ all_fresh frames addrs keys (take (i + 1) old)
 next_fresh frames addrs keys i old now d before so_far after within half was is =
     is ∙ ap (λ zs. zs ++ fresh frames addrs keys (get_or now i d)) was
-    ∙ ap (λ b. before ++ all_fresh frames addrs keys (take i old) ++ fresh frames addrs keys b) (half_get (IsNext frames addrs keys) i old now d within half)
+    ∙ ap (λ b. before ++ all_fresh frames addrs keys (take i old) ++ fresh frames addrs keys b)
+    (half_get (IsNext frames addrs keys) i old now d within half)
     ∙ append_assoc before (all_fresh frames addrs keys (take i old)) (fresh frames addrs keys (get_or old i d))
     ∙ ap (λ zs. before ++ zs) (sym (flat_next (fresh frames addrs keys) old i d within))
 
 -- what the block that comes next was, before any was looked at
-pub still : (P : Block → Type 0) (frames : List (ArrayVec ℕ)) (addrs : List (Short × Eui)) (keys : List Key) (i : ℕ) (old now : List Block) (d : Block) → i < length old
+pub still : (P : Block → Type 0) (frames : List (ArrayVec ℕ)) (addrs : List (Short × Eui)) (keys : List Key) (i : ℕ)
+    (old now : List Block) (d : Block) → i < length old
     → Half (IsNext frames addrs keys) i old now → AllByRecursion P old → P (get_or now i d)
-still P frames addrs keys i old now d within half all = subst P (sym (half_get (IsNext frames addrs keys) i old now d within half)) (all_at P old i d within all)
+still P frames addrs keys i old now d within half all =
+    subst P (sym (half_get (IsNext frames addrs keys) i old now d within half)) (all_at P old i d within all)

@@ -45,17 +45,21 @@ carries_kept number fresh (Opened key term) = same_kept (carried term)
 aps_kept : (known : ℕ) (keys : List Key) (given : Option Eui) (bytes : List ℕ) → known ≤ length keys
     → Kept (carries (found_aps (take known keys) given bytes)) (carries (found_aps keys given bytes))
 aps_kept known keys given bytes within =
-    kept_as _ _ _ (ap carries (aps_further known keys given bytes within)) (carries_kept known (drop known keys) (found_aps (take known keys) given bytes))
+    kept_as _ _ _ (ap carries (aps_further known keys given bytes within))
+    (carries_kept known (drop known keys) (found_aps (take known keys) given bytes))
 
 -- the frame in a Tunnel
 abbrev inside : List Key → Option Eui → Option (ArrayVec ℕ) → Option Finding
 inside keys given t = option_map (λ (i : ArrayVec ℕ). found_aps keys given i.items) t
 
-tunnel_key_kept : (known : ℕ) (keys : List Key) (given : Option Eui) (t now : Option (ArrayVec ℕ)) → known ≤ length keys
-    → ((i : ArrayVec ℕ) → t ≡ Some i → now ≡ Some i) → Kept (key_below (inside (take known keys) given t)) (key_below (inside keys given now))
+tunnel_key_kept : (known : ℕ) (keys : List Key) (given : Option Eui) (t now : Option (ArrayVec ℕ)) → known
+    ≤ length keys
+    → ((i : ArrayVec ℕ) → t ≡ Some i → now ≡ Some i) → Kept (key_below (inside (take known keys) given t))
+    (key_below (inside keys given now))
 tunnel_key_kept known keys given None now within keeps = tt
 tunnel_key_kept known keys given (Some i) now within keeps =
-    kept_as _ _ _ (ap (λ t. key_below (inside keys given t)) (sym (keeps i refl))) (aps_kept known keys given i.items within)
+    kept_as _ _ _ (ap (λ t. key_below (inside keys given t)) (sym (keeps i refl)))
+    (aps_kept known keys given i.items within)
 
 inner_kept : (known : ℕ) (keys : List Key) (given : Option Eui) (payload : List ℕ) → known ≤ length keys
     → Kept (key_below (below (take known keys) given payload).inner) (key_below (below keys given payload).inner)
@@ -63,22 +67,27 @@ inner_kept known keys given payload within =
     let old = found_aps (take known keys) given payload in
     let r = aps_reading.frame_of payload in
     tunnel_key_kept known keys given (tunnelled old r) (tunnelled (found_aps keys given payload) r) within
-    (λ i e. ap (λ a. tunnelled a r) (sym (aps_further known keys given payload within)) ∙ tunnel_kept known (drop known keys) old r i e)
+    (λ i e. ap (λ a. tunnelled a r) (sym (aps_further known keys given payload within)) ∙ tunnel_kept known
+    (drop known keys) old r i e)
 
 nwk_key : (nwk : Finding) (b : Option Below) → (keys_of_layers nwk b).nwk ≡ carries nwk
 nwk_key nwk None = refl
 nwk_key nwk (Some b) = refl
 
-layers_grow : (known : ℕ) (keys : List Key) (given : Option Eui) (nwk now : Finding) (o also : Option (List ℕ)) → known ≤ length keys
+layers_grow : (known : ℕ) (keys : List Key) (given : Option Eui) (nwk now : Finding) (o also : Option (List ℕ))
+    → known ≤ length keys
     → now ≡ tried known (drop known keys) nwk → ((p : List ℕ) → o ≡ Some p → also ≡ Some p)
-    → Grows (keys_of_layers nwk (option_map (below (take known keys) given) o)) (keys_of_layers now (option_map (below keys given) also))
+    → Grows (keys_of_layers nwk (option_map (below (take known keys) given) o))
+    (keys_of_layers now (option_map (below keys given) also))
 layers_grow known keys given nwk now None also within is keeps = record {
   inner = tt;
   aps = tt;
-  nwk = kept_as _ _ _ (ap carries (sym is) ∙ sym (nwk_key now (option_map (below keys given) also))) (carries_kept known (drop known keys) nwk);
+  nwk = kept_as _ _ _ (ap carries (sym is) ∙ sym (nwk_key now (option_map (below keys given) also)))
+      (carries_kept known (drop known keys) nwk);
 }
 layers_grow known keys given nwk now (Some p) also within is keeps =
-    let G : Option (List ℕ) → Type 0 = λ x. Grows (keys_of_layers nwk (Some (below (take known keys) given p))) (keys_of_layers now (option_map (below keys given) x)) in
+    let G : Option (List ℕ) → Type 0 = λ x. Grows (keys_of_layers nwk (Some (below (take known keys) given p)))
+    (keys_of_layers now (option_map (below keys given) x)) in
     subst G (sym (keeps p refl)) (record {
       inner = inner_kept known keys given p within;
       aps = aps_kept known keys given p within;
@@ -95,7 +104,8 @@ carried_grows known addrs keys bytes within =
     let nwk = found_nwk first bytes in
     let all = nwk_further known keys bytes within in
     let G : Shown → Shown → Type 0 = λ s t. Grows (keys_carried s) (keys_carried t) in
-    let grown = layers_grow known keys (given_in addrs r) nwk (found_nwk keys bytes) (payload_in nwk r) (payload_in (found_nwk keys bytes) r) within (sym all)
+    let grown = layers_grow known keys (given_in addrs r) nwk (found_nwk keys bytes) (payload_in nwk r)
+    (payload_in (found_nwk keys bytes) r) within (sym all)
     (λ p e. ap (λ n. payload_in n r) (sym all) ∙ payload_kept known (drop known keys) nwk r p e) in
     subst (λ s. G s (shown_under addrs keys (found_nwk keys bytes) r)) (sym (shown_parts addrs first nwk r))
     (subst (λ t. G (record { nwk = nwk; below = option_map (below first (given_in addrs r)) (payload_in nwk r) }) t)

@@ -14,8 +14,10 @@ use Rattle.zb_inspect_ring.specs.declared.piece.Piece.{Piece}
 use Rattle.zb_inspect_ring.specs.declared.ring.Lead.{Lead}
 use Rattle.zb_inspect_ring.proofs.PieceLists.{counts_append, next_shown, same_counts, same_numbers}
 
-pub next_piece : (frames : List (ArrayVec ℕ)) (addrs : List (Short × Eui)) (keys : List Key) (old new : Piece) → new.number ≡ old.number
-    → AllZip (IsNext frames addrs keys) old.blocks.items new.blocks.items → new.leads.items ≡ all_fresh frames addrs keys old.blocks.items
+pub next_piece : (frames : List (ArrayVec ℕ)) (addrs : List (Short × Eui)) (keys : List Key) (old new : Piece)
+    → new.number ≡ old.number
+    → AllZip (IsNext frames addrs keys) old.blocks.items new.blocks.items → new.leads.items
+    ≡ all_fresh frames addrs keys old.blocks.items
     → IsNextPiece frames addrs keys old new
 next_piece frames addrs keys old new number next found = record {
   number = number;
@@ -26,11 +28,13 @@ next_piece frames addrs keys old new number next found = record {
 }
 
 -- the numbers of two blocks fit together
-pub room_for : (old rest : List Block) (last block : Block) → old ≡ rest ++ last ∷ [] → count_of (old ++ block ∷ []) < 4294967296
+pub room_for : (old rest : List Block) (last block : Block) → old ≡ rest ++ last ∷ [] → count_of (old ++ block ∷ [])
+    < 4294967296
     → last.count + block.count < 4294967296
 room_for old rest last block is room =
     omega (arith, room, counts_append old (block ∷ []), ap count_of is, counts_append rest (last ∷ []))
 
-pub room_more : (blocks : List Block) (block : Block) (done count : ℕ) → count_of blocks ≡ done → done + block.count ≤ count → count ≤ 100001
+pub room_more : (blocks : List Block) (block : Block) (done count : ℕ) → count_of blocks ≡ done → done + block.count
+    ≤ count → count ≤ 100001
     → count_of (blocks ++ block ∷ []) < 4294967296
 room_more blocks block done count is within few = omega (arith, counts_append blocks (block ∷ []), is, within, few)

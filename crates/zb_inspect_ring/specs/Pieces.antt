@@ -45,7 +45,8 @@ count_of (block ∷ more) = block.count + count_of more
 abbrev pub AreSized : ℕ → ℕ → ℕ → List Piece → Type 0
 AreSized size number left [] = left ≡ 0
 AreSized size number left (piece ∷ more) =
-    (piece.number ≡ number) × (0 < left) × (count_of piece.blocks.items ≡ min size left) × AreSized size (number + 1) (left - min size left) more
+    (piece.number ≡ number) × (0 < left) × (count_of piece.blocks.items ≡ min size left)
+    × AreSized size (number + 1) (left - min size left) more
 
 -- so many frames hold the block
 pub record IsWithin (frames : ℕ) (block : Block) : Type 0 where
@@ -129,7 +130,8 @@ IsNext frames addrs keys old new = SameFrames old new × IsShown frames addrs ke
 
 -- A piece that was looked at under the keys, with the keys that were found. It has the same frames, in the same blocks
 -- or in others.
-pub record IsNextPiece (frames : List (ArrayVec ℕ)) (addrs : List (Short × Eui)) (keys : List Key) (old new : Piece) : Type 0 where
+pub record IsNextPiece (frames : List (ArrayVec ℕ)) (addrs : List (Short × Eui)) (keys : List Key) (old new : Piece) :
+    Type 0 where
   pub number : new.number ≡ old.number
   pub numbers : (frame : ℕ) → Numbered frame old.blocks.items → Numbered frame new.blocks.items
   pub count : count_of new.blocks.items ≡ count_of old.blocks.items
@@ -184,8 +186,10 @@ pub record AreJoined (front back joined : Block) : Type 0 where
 pub record IsAdded (old : List Block) (block : Block) (new : List Block) : Type 0 where
   pub numbers : (frame : ℕ) → Numbered frame (old ++ block ∷ []) → Numbered frame new
   pub count : count_of new ≡ count_of (old ++ block ∷ [])
-  pub shown : (frames : List (ArrayVec ℕ)) (addrs : List (Short × Eui)) (keys : List Key) (frame : ℕ) → 1 ≤ frame → Numbered frame (old ++ block ∷ [])
-      → frame + count_of (old ++ block ∷ []) ≤ length frames + 1 → AreShown frames addrs keys (old ++ block ∷ []) → AreShown frames addrs keys new
+  pub shown : (frames : List (ArrayVec ℕ)) (addrs : List (Short × Eui)) (keys : List Key) (frame : ℕ) → 1 ≤ frame
+      → Numbered frame (old ++ block ∷ [])
+      → frame + count_of (old ++ block ∷ []) ≤ length frames + 1 → AreShown frames addrs keys (old ++ block ∷ [])
+      → AreShown frames addrs keys new
 
 -- one block that was not looked at, of these frames
 abbrev pub IsOneUnseen : List Block → ℕ → ℕ → Type 0

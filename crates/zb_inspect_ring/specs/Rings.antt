@@ -69,7 +69,8 @@ ring_after c (suc n) = after_round c (suc n) (ring_after c n)
 unfoldable pub ring_from : ℕ → Capture → ℕ → Ring
 ring_from zero c n = record { keys = ring_after c n; rounds = n }
 ring_from (suc tries) c n =
-    if length (ring_after c (suc n)) == length (ring_after c n) then record { keys = ring_after c (suc n); rounds = suc n } else ring_from tries c (suc n)
+    if length (ring_after c (suc n)) == length (ring_after c n)
+    then record { keys = ring_after c (suc n); rounds = suc n } else ring_from tries c (suc n)
 
 -- The rounds end with the first that adds no key. They do: no ring has more keys than are given and three for each
 -- frame, and each other round adds one.

@@ -53,7 +53,8 @@ below c h = grind (arith, nat_tests)
 -- The characters of a text of digits are its bytes.
 same : (text : List ℕ) → IsUtf8 text → position is_no_digit (chars text) ≡ None → chars text ≡ text
 same text u h =
-    sym (encodes-IsAscii (chars text) (IsAscii-from_all (chars text) (λ k d g. below _ (all_digits (chars text) h k d g))))
+    sym (encodes-IsAscii (chars text)
+    (IsAscii-from_all (chars text) (λ k d g. below _ (all_digits (chars text) h k d g))))
     ∙ encodes-chars text u
 
 digits : (text : List ℕ) (n : ℕ) → IsUtf8 text → position is_no_digit (chars text) ≡ None

@@ -5,7 +5,8 @@ use Rattle.zb_crc.specs.Division.{added, bits_from, number_of, remainder}
 use Rattle.zb_crc.proofs.Division.{bits-xor, number_of-bits}
 use Rattle.zb_install.specs.Crc.{crc}
 
-pub ends : (bytes : List ℕ) (register : ℕ) → register < 2 ^ 16 → bits_from 16 register ≡ remainder 0xffff bytes → bit_xor register 0xffff ≡ crc bytes
+pub ends : (bytes : List ℕ) (register : ℕ) → register < 2 ^ 16 → bits_from 16 register ≡ remainder 0xffff bytes
+    → bit_xor register 0xffff ≡ crc bytes
 unfolding crc
 ends bytes register h e =
     sym (number_of-bits 16 (bit_xor register 0xffff) (xor_lt 16 register 0xffff h (omega arith)))

@@ -11,7 +11,8 @@ use Rattle.zb_seal.specs.declared.envelope.Envelope.{Envelope}
 use Rattle.zb_seal.specs.declared.envelope.OpenError.{OpenError}
 use Rattle.zb_seal.specs.declared.term.Term.{Term}
 
-pub aps_opened : (bytes : List ℕ) (f : ApsFrame) (e : Envelope) (key : Key) (source : Eui) (t : Term) → frame_of bytes ≡ Ok f → Ok e ≡ aps_envelope f f.aux → Ok t ≡ opened e key (Some source)
+pub aps_opened : (bytes : List ℕ) (f : ApsFrame) (e : Envelope) (key : Key) (source : Eui) (t : Term) → frame_of bytes
+    ≡ Ok f → Ok e ≡ aps_envelope f f.aux → Ok t ≡ opened e key (Some source)
     → Some (model_term t) ≡ real.open_aps bytes key.0 source.0
 unfolding real opened_aps seen_aps
 aps_opened bytes f e key source t read is it =

@@ -36,23 +36,37 @@ written role network code nwk aps = record {
   pairs = [];
 }
 
-pub assembled : (role : Role) (network : Option (Bytes × ℕ)) (code : Option (ℕ × Bytes)) (nwk aps : ℕ) (state : State) (nets : List NetKey) (active : Option Bytes) (links : List LinkKey) (pairs : List PairKey)
-    → state ≡ held_state role network → nets ≡ held_nets nwk network → active ≡ option_map (λ (given : Bytes × ℕ). given.0) network → links ≡ held_links code → pairs ≡ []
-    → record (new_node role) { state = state; declared = nwk; aps_limit = aps; aps_next = aps; nets = nets; active = active; links = links; pairs = pairs } ≡ written role network code nwk aps
+pub assembled : (role : Role) (network : Option (Bytes × ℕ)) (code : Option (ℕ × Bytes)) (nwk aps : ℕ) (state : State)
+    (nets : List NetKey) (active : Option Bytes) (links : List LinkKey) (pairs : List PairKey)
+    → state ≡ held_state role network → nets ≡ held_nets nwk network → active
+    ≡ option_map (λ (given : Bytes × ℕ). given.0) network → links ≡ held_links code → pairs ≡ []
+    → record (new_node role) {
+      state = state;
+      declared = nwk;
+      aps_limit = aps;
+      aps_next = aps;
+      nets = nets;
+      active = active;
+      links = links;
+      pairs = pairs;
+    } ≡ written role network code nwk aps
 assembled role network code nwk aps state nets active links pairs a b c d e = rw (a, b, c, d, e) refl
 
 zero_max : (n : ℕ) → max 0 n ≡ n
 zero_max n = omega (arith)
 
-pub first_is : (role : Role) (network : Option (Bytes × ℕ)) (code : Option (ℕ × Bytes)) (nwk aps : ℕ) → written role network code nwk aps ≡ first_state role network code nwk aps
+pub first_is : (role : Role) (network : Option (Bytes × ℕ)) (code : Option (ℕ × Bytes)) (nwk aps : ℕ)
+    → written role network code nwk aps ≡ first_state role network code nwk aps
 unfolding first_state with_declared with_given_net with_given_link
 first_is role None None nwk aps = rw (zero_max aps) refl
 first_is role None (Some given) nwk aps = rw (zero_max aps) refl
 first_is role (Some held) None nwk aps = rw (zero_max aps, zero_max nwk) refl
 first_is role (Some held) (Some given) nwk aps = rw (zero_max aps, zero_max nwk) refl
 
-keeps : (role : Role) (network : Option (Bytes × ℕ)) (code : Option (ℕ × Bytes)) (nwk aps : ℕ) → keeps_rules (written role network code nwk aps) ≡ true
-unfolding keeps_rules rows_have_room keys_differ at_most_two_live active_is_live partners_agree links_are_marked floors_are_kept limits_are_started role_is_kept pairs_are_kept
+keeps : (role : Role) (network : Option (Bytes × ℕ)) (code : Option (ℕ × Bytes)) (nwk aps : ℕ)
+    → keeps_rules (written role network code nwk aps) ≡ true
+unfolding keeps_rules rows_have_room keys_differ at_most_two_live active_is_live partners_agree links_are_marked
+    floors_are_kept limits_are_started role_is_kept pairs_are_kept
 keeps Centre None None nwk aps = refl
 keeps Router None None nwk aps = refl
 keeps Device None None nwk aps = refl
@@ -71,18 +85,23 @@ forgets nwk None = refl
 forgets nwk (Some held) = refl
 
 -- what a boot leaves of it
-booted_written : (role : Role) (network : Option (Bytes × ℕ)) (code : Option (ℕ × Bytes)) (nwk aps : ℕ) → after_boot (written role network code nwk aps) ≡ written role network code nwk aps
+booted_written : (role : Role) (network : Option (Bytes × ℕ)) (code : Option (ℕ × Bytes)) (nwk aps : ℕ)
+    → after_boot (written role network code nwk aps) ≡ written role network code nwk aps
 unfolding after_boot
 booted_written role None None nwk aps = refl
 booted_written role None (Some given) nwk aps = refl
 booted_written role (Some held) None nwk aps = refl
 booted_written role (Some held) (Some given) nwk aps = refl
 
-pub booted : (role : Role) (network : Option (Bytes × ℕ)) (code : Option (ℕ × Bytes)) (nwk aps : ℕ) → after_boot (first_state role network code nwk aps) ≡ first_state role network code nwk aps
-booted role network code nwk aps = subst (λ s. after_boot s ≡ s) (first_is role network code nwk aps) (booted_written role network code nwk aps)
+pub booted : (role : Role) (network : Option (Bytes × ℕ)) (code : Option (ℕ × Bytes)) (nwk aps : ℕ)
+    → after_boot (first_state role network code nwk aps) ≡ first_state role network code nwk aps
+booted role network code nwk aps = subst (λ s. after_boot s ≡ s) (first_is role network code nwk aps)
+    (booted_written role network code nwk aps)
 
-pub declared_sound : (a : Contents) (network : Option (Bytes × ℕ)) (code : Option (ℕ × Bytes)) (nwk aps : ℕ) → state_of a ≡ written (model_role a.role) network code nwk aps
-    → most_nets ≤ vec_capacity a.nets → most_links (model_role a.role) ≤ vec_capacity a.links → most_pairs ≤ vec_capacity a.pairs → IsSound a
+pub declared_sound : (a : Contents) (network : Option (Bytes × ℕ)) (code : Option (ℕ × Bytes)) (nwk aps : ℕ)
+    → state_of a ≡ written (model_role a.role) network code nwk aps
+    → most_nets ≤ vec_capacity a.nets → most_links (model_role a.role) ≤ vec_capacity a.links → most_pairs
+    ≤ vec_capacity a.pairs → IsSound a
 declared_sound a network code nwk aps is nets links pairs = record {
   rules = subst (λ s. keeps_rules s ≡ true) (sym is) (keeps (model_role a.role) network code nwk aps);
   forgets = subst Forgets (sym is) (forgets nwk network);
@@ -97,32 +116,40 @@ own : (n : ℕ) (s : NodeState) (l : Line) → speaker l ≡ n → heard_line n 
 unfolding heard_line
 own n s l is = let same : nat_eq (speaker l) n ≡ true = eq-eqb _ _ is in rw same refl
 
-after_network : (n : ℕ) (s : NodeState) (network : Option (Bytes × ℕ)) → fold (heard_line n) s (net_line n network) ≡ with_network network s
+after_network : (n : ℕ) (s : NodeState) (network : Option (Bytes × ℕ)) → fold (heard_line n) s (net_line n network)
+    ≡ with_network network s
 unfolding speaker after
 after_network n s None = refl
 after_network n s (Some given) = own n s (GivenNet n given.0 given.1) refl
 
-after_code : (n centre : ℕ) (s : NodeState) (code : Option Bytes) → fold (heard_line n) s (link_line centre n code) ≡ with_code (code_with centre code) s
+after_code : (n centre : ℕ) (s : NodeState) (code : Option Bytes) → fold (heard_line n) s (link_line centre n code)
+    ≡ with_code (code_with centre code) s
 unfolding speaker after
 after_code n centre s None = refl
 after_code n centre s (Some key) = own n s (GivenLink n centre key) refl
 
-after_limit : (n : ℕ) (s : NodeState) (layer : Layer) (value : ℕ) → with_declared layer 0 s ≡ s → fold (heard_line n) s (limit_line n layer value) ≡ with_declared layer value s
+after_limit : (n : ℕ) (s : NodeState) (layer : Layer) (value : ℕ) → with_declared layer 0 s ≡ s
+    → fold (heard_line n) s (limit_line n layer value) ≡ with_declared layer value s
 unfolding speaker after
 after_limit n s layer value same = by_test (nat_eq value 0) refl
   where
-    by_test : (b : Bool) → nat_eq value 0 ≡ b → fold (heard_line n) s (if b then [] else Counter n layer value ∷ []) ≡ with_declared layer value s
+    by_test : (b : Bool) → nat_eq value 0 ≡ b → fold (heard_line n) s (if b then [] else Counter n layer value ∷ [])
+        ≡ with_declared layer value s
     by_test true is = sym same ∙ ap (λ v. with_declared layer v s) (sym (eqb-true value 0 is))
     by_test false is = own n s (Counter n layer value) refl
 
-no_nwk : (role : Role) (network : Option (Bytes × ℕ)) (code : Option (ℕ × Bytes)) → with_declared Nwk 0 (with_code code (with_network network (new_node role))) ≡ with_code code (with_network network (new_node role))
+no_nwk : (role : Role) (network : Option (Bytes × ℕ)) (code : Option (ℕ × Bytes))
+    → with_declared Nwk 0 (with_code code (with_network network (new_node role)))
+    ≡ with_code code (with_network network (new_node role))
 unfolding with_declared with_given_net with_given_link
 no_nwk role None None = refl
 no_nwk role None (Some given) = refl
 no_nwk role (Some held) None = refl
 no_nwk role (Some held) (Some given) = refl
 
-no_aps : (role : Role) (network : Option (Bytes × ℕ)) (code : Option (ℕ × Bytes)) (nwk : ℕ) → with_declared Aps 0 (with_declared Nwk nwk (with_code code (with_network network (new_node role)))) ≡ with_declared Nwk nwk (with_code code (with_network network (new_node role)))
+no_aps : (role : Role) (network : Option (Bytes × ℕ)) (code : Option (ℕ × Bytes)) (nwk : ℕ)
+    → with_declared Aps 0 (with_declared Nwk nwk (with_code code (with_network network (new_node role))))
+    ≡ with_declared Nwk nwk (with_code code (with_network network (new_node role)))
 unfolding with_declared with_given_net with_given_link
 no_aps role None None nwk = refl
 no_aps role None (Some given) nwk = refl
@@ -139,14 +166,16 @@ record Speaks (n : ℕ) (lines : List Node → List Line) (of_node : Node → Li
   more : (x : Node) (xs : List Node) → lines (x ∷ xs) ≡ of_node x ++ lines xs
   silent : (x : Node) → has_eui n x ≡ false → (s : NodeState) → fold (heard_line n) s (of_node x) ≡ s
 
-quiet : {n : ℕ} (lines : List Node → List Line) (of_node : Node → List Line) → Speaks n lines of_node → (xs : List Node) → list_any (has_eui n) xs ≡ false → (s : NodeState) → fold (heard_line n) s (lines xs) ≡ s
+quiet : {n : ℕ} (lines : List Node → List Line) (of_node : Node → List Line) → Speaks n lines of_node
+    → (xs : List Node) → list_any (has_eui n) xs ≡ false → (s : NodeState) → fold (heard_line n) s (lines xs) ≡ s
 quiet {n} lines of_node so [] alone s = ap (fold (heard_line n) s) so.none
 quiet {n} lines of_node so (x ∷ xs) alone s =
     let parts = neither (has_eui n x) (list_any (has_eui n) xs) alone in
     ap (fold (heard_line n) s) (so.more x xs) ∙ fold-append (heard_line n) s (of_node x) (lines xs)
     ∙ ap (λ t. fold (heard_line n) t (lines xs)) (so.silent x parts.0 s) ∙ quiet lines of_node so xs parts.1 s
 
-others : (n : ℕ) (x : Node) (xs : List Node) → x.station.eui ≡ n → list_any (same_eui x) xs ≡ false → list_any (has_eui n) xs ≡ false
+others : (n : ℕ) (x : Node) (xs : List Node) → x.station.eui ≡ n → list_any (same_eui x) xs ≡ false
+    → list_any (has_eui n) xs ≡ false
 others n x [] is alone = refl
 others n x (y ∷ ys) is alone =
     let parts = neither (same_eui x y) (list_any (same_eui x) ys) alone in
@@ -160,7 +189,8 @@ others n x (y ∷ ys) is alone =
         by_test false e = refl
         by_test true e = let back : nat_eq a b ≡ true = eq-eqb _ _ (same ∙ sym (eqb-true _ _ e)) in absurd (cc)
 
-once : {n : ℕ} (lines : List Node → List Line) (of_node : Node → List Line) → Speaks n lines of_node → (m : Node) (xs : List Node) → all_apart same_eui xs ≡ true → find (has_eui n) xs ≡ Some m
+once : {n : ℕ} (lines : List Node → List Line) (of_node : Node → List Line) → Speaks n lines of_node
+    → (m : Node) (xs : List Node) → all_apart same_eui xs ≡ true → find (has_eui n) xs ≡ Some m
     → (s t : NodeState) → fold (heard_line n) s (of_node m) ≡ t → fold (heard_line n) s (lines xs) ≡ t
 once {n} lines of_node so m [] apart found s t says = absurd (cc)
 once {n} lines of_node so m (x ∷ xs) apart found s t says =
@@ -168,14 +198,17 @@ once {n} lines of_node so m (x ∷ xs) apart found s t says =
     ap (fold (heard_line n) s) (so.more x xs) ∙ fold-append (heard_line n) s (of_node x) (lines xs)
     ∙ at_test (has_eui n x) refl found (not-true _ parts.0) (once lines of_node so m xs parts.1)
   where
-    at_test : (b : Bool) → has_eui n x ≡ b → (if b then Some x else find (has_eui n) xs) ≡ Some m → list_any (same_eui x) xs ≡ false
-        → (find (has_eui n) xs ≡ Some m → (s t : NodeState) → fold (heard_line n) s (of_node m) ≡ t → fold (heard_line n) s (lines xs) ≡ t)
+    at_test : (b : Bool) → has_eui n x ≡ b → (if b then Some x else find (has_eui n) xs) ≡ Some m
+        → list_any (same_eui x) xs ≡ false
+        → (find (has_eui n) xs ≡ Some m → (s t : NodeState) → fold (heard_line n) s (of_node m) ≡ t
+        → fold (heard_line n) s (lines xs) ≡ t)
         → fold (heard_line n) (fold (heard_line n) s (of_node x)) (lines xs) ≡ t
     at_test true is found alone later =
         let same : x ≡ m = cc in
         ap (λ a. fold (heard_line n) a (lines xs)) (ap (λ y. fold (heard_line n) s (of_node y)) same ∙ says)
         ∙ quiet lines of_node so xs (others n x xs (eqb-true _ _ is) alone) t
-    at_test false is found alone later = ap (λ a. fold (heard_line n) a (lines xs)) (so.silent x is s) ∙ later found s t says
+    at_test false is found alone later = ap (λ a. fold (heard_line n) a (lines xs)) (so.silent x is s) ∙ later found s
+        t says
 
 unheard : (n : ℕ) (s : NodeState) (l : Line) → nat_eq (speaker l) n ≡ false → heard_line n s l ≡ s
 unfolding heard_line
@@ -185,23 +218,38 @@ declares : (n : ℕ) → Speaks n (λ xs. map Declared (map (λ (x : Node). x.st
 unfolding speaker
 declares n = record { none = refl; more = λ x xs. refl; silent = λ x isnt s. unheard n s (Declared x.station) isnt }
 
-networks : (n : ℕ) → Speaks n (λ xs. flat_map (λ (x : Node). net_line x.station.eui x.network) xs) (λ x. net_line x.station.eui x.network)
+networks : (n : ℕ) → Speaks n (λ xs. flat_map (λ (x : Node). net_line x.station.eui x.network) xs)
+    (λ x. net_line x.station.eui x.network)
 unfolding speaker
-networks n = record { none = refl; more = λ x xs. flat_map-cons (λ (x : Node). net_line x.station.eui x.network) x xs; silent = λ x isnt s. by_held x.station.eui isnt s x.network }
+networks n =
+    record {
+      none = refl;
+      more = λ x xs. flat_map-cons (λ (x : Node). net_line x.station.eui x.network) x xs;
+      silent = λ x isnt s. by_held x.station.eui isnt s x.network;
+    }
   where
-    by_held : (eui : ℕ) → nat_eq eui n ≡ false → (s : NodeState) (held : Option (Bytes × ℕ)) → fold (heard_line n) s (net_line eui held) ≡ s
+    by_held : (eui : ℕ) → nat_eq eui n ≡ false → (s : NodeState) (held : Option (Bytes × ℕ))
+        → fold (heard_line n) s (net_line eui held) ≡ s
     by_held eui isnt s None = refl
     by_held eui isnt s (Some given) = unheard n s (GivenNet eui given.0 given.1) isnt
 
-codes : (n centre : ℕ) → Speaks n (λ xs. flat_map (λ (x : Node). link_line centre x.station.eui x.code) xs) (λ x. link_line centre x.station.eui x.code)
+codes : (n centre : ℕ) → Speaks n (λ xs. flat_map (λ (x : Node). link_line centre x.station.eui x.code) xs)
+    (λ x. link_line centre x.station.eui x.code)
 unfolding speaker
-codes n centre = record { none = refl; more = λ x xs. flat_map-cons (λ (x : Node). link_line centre x.station.eui x.code) x xs; silent = λ x isnt s. by_held x.station.eui isnt s x.code }
+codes n centre =
+    record {
+      none = refl;
+      more = λ x xs. flat_map-cons (λ (x : Node). link_line centre x.station.eui x.code) x xs;
+      silent = λ x isnt s. by_held x.station.eui isnt s x.code;
+    }
   where
-    by_held : (eui : ℕ) → nat_eq eui n ≡ false → (s : NodeState) (held : Option Bytes) → fold (heard_line n) s (link_line centre eui held) ≡ s
+    by_held : (eui : ℕ) → nat_eq eui n ≡ false → (s : NodeState) (held : Option Bytes)
+        → fold (heard_line n) s (link_line centre eui held) ≡ s
     by_held eui isnt s None = refl
     by_held eui isnt s (Some key) = unheard n s (GivenLink eui centre key) isnt
 
-silent_limit : (n eui : ℕ) → nat_eq eui n ≡ false → (s : NodeState) (layer : Layer) (value : ℕ) → fold (heard_line n) s (limit_line eui layer value) ≡ s
+silent_limit : (n eui : ℕ) → nat_eq eui n ≡ false → (s : NodeState) (layer : Layer) (value : ℕ)
+    → fold (heard_line n) s (limit_line eui layer value) ≡ s
 unfolding speaker
 silent_limit n eui isnt s layer value = by_test (nat_eq value 0)
   where
@@ -217,13 +265,17 @@ limits n = record {
   none = refl;
   more = λ x xs. flat_map-cons limits_of x xs;
   silent = λ x isnt s.
-      fold-append (heard_line n) s (limit_line x.station.eui Nwk x.start_nwk) (limit_line x.station.eui Aps x.start_aps)
-      ∙ ap (λ t. fold (heard_line n) t (limit_line x.station.eui Aps x.start_aps)) (silent_limit n x.station.eui isnt s Nwk x.start_nwk)
+      fold-append (heard_line n) s (limit_line x.station.eui Nwk x.start_nwk)
+      (limit_line x.station.eui Aps x.start_aps)
+      ∙ ap (λ t. fold (heard_line n) t (limit_line x.station.eui Aps x.start_aps))
+      (silent_limit n x.station.eui isnt s Nwk x.start_nwk)
       ∙ silent_limit n x.station.eui isnt s Aps x.start_aps;
 }
 
-pub start_gives : (w : Schedule) (m : Node) → all_apart same_eui w.nodes ≡ true → find (λ (x : Node). nat_eq x.station.eui m.station.eui) w.nodes ≡ Some m
-    → model.state_of (start w) m.station.eui ≡ first_state m.station.role m.network (code_with (centre_of (stations w)) m.code) m.start_nwk m.start_aps
+pub start_gives : (w : Schedule) (m : Node) → all_apart same_eui w.nodes ≡ true
+    → find (λ (x : Node). nat_eq x.station.eui m.station.eui) w.nodes ≡ Some m
+    → model.state_of (start w) m.station.eui
+    ≡ first_state m.station.role m.network (code_with (centre_of (stations w)) m.code) m.start_nwk m.start_aps
 unfolding model.state_of start first_state speaker after
 start_gives w m apart found =
     let n = m.station.eui in
@@ -238,12 +290,17 @@ start_gives w m apart found =
     let counted = with_declared Nwk m.start_nwk coded in
     let both_limits : fold (heard_line n) coded (limits_of m) ≡ with_declared Aps m.start_aps counted =
     fold-append (heard_line n) coded (limit_line n Nwk m.start_nwk) (limit_line n Aps m.start_aps)
-    ∙ ap (λ s. fold (heard_line n) s (limit_line n Aps m.start_aps)) (after_limit n coded Nwk m.start_nwk (no_nwk m.station.role m.network (code_with centre m.code)))
+    ∙ ap (λ s. fold (heard_line n) s (limit_line n Aps m.start_aps))
+    (after_limit n coded Nwk m.start_nwk (no_nwk m.station.role m.network (code_with centre m.code)))
     ∙ after_limit n counted Aps m.start_aps (no_aps m.station.role m.network (code_with centre m.code) m.start_nwk) in
     fold-append (heard_line n) (new_node Device) names (nets ++ (links ++ counters))
-    ∙ ap (λ s. fold (heard_line n) s (nets ++ (links ++ counters))) (once _ _ (declares n) m w.nodes apart found (new_node Device) begun (own n (new_node Device) (Declared m.station) refl))
+    ∙ ap (λ s. fold (heard_line n) s (nets ++ (links ++ counters)))
+    (once _ _ (declares n) m w.nodes apart found (new_node Device) begun
+    (own n (new_node Device) (Declared m.station) refl))
     ∙ fold-append (heard_line n) begun nets (links ++ counters)
-    ∙ ap (λ s. fold (heard_line n) s (links ++ counters)) (once _ _ (networks n) m w.nodes apart found begun held (after_network n begun m.network))
+    ∙ ap (λ s. fold (heard_line n) s (links ++ counters))
+    (once _ _ (networks n) m w.nodes apart found begun held (after_network n begun m.network))
     ∙ fold-append (heard_line n) held links counters
-    ∙ ap (λ s. fold (heard_line n) s counters) (once _ _ (codes n centre) m w.nodes apart found held coded (after_code n centre held m.code))
+    ∙ ap (λ s. fold (heard_line n) s counters)
+    (once _ _ (codes n centre) m w.nodes apart found held coded (after_code n centre held m.code))
     ∙ once _ _ (limits n) m w.nodes apart found coded (with_declared Aps m.start_aps counted) both_limits

@@ -5,12 +5,14 @@ use mathlib.Core.List.{reverse-cons}
 use Rattle.std.proofs.lemmas.List.{map_push}
 use Rattle.zb_model.specs.State.{last_where}
 
-pub find_map : {X Y : Type 0} (p : Y → Bool) (view : X → Y) (xs : List X) → find p (map view xs) ≡ option_map view (find (λ x. p (view x)) xs)
+pub find_map : {X Y : Type 0} (p : Y → Bool) (view : X → Y) (xs : List X) → find p (map view xs)
+    ≡ option_map view (find (λ x. p (view x)) xs)
 find_map p view [] = refl
 find_map p view (x ∷ xs) = at_test (p (view x)) (find_map p view xs)
   where
     at_test : (b : Bool) → find p (map view xs) ≡ option_map view (find (λ y. p (view y)) xs)
-        → (if b then Some (view x) else find p (map view xs)) ≡ option_map view (if b then Some x else find (λ y. p (view y)) xs)
+        → (if b then Some (view x) else find p (map view xs))
+        ≡ option_map view (if b then Some x else find (λ y. p (view y)) xs)
     at_test true e = refl
     at_test false e = e
 
@@ -20,5 +22,6 @@ reverse-map view (x ∷ xs) =
     reverse-cons (view x) (map view xs) ∙ ap (λ l. l ++ view x ∷ []) (reverse-map view xs)
     ∙ sym (map_push view (reverse xs) x) ∙ sym (ap (map view) (reverse-cons x xs))
 
-pub last_map : {X Y : Type 0} (p : Y → Bool) (view : X → Y) (xs : List X) → last_where p (map view xs) ≡ option_map view (last_where (λ x. p (view x)) xs)
+pub last_map : {X Y : Type 0} (p : Y → Bool) (view : X → Y) (xs : List X) → last_where p (map view xs)
+    ≡ option_map view (last_where (λ x. p (view x)) xs)
 last_map p view xs = ap (find p) (reverse-map view xs) ∙ find_map p view (reverse xs)

@@ -26,7 +26,8 @@ NotStart x = (key : Key) (value : ℕ) → x ≡ change.Start key value → ⊥
 abbrev NotPair : Change → Type 0
 NotPair x = (first second : Eui) (key : Key) → x ≡ change.Pair first second key → ⊥
 
-pub fits_as_ever : (x : Change) (s : NodeState) → NotReserve x → NotStart x → NotPair x → fits (edit x) s ≡ first_fits (edit x) s
+pub fits_as_ever : (x : Change) (s : NodeState) → NotReserve x → NotStart x → NotPair x → fits (edit x) s
+    ≡ first_fits (edit x) s
 unfolding first_fits
 fits_as_ever (change.Reserve layer limit) s reserve start pair = absurd (reserve layer limit refl)
 fits_as_ever (change.Floor layer key sender value) s reserve start pair = refl
@@ -45,7 +46,8 @@ fits_as_ever (change.Removed device) s reserve start pair = refl
 fits_as_ever (change.Start key value) s reserve start pair = absurd (start key value refl)
 fits_as_ever (change.Pair first second key) s reserve start pair = absurd (pair first second key refl)
 
-pub applied_as_ever : (x : Change) (s : NodeState) → NotReserve x → NotInstall x → applied (edit x) s ≡ first_applied (edit x) s
+pub applied_as_ever : (x : Change) (s : NodeState) → NotReserve x → NotInstall x → applied (edit x) s
+    ≡ first_applied (edit x) s
 unfolding first_applied
 applied_as_ever (change.Reserve layer limit) s reserve install = absurd (reserve layer limit refl)
 applied_as_ever (change.Floor layer key sender value) s reserve install = refl
@@ -65,7 +67,8 @@ applied_as_ever (change.Start key value) s reserve install = refl
 applied_as_ever (change.Pair first second key) s reserve install = refl
 
 -- an APS limit fits where it isn't below the one that stands
-pub aps_fits : (limit : ℕ) (s : NodeState) → keeps_rules s ≡ true → fits (Reserve Aps limit) s ≡ nat_le s.aps_limit limit
+pub aps_fits : (limit : ℕ) (s : NodeState) → keeps_rules s ≡ true → fits (Reserve Aps limit) s
+    ≡ nat_le s.aps_limit limit
 unfolding leaves_rules
 aps_fits limit s kept = fits_is (Reserve Aps limit) s kept ∙ by_test (nat_le s.aps_limit limit)
   where

@@ -20,9 +20,11 @@ use Rattle.zb_keys.proofs.ShownLemmas.{filter-map}
 use Rattle.zb_keys.proofs.StateLemmas.{rooms_of, rules_of}
 
 -- the record of the heading and the rows of tables is theirs
-pub same_record : (a : Contents) (h : Heading) (nets : List NetRow) (links : List LinkRow) (pairs : List Pair) → h ≡ heading_of a → nets ≡ a.nets.items → links ≡ a.links.items → pairs ≡ a.pairs.items
+pub same_record : (a : Contents) (h : Heading) (nets : List NetRow) (links : List LinkRow) (pairs : List Pair) → h
+    ≡ heading_of a → nets ≡ a.nets.items → links ≡ a.links.items → pairs ≡ a.pairs.items
     → record_of (state_written a.aps_next h nets links pairs) ≡ record_of (state_of a)
-same_record a h nets links pairs same_heading same_nets same_links same_pairs = rw (same_heading, same_nets, same_links, same_pairs) refl
+same_record a h nets links pairs same_heading same_nets same_links same_pairs =
+    rw (same_heading, same_nets, same_links, same_pairs) refl
 
 most_1024 : (d : Role) → most_links d ≤ 1024
 most_1024 Centre = omega arith
@@ -45,5 +47,10 @@ counts a sound =
       nets = omega (arith, room.nets, length-map a.nets.items net_key);
       links = omega (arith, room.links, length-map a.links.items link_key, most_1024 (model_role a.role));
       pairs = omega (arith, room.pairs, length-map a.pairs.items pair_key);
-      live = omega (arith, two, ap (length {A = NetKey}) (filter-map (λ (x : NetKey). x.live) net_key a.nets.items), length-map (filter (λ (x : NetRow). (net_key x).live) a.nets.items) net_key);
+      live = omega (
+        arith,
+        two,
+        ap (length {A = NetKey}) (filter-map (λ (x : NetKey). x.live) net_key a.nets.items),
+        length-map (filter (λ (x : NetRow). (net_key x).live) a.nets.items) net_key,
+      );
     }

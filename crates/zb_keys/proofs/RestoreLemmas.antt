@@ -15,19 +15,24 @@ key_past_at [] place le = refl
 key_past_at (r ∷ rs) zero le = absurd (omega (arith, le))
 key_past_at (r ∷ rs) (suc place) le = key_past_at rs place (omega (arith, le))
 
-key_within_at : (rows : List NetRow) (place : ℕ) (row : NetRow) → place < length rows → row ≡ get_or rows place row → Some row.key.0 ≡ key_of place (map net_key rows)
+key_within_at : (rows : List NetRow) (place : ℕ) (row : NetRow) → place < length rows → row ≡ get_or rows place row
+    → Some row.key.0 ≡ key_of place (map net_key rows)
 key_within_at [] place row lt e = absurd (omega (arith, lt))
 key_within_at (r ∷ rs) zero row lt e = ap (λ (x : NetRow). Some x.key.0) e
 key_within_at (r ∷ rs) (suc place) row lt e = key_within_at rs place row (omega (arith, lt)) e
 
-pub key_past : (rows : List NetRow) (i place : ℕ) → i ≡ place → length rows ≤ i → None ≡ key_of place (map net_key rows)
+pub key_past : (rows : List NetRow) (i place : ℕ) → i ≡ place → length rows ≤ i → None
+    ≡ key_of place (map net_key rows)
 key_past rows i place same le = subst (λ p. None ≡ key_of p (map net_key rows)) same (key_past_at rows i le)
 
-pub key_within : (rows : List NetRow) (i place : ℕ) (row : NetRow) → i ≡ place → i < length rows → row ≡ get_or rows i row → Some row.key.0 ≡ key_of place (map net_key rows)
-key_within rows i place row same lt e = subst (λ p. Some row.key.0 ≡ key_of p (map net_key rows)) same (key_within_at rows i row lt e)
+pub key_within : (rows : List NetRow) (i place : ℕ) (row : NetRow) → i ≡ place → i < length rows → row
+    ≡ get_or rows i row → Some row.key.0 ≡ key_of place (map net_key rows)
+key_within rows i place row same lt e = subst (λ p. Some row.key.0 ≡ key_of p (map net_key rows)) same
+    (key_within_at rows i row lt e)
 
 -- what was read makes tables
-pub restored_sound : (bytes : List ℕ) (a : Contents) (r : Record) → record_read bytes ≡ Ok (record_seen r) → IsRestored a r → IsSound a
+pub restored_sound : (bytes : List ℕ) (a : Contents) (r : Record) → record_read bytes ≡ Ok (record_seen r)
+    → IsRestored a r → IsSound a
 restored_sound bytes a r read is =
     let kept = read_kept bytes (record_seen r) read in
     record {

@@ -27,7 +27,9 @@ both true b e = (refl, e)
 both false b e = absurd (cc)
 
 -- other network rows in the place of those that stand
-pub becomes_nets : (now : NodeState) (a : Contents) (rows : List NetRow) → length rows ≡ a.nets.len → record (state_of a) { nets = map net_key rows } ≡ now → Becomes now a (record a { nets = with_items a.nets rows })
+pub becomes_nets : (now : NodeState) (a : Contents) (rows : List NetRow) → length rows ≡ a.nets.len
+    → record (state_of a) { nets = map net_key rows } ≡ now
+    → Becomes now a (record a { nets = with_items a.nets rows })
 becomes_nets now a rows long is = record {
   state = ap (λ l. record (state_of a) { nets = map net_key l }) (with_items_is a.nets rows long) ∙ is;
   role = refl;
@@ -37,16 +39,21 @@ becomes_nets now a rows long is = record {
 }
 
 -- and another declared start
-pub becomes_limited : (now : NodeState) (a : Contents) (limit : ℕ) (rows : List NetRow) → length rows ≡ a.nets.len → record (state_of a) { declared = limit; nets = map net_key rows } ≡ now → Becomes now a (record a { declared = limit; nets = with_items a.nets rows })
+pub becomes_limited : (now : NodeState) (a : Contents) (limit : ℕ) (rows : List NetRow) → length rows ≡ a.nets.len
+    → record (state_of a) { declared = limit; nets = map net_key rows } ≡ now
+    → Becomes now a (record a { declared = limit; nets = with_items a.nets rows })
 becomes_limited now a limit rows long is = record {
-  state = ap (λ l. record (state_of a) { declared = limit; nets = map net_key l }) (with_items_is a.nets rows long) ∙ is;
+  state = ap (λ l. record (state_of a) { declared = limit; nets = map net_key l }) (with_items_is a.nets rows long) ∙
+      is;
   role = refl;
   nets_room = omega arith;
   links_room = omega arith;
   pairs_room = omega arith;
 }
 
-pub becomes_links : (now : NodeState) (a : Contents) (rows : List LinkRow) → length rows ≡ a.links.len → record (state_of a) { links = map link_key rows } ≡ now → Becomes now a (record a { links = with_items a.links rows })
+pub becomes_links : (now : NodeState) (a : Contents) (rows : List LinkRow) → length rows ≡ a.links.len
+    → record (state_of a) { links = map link_key rows } ≡ now
+    → Becomes now a (record a { links = with_items a.links rows })
 becomes_links now a rows long is = record {
   state = ap (λ l. record (state_of a) { links = map link_key l }) (with_items_is a.links rows long) ∙ is;
   role = refl;
@@ -55,88 +62,130 @@ becomes_links now a rows long is = record {
   pairs_room = omega arith;
 }
 
-pub reserved_state : (s : NodeState) (key : Bytes) (limit : ℕ) (nets : List NetKey) → s.active ≡ Some key → Forgets s → nets ≡ at_net key (reserved limit) s.nets → record s { nets = nets } ≡ shown (applied (Reserve Nwk limit) s)
+pub reserved_state : (s : NodeState) (key : Bytes) (limit : ℕ) (nets : List NetKey) → s.active ≡ Some key → Forgets s
+    → nets ≡ at_net key (reserved limit) s.nets → record s { nets = nets } ≡ shown (applied (Reserve Nwk limit) s)
 unfolding applied shown
 reserved_state s key limit nets active forgets e =
     rw active (ap (λ l. record s { nets = l; active = Some key }) (e ∙ sym (shown_reserved key limit s.nets forgets)))
 
-pub limited_state : (s : NodeState) (limit : ℕ) (nets : List NetKey) → Forgets s → nets ≡ map (limited limit) s.nets → record s { declared = limit; nets = nets } ≡ shown (with_limit limit s)
+pub limited_state : (s : NodeState) (limit : ℕ) (nets : List NetKey) → Forgets s → nets ≡ map (limited limit) s.nets
+    → record s { declared = limit; nets = nets } ≡ shown (with_limit limit s)
 unfolding shown
-limited_state s limit nets forgets e = ap (λ l. record s { declared = limit; nets = l }) (e ∙ sym (shown_limited limit s.nets forgets))
+limited_state s limit nets forgets e = ap (λ l. record s { declared = limit; nets = l })
+    (e ∙ sym (shown_limited limit s.nets forgets))
 
-pub started_state : (s : NodeState) (key : Bytes) (value : ℕ) (nets : List NetKey) → Forgets s → nets ≡ at_net key (started_at value) s.nets → record s { nets = nets } ≡ shown (applied (Start key value) s)
+pub started_state : (s : NodeState) (key : Bytes) (value : ℕ) (nets : List NetKey) → Forgets s → nets
+    ≡ at_net key (started_at value) s.nets → record s { nets = nets } ≡ shown (applied (Start key value) s)
 unfolding applied shown
-started_state s key value nets forgets e = ap (λ l. record s { nets = l }) (e ∙ sym (shown_started key value s.nets forgets))
+started_state s key value nets forgets e =
+    ap (λ l. record s { nets = l }) (e ∙ sym (shown_started key value s.nets forgets))
 
-pub dropped_state : (s : NodeState) (key : Bytes) (nets : List NetKey) → Forgets s → nets ≡ at_net key (λ r. shown_net (dropped_net r)) s.nets → record s { nets = nets } ≡ shown (applied (Moved (DropNet key)) s)
+pub dropped_state : (s : NodeState) (key : Bytes) (nets : List NetKey) → Forgets s → nets
+    ≡ at_net key (λ r. shown_net (dropped_net r)) s.nets → record s { nets = nets }
+    ≡ shown (applied (Moved (DropNet key)) s)
 unfolding applied shown
 dropped_state s key nets forgets e = ap (λ l. record s { nets = l }) (e ∙ sym (shown_dropped key s.nets forgets))
 
-pub stored_state : (s : NodeState) (key : Bytes) (sender value : ℕ) (nets : List NetKey) → Forgets s → nets ≡ at_net key (live_floor sender value) s.nets → record s { nets = nets } ≡ shown (applied (Floor Nwk key sender value) s)
+pub stored_state : (s : NodeState) (key : Bytes) (sender value : ℕ) (nets : List NetKey) → Forgets s → nets
+    ≡ at_net key (live_floor sender value) s.nets → record s { nets = nets }
+    ≡ shown (applied (Floor Nwk key sender value) s)
 unfolding applied shown
-stored_state s key sender value nets forgets e = ap (λ l. record s { nets = l }) (e ∙ sym (shown_stored key sender value s.nets forgets))
+stored_state s key sender value nets forgets e =
+    ap (λ l. record s { nets = l }) (e ∙ sym (shown_stored key sender value s.nets forgets))
 
-pub installed_state : (s : NodeState) (row : NetKey) (nets : List NetKey) → nets ≡ map shown_net (if has_net row.key s.nets then s.nets else s.nets ++ row ∷ []) → record s { nets = nets } ≡ shown (with_row row s)
+pub installed_state : (s : NodeState) (row : NetKey) (nets : List NetKey) → nets
+    ≡ map shown_net (if has_net row.key s.nets then s.nets else s.nets ++ row ∷ []) → record s { nets = nets }
+    ≡ shown (with_row row s)
 unfolding shown
 installed_state s row nets e = ap (λ l. record s { nets = l }) e
 
-pub linked_state : (s : NodeState) (partner : ℕ) (key : Bytes) (attribute : Attribute) (told : Bool) (links : List LinkKey) → Forgets s → told ≡ is_told s partner → links ≡ with_link partner key attribute told s.links → record s { links = links } ≡ shown (applied (Moved (Row partner key attribute)) s)
+pub linked_state : (s : NodeState) (partner : ℕ) (key : Bytes) (attribute : Attribute) (told : Bool)
+    (links : List LinkKey) → Forgets s → told ≡ is_told s partner → links
+    ≡ with_link partner key attribute told s.links → record s { links = links }
+    ≡ shown (applied (Moved (Row partner key attribute)) s)
 unfolding applied shown
 linked_state s partner key attribute told links forgets told_is e =
     ap (λ l. record s { links = l }) (e ∙ ap (λ t. with_link partner key attribute t s.links) told_is)
-    ∙ ap (λ n. record s { nets = n; links = with_link partner key attribute (is_told s partner) s.links }) (sym forgets)
+    ∙ ap (λ n. record s { nets = n; links = with_link partner key attribute (is_told s partner) s.links })
+    (sym forgets)
 
-pub paired_state : (s : NodeState) (first second : ℕ) (key : Bytes) (pairs : List PairKey) → Forgets s → pairs ≡ with_pair first second key s.pairs → record s { pairs = pairs } ≡ shown (applied (Moved (Pair first second key)) s)
+pub paired_state : (s : NodeState) (first second : ℕ) (key : Bytes) (pairs : List PairKey) → Forgets s → pairs
+    ≡ with_pair first second key s.pairs → record s { pairs = pairs }
+    ≡ shown (applied (Moved (Pair first second key)) s)
 unfolding applied shown
 paired_state s first second key pairs forgets e =
-    ap (λ l. record s { pairs = l }) e ∙ ap (λ n. record s { nets = n; pairs = with_pair first second key s.pairs }) (sym forgets)
+    ap (λ l. record s { pairs = l }) e ∙ ap (λ n. record s { nets = n; pairs = with_pair first second key s.pairs })
+    (sym forgets)
 
-pub removed_state : (s : NodeState) (device : ℕ) (pairs : List PairKey) → Forgets s → pairs ≡ filter (λ (p : PairKey). not (names device p)) s.pairs → record s { pairs = pairs } ≡ shown (applied (Moved (Removed device)) s)
+pub removed_state : (s : NodeState) (device : ℕ) (pairs : List PairKey) → Forgets s → pairs
+    ≡ filter (λ (p : PairKey). not (names device p)) s.pairs → record s { pairs = pairs }
+    ≡ shown (applied (Moved (Removed device)) s)
 unfolding applied shown
 removed_state s device pairs forgets e =
-    ap (λ l. record s { pairs = l }) e ∙ ap (λ n. record s { nets = n; pairs = filter (λ (p : PairKey). not (names device p)) s.pairs }) (sym forgets)
+    ap (λ l. record s { pairs = l }) e ∙ ap
+    (λ n. record s { nets = n; pairs = filter (λ (p : PairKey). not (names device p)) s.pairs }) (sym forgets)
 
 -- whether a partner was told, asked of the program's rows
-pub told_of : (a : Contents) (partner : ℕ) → list_any (λ (r : LinkRow). is_live_of partner (link_key r) && r.told) a.links.items ≡ is_told (state_of a) partner
+pub told_of : (a : Contents) (partner : ℕ) → list_any (λ (r : LinkRow). is_live_of partner (link_key r) && r.told)
+    a.links.items ≡ is_told (state_of a) partner
 unfolding is_told
 told_of a partner = sym (list_any-map (λ (r : LinkKey). is_live_of partner r && r.told) link_key a.links.items)
 
 -- a row that is there is revived, and one that isn't is added
-pub linked_same : (partner : ℕ) (key : Bytes) (attribute : Attribute) (told : Bool) (rows : List LinkRow) → list_any (λ (r : LinkRow). is_link partner key (link_key r)) rows ≡ true
-    → at_link partner key (revived attribute told) (map link_key rows) ≡ with_link partner key attribute told (map link_key rows)
+pub linked_same : (partner : ℕ) (key : Bytes) (attribute : Attribute) (told : Bool) (rows : List LinkRow)
+    → list_any (λ (r : LinkRow). is_link partner key (link_key r)) rows ≡ true
+    → at_link partner key (revived attribute told) (map link_key rows)
+    ≡ with_link partner key attribute told (map link_key rows)
 linked_same partner key attribute told rows some =
-    let present : has_link partner key (map link_key rows) ≡ true = list_any-map (is_link partner key) link_key rows ∙ some in
+    let present : has_link partner key (map link_key rows) ≡ true = list_any-map (is_link partner key) link_key rows ∙
+    some in
     rw present refl
 
-pub linked_new : (partner : ℕ) (key : Bytes) (attribute : Attribute) (told : Bool) (rows : List LinkRow) (row : LinkRow) → list_any (λ (r : LinkRow). is_link partner key (link_key r)) rows ≡ false
-    → link_key row ≡ new_link partner key attribute told → map link_key (rows ++ row ∷ []) ≡ with_link partner key attribute told (map link_key rows)
+pub linked_new : (partner : ℕ) (key : Bytes) (attribute : Attribute) (told : Bool) (rows : List LinkRow)
+    (row : LinkRow) → list_any (λ (r : LinkRow). is_link partner key (link_key r)) rows ≡ false
+    → link_key row ≡ new_link partner key attribute told → map link_key (rows ++ row ∷ [])
+    ≡ with_link partner key attribute told (map link_key rows)
 linked_new partner key attribute told rows row none is =
-    let absent : has_link partner key (map link_key rows) ≡ false = list_any-map (is_link partner key) link_key rows ∙ none in
+    let absent : has_link partner key (map link_key rows) ≡ false = list_any-map (is_link partner key) link_key rows ∙
+    none in
     rw absent (map-append link_key rows (row ∷ []) ∙ ap (λ z. map link_key rows ++ z ∷ []) is)
 
-pub linked_room : (partner : ℕ) (key : Bytes) (attribute : Attribute) (told : Bool) (rows : List LinkRow) (room : ℕ) → list_any (λ (r : LinkRow). is_link partner key (link_key r)) rows ≡ false
+pub linked_room : (partner : ℕ) (key : Bytes) (attribute : Attribute) (told : Bool) (rows : List LinkRow) (room : ℕ)
+    → list_any (λ (r : LinkRow). is_link partner key (link_key r)) rows ≡ false
     → length (with_link partner key attribute told (map link_key rows)) ≤ room → length rows < room
 linked_room partner key attribute told rows room none fits =
-    let absent : has_link partner key (map link_key rows) ≡ false = list_any-map (is_link partner key) link_key rows ∙ none in
+    let absent : has_link partner key (map link_key rows) ≡ false = list_any-map (is_link partner key) link_key rows ∙
+    none in
     let long : length (map link_key rows ++ new_link partner key attribute told ∷ []) ≤ room = rw absent at fits in
-    omega (arith, length-append (map link_key rows) (new_link partner key attribute told ∷ []), length-map rows link_key)
+    omega (
+      arith,
+      length-append (map link_key rows) (new_link partner key attribute told ∷ []),
+      length-map rows link_key,
+    )
 
-pub paired_same : (first second : ℕ) (key : Bytes) (rows : List program.Pair) → list_any (λ (p : program.Pair). names_two first second (pair_key p)) rows ≡ true
+pub paired_same : (first second : ℕ) (key : Bytes) (rows : List program.Pair)
+    → list_any (λ (p : program.Pair). names_two first second (pair_key p)) rows ≡ true
     → map pair_key rows ≡ with_pair first second key (map pair_key rows)
 paired_same first second key rows some =
-    let present : list_any (names_two first second) (map pair_key rows) ≡ true = list_any-map (names_two first second) pair_key rows ∙ some in
+    let present : list_any (names_two first second) (map pair_key rows) ≡ true =
+    list_any-map (names_two first second) pair_key rows ∙ some in
     rw present refl
 
-pub paired_new : (first second : ℕ) (key : Bytes) (rows : List program.Pair) (row : program.Pair) → list_any (λ (p : program.Pair). names_two first second (pair_key p)) rows ≡ false
-    → pair_key row ≡ record { first = first; second = second; key = key } → map pair_key (rows ++ row ∷ []) ≡ with_pair first second key (map pair_key rows)
+pub paired_new : (first second : ℕ) (key : Bytes) (rows : List program.Pair) (row : program.Pair)
+    → list_any (λ (p : program.Pair). names_two first second (pair_key p)) rows ≡ false
+    → pair_key row ≡ record { first = first; second = second; key = key } → map pair_key (rows ++ row ∷ [])
+    ≡ with_pair first second key (map pair_key rows)
 paired_new first second key rows row none is =
-    let absent : list_any (names_two first second) (map pair_key rows) ≡ false = list_any-map (names_two first second) pair_key rows ∙ none in
+    let absent : list_any (names_two first second) (map pair_key rows) ≡ false =
+    list_any-map (names_two first second) pair_key rows ∙ none in
     rw absent (map-append pair_key rows (row ∷ []) ∙ ap (λ z. map pair_key rows ++ z ∷ []) is)
 
-pub paired_room : (first second : ℕ) (key : Bytes) (rows : List program.Pair) (room : ℕ) → list_any (λ (p : program.Pair). names_two first second (pair_key p)) rows ≡ false
+pub paired_room : (first second : ℕ) (key : Bytes) (rows : List program.Pair) (room : ℕ)
+    → list_any (λ (p : program.Pair). names_two first second (pair_key p)) rows ≡ false
     → length (with_pair first second key (map pair_key rows)) ≤ room → length rows < room
 paired_room first second key rows room none fits =
-    let absent : list_any (names_two first second) (map pair_key rows) ≡ false = list_any-map (names_two first second) pair_key rows ∙ none in
+    let absent : list_any (names_two first second) (map pair_key rows) ≡ false =
+    list_any-map (names_two first second) pair_key rows ∙ none in
     let new : PairKey = record { first = first; second = second; key = key } in
     let long : length (map pair_key rows ++ new ∷ []) ≤ room = rw absent at fits in
     omega (arith, length-append (map pair_key rows) (new ∷ []), length-map rows pair_key)
@@ -166,11 +215,23 @@ rules_of s kept =
     let r7 = both (floors_are_kept s) _ r6.1 in
     let r8 = both (limits_are_started s) _ r7.1 in
     let r9 = both (role_is_kept s) _ r8.1 in
-    record { room = r1.0; keys = r2.0; two = r3.0; active = r4.0; partners = r5.0; marks = r6.0; floors = r7.0; limits = r8.0; role_kept = r9.0; pairs_kept = r9.1 }
+    record {
+      room = r1.0;
+      keys = r2.0;
+      two = r3.0;
+      active = r4.0;
+      partners = r5.0;
+      marks = r6.0;
+      floors = r7.0;
+      limits = r8.0;
+      role_kept = r9.0;
+      pairs_kept = r9.1;
+    }
 
 pub rules_back : (s : NodeState) → Rules s → keeps_rules s ≡ true
 unfolding keeps_rules
-rules_back s r = rw (r.room, r.keys, r.two, r.active, r.partners, r.marks, r.floors, r.limits, r.role_kept, r.pairs_kept) refl
+rules_back s r =
+    rw (r.room, r.keys, r.two, r.active, r.partners, r.marks, r.floors, r.limits, r.role_kept, r.pairs_kept) refl
 
 -- how many rows a state may have, from what is shown of it
 pub record Rooms (s : NodeState) : Type 0 where
@@ -191,26 +252,37 @@ rooms s kept =
     let r = rooms_of (shown s) (rules_of (shown s) kept).room in
     record { nets = omega (arith, r.nets, length-map s.nets shown_net); links = r.links; pairs = r.pairs }
 
-pub all_from : {X : Type 0} (p : X → Bool) (P : X → Type 0) → ((x : X) → p x ≡ true → P x) → (xs : List X) → list_all p xs ≡ true → All P xs
+pub all_from : {X : Type 0} (p : X → Bool) (P : X → Type 0) → ((x : X) → p x ≡ true → P x) → (xs : List X)
+    → list_all p xs ≡ true → All P xs
 all_from p P each [] e = All-nil P
-all_from p P each (x ∷ xs) e = let parts = both (p x) (list_all p xs) e in All-cons P x xs (each x parts.0) (all_from p P each xs parts.1)
+all_from p P each (x ∷ xs) e = let parts = both (p x) (list_all p xs) e in All-cons P x xs (each x parts.0)
+    (all_from p P each xs parts.1)
 
 all_have_room : (s : NodeState) → floors_are_kept s ≡ true → All HasRoom s.nets
 unfolding floors_are_kept
-all_have_room s kept = all_from (λ (r : NetKey). nat_le (length r.floors) most_senders && (list_all (λ (f : SenderFloor). nat_lt 0 f.stored) r.floors && senders_ascend r.floors)) HasRoom (λ r e. leb-true (length r.floors) 64 (both (nat_le (length r.floors) most_senders) _ e).0) s.nets kept
+all_have_room s kept =
+    all_from
+    (λ (r : NetKey). nat_le (length r.floors) most_senders
+    && (list_all (λ (f : SenderFloor). nat_lt 0 f.stored) r.floors && senders_ascend r.floors)) HasRoom
+    (λ r e. leb-true (length r.floors) 64 (both (nat_le (length r.floors) most_senders) _ e).0) s.nets kept
 
 -- the rules give room for a floor that is to be stored
-pub floors_room : (s : NodeState) (key : Bytes) (sender value : ℕ) → Forgets s → keeps_rules (shown (applied (Floor Nwk key sender value) s)) ≡ true → All HasRoom (at_net key (live_floor sender value) s.nets)
+pub floors_room : (s : NodeState) (key : Bytes) (sender value : ℕ) → Forgets s
+    → keeps_rules (shown (applied (Floor Nwk key sender value) s)) ≡ true
+    → All HasRoom (at_net key (live_floor sender value) s.nets)
 unfolding applied shown
 floors_room s key sender value forgets kept =
-    subst (All HasRoom) (shown_stored key sender value s.nets forgets) (all_have_room (shown (applied (Floor Nwk key sender value) s)) (rules_of _ kept).floors)
+    subst (All HasRoom) (shown_stored key sender value s.nets forgets)
+    (all_have_room (shown (applied (Floor Nwk key sender value) s)) (rules_of _ kept).floors)
 
-pub sound_again : (now : NodeState) (old new : Contents) → Becomes (shown now) old new → keeps_rules (shown now) ≡ true → IsSound old → IsSound new
+pub sound_again : (now : NodeState) (old new : Contents) → Becomes (shown now) old new → keeps_rules (shown now)
+    ≡ true → IsSound old → IsSound new
 unfolding shown
 sound_again now old new so kept sound = record {
   rules = subst (λ s. keeps_rules s ≡ true) (sym so.state) kept;
   forgets = subst Forgets (sym so.state) (shown_twice now.nets);
   nets_room = omega (arith, so.nets_room, sound.nets_room);
-  links_room = subst (λ r. most_links (model_role r) ≤ vec_capacity new.links) (sym so.role) (omega (arith, so.links_room, sound.links_room));
+  links_room = subst (λ r. most_links (model_role r) ≤ vec_capacity new.links) (sym so.role)
+      (omega (arith, so.links_room, sound.links_room));
   pairs_room = omega (arith, so.pairs_room, sound.pairs_room);
 }

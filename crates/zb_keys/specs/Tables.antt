@@ -26,7 +26,15 @@ state_of a = record {
 
 -- what stands before the rows in the record
 abbrev pub heading_of : Contents → Heading
-heading_of a = record { role = a.role; state = a.state; declared = a.declared; aps_limit = a.aps_limit; rolling = a.rolling; active = a.active }
+heading_of a =
+    record {
+      role = a.role;
+      state = a.state;
+      declared = a.declared;
+      aps_limit = a.aps_limit;
+      rolling = a.rolling;
+      active = a.active;
+    }
 
 -- a row is added where its key has none
 abbrev pub with_row : NetKey → NodeState → NodeState

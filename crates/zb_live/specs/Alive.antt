@@ -27,7 +27,15 @@ tables_of centre = option_map (λ (h : Hosted CoreValue). h.core.tables) centre
 
 -- the session that the program's is
 abbrev pub living_of : Session → Living
-living_of session = record { lines = session.lines; log = session.log; network = session.network; tables = tables_of session.centre; events = session.events; frames = session.frames }
+living_of session =
+    record {
+      lines = session.lines;
+      log = session.log;
+      network = session.network;
+      tables = tables_of session.centre;
+      events = session.events;
+      frames = session.frames;
+    }
 
 -- what a line that says this does to the program's session
 abbrev pub done_by : ℕ → Found → Sentence → Session → Done
@@ -68,7 +76,8 @@ HoldsEither disk before after image = Holds disk before image ⊎ Holds disk aft
 
 -- A line that calls no disk was taken: what it writes stands on the page after what stood there, the session is the
 -- one after it, and the centre is as it was.
-pub record HasSaid (number : ℕ) (sentence : Sentence) (old : Session) (front : List ℕ) (new : Session) (page : List ℕ) : Type 0 where
+pub record HasSaid (number : ℕ) (sentence : Sentence) (old : Session) (front : List ℕ) (new : Session)
+    (page : List ℕ) : Type 0 where
   pub text : (found : Found) → page ≡ front ++ (done_by number found sentence old).text
   pub after : (found : Found) → living_of new ≡ (done_by number found sentence old).after
   pub centre : new.centre ≡ old.centre
@@ -76,7 +85,8 @@ pub record HasSaid (number : ℕ) (sentence : Sentence) (old : Session) (front :
 
 -- A line was taken: what it writes stands on the page after what stood there, and the session is the one after it. Or
 -- it failed. At each moment of it an image holds the session before the line or the one after it.
-pub record HasTaken (found : Found) (session : Session) (d : Done) (old : View) (front : List ℕ) (result : Result (Unit {0}) AdminFault) (next : Session) (new : View) (page : List ℕ) : Type 0 where
+pub record HasTaken (found : Found) (session : Session) (d : Done) (old : View) (front : List ℕ)
+    (result : Result (Unit {0}) AdminFault) (next : Session) (new : View) (page : List ℕ) : Type 0 where
   pub alive : OnOk result (IsAlive found next new)
   pub after : OnOk result (living_of next ≡ d.after)
   pub text : OnOk result (page ≡ front ++ d.text)
@@ -93,9 +103,12 @@ CanGoOn session = CanServe session.network session.centre
 -- When each fault of a line comes. Those of a store that is no centre's come only before the session is open.
 abbrev pub IsLineFault : Telling → Session → View → View → AdminFault → Type 0
 IsLineFault tells session old new Disk = Rose old.faults new.faults
-IsLineFault tells session old new NoStore = (session.centre ≡ None) × (IsTrue tells.content → found_on old.seen ≡ Err NoStore)
-IsLineFault tells session old new (BadStore at) = (session.centre ≡ None) × (IsTrue tells.content → found_on old.seen ≡ Err (BadStore at))
+IsLineFault tells session old new NoStore = (session.centre ≡ None)
+    × (IsTrue tells.content → found_on old.seen ≡ Err NoStore)
+IsLineFault tells session old new (BadStore at) = (session.centre ≡ None)
+    × (IsTrue tells.content → found_on old.seen ≡ Err (BadStore at))
 IsLineFault tells session old new Worn = (host : Hosted CoreValue) × (session.centre ≡ Some host)
-    × (IsTrue tells.content → (c : Setting) (s : NodeState) → IsUp c s host old → (z : Standing) × (stands new.seen ≡ Some z) × IsWornOut z)
+    × (IsTrue tells.content → (c : Setting) (s : NodeState) → IsUp c s host old → (z : Standing)
+    × (stands new.seen ≡ Some z) × IsWornOut z)
 IsLineFault tells session old new Write = ⊥
 IsLineFault tells session old new NoMemory = Unrisen old.faults new.faults

@@ -24,12 +24,14 @@ provided (Some code) device = Ok (DoProvision device (code_key code))
 abbrev pub removed : List Station → Bytes → Bytes → Result Task Cause
 removed nodes name parent =
     if bytes_eq name parent then Err UnknownNode
-    else with_node (device_named name nodes) (λ device. with_node (parent_named parent nodes) (λ via. Ok (DoRemove device via)))
+    else with_node (device_named name nodes)
+    (λ device. with_node (parent_named parent nodes) (λ via. Ok (DoRemove device via)))
 
 abbrev pub shared : List Station → Bytes → Bytes → Result Task Cause
 shared nodes name partner =
     if bytes_eq name partner then Err UnknownNode
-    else with_node (device_named name nodes) (λ device. with_node (device_named partner nodes) (λ other. Ok (DoShare device other)))
+    else with_node (device_named name nodes)
+    (λ device. with_node (device_named partner nodes) (λ other. Ok (DoShare device other)))
 
 -- The task, where these nodes are declared; or why there is none.
 abbrev pub task_for : List Station → Event → Result Task Cause

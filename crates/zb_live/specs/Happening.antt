@@ -17,9 +17,12 @@ use Rattle.zb_model_real.specs.Real.{real}
 use Rattle.zb_stored_tables.specs.Cores.{CoreValue}
 
 -- An event was stored, and then its lines were printed; or it failed.
-pub record HasHappened (c : Setting) (s : NodeState) (task : Task) (log : Log) (event frame : ℕ) (old : View) (before : List ℕ) (result : Result Bool AdminFault) (host : Hosted CoreValue) (new : View) (after : List ℕ) : Type 0 where
+pub record HasHappened (c : Setting) (s : NodeState) (task : Task) (log : Log) (event frame : ℕ) (old : View)
+    (before : List ℕ) (result : Result Bool AdminFault) (host : Hosted CoreValue) (new : View) (after : List ℕ) : Type
+    0 where
   pub up : OnOk result (IsUp c (tables_after c task s) host new)
-  pub prints : OnOk result (Prints log c.stations (event_lines event c.me.eui frame (answer real c s task)) before after)
+  pub prints : OnOk result
+      (Prints log c.stations (event_lines event c.me.eui frame (answer real c s task)) before after)
   pub sends : IfOk result (λ sends. sends ≡ is_some (answer real c s task).frame)
   pub moments : LeavesOnly old new (StandsAsEither (Some s) (Some (tables_after c task s)))
 

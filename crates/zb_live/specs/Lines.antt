@@ -29,9 +29,11 @@ refused_lines event n (Some r) = Refuse event n (model_place (place_of r)) (reas
 abbrev pub sent : ℕ → ℕ → ℕ → List ℕ → Line
 sent event n frame bytes = Send event (Some n) frame bytes
 
--- what was accepted (NWK, then APS), the refusal, what was sealed (APS, then NWK), and the frame, which has that number
+-- what was accepted (NWK, then APS), the refusal, what was sealed (APS, then NWK), and the frame, which has that
+-- number
 unfoldable pub outcome_lines : ℕ → ℕ → ℕ → Outcome Term Refusal → List Line
 outcome_lines event n frame out =
     map (Accept event n) (terms out.accepted_nwk out.accepted_aps)
     ++ (refused_lines event n out.refused
-    ++ (map (Seal event n) (terms out.sealed_aps out.sealed_nwk) ++ send_lines event (Some n) frame (frame_bytes out.frame)))
+    ++ (map (Seal event n) (terms out.sealed_aps out.sealed_nwk)
+    ++ send_lines event (Some n) frame (frame_bytes out.frame)))

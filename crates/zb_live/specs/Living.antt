@@ -32,7 +32,15 @@ use Rattle.zb_text.specs.Pages.{ended, page}
 
 -- a node of the header as the policy knows it, with blocks of these sizes
 abbrev pub station : ℕ → ℕ → script.Station → Station
-station out_block in_block p = record { name = p.name; eui = p.eui; short = p.short; role = model_role p.role; out_block = out_block; in_block = in_block }
+station out_block in_block p =
+    record {
+      name = p.name;
+      eui = p.eui;
+      short = p.short;
+      role = model_role p.role;
+      out_block = out_block;
+      in_block = in_block;
+    }
 
 -- the centre is the first node
 abbrev pub first_station : ℕ → ℕ → List script.Station → Station
@@ -107,10 +115,13 @@ opened number (Err fault) v = says_nothing v
 
 abbrev pub on_header : ℕ → Found → Sentence → Living → Done
 on_header number found Quiet v = says_nothing v
-on_header number found (Founds name eui out_block in_block) v = declared number v (after_centre v.network name eui out_block in_block)
-on_header number found (Introduces name role eui short) v = declared number v (after_peer v.network name role eui short)
+on_header number found (Founds name eui out_block in_block) v =
+    declared number v (after_centre v.network name eui out_block in_block)
+on_header number found (Introduces name role eui short) v =
+    declared number v (after_peer v.network name role eui short)
 on_header number found (Logs log) v = confirmed number (record v { log = log })
-on_header number found Opens v = if has_centre v.network then opened number found v else refused number cause.NoCentre v
+on_header number found Opens v = if has_centre v.network then opened number found v
+    else refused number cause.NoCentre v
 on_header number found (Happens event) v = refused number cause.Closed v
 on_header number found Lists v = refused number cause.Closed v
 on_header number found BacksUp v = refused number cause.Closed v

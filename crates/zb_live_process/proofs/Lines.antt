@@ -6,7 +6,9 @@ use Rattle.std.specs.Io.KnownBytes.{Appends}
 use Rattle.zb_live_process.specs.Statuses.{line_of}
 
 -- the text and then the line feed are written of a text that isn't empty
-pub line_written : (before between after : Option (List ℕ)) (text : List ℕ) (empty : Bool) → empty ≡ (length text == 0) → empty ≡ false
+pub line_written : (before between after : Option (List ℕ)) (text : List ℕ) (empty : Bool) → empty
+    ≡ (length text == 0) → empty ≡ false
     → Appends before between text → Appends between after (10 ∷ []) → Appends before after (line_of text)
 line_written before between after [] empty is not first second = absurd (false≢true (sym not ∙ is))
-line_written before between after (c ∷ text) empty is not first second = Appends-trans before between after (c ∷ text) (10 ∷ []) first second
+line_written before between after (c ∷ text) empty is not first second = Appends-trans before between after (c ∷ text)
+    (10 ∷ []) first second

@@ -14,7 +14,8 @@ IsInLine bytes = AllByRecursion (λ (byte : ℕ). (byte == 10) ≡ false) bytes
 -- Of these bytes, those that came and those still to come, a line was taken off the front with its line feed, and the
 -- others are left. Or the input is at its end, and none of them is a line feed.
 abbrev pub IsNext : List ℕ → Result (Option (Vec ℕ Global)) LiveFault → List ℕ → Option (List ℕ) → Type 0
-IsNext all (Ok (Some line)) held rest = (left : List ℕ) × (rest ≡ Some left) × (all ≡ line.items ++ 10 ∷ (held ++ left)) × IsInLine line.items
+IsNext all (Ok (Some line)) held rest = (left : List ℕ) × (rest ≡ Some left)
+    × (all ≡ line.items ++ 10 ∷ (held ++ left)) × IsInLine line.items
 IsNext all (Ok None) held rest = (rest ≡ Some []) × (all ≡ held) × IsInLine held
 IsNext all (Err fault) held rest = ⊤
 

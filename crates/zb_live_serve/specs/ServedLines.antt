@@ -11,14 +11,17 @@ use Rattle.zb_live.specs.declared.session.Session.{Session}
 use Rattle.zb_live_serve.specs.declared.fault.LiveFault.{LiveFault}
 use Rattle.zb_live_serve.specs.declared.fault.LiveFault.TheVariants.{Read, TooLong, Write, Disk, NoStore, BadStore, Worn, NoMemory}
 
-pub record HasServedLine {D W : Type 0} (x : Outside D W) (found : Found) (session : Session) (d : Done) (old : D) (before : W) (result : Result (Unit {0}) LiveFault) (next : Session) (new : D) (after : W) : Type 0 where
+pub record HasServedLine {D W : Type 0} (x : Outside D W) (found : Found) (session : Session) (d : Done) (old : D)
+    (before : W) (result : Result (Unit {0}) LiveFault) (next : Session) (new : D) (after : W) : Type 0 where
   pub alive : OnOk result (IsAlive found next (x.state new))
   pub after_it : OnOk result (living_of next ≡ d.after)
-  pub between : LeavesOnly (x.state old) (x.state new) (HoldsEither (x.state old) (living_of session).tables d.after.tables)
+  pub between : LeavesOnly (x.state old) (x.state new)
+      (HoldsEither (x.state old) (living_of session).tables d.after.tables)
   pub lines : OnOk result (Appends (x.taken before) (x.taken after) d.text)
   -- nothing was written, or a prefix of what the line writes was, once every image holds the session after it
   pub cut : OnErr result ((after ≡ before)
-      ⊎ (AppendsFront (x.taken before) (x.taken after) d.text × ((image : List ℕ) → (x.state new).images image → Holds (x.state new) d.after.tables image)
+      ⊎ (AppendsFront (x.taken before) (x.taken after) d.text
+      × ((image : List ℕ) → (x.state new).images image → Holds (x.state new) d.after.tables image)
       × (d.after.tables ≡ None → IsStill (x.state old) (x.state new))))
 
 -- when each fault comes
@@ -27,7 +30,10 @@ IsServeFault x session old before new after Read = ⊥
 IsServeFault x session old before new after TooLong = ⊥
 IsServeFault x session old before new after Write = Rose (x.faults before) (x.faults after)
 IsServeFault x session old before new after Disk = IsLineFault x.tells session (x.state old) (x.state new) store.Disk
-IsServeFault x session old before new after NoStore = IsLineFault x.tells session (x.state old) (x.state new) store.NoStore
-IsServeFault x session old before new after (BadStore at) = IsLineFault x.tells session (x.state old) (x.state new) (store.BadStore at)
+IsServeFault x session old before new after NoStore = IsLineFault x.tells session (x.state old) (x.state new)
+    store.NoStore
+IsServeFault x session old before new after (BadStore at) = IsLineFault x.tells session (x.state old) (x.state new)
+    (store.BadStore at)
 IsServeFault x session old before new after Worn = IsLineFault x.tells session (x.state old) (x.state new) store.Worn
-IsServeFault x session old before new after NoMemory = IsLineFault x.tells session (x.state old) (x.state new) store.NoMemory
+IsServeFault x session old before new after NoMemory = IsLineFault x.tells session (x.state old) (x.state new)
+    store.NoMemory

@@ -30,27 +30,34 @@ input_of rest faults = record { rest = rest; faults = faults }
 -- the disk's count of faults stands.
 abbrev pub IsLiveFault : {D W : Type 0} → Outside D W → Input → D → W → Input → D → W → LiveFault → Type 0
 IsLiveFault x input old before rest new after Read = Rose input.faults rest.faults
-IsLiveFault x input old before rest new after TooLong = (bytes : Bytes) → input.rest ≡ Some bytes → (front back : Bytes) × (bytes ≡ front ++ back) × BeginsLong back
+IsLiveFault x input old before rest new after TooLong = (bytes : Bytes) → input.rest ≡ Some bytes
+    → (front back : Bytes) × (bytes ≡ front ++ back) × BeginsLong back
 IsLiveFault x input old before rest new after Write = Rose (x.faults before) (x.faults after)
 IsLiveFault x input old before rest new after Disk = Rose (x.state old).faults (x.state new).faults
-IsLiveFault x input old before rest new after NoStore = IsTrue x.tells.content → found_on (x.state old).seen ≡ Err store.NoStore
-IsLiveFault x input old before rest new after (BadStore at) = IsTrue x.tells.content → found_on (x.state old).seen ≡ Err (store.BadStore at)
-IsLiveFault x input old before rest new after Worn = IsTrue x.tells.content → CanBeServed (x.state old) → (z : Standing) × (stands (x.state new).seen ≡ Some z) × IsWornOut z
+IsLiveFault x input old before rest new after NoStore = IsTrue x.tells.content → found_on (x.state old).seen
+    ≡ Err store.NoStore
+IsLiveFault x input old before rest new after (BadStore at) = IsTrue x.tells.content → found_on (x.state old).seen
+    ≡ Err (store.BadStore at)
+IsLiveFault x input old before rest new after Worn = IsTrue x.tells.content → CanBeServed (x.state old)
+    → (z : Standing) × (stands (x.state new).seen ≡ Some z) × IsWornOut z
 IsLiveFault x input old before rest new after NoMemory = Unrisen (x.state old).faults (x.state new).faults
 
 -- A session was served.
-pub record Lives {D W : Type 0} (x : Outside D W) (input : Input) (old : D) (before : W) (result : Ended) (rest : Input) (new : D) (after : W) : Type 0 where
+pub record Lives {D W : Type 0} (x : Outside D W) (input : Input) (old : D) (before : W) (result : Ended)
+    (rest : Input) (new : D) (after : W) : Type 0 where
   -- the lines that were taken: the first whole lines of the input, and at Ok all of them
   pub lines : List Bytes
   pub taken : (bytes : Bytes) → input.rest ≡ Some bytes → (more : List Bytes) × (whole_lines bytes ≡ lines ++ more)
-  pub all : OnOk result ((bytes : Bytes) → input.rest ≡ Some bytes → (whole_lines bytes ≡ lines) × (rest.rest ≡ Some []))
+  pub all : OnOk result ((bytes : Bytes) → input.rest ≡ Some bytes → (whole_lines bytes ≡ lines)
+      × (rest.rest ≡ Some []))
   -- at Ok what they write was written, and at a fault a prefix of it
   pub text : OnOk result (IsTrue x.tells.content → CanBeServed (x.state old)
       → Appends (x.taken before) (x.taken after) (served (found_on (x.state old).seen) lines fresh).text)
   pub front : OnErr result (IsTrue x.tells.content → CanBeServed (x.state old)
       → AppendsFront (x.taken before) (x.taken after) (served (found_on (x.state old).seen) lines fresh).text)
   -- at Ok every image holds the session after them
-  pub last : OnOk result (IsTrue x.tells.content → CanBeServed (x.state old) → (image : List ℕ) → (x.state new).images image
+  pub last : OnOk result
+      (IsTrue x.tells.content → CanBeServed (x.state old) → (image : List ℕ) → (x.state new).images image
       → Holds (x.state old) (served (found_on (x.state old).seen) lines fresh).after.tables image)
   -- at every moment an image holds the session after some first lines, and each line is among them of whose answer a
   -- byte was written

@@ -20,7 +20,8 @@ pub hash_begun : (bytes block rest first result : List ℕ) → length rest + 16
     → result ≡ mixed_all first (blocks_of (rest ++ padding (16 + length rest))) → result ≡ hash bytes
 hash_begun bytes block rest first result size p q r s =
     let long : length block ≡ 16 = ap length p ∙ omega (arith, length-take 16 bytes) in
-    let whole : block ++ rest ≡ bytes = ap (λ l. l ++ rest) p ∙ ap (λ l. take 16 bytes ++ l) q ∙ take-append-drop 16 bytes in
+    let whole : block ++ rest ≡ bytes = ap (λ l. l ++ rest) p ∙ ap (λ l. take 16 bytes ++ l) q ∙ take-append-drop 16
+    bytes in
     s ∙ ap (λ v. mixed_all v (blocks_of (rest ++ padding (16 + length rest)))) r ∙ sym (hash-block block rest long)
     ∙ ap hash whole
 
@@ -37,4 +38,5 @@ keyed_built key given bytes inner outer middle result h same p q r s =
     let second : result ≡ hash (outer_pad key ++ middle) =
     s ∙ ap (λ v. mixed_all v (blocks_of (middle ++ padding (16 + length middle)))) q
     ∙ sym (hash-block (outer_pad key) middle (length-map key (λ b. bit_xor b 0x5c) ∙ h)) in
-    second ∙ ap (λ l. hash (outer_pad key ++ l)) first ∙ ap (λ k. hash (outer_pad k ++ hash (inner_pad k ++ bytes))) same
+    second ∙ ap (λ l. hash (outer_pad key ++ l)) first ∙ ap (λ k. hash (outer_pad k ++ hash (inner_pad k ++ bytes)))
+    same

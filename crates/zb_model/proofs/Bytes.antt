@@ -5,7 +5,8 @@ use Rattle.zb_model.specs.State.{new_node}
 use Rattle.zb_model.specs.Record.{record_of, edit_bytes, payload}
 
 -- the record of a device that holds nothing
-empty_device : record_of (new_node Device) ≡ 0x03 ∷ 0x02 ∷ 0 ∷ 0 ∷ 0 ∷ 0 ∷ 0 ∷ 0 ∷ 0 ∷ 0 ∷ 0 ∷ 0 ∷ 0 ∷ 0 ∷ 0xff ∷ 0xff ∷ 0 ∷ 0 ∷ 0 ∷ 0 ∷ []
+empty_device : record_of (new_node Device) ≡ 0x03 ∷ 0x02 ∷ 0 ∷ 0 ∷ 0 ∷ 0 ∷ 0 ∷ 0 ∷ 0 ∷ 0 ∷ 0 ∷ 0 ∷ 0 ∷ 0 ∷ 0xff ∷ 0xff
+    ∷ 0 ∷ 0 ∷ 0 ∷ 0 ∷ []
 unfolding record_of
 empty_device = refl
 

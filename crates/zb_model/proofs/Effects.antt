@@ -40,53 +40,87 @@ with_links role state links = keyed_node role state links
 
 -- Commands
 
-offered_key_is_confirmed : take_confirm device (with_links Device Offered (link_of 1 5 Verified true ∷ link_of 1 6 Unverified true ∷ [])) (from_centre ForData (Some (link_of 1 6 Unverified true))) 0 4 2 ≡ Does (DropLink 1 (k 5) ∷ Row 1 (k 6) Verified ∷ Became Confirmed ∷ []) None
+offered_key_is_confirmed : take_confirm device
+    (with_links Device Offered (link_of 1 5 Verified true ∷ link_of 1 6 Unverified true ∷ []))
+    (from_centre ForData (Some (link_of 1 6 Unverified true))) 0 4 2
+    ≡ Does (DropLink 1 (k 5) ∷ Row 1 (k 6) Verified ∷ Became Confirmed ∷ []) None
 unfolding take_confirm unless found_or offered current centre_of
 offered_key_is_confirmed = refl
 
-another_key_is_offered : take_link_key device (with_links Device Offered (link_of 1 5 Verified true ∷ link_of 1 6 Unverified true ∷ [])) (from_centre ForLoad (Some (link_of 1 5 Verified true))) (k 7) 2 1 ≡ Does (DropLink 1 (k 6) ∷ Row 1 (k 7) Unverified ∷ Became Offered ∷ []) None
+another_key_is_offered : take_link_key device
+    (with_links Device Offered (link_of 1 5 Verified true ∷ link_of 1 6 Unverified true ∷ []))
+    (from_centre ForLoad (Some (link_of 1 5 Verified true))) (k 7) 2 1
+    ≡ Does (DropLink 1 (k 6) ∷ Row 1 (k 7) Unverified ∷ Became Offered ∷ []) None
 unfolding take_link_key take_row unless choose offered current centre_of other_user
 another_key_is_offered = refl
 
-another_partner_key : take_app_key device (with_links Device Confirmed (link_of 1 5 Verified true ∷ link_of 4 6 Verified true ∷ [])) (from_centre ForLoad (Some (link_of 1 5 Verified true))) (k 7) 4 ≡ Does (DropLink 4 (k 6) ∷ Row 4 (k 7) Verified ∷ []) None
+another_partner_key : take_app_key device
+    (with_links Device Confirmed (link_of 1 5 Verified true ∷ link_of 4 6 Verified true ∷ []))
+    (from_centre ForLoad (Some (link_of 1 5 Verified true))) (k 7) 4
+    ≡ Does (DropLink 4 (k 6) ∷ Row 4 (k 7) Verified ∷ []) None
 unfolding take_app_key take_row unless choose drop_partner centre_of station_of other_user
 another_partner_key = refl
 
-rejoined_with_an_offer : take_net_key device (with_links Device Rejoining (link_of 1 5 Verified true ∷ link_of 1 6 Unverified true ∷ [])) (from_centre ForTransport (Some (link_of 1 5 Verified true))) (k 1) 1 2 1 ≡ Does (Active (k 1) ∷ Became Offered ∷ []) None
+rejoined_with_an_offer : take_net_key device
+    (with_links Device Rejoining (link_of 1 5 Verified true ∷ link_of 1 6 Unverified true ∷ []))
+    (from_centre ForTransport (Some (link_of 1 5 Verified true))) (k 1) 1 2 1
+    ≡ Does (Active (k 1) ∷ Became Offered ∷ []) None
 unfolding take_net_key unless choose centre_of offered current
 rejoined_with_an_offer = refl
 
-rejoined_with_a_verified_key : take_net_key device (with_links Device Rejoining (link_of 1 5 Verified true ∷ [])) (from_centre ForTransport (Some (link_of 1 5 Verified true))) (k 1) 1 2 1 ≡ Does (Active (k 1) ∷ Became Confirmed ∷ []) None
+rejoined_with_a_verified_key : take_net_key device (with_links Device Rejoining (link_of 1 5 Verified true ∷ []))
+    (from_centre ForTransport (Some (link_of 1 5 Verified true))) (k 1) 1 2 1
+    ≡ Does (Active (k 1) ∷ Became Confirmed ∷ []) None
 unfolding take_net_key unless choose centre_of offered current
 rejoined_with_a_verified_key = refl
 
-rejoined_with_a_code : take_net_key device (with_links Device Rejoining (link_of 1 5 Provisional true ∷ [])) (from_centre ForTransport (Some (link_of 1 5 Provisional true))) (k 1) 1 2 1 ≡ Does (Active (k 1) ∷ Became Joined ∷ []) None
+rejoined_with_a_code : take_net_key device (with_links Device Rejoining (link_of 1 5 Provisional true ∷ []))
+    (from_centre ForTransport (Some (link_of 1 5 Provisional true))) (k 1) 1 2 1
+    ≡ Does (Active (k 1) ∷ Became Joined ∷ []) None
 unfolding take_net_key unless choose centre_of offered current
 rejoined_with_a_code = refl
 
-offer_is_sent_again : take_request centre (with_links Centre State.Fresh (link_of 2 5 Verified true ∷ link_of 2 6 Unverified true ∷ [])) (from_device ForData (Some (link_of 2 5 Verified true))) (Some (k 9)) ≡ Does [] (sends 258 true (Secret ForLoad (k 5) (TransportLink (k 6) 2 1)))
+offer_is_sent_again : take_request centre
+    (with_links Centre State.Fresh (link_of 2 5 Verified true ∷ link_of 2 6 Unverified true ∷ []))
+    (from_device ForData (Some (link_of 2 5 Verified true))) (Some (k 9))
+    ≡ Does [] (sends 258 true (Secret ForLoad (k 5) (TransportLink (k 6) 2 1)))
 unfolding take_request unless found_or offered current both_spent spent next_counter active_row short_of station_of
 offer_is_sent_again = refl
 
-pair_key_is_sent_again : take_app_request centre (record (with_links Centre State.Fresh (link_of 2 5 Verified true ∷ link_of 4 6 Verified true ∷ [])) { pairs = record { first = 2; second = 4; key = k 8 } ∷ [] }) (from_device ForData (Some (link_of 2 5 Verified true))) (Some (k 9)) 4 ≡ Does [] (sends 258 true (Secret ForLoad (k 5) (TransportApp (k 8) 4 1)))
-unfolding take_app_request unless found_or current is_live pair_of both_spent spent next_counter active_row short_of station_of
+pair_key_is_sent_again : take_app_request centre
+    (record (with_links Centre State.Fresh (link_of 2 5 Verified true ∷ link_of 4 6 Verified true ∷ []))
+    { pairs = record { first = 2; second = 4; key = k 8 } ∷ [] })
+    (from_device ForData (Some (link_of 2 5 Verified true))) (Some (k 9)) 4
+    ≡ Does [] (sends 258 true (Secret ForLoad (k 5) (TransportApp (k 8) 4 1)))
+unfolding take_app_request unless found_or current is_live pair_of both_spent spent next_counter active_row short_of
+    station_of
 pair_key_is_sent_again = refl
 
-pair_is_drawn : take_app_request centre (with_links Centre State.Fresh (link_of 2 5 Verified true ∷ link_of 4 6 Verified true ∷ [])) (from_device ForData (Some (link_of 2 5 Verified true))) (Some (k 9)) 4 ≡ Does (Draw (k 9) ∷ Pair 2 4 (k 9) ∷ []) (sends 258 true (Secret ForLoad (k 5) (TransportApp (k 9) 4 1)))
-unfolding take_app_request unless found_or current is_live pair_of both_spent spent next_counter active_row short_of station_of
+pair_is_drawn : take_app_request centre
+    (with_links Centre State.Fresh (link_of 2 5 Verified true ∷ link_of 4 6 Verified true ∷ []))
+    (from_device ForData (Some (link_of 2 5 Verified true))) (Some (k 9)) 4
+    ≡ Does (Draw (k 9) ∷ Pair 2 4 (k 9) ∷ []) (sends 258 true (Secret ForLoad (k 5) (TransportApp (k 9) 4 1)))
+unfolding take_app_request unless found_or current is_live pair_of both_spent spent next_counter active_row short_of
+    station_of
 pair_is_drawn = refl
 
-current_key_is_confirmed_again : take_verify toy centre (with_links Centre State.Fresh (link_of 2 5 Verified true ∷ [])) clear_from_device 4 2 (toy.keyed (k 5) 3) ≡ Does [] (sends 258 true (Secret ForData (k 5) (ConfirmKey 0 4 2)))
-unfolding toy take_verify unless found_or choose offered current is_live both_spent spent next_counter active_row short_of station_of
+current_key_is_confirmed_again : take_verify toy centre
+    (with_links Centre State.Fresh (link_of 2 5 Verified true ∷ [])) clear_from_device 4 2 (toy.keyed (k 5) 3)
+    ≡ Does [] (sends 258 true (Secret ForData (k 5) (ConfirmKey 0 4 2)))
+unfolding toy take_verify unless found_or choose offered current is_live both_spent spent next_counter active_row
+    short_of station_of
 current_key_is_confirmed_again = refl
 
-code_is_not_confirmed : take_verify toy centre (with_links Centre State.Fresh (link_of 2 5 Provisional true ∷ [])) clear_from_device 4 2 (toy.keyed (k 5) 3) ≡ Stop WrongState
+code_is_not_confirmed : take_verify toy centre (with_links Centre State.Fresh (link_of 2 5 Provisional true ∷ []))
+    clear_from_device 4 2 (toy.keyed (k 5) 3) ≡ Stop WrongState
 unfolding toy take_verify unless found_or choose offered current is_live both_spent spent next_counter active_row
 code_is_not_confirmed = refl
 
 -- Events of a node's own
 
-member_is_untold : again (record (with_links Centre State.Fresh (record (link_of 2 5 Verified true) { told = true } ∷ [])) { sending = true }) 2 ≡ Does (Untold 2 ∷ []) None
+member_is_untold : again
+    (record (with_links Centre State.Fresh (record (link_of 2 5 Verified true) { told = true } ∷ []))
+    { sending = true }) 2 ≡ Does (Untold 2 ∷ []) None
 unfolding again unless is_live is_told
 member_is_untold = refl
 
@@ -101,9 +135,15 @@ link_key None = []
 link_key (Some r) = r.key
 
 abbrev two_alike : NodeState
-two_alike = record (bare Device Joined) { nets = record (net_at 1 true 7) { sequence = 5 } ∷ record (net_at 2 true 7) { sequence = 5 } ∷ record (net_at 3 false 7) { sequence = 5 } ∷ []; active = Some (k 1) }
+two_alike =
+    record (bare Device Joined) {
+      nets = record (net_at 1 true 7) { sequence = 5 } ∷ record (net_at 2 true 7) { sequence = 5 }
+          ∷ record (net_at 3 false 7) { sequence = 5 } ∷ [];
+      active = Some (k 1);
+    }
 
-newest_of_a_sequence : map net_key (live_of two_alike 5 ∷ usable_of two_alike 5 ∷ newest two_alike ∷ []) ≡ k 2 ∷ k 2 ∷ k 2 ∷ []
+newest_of_a_sequence : map net_key (live_of two_alike 5 ∷ usable_of two_alike 5 ∷ newest two_alike ∷ []) ≡ k 2 ∷ k 2
+    ∷ k 2 ∷ []
 unfolding live_of usable_of usable_nets newest
 newest_of_a_sequence = refl
 
@@ -118,41 +158,74 @@ first_key_makes_room = refl
 dropped_key_is_untold : (dropped_link (record (link_of 2 5 Verified true) { told = true })).told ≡ false
 dropped_key_is_untold = refl
 
-code_stays_a_code : map (λ (r : LinkKey). r.code) (applied (Moved (Row 2 (k 5) Provisional)) (with_links Centre State.Fresh (record (link_of 2 5 Verified false) { code = false } ∷ []))).links ≡ true ∷ []
+code_stays_a_code : map (λ (r : LinkKey). r.code)
+    (applied (Moved (Row 2 (k 5) Provisional))
+    (with_links Centre State.Fresh (record (link_of 2 5 Verified false) { code = false } ∷ []))).links ≡ true ∷ []
 unfolding applied is_told
 code_stays_a_code = refl
 
-new_key_of_a_told_member : map (λ (r : LinkKey). r.told) (applied (Moved (Row 2 (k 6) Unverified)) (with_links Centre State.Fresh (record (link_of 2 5 Verified true) { told = true } ∷ []))).links ≡ true ∷ true ∷ []
+new_key_of_a_told_member : map (λ (r : LinkKey). r.told)
+    (applied (Moved (Row 2 (k 6) Unverified))
+    (with_links Centre State.Fresh (record (link_of 2 5 Verified true) { told = true } ∷ []))).links ≡ true ∷ true ∷ []
 unfolding applied is_told
 new_key_of_a_told_member = refl
 
-senders_by_address : map (λ (r : NetKey). map (λ (f : SenderFloor). f.sender) r.floors) (applied (Floor Nwk (k 1) 3 9) (applied (Floor Nwk (k 1) 4 9) (applied (Floor Nwk (k 1) 2 9) (keyed_node Device Joined [])))).nets ≡ (2 ∷ 3 ∷ 4 ∷ []) ∷ []
+senders_by_address : map (λ (r : NetKey). map (λ (f : SenderFloor). f.sender) r.floors)
+    (applied (Floor Nwk (k 1) 3 9)
+    (applied (Floor Nwk (k 1) 4 9) (applied (Floor Nwk (k 1) 2 9) (keyed_node Device Joined [])))).nets
+    ≡ (2 ∷ 3 ∷ 4 ∷ []) ∷ []
 unfolding applied
 senders_by_address = refl
 
 abbrev from_centre_at : Layer → ℕ → Term
-from_centre_at layer counter = record { layer = layer; base = k 1; label = ForNetwork; source = 1; counter = counter; control = 0x2d; header = []; content = [] }
+from_centre_at layer counter =
+    record {
+      layer = layer;
+      base = k 1;
+      label = ForNetwork;
+      source = 1;
+      counter = counter;
+      control = 0x2d;
+      header = [];
+      content = [];
+    }
 
-next_floor_is_one_more : map (λ (r : NetKey). map (λ (f : SenderFloor). f.kept) r.floors) (after_accepting (from_centre_at Nwk 8) (applied (Floor Nwk (k 1) 1 12) (keyed_node Device Joined []))).nets ≡ (9 ∷ []) ∷ []
+next_floor_is_one_more : map (λ (r : NetKey). map (λ (f : SenderFloor). f.kept) r.floors)
+    (after_accepting (from_centre_at Nwk 8) (applied (Floor Nwk (k 1) 1 12) (keyed_node Device Joined []))).nets
+    ≡ (9 ∷ []) ∷ []
 unfolding applied after_accepting after_hearing
 next_floor_is_one_more = refl
 
 -- Candidates: the first that opens the frame, though a newer one doesn't
 
 abbrev sealed_frame : Bytes
-sealed_frame = toy.wire (record { layer = Aps; base = k 5; label = ForData; source = 1; counter = 3; control = 0x25; header = x "2103250300000001000000000000"; content = x "0804" })
+sealed_frame =
+    toy.wire
+    (record {
+      layer = Aps;
+      base = k 5;
+      label = ForData;
+      source = 1;
+      counter = 3;
+      control = 0x25;
+      header = x "2103250300000001000000000000";
+      content = x "0804";
+    })
 
-second_candidate_opens : link_key (chosen_row toy sealed_frame 1 (link_of 1 6 Verified true ∷ link_of 1 5 Verified true ∷ [])) ≡ k 5
+second_candidate_opens : link_key
+    (chosen_row toy sealed_frame 1 (link_of 1 6 Verified true ∷ link_of 1 5 Verified true ∷ [])) ≡ k 5
 unfolding toy
 second_candidate_opens = refl
 
 -- Counters
 
-starts_anew_from_half : first_counter (record (keyed_node Device Joined []) { nets = net_at 1 true 2147483648 ∷ [] }) ≡ 0
+starts_anew_from_half : first_counter (record (keyed_node Device Joined []) { nets = net_at 1 true 2147483648 ∷ [] })
+    ≡ 0
 unfolding next_counter active_row
 starts_anew_from_half = refl
 
-goes_on_below_half : first_counter (record (keyed_node Device Joined []) { nets = net_at 1 true 2147483647 ∷ [] }) ≡ 2147483647
+goes_on_below_half : first_counter (record (keyed_node Device Joined []) { nets = net_at 1 true 2147483647 ∷ [] })
+    ≡ 2147483647
 unfolding next_counter active_row
 goes_on_below_half = refl
 
@@ -164,10 +237,12 @@ started_key_goes_on = refl
 broadcast_from_fff8 : map data_control (0xfff7 ∷ 0xfff8 ∷ 0xffff ∷ []) ≡ 0x00 ∷ 0x08 ∷ 0x08 ∷ []
 broadcast_from_fff8 = refl
 
-flags_of_a_told_code : link_bytes (record (link_of 2 5 Verified true) { told = true }) ≡ x "020000000000000005050505050505050505050505050505020700000000"
+flags_of_a_told_code : link_bytes (record (link_of 2 5 Verified true) { told = true })
+    ≡ x "020000000000000005050505050505050505050505050505020700000000"
 flags_of_a_told_code = refl
 
-flags_of_a_new_key : net_bytes (record (net_at 5 true 0) { started = false }) ≡ x "05050505050505050505050505050505050100000000"
+flags_of_a_new_key : net_bytes (record (net_at 5 true 0) { started = false })
+    ≡ x "05050505050505050505050505050505050100000000"
 flags_of_a_new_key = refl
 
 -- Disks
@@ -179,18 +254,41 @@ torn_gate_of_a_boot = refl
 -- Keys that come out
 
 abbrev carrier : Bytes → Bytes → Term
-carrier base key = record { layer = Aps; base = base; label = ForTransport; source = 1; counter = 0; control = 0x35; header = 0x21 ∷ []; content = toy.spelled (TransportLink key 2 1) }
+carrier base key =
+    record {
+      layer = Aps;
+      base = base;
+      label = ForTransport;
+      source = 1;
+      counter = 0;
+      control = 0x35;
+      header = 0x21
+          ∷ [];
+      content = toy.spelled (TransportLink key 2 1);
+    }
 
 -- in the first round a term opens nothing whose base key comes out only after it
-two_rounds : exposed toy (Seal 1 1 (carrier (k 6) (k 7)) ∷ Forge 2 (carrier (k 5) (k 6)) ∷ []) (k 5 ∷ []) ≡ k 5 ∷ k 6 ∷ k 7 ∷ []
+two_rounds : exposed toy (Seal 1 1 (carrier (k 6) (k 7)) ∷ Forge 2 (carrier (k 5) (k 6)) ∷ []) (k 5 ∷ []) ≡ k 5 ∷ k 6
+    ∷ k 7 ∷ []
 unfolding toy exposed rounds a_round terms_of carried
 two_rounds = refl
 
-clear_transport_in_a_network_frame : carried toy (record { layer = Nwk; base = k 1; label = ForNetwork; source = 1; counter = 0; control = 0x2d; header = []; content = 0x01 ∷ 0x00 ∷ toy.spelled (TransportNet (k 7) 1 2 1) }) ≡ Some (k 7)
+clear_transport_in_a_network_frame : carried toy
+    (record {
+      layer = Nwk;
+      base = k 1;
+      label = ForNetwork;
+      source = 1;
+      counter = 0;
+      control = 0x2d;
+      header = [];
+      content = 0x01 ∷ 0x00 ∷ toy.spelled (TransportNet (k 7) 1 2 1);
+    }) ≡ Some (k 7)
 unfolding toy carried
 clear_transport_in_a_network_frame = refl
 
-both_hold_a_pair : map (λ d. ever (Changed 1 1 (Moved (Pair 2 4 (k 8))) ∷ []) d) (2 ∷ 4 ∷ 3 ∷ []) ≡ (k 8 ∷ []) ∷ (k 8 ∷ []) ∷ [] ∷ []
+both_hold_a_pair : map (λ d. ever (Changed 1 1 (Moved (Pair 2 4 (k 8))) ∷ []) d) (2 ∷ 4 ∷ 3 ∷ []) ≡ (k 8 ∷ [])
+    ∷ (k 8 ∷ []) ∷ [] ∷ []
 unfolding ever
 both_hold_a_pair = refl
 

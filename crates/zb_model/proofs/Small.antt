@@ -11,14 +11,26 @@ k n = replicate 16 n
 
 -- a network row that goes on from a counter, live or dropped
 abbrev pub net_at : ℕ → Bool → ℕ → NetKey
-net_at n live next = record { key = k n; sequence = n; live = live; started = true; limit = next; next = next; floors = [] }
+net_at n live next =
+    record { key = k n; sequence = n; live = live; started = true; limit = next; next = next; floors = [] }
 
 abbrev pub link_of : ℕ → ℕ → Attribute → Bool → LinkKey
-link_of partner n attribute live = record { partner = partner; key = k n; attribute = attribute; live = live; code = true; told = false; kept = 0; stored = 0 }
+link_of partner n attribute live =
+    record {
+      partner = partner;
+      key = k n;
+      attribute = attribute;
+      live = live;
+      code = true;
+      told = false;
+      kept = 0;
+      stored = 0;
+    }
 
 -- a node without rows, and one with the network key 1 active
 abbrev pub bare : Role → State → NodeState
 bare role state = record (new_node role) { state = state }
 
 abbrev pub keyed_node : Role → State → List LinkKey → NodeState
-keyed_node role state links = record (bare role state) { nets = net_at 1 true 7 ∷ []; active = Some (k 1); links = links }
+keyed_node role state links =
+    record (bare role state) { nets = net_at 1 true 7 ∷ []; active = Some (k 1); links = links }

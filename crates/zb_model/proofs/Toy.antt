@@ -47,7 +47,8 @@ control_place Nwk n = n - 14
 control_place Aps n = n - 13
 
 abbrev without_level : Layer → Bytes → Bytes
-without_level layer header = set header (control_place layer (length header)) (8 * (byte_at (control_place layer (length header)) header / 8))
+without_level layer header = set header (control_place layer (length header))
+    (8 * (byte_at (control_place layer (length header)) header / 8))
 
 abbrev wire_of : Term → Bytes
 wire_of t = without_level t.layer t.header ++ (t.content ++ tag t.label t.base)
@@ -63,7 +64,8 @@ abbrev nwk_fixed : Bytes → ℕ
 nwk_fixed bytes = 8 + (8 * bit 8 (low_bits bytes) + (8 * bit 16 (low_bits bytes) + bit 1 (low_bits bytes)))
 
 abbrev nwk_front : Bytes → ℕ
-nwk_front bytes = if nat_eq (bit 4 (low_bits bytes)) 1 then nwk_fixed bytes + 2 + 2 * byte_at (nwk_fixed bytes) bytes else nwk_fixed bytes
+nwk_front bytes = if nat_eq (bit 4 (low_bits bytes)) 1 then nwk_fixed bytes + 2 + 2 * byte_at (nwk_fixed bytes) bytes
+    else nwk_fixed bytes
 
 abbrev nwk_secured : Bytes → Bool
 nwk_secured bytes = nat_eq (bit 2 (low_bits bytes)) 1
@@ -71,19 +73,35 @@ nwk_secured bytes = nat_eq (bit 2 (low_bits bytes)) 1
 abbrev nwk_aux : Bytes → Option NwkAuxiliary
 nwk_aux bytes =
     let at = nwk_front bytes in
-    if nwk_secured bytes then Some (record { counter = number_at (at + 1) 4 bytes; source = number_at (at + 5) 8 bytes; sequence = byte_at (at + 13) bytes }) else None
+    if nwk_secured bytes
+    then Some
+    (record {
+      counter = number_at (at + 1) 4 bytes;
+      source = number_at (at + 5) 8 bytes;
+      sequence = byte_at (at + 13) bytes;
+    }) else None
 
 abbrev nwk_whole : Bytes → Bool
 nwk_whole bytes =
-    nat_le (length bytes) 127 && (nat_le 8 (length bytes) && (nat_lt (byte_at 0 bytes % 4) 2 && (nat_eq ((byte_at 0 bytes / 4) % 16) 2
-    && ((nat_eq (bit 4 (low_bits bytes)) 0 || nat_lt (nwk_fixed bytes) (length bytes)) && (nat_le (nwk_front bytes) (length bytes)
+    nat_le (length bytes) 127
+    && (nat_le 8 (length bytes) && (nat_lt (byte_at 0 bytes % 4) 2 && (nat_eq ((byte_at 0 bytes / 4) % 16) 2
+    && ((nat_eq (bit 4 (low_bits bytes)) 0 || nat_lt (nwk_fixed bytes) (length bytes))
+    && (nat_le (nwk_front bytes) (length bytes)
     && (not (nwk_secured bytes) || (nat_le (nwk_front bytes + 18) (length bytes)
-    && (nat_eq ((byte_at (nwk_front bytes) bytes / 8) % 4) 1 && nat_eq (bit 32 (byte_at (nwk_front bytes) bytes)) 1))))))))
+    && (nat_eq ((byte_at (nwk_front bytes) bytes / 8) % 4) 1 && nat_eq (bit 32 (byte_at (nwk_front bytes) bytes))
+    1))))))))
 
 abbrev nwk_shown : Bytes → Option NwkShown
 nwk_shown bytes =
     if nwk_whole bytes
-    then Some (record { is_command = nat_eq (byte_at 0 bytes % 4) 1; destination = number_at 2 2 bytes; source = number_at 4 2 bytes; auxiliary = nwk_aux bytes; body = drop (nwk_front bytes) bytes })
+    then Some
+    (record {
+      is_command = nat_eq (byte_at 0 bytes % 4) 1;
+      destination = number_at 2 2 bytes;
+      source = number_at 4 2 bytes;
+      auxiliary = nwk_aux bytes;
+      body = drop (nwk_front bytes) bytes;
+    })
     else None
 
 abbrev level_at : ℕ → Bytes → Bytes
@@ -115,7 +133,8 @@ abbrev is_ack : Bytes → Bool
 is_ack bytes = nat_eq (byte_at 0 bytes % 4) 2
 
 abbrev aps_fixed : Bytes → ℕ
-aps_fixed bytes = if is_command bytes || (is_ack bytes && nat_eq (bit 16 (byte_at 0 bytes)) 1) then 2 else (if nat_eq ((byte_at 0 bytes / 4) % 4) 3 then 9 else 8)
+aps_fixed bytes = if is_command bytes || (is_ack bytes && nat_eq (bit 16 (byte_at 0 bytes)) 1) then 2
+    else (if nat_eq ((byte_at 0 bytes / 4) % 4) 3 then 9 else 8)
 
 abbrev has_extended : Bytes → Bool
 has_extended bytes = nat_eq (bit 128 (byte_at 0 bytes)) 1
@@ -123,11 +142,13 @@ has_extended bytes = nat_eq (bit 128 (byte_at 0 bytes)) 1
 abbrev aps_front : Bytes → ℕ
 aps_front bytes =
     if has_extended bytes
-    then aps_fixed bytes + 1 + (if nat_eq (byte_at (aps_fixed bytes) bytes % 4) 0 then 0 else (if is_ack bytes then 2 else 1))
+    then aps_fixed bytes + 1 + (if nat_eq (byte_at (aps_fixed bytes) bytes % 4) 0 then 0
+    else (if is_ack bytes then 2 else 1))
     else aps_fixed bytes
 
 abbrev label_of : ℕ → Label
-label_of control = if nat_eq ((control / 8) % 4) 2 then ForTransport else (if nat_eq ((control / 8) % 4) 3 then ForLoad else ForData)
+label_of control = if nat_eq ((control / 8) % 4) 2 then ForTransport
+    else (if nat_eq ((control / 8) % 4) 3 then ForLoad else ForData)
 
 abbrev aps_secured : Bytes → Bool
 aps_secured bytes = nat_eq (bit 32 (byte_at 0 bytes)) 1
@@ -136,13 +157,18 @@ abbrev shows_source : Bytes → Bool
 shows_source bytes = nat_eq (bit 32 (byte_at (aps_front bytes) bytes)) 1
 
 abbrev aps_start : Bytes → ℕ
-aps_start bytes = if aps_secured bytes then aps_front bytes + (if shows_source bytes then 13 else 5) else aps_front bytes
+aps_start bytes = if aps_secured bytes then aps_front bytes + (if shows_source bytes then 13 else 5)
+    else aps_front bytes
 
 abbrev aps_whole : Bytes → Bool
 aps_whole bytes =
-    nat_le (length bytes) 127 && (nat_lt 0 (length bytes) && (nat_lt (byte_at 0 bytes % 4) 3 && (not (nat_eq ((byte_at 0 bytes / 4) % 4) 1)
-    && ((not (has_extended bytes) || nat_lt (aps_fixed bytes) (length bytes)) && (nat_le (aps_start bytes) (length bytes)
-    && (not (aps_secured bytes) || (nat_le (aps_start bytes + 4) (length bytes) && not (nat_eq ((byte_at (aps_front bytes) bytes / 8) % 4) 1))))))))
+    nat_le (length bytes) 127
+    && (nat_lt 0 (length bytes) && (nat_lt (byte_at 0 bytes % 4) 3 && (not (nat_eq ((byte_at 0 bytes / 4) % 4) 1)
+    && ((not (has_extended bytes) || nat_lt (aps_fixed bytes) (length bytes))
+    && (nat_le (aps_start bytes) (length bytes)
+    && (not (aps_secured bytes)
+    || (nat_le (aps_start bytes + 4) (length bytes)
+    && not (nat_eq ((byte_at (aps_front bytes) bytes / 8) % 4) 1))))))))
 
 abbrev source_of : Bytes → Option ℕ
 source_of bytes = if shows_source bytes then Some (number_at (aps_front bytes + 5) 8 bytes) else None
@@ -150,12 +176,20 @@ source_of bytes = if shows_source bytes then Some (number_at (aps_front bytes + 
 abbrev aps_aux : Bytes → Option ApsAuxiliary
 aps_aux bytes =
     if aps_secured bytes
-    then Some (record { label = label_of (byte_at (aps_front bytes) bytes); counter = number_at (aps_front bytes + 1) 4 bytes; source = source_of bytes })
+    then Some
+    (record {
+      label = label_of (byte_at (aps_front bytes) bytes);
+      counter = number_at (aps_front bytes + 1) 4 bytes;
+      source = source_of bytes;
+    })
     else None
 
 abbrev aps_shown : Bytes → Option ApsShown
 aps_shown bytes =
-    if aps_whole bytes then Some (record { is_command = is_command bytes; auxiliary = aps_aux bytes; body = drop (aps_front bytes) bytes }) else None
+    if aps_whole bytes
+    then Some
+    (record { is_command = is_command bytes; auxiliary = aps_aux bytes; body = drop (aps_front bytes) bytes })
+    else None
 
 abbrev source_or : ℕ → Option ℕ → ℕ
 source_or other None = other
@@ -182,7 +216,8 @@ aps_open bytes key source =
 
 -- commands
 abbrev spell : Command → Bytes
-spell (TransportNet key sequence destination source) = 0x05 ∷ 0x01 ∷ key ++ (sequence ∷ eight_bytes destination ++ eight_bytes source)
+spell (TransportNet key sequence destination source) = 0x05 ∷ 0x01 ∷ key
+    ++ (sequence ∷ eight_bytes destination ++ eight_bytes source)
 spell (TransportApp key partner initiator) = 0x05 ∷ 0x03 ∷ key ++ (eight_bytes partner ++ initiator ∷ [])
 spell (TransportLink key destination source) = 0x05 ∷ 0x04 ∷ key ++ (eight_bytes destination ++ eight_bytes source)
 spell (UpdateDevice device short status) = 0x06 ∷ eight_bytes device ++ (two_bytes short ++ status ∷ [])
@@ -200,9 +235,11 @@ of_length n bytes command = if nat_eq (length bytes) n then Known command else B
 abbrev command_of : ℕ → ℕ → Bytes → CommandShown
 command_of id kind b =
     if nat_eq id 5 then (
-    if nat_eq kind 1 then of_length 35 b (TransportNet (take 16 (drop 2 b)) (byte_at 18 b) (number_at 19 8 b) (number_at 27 8 b))
+    if nat_eq kind 1
+    then of_length 35 b (TransportNet (take 16 (drop 2 b)) (byte_at 18 b) (number_at 19 8 b) (number_at 27 8 b))
     else if nat_eq kind 3 then of_length 27 b (TransportApp (take 16 (drop 2 b)) (number_at 18 8 b) (byte_at 26 b))
-    else if nat_eq kind 4 then of_length 34 b (TransportLink (take 16 (drop 2 b)) (number_at 18 8 b) (number_at 26 8 b))
+    else if nat_eq kind 4
+    then of_length 34 b (TransportLink (take 16 (drop 2 b)) (number_at 18 8 b) (number_at 26 8 b))
     else if nat_lt (length b) 2 then Broken else Unknown)
     else if nat_eq id 6 then of_length 12 b (UpdateDevice (number_at 1 8 b) (number_at 9 2 b) (byte_at 11 b))
     else if nat_eq id 7 then of_length 9 b (RemoveDevice (number_at 1 8 b))
@@ -211,7 +248,9 @@ command_of id kind b =
     else if nat_eq kind 4 then of_length 2 b RequestLink
     else if nat_lt (length b) 2 then Broken else Unknown)
     else if nat_eq id 9 then of_length 2 b (SwitchKey (byte_at 1 b))
-    else if nat_eq id 14 then (if nat_le 28 (length b) && nat_eq (bit 32 (byte_at 11 b)) 1 then Known (Tunnel (number_at 1 8 b) (drop 9 b)) else Broken)
+    else if nat_eq id 14
+    then (if nat_le 28 (length b) && nat_eq (bit 32 (byte_at 11 b)) 1
+    then Known (Tunnel (number_at 1 8 b) (drop 9 b)) else Broken)
     else if nat_eq id 15 then of_length 26 b (VerifyKey kind (number_at 2 8 b) (drop 10 b))
     else if nat_eq id 16 then of_length 11 b (ConfirmKey kind (byte_at 2 b) (number_at 3 8 b))
     else Unknown
@@ -222,7 +261,8 @@ command_shown (id ∷ rest) = command_of id (get_or rest 0 0) (id ∷ rest)
 
 abbrev leave_shown : Bytes → LeaveShown
 leave_shown [] = NoCommand
-leave_shown (id ∷ rest) = if nat_eq id 4 then (if nat_eq (length rest) 1 then Leave (get_or rest 0 0) else NoCommand) else Other
+leave_shown (id ∷ rest) = if nat_eq id 4 then (if nat_eq (length rest) 1 then Leave (get_or rest 0 0) else NoCommand)
+    else Other
 
 unfoldable pub toy : Tools
 toy = record {

@@ -34,10 +34,22 @@ source_or other None = other
 source_or other (Some t) = t.source
 
 abbrev pub heard_clear : Option Term → Heard
-heard_clear nwk = record { sender = source_or 18446744073709551616 nwk; label = None; row = None; nwk_source = option_map (λ (t : Term). t.source) nwk }
+heard_clear nwk =
+    record {
+      sender = source_or 18446744073709551616 nwk;
+      label = None;
+      row = None;
+      nwk_source = option_map (λ (t : Term). t.source) nwk;
+    }
 
 abbrev pub heard_sealed : Option Term → ApsAuxiliary → Unsealed → Heard
-heard_sealed nwk aux u = record { sender = u.term.source; label = Some aux.label; row = Some u.row; nwk_source = option_map (λ (t : Term). t.source) nwk }
+heard_sealed nwk aux u =
+    record {
+      sender = u.term.source;
+      label = Some aux.label;
+      row = Some u.row;
+      nwk_source = option_map (λ (t : Term). t.source) nwk;
+    }
 
 -- an APS command: one that is known by its rule; an unknown one is not taken, and other bytes are none
 abbrev pub aps_command : Tools → Setting → NodeState → Option Bytes → List Term → Heard → CommandShown → Plan
@@ -51,15 +63,19 @@ clear_part tools c s draw nwk a =
     if a.is_command then aps_command tools c s draw (option_to_list nwk) (heard_clear nwk) (tools.read_command a.body)
     else comes_to (option_to_list nwk) AtAps (Does [] None)
 
-abbrev pub sealed_part : Tools → Setting → NodeState → Option Bytes → Option Term → ApsShown → ApsAuxiliary → Verdict Unsealed → Plan
+abbrev pub sealed_part : Tools → Setting → NodeState → Option Bytes → Option Term → ApsShown → ApsAuxiliary
+    → Verdict Unsealed → Plan
 sealed_part tools c s draw nwk a aux (Not place reason) = stopped_at (option_to_list nwk) place reason
 sealed_part tools c s draw nwk a aux (Good u) =
-    if a.is_command then aps_command tools c s draw (option_to_list nwk ++ u.term ∷ []) (heard_sealed nwk aux u) (tools.read_command u.term.content)
+    if a.is_command then aps_command tools c s draw (option_to_list nwk ++ u.term ∷ []) (heard_sealed nwk aux u)
+    (tools.read_command u.term.content)
     else comes_to (option_to_list nwk ++ u.term ∷ []) AtAps (Does [] None)
 
-abbrev pub by_security : Tools → Setting → NodeState → Option Bytes → NwkShown → Option Term → ApsShown → Option ApsAuxiliary → Plan
+abbrev pub by_security : Tools → Setting → NodeState → Option Bytes → NwkShown → Option Term → ApsShown
+    → Option ApsAuxiliary → Plan
 by_security tools c s draw f nwk a None = clear_part tools c s draw nwk a
-by_security tools c s draw f nwk a (Some aux) = sealed_part tools c s draw nwk a aux (judge_aps tools c s f (payload_of f nwk) aux)
+by_security tools c s draw f nwk a (Some aux) =
+    sealed_part tools c s draw nwk a aux (judge_aps tools c s f (payload_of f nwk) aux)
 
 abbrev pub aps_part : Tools → Setting → NodeState → Option Bytes → NwkShown → Option Term → Option ApsShown → Plan
 aps_part tools c s draw f nwk None = stopped_at (option_to_list nwk) AtAps Malformed
@@ -114,14 +130,23 @@ abbrev pub in_clear : Bytes → Part
 in_clear bytes = record { control = secured_frame; seals = []; bytes = bytes }
 
 abbrev pub tunnel_of : Tools → ℕ → ℕ → Term → Part
-tunnel_of tools nwk device t = record { control = secured_frame; seals = t ∷ []; bytes = clear_command ∷ low_byte nwk ∷ tools.spelled (Tunnel device (tools.wire t)) }
+tunnel_of tools nwk device t =
+    record {
+      control = secured_frame;
+      seals = t ∷ [];
+      bytes = clear_command ∷ low_byte nwk
+          ∷ tools.spelled (Tunnel device (tools.wire t));
+    }
 
 unfoldable pub part_of : Tools → ℕ → ℕ → ℕ → ℕ → Body → Part
 part_of tools me to nwk aps (Saying bytes) = in_clear (data_front (data_control to) ++ low_byte nwk ∷ bytes)
 part_of tools me to nwk aps (Clear control command) = in_clear (control ∷ low_byte nwk ∷ tools.spelled command)
-part_of tools me to nwk aps (Secret label key command) = sealed_into tools (aps_term sealed_command label key me aps (tools.spelled command))
-part_of tools me to nwk aps (Tunnelled device key command) = tunnel_of tools nwk device (aps_term sealed_command ForTransport key me aps (tools.spelled command))
-part_of tools me to nwk aps (Telling key bytes) = sealed_into tools (aps_term (data_front sealed_data) ForData key me aps bytes)
+part_of tools me to nwk aps (Secret label key command) =
+    sealed_into tools (aps_term sealed_command label key me aps (tools.spelled command))
+part_of tools me to nwk aps (Tunnelled device key command) =
+    tunnel_of tools nwk device (aps_term sealed_command ForTransport key me aps (tools.spelled command))
+part_of tools me to nwk aps (Telling key bytes) =
+    sealed_into tools (aps_term (data_front sealed_data) ForData key me aps bytes)
 part_of tools me to nwk aps Leaving = record { control = leave_frame; seals = []; bytes = leave_payload }
 part_of tools me to nwk aps (Relayed bytes) = in_clear bytes
 
@@ -134,10 +159,12 @@ nothing_out = record { seals = []; frame = None }
 
 -- sealed under the active row, APS before NWK
 abbrev pub secured_out : Tools → Setting → ℕ → ℕ → NetKey → Part → Outgoing
-secured_out tools c to nwk row part = let t = nwk_term part.control to c.me.short c.me.eui row.key row.sequence nwk part.bytes in record { seals = part.seals ++ t ∷ []; frame = Some (tools.wire t) }
+secured_out tools c to nwk row part = let t = nwk_term part.control to c.me.short c.me.eui row.key row.sequence nwk
+    part.bytes in record { seals = part.seals ++ t ∷ []; frame = Some (tools.wire t) }
 
 abbrev pub plain_out : Setting → ℕ → Part → Outgoing
-plain_out c to part = record { seals = part.seals; frame = Some (nwk_header plain_frame to c.me.short 0 ++ part.bytes) }
+plain_out c to part =
+    record { seals = part.seals; frame = Some (nwk_header plain_frame to c.me.short 0 ++ part.bytes) }
 
 -- A secured frame without an active row is none. That decides nothing: `may_seal` asked for the row before.
 abbrev pub framed : Tools → Setting → ℕ → ℕ → Bool → Option NetKey → Part → Outgoing
@@ -156,7 +183,8 @@ may_seal s send =
 abbrev pub sent : Tools → Setting → NodeState → Counting → Option Sending → Outgoing
 sent tools c s k None = nothing_out
 sent tools c s k (Some send) =
-    framed tools c send.to (k.counter Nwk) send.secured (active_row s) (part_of tools c.me.eui send.to (k.counter Nwk) (k.counter Aps) send.body)
+    framed tools c send.to (k.counter Nwk) send.secured (active_row s)
+    (part_of tools c.me.eui send.to (k.counter Nwk) (k.counter Aps) send.body)
 
 unfoldable pub out_of : Tools → Setting → NodeState → Counting → Option Sending → Outgoing
 out_of tools c s k send = if may_seal s send then sent tools c s k send else nothing_out
@@ -165,7 +193,10 @@ out_of tools c s k send = if may_seal s send then sent tools c s k send else not
 
 -- A change that leaves a thing as it is gives no line.
 abbrev pub changes : NodeState → Move → Bool
-changes s (Row partner key attribute) = not (list_any (λ (r : LinkKey). is_link partner key r && (r.live && nat_eq (attribute_byte r.attribute) (attribute_byte attribute))) s.links)
+changes s (Row partner key attribute) =
+    not (list_any
+    (λ (r : LinkKey). is_link partner key r
+    && (r.live && nat_eq (attribute_byte r.attribute) (attribute_byte attribute))) s.links)
 changes s (Active key) = not (is_active_key s.active key)
 changes s (Became state) = not (nat_eq (state_byte s.state) (state_byte state))
 changes s _ = true
@@ -251,7 +282,8 @@ stored_floor t s = stored_at t.layer t s
 
 -- A floor is stored where the accepted counter isn't below the stored one: a block above it.
 abbrev pub floor_for : Setting → NodeState → Term → Option ℕ
-floor_for c s t = if nat_le (stored_floor t s) t.counter then Some (min (t.counter + c.me.in_block) greatest_counter) else None
+floor_for c s t = if nat_le (stored_floor t s) t.counter then Some (min (t.counter + c.me.in_block) greatest_counter)
+    else None
 
 unfoldable pub floor_of : Setting → NodeState → List Term → Layer → Option ℕ
 floor_of c s [] layer = None

@@ -62,7 +62,8 @@ Once (l ∷ ls) = OnceFrom l ls × Once ls
 -- the change takes the verified link row of a partner and a key away: a drop, or another attribute
 abbrev pub Unsettles : ℕ → ℕ → Bytes → Line → Type 0
 Unsettles c d b (Changed e n (Moved (DropLink partner key))) = (n ≡ c) × (partner ≡ d) × (key ≡ b)
-Unsettles c d b (Changed e n (Moved (Row partner key attribute))) = (n ≡ c) × (partner ≡ d) × (key ≡ b) × (attribute ≡ Verified → ⊥)
+Unsettles c d b (Changed e n (Moved (Row partner key attribute))) = (n ≡ c) × (partner ≡ d) × (key ≡ b)
+    × (attribute ≡ Verified → ⊥)
 Unsettles c d b _ = ⊥
 
 -- The centre stored the key as verified before, and nothing has unsettled it since.
@@ -77,7 +78,8 @@ pub record StoredVerified (h : List Line) (c d : ℕ) (b : Bytes) : Type 0 where
 
 -- the content of a sealed APS command is a Confirm-Key of status 0 for a device
 abbrev pub Confirming : Tools → Term → ℕ → Type 0
-Confirming tools t d = (t.layer ≡ Aps) × (is_command_header t.header ≡ true) × ((kind : ℕ) × (tools.read_command t.content ≡ Known (ConfirmKey 0 kind d)))
+Confirming tools t d = (t.layer ≡ Aps) × (is_command_header t.header ≡ true)
+    × ((kind : ℕ) × (tools.read_command t.content ≡ Known (ConfirmKey 0 kind d)))
 
 abbrev pub ConfirmLine : Tools → ℕ → List Line → Line → Type 0
 ConfirmLine tools c h (Seal e n t) = (d : ℕ) → Confirming tools t d → (n ≡ c) × StoredVerified h c d t.base
@@ -136,10 +138,12 @@ Among keys key = Any (λ k. k ≡ key) keys
 
 -- None of the keys drawn after the removal is in a row of the device, or comes out for it.
 abbrev pub Obtains : Tools → List Line → ℕ → Bytes → Type 0
-Obtains tools taken d key = Among (flat_map (taken_in d) taken) key ⊎ Among (exposed tools taken (well_known ∷ ever taken d)) key
+Obtains tools taken d key = Among (flat_map (taken_in d) taken) key
+    ⊎ Among (exposed tools taken (well_known ∷ ever taken d)) key
 
 abbrev pub KeepsOut : Tools → List Line → List Line → ℕ → Type 0
-KeepsOut tools h after d = (key : Bytes) → Among (flat_map drawn_in (until_live d after)) key → Obtains tools (h ++ until_live d after) d key → ⊥
+KeepsOut tools h after d = (key : Bytes) → Among (flat_map drawn_in (until_live d after)) key
+    → Obtains tools (h ++ until_live d after) d key → ⊥
 
 abbrev pub event_of : Line → ℕ
 event_of (Changed e n edit) = e
@@ -163,7 +167,8 @@ before_group event h = filter (λ l. Rattle.std.specs.Prelude.not (nat_eq (event
 
 -- none of a node's live network keys is known outside
 abbrev pub HoldsNoneKnown : Tools → List Line → ℕ → Type 0
-HoldsNoneKnown tools h n = AllByRecursion (λ (r : NetKey). Among (exposed tools h (outside h)) r.key → ⊥) (live_nets (state_of h n))
+HoldsNoneKnown tools h n = AllByRecursion (λ (r : NetKey). Among (exposed tools h (outside h)) r.key → ⊥)
+    (live_nets (state_of h n))
 
 abbrev pub seals_of : ℕ → Line → List Term
 seals_of d (Seal e n t) = if nat_eq n d then t ∷ [] else []
@@ -185,7 +190,8 @@ Refuses tools h after d = Each (RefusesLine tools d h) [] (until_live d after)
 
 abbrev pub LockedLine : Tools → List Line → Line → List Line → Type 0
 LockedLine tools h (Changed e n (Moved (Removed d))) after =
-    KeepsOut tools (h ++ Changed e n (Moved (Removed d)) ∷ []) after d × Refuses tools (h ++ Changed e n (Moved (Removed d)) ∷ []) after d
+    KeepsOut tools (h ++ Changed e n (Moved (Removed d)) ∷ []) after d
+    × Refuses tools (h ++ Changed e n (Moved (Removed d)) ∷ []) after d
 LockedLine tools h _ after = ⊤
 
 abbrev pub LockedFrom : Tools → List Line → List Line → Type 0

@@ -68,7 +68,8 @@ joined_state c s =
 
 abbrev pub activate : Setting → NodeState → Bytes → List Move
 activate c s key =
-    (if activates s then Active key ∷ [] else []) ++ (if waits_for_key s.state then Became (joined_state c s) ∷ [] else [])
+    (if activates s then Active key ∷ [] else []) ++ (if waits_for_key s.state then Became (joined_state c s) ∷ []
+    else [])
 
 -- Transport-Key, type 1: a network key
 unfoldable pub take_net_key : Setting → NodeState → Heard → Bytes → ℕ → ℕ → ℕ → Outcome
@@ -105,7 +106,8 @@ take_link_key c s m key destination source =
     choose (has_key key (current s (centre_of c.stations)) || has_key key (offered s (centre_of c.stations)))
     (Does [] None)
     (take_row s (centre_of c.stations) key
-    (drop_row (offered s (centre_of c.stations)) ++ (Row (centre_of c.stations) key Unverified ∷ Became Offered ∷ [])))))
+    (drop_row (offered s (centre_of c.stations))
+    ++ (Row (centre_of c.stations) key Unverified ∷ Became Offered ∷ [])))))
 
 -- Transport-Key, type 3: a link key with a partner
 unfoldable pub take_app_key : Setting → NodeState → Heard → Bytes → ℕ → Outcome
@@ -134,7 +136,8 @@ take_confirm c s m status kind destination =
     unless (not (row_is m.row (offered s (centre_of c.stations)))) WrongState (
     -- decides nothing: the row that opened the command is the offered one, so there is one
     found_or (offered s (centre_of c.stations)) WrongState (λ row.
-    Does (drop_row (current s (centre_of c.stations)) ++ (Row row.partner row.key Verified ∷ Became Confirmed ∷ [])) None))))
+    Does (drop_row (current s (centre_of c.stations)) ++ (Row row.partner row.key Verified ∷ Became Confirmed ∷ []))
+    None))))
 
 -- Taken by routers
 
@@ -170,7 +173,9 @@ take_update c s m device status =
     (found_or (active_row s) NoKey (λ net.
     found_or (current s device) NotMember (λ row.
     unless (both_spent s) CounterSpent (
-    Does [] (sends (short_of c (eui_of m.nwk_source)) true (Tunnelled device row.key (TransportNet net.key net.sequence device c.me.eui))))))))
+    Does []
+    (sends (short_of c (eui_of m.nwk_source)) true
+    (Tunnelled device row.key (TransportNet net.key net.sequence device c.me.eui))))))))
 
 -- the row that opened a request is the sender's current one
 abbrev pub under_current : NodeState → Heard → Bool
@@ -217,11 +222,14 @@ answer_pair c s device partner draw row None =
     unless (pairs_full s) RowsFull (
     found_or (unless_held s draw) NoDraw (λ key.
     unless (both_spent s) CounterSpent (
-    send_app_key c device partner key (Draw key ∷ Pair (lesser device partner) (greater device partner) key ∷ []) row)))
+    send_app_key c device partner key (Draw key ∷ Pair (lesser device partner) (greater device partner) key ∷ [])
+    row)))
 
 unfoldable pub take_app_request : Setting → NodeState → Heard → Option Bytes → ℕ → Outcome
 take_app_request c s m draw partner =
-    unless (not (is_centre c.me.role && (under_current s m && not (nat_eq partner m.sender || nat_eq partner c.me.eui)))) Policy (
+    unless (not
+    (is_centre c.me.role && (under_current s m && not (nat_eq partner m.sender || nat_eq partner c.me.eui))))
+    Policy (
     unless (not (is_live s partner)) NotMember (
     unless (not (is_verified_row (current s m.sender) && is_verified_row (current s partner))) WrongState (
     -- decides nothing: the current row was verified above, so there is one
@@ -261,7 +269,8 @@ take_verify tools c s m kind device hash =
 
 -- The rule of each command.
 unfoldable pub take_command : Tools → Setting → NodeState → Option Bytes → Heard → Command → Outcome
-take_command tools c s draw m (TransportNet key sequence destination source) = take_net_key c s m key sequence destination source
+take_command tools c s draw m (TransportNet key sequence destination source) =
+    take_net_key c s m key sequence destination source
 take_command tools c s draw m (TransportApp key partner initiator) = take_app_key c s m key partner
 take_command tools c s draw m (TransportLink key destination source) = take_link_key c s m key destination source
 take_command tools c s draw m (UpdateDevice device short status) = take_update c s m device status
@@ -279,5 +288,6 @@ asks_to_go options = nat_eq ((options / 64) % 2) 1
 
 unfoldable pub take_leave : Setting → Term → ℕ → Outcome
 take_leave c term options =
-    unless (not (is_member c && ((from_centre c term.source || acts_as_router c term.source) && asks_to_go options))) Policy (
+    unless (not (is_member c && ((from_centre c term.source || acts_as_router c term.source) && asks_to_go options)))
+    Policy (
     Does (Became Gone ∷ []) None)

@@ -25,10 +25,12 @@ all_apart alike [] = true
 all_apart alike (x ∷ xs) = not (list_any (alike x) xs) && all_apart alike xs
 
 unfoldable pub rows_have_room : NodeState → Bool
-rows_have_room s = nat_le (length s.nets) most_nets && (nat_le (length s.links) (most_links s.role) && nat_le (length s.pairs) most_pairs)
+rows_have_room s = nat_le (length s.nets) most_nets
+    && (nat_le (length s.links) (most_links s.role) && nat_le (length s.pairs) most_pairs)
 
 unfoldable pub keys_differ : NodeState → Bool
-keys_differ s = all_apart (λ (a b : NetKey). same_key a.key b.key) s.nets && all_apart (λ (a b : LinkKey). same_key a.key b.key) s.links
+keys_differ s = all_apart (λ (a b : NetKey). same_key a.key b.key) s.nets
+    && all_apart (λ (a b : LinkKey). same_key a.key b.key) s.links
 
 unfoldable pub at_most_two_live : NodeState → Bool
 at_most_two_live s = nat_le (length (live_nets s)) 2
@@ -53,12 +55,16 @@ same_bool a b = if a then b else not b
 
 unfoldable pub partners_agree : NodeState → Bool
 partners_agree s =
-    all_apart (λ (a b : LinkKey). like_rows a b && same_bool (is_unverified a.attribute) (is_unverified b.attribute)) s.links
+    all_apart (λ (a b : LinkKey). like_rows a b && same_bool (is_unverified a.attribute) (is_unverified b.attribute))
+    s.links
     && all_apart (λ (a b : LinkKey). like_rows a b && not (same_bool a.told b.told)) s.links
 
 -- A told row is a live row of the centre; a row that was ever provisional is from a code.
 unfoldable pub links_are_marked : NodeState → Bool
-links_are_marked s = list_all (λ (r : LinkKey). (not r.told || (r.live && is_centre s.role)) && (not (is_provisional r.attribute) || r.code)) s.links
+links_are_marked s =
+    list_all
+    (λ (r : LinkKey). (not r.told || (r.live && is_centre s.role)) && (not (is_provisional r.attribute) || r.code))
+    s.links
 
 -- stored floors aren't 0, and stand by ascending sender
 abbrev pub senders_ascend : List SenderFloor → Bool
@@ -66,7 +72,10 @@ senders_ascend [] = true
 senders_ascend (f ∷ fs) = list_all (λ (g : SenderFloor). nat_lt f.sender g.sender) fs && senders_ascend fs
 
 unfoldable pub floors_are_kept : NodeState → Bool
-floors_are_kept s = list_all (λ (r : NetKey). nat_le (length r.floors) most_senders && (list_all (λ (f : SenderFloor). nat_lt 0 f.stored) r.floors && senders_ascend r.floors)) s.nets
+floors_are_kept s =
+    list_all
+    (λ (r : NetKey). nat_le (length r.floors) most_senders
+    && (list_all (λ (f : SenderFloor). nat_lt 0 f.stored) r.floors && senders_ascend r.floors)) s.nets
 
 unfoldable pub limits_are_started : NodeState → Bool
 limits_are_started s = list_all (λ (r : NetKey). r.started || nat_eq r.limit 0) s.nets
@@ -80,12 +89,14 @@ unfoldable pub role_is_kept : NodeState → Bool
 role_is_kept s = if is_centre s.role then is_fresh s.state else not s.sending && nat_eq (length s.pairs) 0
 
 unfoldable pub pairs_are_kept : NodeState → Bool
-pairs_are_kept s = list_all (λ (p : PairKey). nat_lt p.first p.second) s.pairs && all_apart (λ (a b : PairKey). nat_eq a.first b.first && nat_eq a.second b.second) s.pairs
+pairs_are_kept s = list_all (λ (p : PairKey). nat_lt p.first p.second) s.pairs
+    && all_apart (λ (a b : PairKey). nat_eq a.first b.first && nat_eq a.second b.second) s.pairs
 
 -- the rules for records, all of them
 unfoldable pub keeps_rules : NodeState → Bool
 keeps_rules s =
-    rows_have_room s && (keys_differ s && (at_most_two_live s && (active_is_live s && (partners_agree s && (links_are_marked s
+    rows_have_room s
+    && (keys_differ s && (at_most_two_live s && (active_is_live s && (partners_agree s && (links_are_marked s
     && (floors_are_kept s && (limits_are_started s && (role_is_kept s && pairs_are_kept s))))))))
 
 -- What a change needs of the state before it
@@ -130,7 +141,8 @@ abbrev pub may_change : Edit → NodeState → Bool
 may_change (Reserve Nwk limit) s = is_some (active_row s) && nat_le (stored_limit Nwk s) limit
 may_change (Reserve Aps limit) s = nat_le s.aps_limit limit
 may_change (Floor Nwk key sender value) s = live_net key s && nat_le (net_stored sender (net_of key s)) value
-may_change (Floor Aps key sender value) s = live_link sender key s && nat_le (link_stored (find (is_link sender key) s.links)) value
+may_change (Floor Aps key sender value) s = live_link sender key s
+    && nat_le (link_stored (find (is_link sender key) s.links)) value
 may_change (Start key value) s = has_net key s.nets && nat_le (net_limit (net_of key s)) value
 may_change (Moved move) s = may_move move s
 

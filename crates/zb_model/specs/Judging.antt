@@ -45,12 +45,14 @@ sealed_for_transport (Some a) = a.is_command && labelled a.auxiliary
 
 abbrev pub may_pass_unsecured : Tools → Setting → NodeState → NwkShown → Bool
 may_pass_unsecured tools c s f =
-    not (is_centre c.me.role) && (waits_for_key s.state && (not f.is_command && sealed_for_transport (tools.read_aps f.body)))
+    not (is_centre c.me.role)
+    && (waits_for_key s.state && (not f.is_command && sealed_for_transport (tools.read_aps f.body)))
 
 -- a floor has to be stored for a source, and there are floors of 64 others
 abbrev pub senders_full : ℕ → ℕ → NetKey → Bool
 senders_full source counter row =
-    nat_le (sender_floor source row).stored counter && nat_le most_senders (length (filter (λ (f : SenderFloor). not (nat_eq f.sender source)) row.floors))
+    nat_le (sender_floor source row).stored counter
+    && nat_le most_senders (length (filter (λ (f : SenderFloor). not (nat_eq f.sender source)) row.floors))
 
 -- a frame under the row of its key sequence
 unfoldable pub judge_net : Tools → Setting → NodeState → Bytes → NwkAuxiliary → Verdict Term

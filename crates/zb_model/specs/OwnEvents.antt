@@ -105,7 +105,9 @@ child_of_centre c s child =
     found_or (active_row s) NoKey (λ net.
     found_or (current s child) NotMember (λ row.
     unless (spent Aps s) CounterSpent (
-    Does [] (sends (short_of c child) false (Secret ForTransport row.key (TransportNet net.key net.sequence child c.me.eui))))))
+    Does []
+    (sends (short_of c child) false
+    (Secret ForTransport row.key (TransportNet net.key net.sequence child c.me.eui))))))
 
 -- the smallest EUI among live devices that weren't sent the new network key
 abbrev pub is_waiting : LinkKey → Bool
@@ -132,7 +134,9 @@ centre_timer c s =
     found_or (newest s) NoKey (λ new.
     found_or (current s device) WrongState (λ row.
     unless (both_spent s) CounterSpent (
-    Does (Told device ∷ []) (sends (short_of c device) true (Secret ForTransport row.key (TransportNet new.key new.sequence device c.me.eui)))))))))
+    Does (Told device ∷ [])
+    (sends (short_of c device) true
+    (Secret ForTransport row.key (TransportNet new.key new.sequence device c.me.eui)))))))))
 
 -- provision: a device's code is entered, and the device is live
 abbrev pub provision_new : NodeState → ℕ → Bytes → Option LinkKey → Outcome
@@ -147,11 +151,13 @@ provision s device key =
 
 -- remove: a device's rows are dropped, and it or its parent is told where that can be sealed
 abbrev pub tell_leave : Setting → NodeState → ℕ → Option Sending
-tell_leave c s device = if is_some (active_row s) && not (spent Nwk s) then sends (short_of c device) true Leaving else None
+tell_leave c s device = if is_some (active_row s) && not (spent Nwk s) then sends (short_of c device) true Leaving
+    else None
 
 abbrev pub tell_parent : Setting → NodeState → ℕ → ℕ → Option LinkKey → Option Sending
 tell_parent c s device via None = None
-tell_parent c s device via (Some row) = if is_some (active_row s) && not (both_spent s) then sends (short_of c via) true (Secret ForData row.key (RemoveDevice device)) else None
+tell_parent c s device via (Some row) = if is_some (active_row s) && not (both_spent s)
+    then sends (short_of c via) true (Secret ForData row.key (RemoveDevice device)) else None
 
 unfoldable pub remove_device : Setting → NodeState → ℕ → ℕ → Outcome
 remove_device c s device via =

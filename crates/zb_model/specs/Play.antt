@@ -36,8 +36,10 @@ pub data Event : Type 0 where
   ArmFail : (node : ℕ) (call : ℕ) → Event
   InjectBytes : (bytes : Bytes) → Event
   ForgeNet : (to : ℕ) (from : ℕ) (source : ℕ) (key : Bytes) (sequence : ℕ) (counter : ℕ) (content : Bytes) → Event
-  ForgeNetAps : (to : ℕ) (from : ℕ) (source : ℕ) (key : Bytes) (sequence : ℕ) (counter : ℕ) (label : Label) (base : Bytes) (aps_counter : ℕ) (command : Bytes) → Event
-  ForgeOpen : (to : ℕ) (from : ℕ) (source : ℕ) (label : Label) (base : Bytes) (aps_counter : ℕ) (command : Bytes) → Event
+  ForgeNetAps : (to : ℕ) (from : ℕ) (source : ℕ) (key : Bytes) (sequence : ℕ) (counter : ℕ) (label : Label)
+      (base : Bytes) (aps_counter : ℕ) (command : Bytes) → Event
+  ForgeOpen : (to : ℕ) (from : ℕ) (source : ℕ) (label : Label) (base : Bytes) (aps_counter : ℕ) (command : Bytes)
+      → Event
 
 pub record Schedule : Type 0 where
   pub nodes : List Node
@@ -66,7 +68,8 @@ start w =
     map Declared (stations w)
     ++ (flat_map (λ (m : Node). net_line m.station.eui m.network) w.nodes
     ++ (flat_map (λ (m : Node). link_line (centre_of (stations w)) m.station.eui m.code) w.nodes
-    ++ flat_map (λ (m : Node). limit_line m.station.eui Nwk m.start_nwk ++ limit_line m.station.eui Aps m.start_aps) w.nodes))
+    ++ flat_map (λ (m : Node). limit_line m.station.eui Nwk m.start_nwk ++ limit_line m.station.eui Aps m.start_aps)
+    w.nodes))
 
 -- The disks: what is armed, and whether both slots of the store stand open. A node's entry is added when it is needed.
 
@@ -140,7 +143,8 @@ stands _ _ = false
 -- Whether two slots stand open afterwards: after a whole record until the old slot's gate is closed; after a boot as
 -- before until it has closed the other gate.
 unfoldable pub leaves_both : Armed → Calls → Bool
-leaves_both (StopAfter n torn) RecordCalls = (nat_eq n 3 && gate_opens torn) || (nat_eq n 4 || (nat_eq n 5 && is_gate torn))
+leaves_both (StopAfter n torn) RecordCalls = (nat_eq n 3 && gate_opens torn)
+    || (nat_eq n 4 || (nat_eq n 5 && is_gate torn))
 leaves_both (FailAt n) RecordCalls = nat_eq n 4 || nat_eq n 5
 leaves_both (StopAfter n torn) (BootCalls both) = both && (nat_le n 1 || is_gate torn)
 leaves_both (FailAt n) (BootCalls both) = both && nat_le n 2
@@ -180,7 +184,8 @@ stored_lines number n a = change_lines number n a.edits ++ commit_lines number n
 unfoldable pub told_lines : ℕ → ℕ → ℕ → Answer → List Line
 told_lines number n frame a =
     map (Accept number n) a.accepts
-    ++ (refuse_lines number n a.place a.refusal ++ (map (Seal number n) a.seals ++ send_lines number (Some n) frame a.frame))
+    ++ (refuse_lines number n a.place a.refusal
+    ++ (map (Seal number n) a.seals ++ send_lines number (Some n) frame a.frame))
 
 abbrev pub calls_for : List Line → ℕ → List Edit → Calls
 calls_for h n [] = NoCalls
@@ -191,14 +196,18 @@ group_of h number n a = stored_lines number n a ++ told_lines number n (length (
 
 -- what stands of the group where a stop or a failure falls on its commit
 unfoldable pub cut_of : Armed → Calls → ℕ → ℕ → Answer → List Line
-cut_of armed calls number n a = (if stands armed calls then stored_lines number n a else []) ++ fallen_line armed number n
+cut_of armed calls number n a = (if stands armed calls then stored_lines number n a else [])
+    ++ fallen_line armed number n
 
 abbrev pub answer_step : List Line → List Disk → ℕ → ℕ → Answer → Step
 answer_step h disks number n a =
     let d = disk_of disks n in
     let calls = calls_for h n a.edits in
     if falls d.armed calls
-    then record { lines = cut_of d.armed calls number n a; disks = with_disk disks n (record { armed = NotArmed; both_open = leaves_both d.armed calls }) }
+    then record {
+      lines = cut_of d.armed calls number n a;
+      disks = with_disk disks n (record { armed = NotArmed; both_open = leaves_both d.armed calls });
+    }
     else record { lines = group_of h number n a; disks = disks }
 
 abbrev pub boot_step : List Disk → ℕ → ℕ → Step
@@ -206,8 +215,15 @@ boot_step disks number n =
     let d = disk_of disks n in
     let calls = BootCalls d.both_open in
     if falls d.armed calls
-    then record { lines = fallen_line d.armed number n; disks = with_disk disks n (record { armed = NotArmed; both_open = leaves_both d.armed calls }) }
-    else record { lines = Boot number n ∷ []; disks = with_disk disks n (record { armed = d.armed; both_open = false }) }
+    then record {
+      lines = fallen_line d.armed number n;
+      disks = with_disk disks n (record { armed = NotArmed; both_open = leaves_both d.armed calls });
+    }
+    else record {
+      lines = Boot number n
+          ∷ [];
+      disks = with_disk disks n (record { armed = d.armed; both_open = false });
+    }
 
 abbrev pub refused_step : List Disk → ℕ → ℕ → Reason → Step
 refused_step disks number n reason = record { lines = Refuse number n AtEvent reason ∷ []; disks = disks }
@@ -215,7 +231,15 @@ refused_step disks number n reason = record { lines = Refuse number n AtEvent re
 -- A station in place of a node that isn't declared. It decides nothing in a run: a schedule's events are of declared
 -- nodes.
 abbrev pub no_station : Station
-no_station = record { name = []; eui = Rattle.zb_model.specs.Data.nobody; short = 0xffff; role = Rattle.zb_model.specs.Data.Role.Device; out_block = 0; in_block = 0 }
+no_station =
+    record {
+      name = [];
+      eui = Rattle.zb_model.specs.Data.nobody;
+      short = 0xffff;
+      role = Rattle.zb_model.specs.Data.Role.Device;
+      out_block = 0;
+      in_block = 0;
+    }
 
 abbrev pub station_or : Option Station → Station
 station_or None = no_station
@@ -243,12 +267,15 @@ answer_counted tools counts c s p = answer_by tools c s (counts c s p) p
 unfoldable pub task_step : Tools → Counts → Schedule → List Line → List Disk → ℕ → ℕ → Task → Step
 task_step tools counts w h disks number n task =
     if is_up h n
-    then answer_step h disks number n (answer_counted tools counts (setting_of w n) (state_of h n) (plan_of tools (setting_of w n) (state_of h n) task))
+    then answer_step h disks number n
+    (answer_counted tools counts (setting_of w n) (state_of h n)
+    (plan_of tools (setting_of w n) (state_of h n) task))
     else refused_step disks number n Down
 
 abbrev pub deliver_step : Tools → Counts → Schedule → List Line → List Disk → ℕ → ℕ → Option Bytes → Step
 deliver_step tools counts w h disks number n None = refused_step disks number n (if is_up h n then NoFrame else Down)
-deliver_step tools counts w h disks number n (Some bytes) = task_step tools counts w h disks number n (Received bytes (supply w h))
+deliver_step tools counts w h disks number n (Some bytes) = task_step tools counts w h disks number n
+    (Received bytes (supply w h))
 
 -- the frame of a number from 1
 abbrev pub frame_at : List Line → ℕ → Option Bytes
@@ -273,28 +300,52 @@ unfoldable pub forged_both : Tools → List Line → ℕ → Term → Term → L
 forged_both tools h number inner t = forged h number (inner ∷ t ∷ []) (tools.wire t)
 
 unfoldable pub forged_open : Tools → List Line → ℕ → ℕ → ℕ → Term → List Line
-forged_open tools h number to from inner = forged h number (inner ∷ []) (nwk_header plain_frame to from 0 ++ tools.wire inner)
+forged_open tools h number to from inner =
+    forged h number (inner ∷ []) (nwk_header plain_frame to from 0 ++ tools.wire inner)
 
 unfoldable pub step_by : Tools → Counts → Schedule → List Line → List Disk → ℕ → Event → Step
 step_by tools counts w h disks number (Own n task) = task_step tools counts w h disks number n task
 step_by tools counts w h disks number (RollOver n) = task_step tools counts w h disks number n (DoRoll (supply w h))
-step_by tools counts w h disks number (Deliver frame n) = deliver_step tools counts w h disks number n (frame_at h frame)
+step_by tools counts w h disks number (Deliver frame n) = deliver_step tools counts w h disks number n
+    (frame_at h frame)
 step_by tools counts w h disks number (Reset n) =
     if is_up h n then record { lines = DownReset number n ∷ []; disks = disks } else refused_step disks number n Down
-step_by tools counts w h disks number (PowerOn n) = if is_up h n then refused_step disks number n WrongState else boot_step disks number n
-step_by tools counts w h disks number (ShowRecord n) = record { lines = Dump number n (record_of (state_of h n)) ∷ []; disks = disks }
+step_by tools counts w h disks number (PowerOn n) = if is_up h n then refused_step disks number n WrongState
+    else boot_step disks number n
+step_by tools counts w h disks number (ShowRecord n) =
+    record { lines = Dump number n (record_of (state_of h n)) ∷ []; disks = disks }
 step_by tools counts w h disks number (ArmStop n calls torn) =
-    record { lines = []; disks = with_disk disks n (record { armed = StopAfter calls torn; both_open = (disk_of disks n).both_open }) }
+    record {
+      lines = [];
+      disks = with_disk disks n (record { armed = StopAfter calls torn; both_open = (disk_of disks n).both_open });
+    }
 step_by tools counts w h disks number (ArmFail n call) =
-    record { lines = []; disks = with_disk disks n (record { armed = FailAt call; both_open = (disk_of disks n).both_open }) }
-step_by tools counts w h disks number (InjectBytes bytes) = record { lines = Inject number (length (air h) + 1) bytes ∷ []; disks = disks }
+    record {
+      lines = [];
+      disks = with_disk disks n (record { armed = FailAt call; both_open = (disk_of disks n).both_open });
+    }
+step_by tools counts w h disks number (InjectBytes bytes) =
+    record { lines = Inject number (length (air h) + 1) bytes ∷ []; disks = disks }
 step_by tools counts w h disks number (ForgeNet to from source key sequence counter content) =
-    record { lines = forged_net tools h number (nwk_term (forged_control tools content) to from source key sequence counter content); disks = disks }
-step_by tools counts w h disks number (ForgeNetAps to from source key sequence counter label base aps_counter command) =
+    record {
+      lines = forged_net tools h number
+          (nwk_term (forged_control tools content) to from source key sequence counter content);
+      disks = disks;
+    }
+step_by tools counts w h disks number
+    (ForgeNetAps to from source key sequence counter label base aps_counter command) =
     let inner = aps_term sealed_command label base source aps_counter command in
-    record { lines = forged_both tools h number inner (nwk_term secured_frame to from source key sequence counter (tools.wire inner)); disks = disks }
+    record {
+      lines = forged_both tools h number inner
+          (nwk_term secured_frame to from source key sequence counter (tools.wire inner));
+      disks = disks;
+    }
 step_by tools counts w h disks number (ForgeOpen to from source label base aps_counter command) =
-    record { lines = forged_open tools h number to from (aps_term sealed_command label base source aps_counter command); disks = disks }
+    record {
+      lines = forged_open tools h number to from
+          (aps_term sealed_command label base source aps_counter command);
+      disks = disks;
+    }
 
 unfoldable pub step : Tools → Schedule → List Line → List Disk → ℕ → Event → Step
 step tools w h disks number event = step_by tools counting_of w h disks number event

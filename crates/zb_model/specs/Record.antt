@@ -66,7 +66,9 @@ floors_bytes r = length r.floors ∷ flat_map sender_bytes r.floors
 
 -- A link row: partner 8, key 16, attribute 1, flags 1 (bit 0 live, bit 1 from a code, bit 2 told), floor 4.
 abbrev pub link_bytes : LinkKey → Bytes
-link_bytes r = eight_bytes r.partner ++ (r.key ++ attribute_byte r.attribute ∷ (worth 1 r.live + (worth 2 r.code + worth 4 r.told)) ∷ four_bytes r.stored)
+link_bytes r = eight_bytes r.partner
+    ++ (r.key ++ attribute_byte r.attribute ∷ (worth 1 r.live + (worth 2 r.code + worth 4 r.told))
+    ∷ four_bytes r.stored)
 
 -- A pair: first 8, second 8, key 16, live 1, which is 01.
 abbrev pub pair_bytes : PairKey → Bytes
@@ -79,7 +81,8 @@ unfoldable pub record_of : NodeState → Bytes
 record_of s =
     3 ∷ role_byte s.role ∷ state_byte s.state ∷ []
     ++ (four_bytes s.declared ++ (four_bytes s.aps_limit ++ (worth 1 s.sending ∷ []
-    ++ (two_bytes (length s.nets) ++ (two_bytes (active_place s) ++ (flat_map net_bytes s.nets ++ (flat_map floors_bytes (live_nets s)
+    ++ (two_bytes (length s.nets)
+    ++ (two_bytes (active_place s) ++ (flat_map net_bytes s.nets ++ (flat_map floors_bytes (live_nets s)
     ++ (two_bytes (length s.links) ++ (flat_map link_bytes s.links
     ++ (two_bytes (length s.pairs) ++ flat_map pair_bytes s.pairs))))))))))
 

@@ -131,7 +131,8 @@ pairs_full s = nat_le most_pairs (length s.pairs)
 -- the centre has a key that is still to be drawn.
 abbrev pub unless_held : NodeState → Option Bytes → Option Bytes
 unless_held s None = None
-unless_held s (Some key) = if has_net key s.nets || list_any (λ (r : LinkKey). same_key r.key key) s.links then None else Some key
+unless_held s (Some key) = if has_net key s.nets || list_any (λ (r : LinkKey). same_key r.key key) s.links then None
+    else Some key
 
 -- Changes that several rules make
 
@@ -144,7 +145,8 @@ drop_partner s partner = map drop_link (filter (is_live_of partner) s.links)
 
 -- every live row of a partner but that with the key
 unfoldable pub drop_others : NodeState → ℕ → Bytes → List Move
-drop_others s partner key = map drop_link (filter (λ (r : LinkKey). is_live_of partner r && not (same_key r.key key)) s.links)
+drop_others s partner key =
+    map drop_link (filter (λ (r : LinkKey). is_live_of partner r && not (same_key r.key key)) s.links)
 
 abbrev pub drop_row : Option LinkKey → List Move
 drop_row None = []
@@ -157,4 +159,5 @@ first_drop [] = []
 first_drop (r ∷ rs) = DropNet r.key ∷ []
 
 unfoldable pub drop_old : NodeState → List Move
-drop_old s = if nat_le 2 (length (live_nets s)) then first_drop (filter (λ (r : NetKey). not (is_active_key s.active r.key)) (live_nets s)) else []
+drop_old s = if nat_le 2 (length (live_nets s))
+    then first_drop (filter (λ (r : NetKey). not (is_active_key s.active r.key)) (live_nets s)) else []

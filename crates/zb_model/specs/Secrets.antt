@@ -90,7 +90,8 @@ is_the_centre known n = is_eui (find (λ (p : Station). is_centre p.role) known)
 
 abbrev pub ever_moved : List Station → ℕ → ℕ → Move → List Bytes
 ever_moved known d n (Install key sequence) = if nat_eq n d then key ∷ [] else []
-ever_moved known d n (Row partner key attribute) = if nat_eq n d || (is_the_centre known n && nat_eq partner d) then key ∷ [] else []
+ever_moved known d n (Row partner key attribute) = if nat_eq n d || (is_the_centre known n && nat_eq partner d)
+    then key ∷ [] else []
 ever_moved known d n (Pair first second key) = if nat_eq first d || nat_eq second d then key ∷ [] else []
 ever_moved known d n _ = []
 
@@ -114,7 +115,8 @@ centre_in h = centre_of (stations_of h)
 
 -- The link key that everybody knows (ZigBeeAlliance09).
 abbrev pub well_known : Bytes
-well_known = 0x5a ∷ 0x69 ∷ 0x67 ∷ 0x42 ∷ 0x65 ∷ 0x65 ∷ 0x41 ∷ 0x6c ∷ 0x6c ∷ 0x69 ∷ 0x61 ∷ 0x6e ∷ 0x63 ∷ 0x65 ∷ 0x30 ∷ 0x39 ∷ []
+well_known = 0x5a ∷ 0x69 ∷ 0x67 ∷ 0x42 ∷ 0x65 ∷ 0x65 ∷ 0x41 ∷ 0x6c ∷ 0x6c ∷ 0x69 ∷ 0x61 ∷ 0x6e ∷ 0x63 ∷ 0x65 ∷ 0x30
+    ∷ 0x39 ∷ []
 
 abbrev pub removed_in : Line → List ℕ
 removed_in (Changed e n (Moved (Removed d))) = d ∷ []
@@ -148,7 +150,8 @@ each_line test h (l ∷ ls) = test h l && each_line test (h ++ l ∷ []) ls
 unfoldable pub same_term : Term → Term → Bool
 same_term a b =
     same_layer a.layer b.layer && (same_key a.base b.base && (same_label a.label b.label && (nat_eq a.source b.source
-    && (nat_eq a.counter b.counter && (nat_eq a.control b.control && (bytes_eq a.header b.header && bytes_eq a.content b.content))))))
+    && (nat_eq a.counter b.counter
+    && (nat_eq a.control b.control && (bytes_eq a.header b.header && bytes_eq a.content b.content))))))
 
 -- the keys of a node's code and of its link rows
 abbrev pub base_in : ℕ → Line → List Bytes
@@ -211,7 +214,8 @@ forged_in (Forge e t) = t ∷ []
 forged_in _ = []
 
 unfoldable pub passes_on : Tools → List Line → Bool
-passes_on tools lines = list_any (λ (t : Term). holds_some (network_keys lines) (carried tools t)) (flat_map forged_in lines)
+passes_on tools lines = list_any (λ (t : Term). holds_some (network_keys lines) (carried tools t))
+    (flat_map forged_in lines)
 
 unfoldable pub private : Tools → List Line → Bool
 private tools lines = each_line (based_line tools) [] lines && not (passes_on tools lines)

@@ -61,7 +61,19 @@ pub record NodeState : Type 0 where
 
 -- A node before its first line.
 abbrev pub new_node : Role → NodeState
-new_node role = record { role = role; state = Fresh; declared = 0; aps_limit = 0; aps_next = 0; sending = false; nets = []; active = None; links = []; pairs = [] }
+new_node role =
+    record {
+      role = role;
+      state = Fresh;
+      declared = 0;
+      aps_limit = 0;
+      aps_next = 0;
+      sending = false;
+      nets = [];
+      active = None;
+      links = [];
+      pairs = [];
+    }
 
 -- Tests
 
@@ -237,7 +249,8 @@ of_active f None nets = nets
 of_active f (Some key) nets = at_net key f nets
 
 abbrev pub new_net : Bytes → ℕ → NetKey
-new_net key sequence = record { key = key; sequence = sequence; live = true; started = false; limit = 0; next = 0; floors = [] }
+new_net key sequence =
+    record { key = key; sequence = sequence; live = true; started = false; limit = 0; next = 0; floors = [] }
 
 -- A limit is never lowered, nor is it more than the greatest counter; a row that reserves counts as started.
 abbrev pub reserved : ℕ → NetKey → NetKey
@@ -245,7 +258,12 @@ reserved limit r = record r { started = true; limit = max r.limit (min limit gre
 
 -- The first counter of a key that becomes active.
 abbrev pub started_at : ℕ → NetKey → NetKey
-started_at value r = record r { started = true; limit = max r.limit (min value greatest_counter); next = max r.next (min value greatest_counter) }
+started_at value r =
+    record r {
+      started = true;
+      limit = max r.limit (min value greatest_counter);
+      next = max r.next (min value greatest_counter);
+    }
 
 abbrev pub dropped_net : NetKey → NetKey
 dropped_net r = record r { live = false }
@@ -258,7 +276,8 @@ abbrev pub floor_stored : ℕ → ℕ → List SenderFloor → List SenderFloor
 floor_stored sender value [] = record { sender = sender; kept = 0; stored = value } ∷ []
 floor_stored sender value (f ∷ fs) =
     if nat_lt sender f.sender then record { sender = sender; kept = 0; stored = value } ∷ f ∷ fs
-    else (if nat_eq sender f.sender then record f { stored = max f.stored value } ∷ fs else f ∷ floor_stored sender value fs)
+    else (if nat_eq sender f.sender then record f { stored = max f.stored value } ∷ fs
+    else f ∷ floor_stored sender value fs)
 
 abbrev pub net_floor : ℕ → ℕ → NetKey → NetKey
 net_floor sender value r = record r { floors = floor_stored sender value r.floors }
@@ -271,10 +290,21 @@ told_as told r = record r { told = told }
 
 -- A link key is new, revived or gets another attribute. Whether its partner was told stays as it is.
 abbrev pub revived : Attribute → Bool → LinkKey → LinkKey
-revived attribute told r = record r { attribute = attribute; live = true; code = r.code || is_provisional attribute; told = told }
+revived attribute told r =
+    record r { attribute = attribute; live = true; code = r.code || is_provisional attribute; told = told }
 
 abbrev pub new_link : ℕ → Bytes → Attribute → Bool → LinkKey
-new_link partner key attribute told = record { partner = partner; key = key; attribute = attribute; live = true; code = is_provisional attribute; told = told; kept = 0; stored = 0 }
+new_link partner key attribute told =
+    record {
+      partner = partner;
+      key = key;
+      attribute = attribute;
+      live = true;
+      code = is_provisional attribute;
+      told = told;
+      kept = 0;
+      stored = 0;
+    }
 
 abbrev pub with_link : ℕ → Bytes → Attribute → Bool → List LinkKey → List LinkKey
 with_link partner key attribute told links =
@@ -286,20 +316,28 @@ with_told partner told links = map (λ (r : LinkKey). if is_live_of partner r th
 
 abbrev pub with_pair : ℕ → ℕ → Bytes → List PairKey → List PairKey
 with_pair first second key pairs =
-    if list_any (names_two first second) pairs then pairs else pairs ++ record { first = first; second = second; key = key } ∷ []
+    if list_any (names_two first second) pairs then pairs
+    else pairs ++ record { first = first; second = second; key = key } ∷ []
 
 abbrev pub moved : Move → NodeState → NodeState
 moved (Draw key) s = s
 moved (DropNet key) s = record s { nets = at_net key dropped_net s.nets }
 moved (DropLink partner key) s = record s { links = at_link partner key dropped_link s.links }
-moved (Install key sequence) s = record s { nets = if has_net key s.nets then s.nets else s.nets ++ new_net key sequence ∷ [] }
+moved (Install key sequence) s = record s {
+  nets = if has_net key s.nets then s.nets
+      else s.nets ++ new_net key sequence ∷ [];
+}
 moved (Active key) s = record s { active = Some key }
 moved (Row partner key attribute) s = record s { links = with_link partner key attribute (is_told s partner) s.links }
 moved (Pair first second key) s = record s { pairs = with_pair first second key s.pairs }
 moved (Became state) s = record s { state = state }
 moved (Live device) s = record s { links = with_told device false s.links }
 moved (Removed device) s = record s { pairs = filter (λ (p : PairKey). not (names device p)) s.pairs }
-moved (Roll sending) s = record s { sending = sending; links = if sending then map (told_as false) s.links else s.links }
+moved (Roll sending) s = record s {
+  sending = sending;
+  links = if sending then map (told_as false) s.links
+      else s.links;
+}
 moved (Told device) s = record s { links = with_told device true s.links }
 moved (Untold device) s = record s { links = with_told device false s.links }
 
@@ -335,7 +373,8 @@ after_counting Nwk s = record s { nets = of_active (λ r. next_at (r.next + 1) r
 after_counting Aps s = record s { aps_next = s.aps_next + 1 }
 
 abbrev pub floor_kept : ℕ → ℕ → List SenderFloor → List SenderFloor
-floor_kept sender kept floors = map (λ (f : SenderFloor). if nat_eq f.sender sender then record f { kept = kept } else f) floors
+floor_kept sender kept floors = map (λ (f : SenderFloor). if nat_eq f.sender sender then record f { kept = kept }
+    else f) floors
 
 abbrev pub net_kept : ℕ → ℕ → NetKey → NetKey
 net_kept sender kept r = record r { floors = floor_kept sender kept r.floors }

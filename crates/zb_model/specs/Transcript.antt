@@ -20,7 +20,8 @@ refuse_count n _ = n
 -- counts of the events and of three kinds of lines, and the two words
 unfoldable pub end_line : Tools → ℕ → List Line → Line
 end_line tools events lines =
-    End events (fold seal_count 0 lines) (fold accept_count 0 lines) (fold refuse_count 0 lines) (ideal tools lines) (private tools lines)
+    End events (fold seal_count 0 lines) (fold accept_count 0 lines) (fold refuse_count 0 lines) (ideal tools lines)
+    (private tools lines)
 
 -- the lines of all events
 unfoldable pub run_lines : Tools → Schedule → List Line

@@ -27,7 +27,8 @@ label-back label.Transport = refl
 label-back label.Load = refl
 
 term-back : (t : Term) → term_of (model_term t) ≡ t
-term-back t = ap (λ l. record t { layer = l; label = label_of (model_label t.label) }) (layer-back t.layer) ∙ ap (λ l. record t { label = l }) (label-back t.label)
+term-back t = ap (λ l. record t { layer = l; label = label_of (model_label t.label) }) (layer-back t.layer) ∙ ap
+    (λ l. record t { label = l }) (label-back t.label)
 
 pub same_wire : (t : Term) → real.wire (model_term t) ≡ wire t
 unfolding real

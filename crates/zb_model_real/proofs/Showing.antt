@@ -38,16 +38,20 @@ some-same A x y e = ap (λ o. unwrap_or o x) e
 
 -- the term of an envelope: its layer, base key, source and counter
 abbrev Facts : Envelope → Bytes → ℕ → Term → Type 0
-Facts s key source t = (t.layer ≡ Rattle.zb_node_types.specs.Changes.model_layer s.layer) × (t.base ≡ key) × (t.source ≡ source) × (t.counter ≡ s.counter)
+Facts s key source t = (t.layer ≡ Rattle.zb_node_types.specs.Changes.model_layer s.layer) × (t.base ≡ key)
+    × (t.source ≡ source) × (t.counter ≡ s.counter)
 
-term-facts : (s : Envelope) (key : Bytes) (source : Eui) (o : Option (List ℕ)) (t : Term) → opened (opened_term s (key_of key) source o) ≡ Some t → Facts s key source.0 t
+term-facts : (s : Envelope) (key : Bytes) (source : Eui) (o : Option (List ℕ)) (t : Term)
+    → opened (opened_term s (key_of key) source o) ≡ Some t → Facts s key source.0 t
 term-facts s key source None t e = absurd (none-is Term t e)
-term-facts s key source (Some content) t e = let q = some-same Term (model_term (opening.term_of (record s { text = record { items = content } }) (key_of key) source)) t e in (
-  ap (λ (x : Term). x.layer) (sym q),
-  ap (λ (x : Term). x.base) (sym q),
-  ap (λ (x : Term). x.source) (sym q),
-  ap (λ (x : Term). x.counter) (sym q),
-)
+term-facts s key source (Some content) t e = let q =
+    some-same Term (model_term (opening.term_of (record s { text = record { items = content } }) (key_of key) source))
+    t e in (
+      ap (λ (x : Term). x.layer) (sym q),
+      ap (λ (x : Term). x.base) (sym q),
+      ap (λ (x : Term). x.source) (sym q),
+      ap (λ (x : Term). x.counter) (sym q),
+    )
 
 -- NWK
 
@@ -63,13 +67,18 @@ nwk_envelope_of f a = record {
   mic = f.mic;
 }
 
-nwk-aux : (key : Bytes) (f : NwkFrame) (x : Option NwkAux) (aux : NwkAuxiliary) (t : Term) → option_map nwk_auxiliary x ≡ Some aux → opened (opened_seen (nwk_envelope f x) (key_of key) None) ≡ Some t
+nwk-aux : (key : Bytes) (f : NwkFrame) (x : Option NwkAux) (aux : NwkAuxiliary) (t : Term)
+    → option_map nwk_auxiliary x ≡ Some aux → opened (opened_seen (nwk_envelope f x) (key_of key) None) ≡ Some t
     → (t.layer ≡ Nwk) × (t.base ≡ key) × (t.source ≡ aux.source) × (t.counter ≡ aux.counter)
 unfolding opening.opened nwk_envelope_of
 nwk-aux key f None aux t a e = absurd (none-is NwkAuxiliary aux a)
-nwk-aux key f (Some x) aux t a e = let q = some-same NwkAuxiliary (nwk_auxiliary x) aux a in let g = term-facts (nwk_envelope_of f x) key x.source (content_of (nwk_envelope_of f x) (sealing_key label.Network key) x.source) t e in (g.0, g.1, g.2 ∙ ap (λ (y : NwkAuxiliary). y.source) q, g.3 ∙ ap (λ (y : NwkAuxiliary). y.counter) q)
+nwk-aux key f (Some x) aux t a e = let q = some-same NwkAuxiliary (nwk_auxiliary x) aux a in let g =
+    term-facts (nwk_envelope_of f x) key x.source
+    (content_of (nwk_envelope_of f x) (sealing_key label.Network key) x.source) t e in
+    (g.0, g.1, g.2 ∙ ap (λ (y : NwkAuxiliary). y.source) q, g.3 ∙ ap (λ (y : NwkAuxiliary). y.counter) q)
 
-nwk-by : (key : Bytes) (r : Result NwkFrame NwkError) (f : NwkShown) (aux : NwkAuxiliary) (t : Term) → nwk_shown r ≡ Some f → f.auxiliary ≡ Some aux → opened (opened_seen (nwk_seen r) (key_of key) None) ≡ Some t
+nwk-by : (key : Bytes) (r : Result NwkFrame NwkError) (f : NwkShown) (aux : NwkAuxiliary) (t : Term) → nwk_shown r
+    ≡ Some f → f.auxiliary ≡ Some aux → opened (opened_seen (nwk_seen r) (key_of key) None) ≡ Some t
     → (t.layer ≡ Nwk) × (t.base ≡ key) × (t.source ≡ aux.source) × (t.counter ≡ aux.counter)
 nwk-by key (Err e) f aux t a b c = absurd (none-is NwkShown f a)
 nwk-by key (Ok fr) f aux t a b c = nwk-aux key fr fr.aux aux t (ap (λ (o : Option NwkShown). shown o) a ∙ b) c
@@ -80,8 +89,11 @@ nwk-by key (Ok fr) f aux t a b c = nwk-aux key fr fr.aux aux t (ap (λ (o : Opti
 
 -- APS
 
-aps-from : (s : Envelope) (key : Bytes) (given : ℕ) (o : Option Eui) (t : Term) → opened (opened_from s (key_of key) (source_of o (Some (eui_of given)))) ≡ Some t → Facts s key (unwrap_or (option_map (λ (x : Eui). x.0) o) given) t
-aps-from s key given None t e = term-facts s key (eui_of given) (content_of s (sealing_key s.label key) (eui_of given)) t e
+aps-from : (s : Envelope) (key : Bytes) (given : ℕ) (o : Option Eui) (t : Term)
+    → opened (opened_from s (key_of key) (source_of o (Some (eui_of given)))) ≡ Some t
+    → Facts s key (unwrap_or (option_map (λ (x : Eui). x.0) o) given) t
+aps-from s key given None t e =
+    term-facts s key (eui_of given) (content_of s (sealing_key s.label key) (eui_of given)) t e
 aps-from s key given (Some x) t e = term-facts s key x (content_of s (sealing_key s.label key) x) t e
 
 aps_envelope_of : ApsFrame → ApsAux → Envelope
@@ -96,27 +108,41 @@ aps_envelope_of f a = record {
   mic = f.mic;
 }
 
-aps-aux : (key : Bytes) (given : ℕ) (f : ApsFrame) (x : Option ApsAux) (aux : ApsAuxiliary) (t : Term) → option_map auxiliary x ≡ Some aux → opened (opened_seen (aps_envelope f x) (key_of key) (Some (eui_of given))) ≡ Some t
+aps-aux : (key : Bytes) (given : ℕ) (f : ApsFrame) (x : Option ApsAux) (aux : ApsAuxiliary) (t : Term)
+    → option_map auxiliary x ≡ Some aux → opened (opened_seen (aps_envelope f x) (key_of key) (Some (eui_of given)))
+    ≡ Some t
     → (t.layer ≡ Aps) × (t.base ≡ key) × (t.source ≡ unwrap_or aux.source given) × (t.counter ≡ aux.counter)
 unfolding opening.opened aps_envelope_of
 aps-aux key given f None aux t a e = absurd (none-is ApsAuxiliary aux a)
-aps-aux key given f (Some x) aux t a e = let q = some-same ApsAuxiliary (auxiliary x) aux a in let g = aps-from (aps_envelope_of f x) key given x.source t e in (g.0, g.1, g.2 ∙ ap (λ (y : ApsAuxiliary). unwrap_or y.source given) q, g.3 ∙ ap (λ (y : ApsAuxiliary). y.counter) q)
+aps-aux key given f (Some x) aux t a e = let q = some-same ApsAuxiliary (auxiliary x) aux a in let g =
+    aps-from (aps_envelope_of f x) key given x.source t e in (
+      g.0,
+      g.1,
+      g.2 ∙ ap (λ (y : ApsAuxiliary). unwrap_or y.source given) q,
+      g.3 ∙ ap (λ (y : ApsAuxiliary). y.counter)
+          q,
+    )
 
-aps-by : (key : Bytes) (given : ℕ) (r : Result ApsFrame ApsError) (f : ApsShown) (aux : ApsAuxiliary) (t : Term) → aps_shown r ≡ Some f → f.auxiliary ≡ Some aux → opened (opened_seen (aps_seen r) (key_of key) (Some (eui_of given))) ≡ Some t
+aps-by : (key : Bytes) (given : ℕ) (r : Result ApsFrame ApsError) (f : ApsShown) (aux : ApsAuxiliary) (t : Term)
+    → aps_shown r ≡ Some f → f.auxiliary ≡ Some aux
+    → opened (opened_seen (aps_seen r) (key_of key) (Some (eui_of given))) ≡ Some t
     → (t.layer ≡ Aps) × (t.base ≡ key) × (t.source ≡ unwrap_or aux.source given) × (t.counter ≡ aux.counter)
 aps-by key given (Err e) f aux t a b c = absurd (none-is ApsShown f a)
-aps-by key given (Ok fr) f aux t a b c = aps-aux key given fr fr.aux aux t (ap (λ (o : Option ApsShown). shown o) a ∙ b) c
+aps-by key given (Ok fr) f aux t a b c =
+    aps-aux key given fr fr.aux aux t (ap (λ (o : Option ApsShown). shown o) a ∙ b) c
   where
     shown : Option ApsShown → Option ApsAuxiliary
     shown None = None
     shown (Some x) = x.auxiliary
 
-pub nwk-opens : (bytes key : Bytes) (f : NwkShown) (aux : NwkAuxiliary) (t : Term) → real.read_nwk bytes ≡ Some f → f.auxiliary ≡ Some aux → real.open_nwk bytes key ≡ Some t
+pub nwk-opens : (bytes key : Bytes) (f : NwkShown) (aux : NwkAuxiliary) (t : Term) → real.read_nwk bytes ≡ Some f
+    → f.auxiliary ≡ Some aux → real.open_nwk bytes key ≡ Some t
     → (t.layer ≡ Nwk) × (t.base ≡ key) × (t.source ≡ aux.source) × (t.counter ≡ aux.counter)
 unfolding real opened_nwk seen_nwk
 nwk-opens bytes key f aux t a b c = nwk-by key (nwk.frame_of bytes) f aux t a b c
 
-pub aps-opens : (bytes key : Bytes) (given : ℕ) (f : ApsShown) (aux : ApsAuxiliary) (t : Term) → real.read_aps bytes ≡ Some f → f.auxiliary ≡ Some aux → real.open_aps bytes key given ≡ Some t
+pub aps-opens : (bytes key : Bytes) (given : ℕ) (f : ApsShown) (aux : ApsAuxiliary) (t : Term) → real.read_aps bytes
+    ≡ Some f → f.auxiliary ≡ Some aux → real.open_aps bytes key given ≡ Some t
     → (t.layer ≡ Aps) × (t.base ≡ key) × (t.source ≡ unwrap_or aux.source given) × (t.counter ≡ aux.counter)
 unfolding real opened_aps seen_aps
 aps-opens bytes key given f aux t a b c = aps-by key given (aps.frame_of bytes) f aux t a b c

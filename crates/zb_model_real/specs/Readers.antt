@@ -21,7 +21,8 @@ use Rattle.zb_carried_keys.specs.Opening.{label_of}
 use Rattle.zb_model_real.specs.Terms.{model_label}
 
 abbrev pub model_command : Command → model.Command
-model_command (command.TransportNetwork key sequence destination source) = model.TransportNet key.0 sequence destination.0 source.0
+model_command (command.TransportNetwork key sequence destination source) =
+    model.TransportNet key.0 sequence destination.0 source.0
 model_command (command.TransportApplication key partner initiator) = model.TransportApp key.0 partner.0 initiator
 model_command (command.TransportLink key destination source) = model.TransportLink key.0 destination.0 source.0
 model_command (command.Update device short status) = model.UpdateDevice device.0 short.0 status
@@ -40,10 +41,16 @@ command_shown (Err (fault.KeyType found)) = Unknown
 command_shown (Err _) = Broken
 
 abbrev pub auxiliary : ApsAux → ApsAuxiliary
-auxiliary aux = record { label = model_label (label_of (key_id aux.control)); counter = aux.counter; source = option_map (λ (e : Eui). e.0) aux.source }
+auxiliary aux =
+    record {
+      label = model_label (label_of (key_id aux.control));
+      counter = aux.counter;
+      source = option_map (λ (e : Eui). e.0) aux.source;
+    }
 
 abbrev pub aps_frame_shown : ApsFrame → ApsShown
-aps_frame_shown f = record { is_command = is_command f.header.control; auxiliary = option_map auxiliary f.aux; body = f.body.items }
+aps_frame_shown f =
+    record { is_command = is_command f.header.control; auxiliary = option_map auxiliary f.aux; body = f.body.items }
 
 abbrev pub aps_shown : Result ApsFrame ApsError → Option ApsShown
 aps_shown (Ok f) = Some (aps_frame_shown f)

@@ -23,9 +23,12 @@ opened (Err e) = None
 
 -- a command of the model as the program's
 abbrev pub command_for : model.Command → Command
-command_for (model.TransportNet key sequence destination source) = cmd.TransportNetwork (key_of key) sequence (eui_of destination) (eui_of source)
-command_for (model.TransportApp key partner initiator) = cmd.TransportApplication (key_of key) (eui_of partner) initiator
-command_for (model.TransportLink key destination source) = cmd.TransportLink (key_of key) (eui_of destination) (eui_of source)
+command_for (model.TransportNet key sequence destination source) = cmd.TransportNetwork (key_of key) sequence
+    (eui_of destination) (eui_of source)
+command_for (model.TransportApp key partner initiator) = cmd.TransportApplication (key_of key) (eui_of partner)
+    initiator
+command_for (model.TransportLink key destination source) = cmd.TransportLink (key_of key) (eui_of destination)
+    (eui_of source)
 command_for (model.UpdateDevice device short status) = cmd.Update (eui_of device) (record { 0 = short }) status
 command_for (model.RemoveDevice target) = cmd.Remove (eui_of target)
 command_for (model.RequestApp partner) = cmd.RequestApplication (eui_of partner)

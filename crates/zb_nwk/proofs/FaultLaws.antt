@@ -34,9 +34,20 @@ read_as f = Ok f
 pub ok_is : (f g : NwkFrame) → read_as f ≡ read_as g → f ≡ g
 ok_is f g same = cc
 
-cut_has : (bytes : List ℕ) → length bytes ≤ 127 → frame_at (error.Short (length bytes)) bytes ≡ Err (error.Short (length bytes)) → ((length bytes < 2) ⊎ CanGoOn bytes) → HasFault bytes (error.Short (length bytes))
-cut_has bytes le short goes =
-    (le, (refl, record { no_frame = λ f is. let again = frame_again (error.Short (length bytes)) bytes f is in cc (again, short); goes_on = goes }))
+cut_has : (bytes : List ℕ) → length bytes ≤ 127 → frame_at (error.Short (length bytes)) bytes
+    ≡ Err (error.Short (length bytes)) → ((length bytes < 2) ⊎ CanGoOn bytes)
+    → HasFault bytes (error.Short (length bytes))
+cut_has bytes le short goes = (
+  le,
+  (
+    refl,
+    record {
+      no_frame = λ f is. let again = frame_again (error.Short (length bytes)) bytes f is in cc
+          (again, short);
+      goes_on = goes;
+    },
+  ),
+)
 
 pub fault_found : (bytes : List ℕ) → IsBytes bytes → (e : NwkError) → frame_of bytes ≡ Err e → HasFault bytes e
 unfolding frame_of
@@ -61,10 +72,14 @@ fault_found bytes fits e given =
     ]
 
 -- bytes that can go on have no fault that stays
-stays_not : (bytes : List ℕ) (e : NwkError) → ((cut : NwkError) (more : List ℕ) → frame_at cut (bytes ++ more) ≡ Err e) → (length bytes < 2) ⊎ CanGoOn bytes → ⊥
+stays_not : (bytes : List ℕ) (e : NwkError)
+    → ((cut : NwkError) (more : List ℕ) → frame_at cut (bytes ++ more) ≡ Err e) → (length bytes < 2) ⊎ CanGoOn bytes
+    → ⊥
 stays_not bytes e wrong (inl lt) =
-    let one = sym (control_cut error.TooLong bytes lt) ∙ wrong_now frame_at error.TooLong e bytes (wrong error.TooLong) in
-    let other = sym (control_cut error.NoSource bytes lt) ∙ wrong_now frame_at error.NoSource e bytes (wrong error.NoSource) in
+    let one = sym (control_cut error.TooLong bytes lt) ∙ wrong_now frame_at error.TooLong e bytes
+    (wrong error.TooLong) in
+    let other = sym (control_cut error.NoSource bytes lt) ∙ wrong_now frame_at error.NoSource e bytes
+    (wrong error.NoSource) in
     cc (one, other)
 stays_not bytes e wrong (inr (more, f, is)) =
     let again = frame_again error.TooLong (bytes ++ more) f is in
@@ -82,24 +97,35 @@ fault_only bytes fits (error.Short place) (le, (at, cut)) =
 fault_only bytes fits (error.FrameType found) (le, (control, rest, begins, is, ge)) =
     let cut = error.Short (length bytes) in
     let reads : frame_at cut bytes ≡ Err (error.FrameType (kind control)) =
-    ap (frame_at cut) begins.parts ∙ rw (number_again cut w16 (2 ^ 16) wide16 control rest begins.in_range, le-ltb (kind control) 2 (omega (arith, is, ge))) refl in
+    ap (frame_at cut) begins.parts ∙ rw (
+      number_again cut w16 (2 ^ 16) wide16 control rest begins.in_range,
+      le-ltb (kind control) 2 (omega (arith, is, ge)),
+    ) refl in
     rw (le-ltb _ _ le, reads, is) refl
 fault_only bytes fits (error.Version found) (le, (control, rest, begins, known, is, ne)) =
     let cut = error.Short (length bytes) in
     let other : eqb (version control) 2 ≡ false = ne_eqb (version control) 2 (λ e. ne (sym is ∙ e)) in
     let reads : frame_at cut bytes ≡ Err (error.Version (version control)) =
-    ap (frame_at cut) begins.parts ∙ rw (number_again cut w16 (2 ^ 16) wide16 control rest begins.in_range, lt-ltb (kind control) 2 known, other) refl in
+    ap (frame_at cut) begins.parts ∙ rw
+    (number_again cut w16 (2 ^ 16) wide16 control rest begins.in_range, lt-ltb (kind control) 2 known, other) refl
+    in
     rw (le-ltb _ _ le, reads, is) refl
 fault_only bytes fits (error.KeyId found) (le, (control, h, rest, by, is, ne)) =
     let cut = error.Short (length bytes) in
     let other : eqb (key_id control) 1 ≡ false = ne_eqb (key_id control) 1 (λ e. ne (sym is ∙ e)) in
     let reads : frame_at cut bytes ≡ Err (error.KeyId (key_id control)) =
-    ap (frame_at cut) by.parts ∙ rw (header_again cut h (control ∷ rest) by.in_range by.shaped, by.secured, other) refl in
+    ap (frame_at cut) by.parts ∙ rw (header_again cut h (control ∷ rest) by.in_range by.shaped, by.secured, other)
+    refl in
     rw (le-ltb _ _ le, reads, is) refl
 fault_only bytes fits error.NoSource (le, (control, h, rest, by, is, no_source)) =
     let cut = error.Short (length bytes) in
     let reads : frame_at cut bytes ≡ Err error.NoSource =
-    ap (frame_at cut) by.parts ∙ rw (header_again cut h (control ∷ rest) by.in_range by.shaped, by.secured, eq-eqb (key_id control) 1 is, no_source) refl in
+    ap (frame_at cut) by.parts ∙ rw (
+      header_again cut h (control ∷ rest) by.in_range by.shaped,
+      by.secured,
+      eq-eqb (key_id control) 1 is,
+      no_source,
+    ) refl in
     rw (le-ltb _ _ le, reads) refl
 
 pub read_is_spelled : (bytes : List ℕ) → IsBytes bytes → (f : NwkFrame) → frame_of bytes ≡ Ok f → Spells bytes f
@@ -111,7 +137,8 @@ read_is_spelled bytes fits f given =
           let cut = error.Short (length bytes) in
           elim (frame_end bytes fits) [
             | FrameCut short goes ↦ let same = rw (le-ltb _ _ le, short cut) at given in absurd cc
-            | FrameWrong e wrong why ↦ let same = rw (le-ltb _ _ le, wrong_now frame_at cut e bytes (wrong cut)) at given in absurd cc
+            | FrameWrong e wrong why ↦ let same = rw (le-ltb _ _ le, wrong_now frame_at cut e bytes (wrong cut)) at
+                given in absurd cc
             | FrameRead g is ↦
                 let same = rw (le-ltb _ _ le, frame_again cut bytes g is) at given in
                 subst (λ (h : NwkFrame). Spells bytes h) (ok_is g f same) (record { is_frame = is; fits = le })

@@ -34,10 +34,14 @@ pub record IsSecuredBy (bytes : List ℕ) (control : ℕ) (h : NwkHeader) (rest 
 abbrev pub Explains : List ℕ → NwkError → Type 0
 Explains bytes TooLong = ⊥
 Explains bytes (Short place) = (place ≡ length bytes) × IsCut bytes
-Explains bytes (FrameType found) = (control : ℕ) × (rest : List ℕ) × BeginsWith bytes control rest × (kind control ≡ found) × (2 ≤ found)
-Explains bytes (Version found) = (control : ℕ) × (rest : List ℕ) × BeginsWith bytes control rest × (kind control < 2) × (version control ≡ found) × (found ≢ 2)
-Explains bytes (KeyId found) = (control : ℕ) × (h : NwkHeader) × (rest : List ℕ) × IsSecuredBy bytes control h rest × (key_id control ≡ found) × (found ≢ 1)
-Explains bytes NoSource = (control : ℕ) × (h : NwkHeader) × (rest : List ℕ) × IsSecuredBy bytes control h rest × (key_id control ≡ 1) × (bit control 5 ≡ false)
+Explains bytes (FrameType found) = (control : ℕ) × (rest : List ℕ) × BeginsWith bytes control rest
+    × (kind control ≡ found) × (2 ≤ found)
+Explains bytes (Version found) = (control : ℕ) × (rest : List ℕ) × BeginsWith bytes control rest × (kind control < 2)
+    × (version control ≡ found) × (found ≢ 2)
+Explains bytes (KeyId found) = (control : ℕ) × (h : NwkHeader) × (rest : List ℕ) × IsSecuredBy bytes control h rest
+    × (key_id control ≡ found) × (found ≢ 1)
+Explains bytes NoSource = (control : ℕ) × (h : NwkHeader) × (rest : List ℕ) × IsSecuredBy bytes control h rest
+    × (key_id control ≡ 1) × (bit control 5 ≡ false)
 
 -- The bytes have the fault.
 abbrev pub HasFault : List ℕ → NwkError → Type 0

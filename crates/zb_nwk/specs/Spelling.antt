@@ -18,7 +18,8 @@ addresses h = number w16 h.control ++ short h.destination ++ short h.source ++ b
 
 abbrev pub header : NwkHeader → List ℕ
 header h =
-    addresses h ++ optional eui h.destination_eui ++ optional eui h.source_eui ++ optional byte h.multicast ++ optional route h.route
+    addresses h ++ optional eui h.destination_eui ++ optional eui h.source_eui ++ optional byte h.multicast
+    ++ optional route h.route
 
 abbrev pub aux : NwkAux → List ℕ
 aux a = byte a.control ++ number w32 a.counter ++ eui a.source ++ byte a.key_sequence

@@ -14,8 +14,10 @@ AreSharesSoFar size total number first left shares =
     (more : List Share) → AreShares size number first left more → AreShares size 0 0 total (shares ++ more)
 
 -- a share more
-pub share_more : (size total number first left next rest : ℕ) (old new : List Share) (s : Share) → AreSharesSoFar size total number first left old
-    → new ≡ old ++ s ∷ [] → s.number ≡ number → s.first ≡ first → 0 < left → s.count ≡ min size left → next ≡ first + min size left
+pub share_more : (size total number first left next rest : ℕ) (old new : List Share) (s : Share)
+    → AreSharesSoFar size total number first left old
+    → new ≡ old ++ s ∷ [] → s.number ≡ number → s.first ≡ first → 0 < left → s.count ≡ min size left → next
+    ≡ first + min size left
     → rest ≡ left - min size left → AreSharesSoFar size total (number + 1) next rest new
 share_more size total number first left next rest old new s so_far items numbered place some count after is more cut =
     let P : List Share → Type 0 = λ ss. AreShares size 0 0 total ss in
@@ -25,15 +27,21 @@ share_more size total number first left next rest old new s so_far items numbere
     (so_far (s ∷ more) (numbered, place, some, count, subst S is (subst Q after cut)))
 
 -- no share more
-pub share_end : (size total number first left : ℕ) (shares : List Share) → AreSharesSoFar size total number first left shares → left ≡ 0
+pub share_end : (size total number first left : ℕ) (shares : List Share)
+    → AreSharesSoFar size total number first left shares → left ≡ 0
     → AreShares size 0 0 total shares
 share_end size total number first left shares so_far none =
     let P : List Share → Type 0 = λ ss. AreShares size 0 0 total ss in subst P (append-nil shares) (so_far [] none)
 
 -- there are no more shares than jobs
-pub few_shares : (size number first left jobs : ℕ) (shares : List Share) → AreShares size number first left shares → left ≤ size * jobs
+pub few_shares : (size number first left jobs : ℕ) (shares : List Share) → AreShares size number first left shares
+    → left ≤ size * jobs
     → length shares ≤ jobs
 few_shares size number first left jobs [] cut most = omega arith
 few_shares size number first left zero (s ∷ more) cut most = absurd (omega (arith, most, cut.2))
 few_shares size number first left (suc jobs) (s ∷ more) cut most =
-    omega (arith, few_shares size (number + 1) (first + min size left) (left - min size left) jobs more cut.4 (omega (arith, most)))
+    omega (
+      arith,
+      few_shares size (number + 1) (first + min size left) (left - min size left) jobs more cut.4
+          (omega (arith, most)),
+    )

@@ -20,5 +20,6 @@ pub too_short : (body : List ℕ) → length body < 3 → payload_of body ≡ Ot
 too_short body short =
     let control = number16 body 0 in
     let none : (is_plain_data control && nat_lt (header_size control) (length body)) ≡ false =
-    not_both (is_plain_data control) _ (not_below (header_size control) (length body) (let l = three_least control in omega arith)) in
+    not_both (is_plain_data control) _
+    (not_below (header_size control) (length body) (let l = three_least control in omega arith)) in
     ap (λ b. if b then Payload (header_size control) (length body - header_size control) else Other) none

@@ -13,7 +13,8 @@ abbrev pub bytes16 : List ℕ → ℕ → List ℕ
 bytes16 bytes at = slice_index bytes at ∷ slice_index bytes (at + 1) ∷ []
 
 abbrev pub bytes32 : List ℕ → ℕ → List ℕ
-bytes32 bytes at = slice_index bytes at ∷ slice_index bytes (at + 1) ∷ slice_index bytes (at + 2) ∷ slice_index bytes (at + 3) ∷ []
+bytes32 bytes at = slice_index bytes at ∷ slice_index bytes (at + 1) ∷ slice_index bytes (at + 2)
+    ∷ slice_index bytes (at + 3) ∷ []
 
 abbrev pub number16_at : Order → List ℕ → ℕ → ℕ
 number16_at Big bytes at = from_be_bytes w16 (bytes16 bytes at)
@@ -27,7 +28,8 @@ number32_at Little bytes at = from_le_bytes w32 (bytes32 bytes at)
 abbrev pub order_of : List ℕ → Option Order
 order_of magic =
     if bytes_eq magic (0xa1 ∷ 0xb2 ∷ 0xc3 ∷ 0xd4 ∷ []) || bytes_eq magic (0xa1 ∷ 0xb2 ∷ 0x3c ∷ 0x4d ∷ []) then Some Big
-    else if bytes_eq magic (0xd4 ∷ 0xc3 ∷ 0xb2 ∷ 0xa1 ∷ []) || bytes_eq magic (0x4d ∷ 0x3c ∷ 0xb2 ∷ 0xa1 ∷ []) then Some Little
+    else if bytes_eq magic (0xd4 ∷ 0xc3 ∷ 0xb2 ∷ 0xa1 ∷ []) || bytes_eq magic (0x4d ∷ 0x3c ∷ 0xb2 ∷ 0xa1 ∷ [])
+    then Some Little
     else None
 
 -- the low 16 bits of the link type: 195 has check sequences, 230 has none
@@ -42,7 +44,8 @@ form_of order (Some check) = Ok (record { order = order; check = check })
 abbrev pub form_in : List ℕ → Option Order → Result Form PcapCause
 form_in bytes None = Err Magic
 form_in bytes (Some order) =
-    if number16_at order bytes 4 == 2 && number16_at order bytes 6 == 4 then form_of order (link_of (number32_at order bytes 20)) else Err Version
+    if number16_at order bytes 4 == 2 && number16_at order bytes 6 == 4
+    then form_of order (link_of (number32_at order bytes 20)) else Err Version
 
 -- what the header says, or the first of its faults
 unfoldable pub header_of : List ℕ → Result Form PcapCause
@@ -72,7 +75,8 @@ abbrev pub behind : Record → Result (List Record) PcapError → Result (List R
 behind one (Ok more) = Ok (one ∷ more)
 behind one (Err e) = Err e
 
-abbrev pub with_record : ℕ → Option (Record × List ℕ) → (List ℕ → Result (List Record) PcapError) → Result (List Record) PcapError
+abbrev pub with_record : ℕ → Option (Record × List ℕ) → (List ℕ → Result (List Record) PcapError)
+    → Result (List Record) PcapError
 with_record place None rest = Err (fault_at place Cut)
 with_record place (Some one) rest = behind one.0 (rest one.1)
 
@@ -81,4 +85,5 @@ with_record place (Some one) rest = behind one.0 (rest one.1)
 unfoldable pub records : ℕ → ℕ → Order → List ℕ → Result (List Record) PcapError
 records left place order [] = Ok []
 records zero place order (byte ∷ more) = beyond place (record_of order (byte ∷ more))
-records (suc left) place order (byte ∷ more) = with_record place (record_of order (byte ∷ more)) (records left (place + 1) order)
+records (suc left) place order (byte ∷ more) = with_record place (record_of order (byte ∷ more))
+    (records left (place + 1) order)

@@ -19,7 +19,8 @@ source_mode control = control / 16384 % 4
 -- a data frame of version 0 or 1 without security, whose addresses have modes that there are
 unfoldable pub is_plain_data : ℕ → Bool
 is_plain_data control =
-    control % 8 == 1 && control / 8 % 2 == 0 && nat_lt (control / 4096 % 4) 2 && not (destination_mode control == 1) && not (source_mode control == 1)
+    control % 8 == 1 && control / 8 % 2 == 0 && nat_lt (control / 4096 % 4) 2 && not (destination_mode control == 1)
+    && not (source_mode control == 1)
 
 -- no address, a short one, or an extended one
 abbrev pub address_size : ℕ → ℕ
@@ -52,7 +53,8 @@ has_wrong_check check packet = check && nat_le 2 (length packet) && is_wrong pac
 abbrev pub payload_of : List ℕ → Mac
 payload_of body =
     let control = number16 body 0 in
-    if is_plain_data control && nat_lt (header_size control) (length body) then Payload (header_size control) (length body - header_size control)
+    if is_plain_data control && nat_lt (header_size control) (length body)
+    then Payload (header_size control) (length body - header_size control)
     else Other
 
 unfoldable pub mac_of : Bool → List ℕ → Mac

@@ -25,17 +25,22 @@ behind_same k (Roll sending) = refl
 behind_same k (Told device) = refl
 behind_same k (Untold device) = refl
 
-settled_step : (b : Bool) (k : Counting) (m : Move) (ms : List Move) (rest : List Edit) → rest ≡ flat_map (move_edits k) ms
-    → (if b then Moved m ∷ start_behind k.start (Moved m) else []) ++ rest ≡ flat_map (move_edits k) (if b then m ∷ ms else ms)
+settled_step : (b : Bool) (k : Counting) (m : Move) (ms : List Move) (rest : List Edit) → rest
+    ≡ flat_map (move_edits k) ms
+    → (if b then Moved m ∷ start_behind k.start (Moved m) else []) ++ rest ≡ flat_map (move_edits k) (if b then m ∷ ms
+    else ms)
 settled_step true k m ms rest e = rw (sym (behind_same k m), e) refl
 settled_step false k m ms rest e = e
 
-pub settled_is : (s : NodeState) (k : Counting) (ms : List Move) → settled s k.start (map Moved ms) ≡ flat_map (move_edits k) (filter (changes s) ms)
+pub settled_is : (s : NodeState) (k : Counting) (ms : List Move) → settled s k.start (map Moved ms)
+    ≡ flat_map (move_edits k) (filter (changes s) ms)
 unfolding settled_edits
 settled_is s k [] = refl
-settled_is s k (m ∷ ms) = settled_step (changes s m) k m (filter (changes s) ms) (settled s k.start (map Moved ms)) (settled_is s k ms)
+settled_is s k (m ∷ ms) = settled_step (changes s m) k m (filter (changes s) ms) (settled s k.start (map Moved ms))
+    (settled_is s k ms)
 
-active_step : (b : Bool) (s : NodeState) (m : Move) (ms : List Move) (rest : Option Bytes) → changes s m ≡ b → rest ≡ activated s ms
+active_step : (b : Bool) (s : NodeState) (m : Move) (ms : List Move) (rest : Option Bytes) → changes s m ≡ b → rest
+    ≡ activated s ms
     → first_of (activates s (Moved m)) rest ≡ activated s (if b then m ∷ ms else ms)
 active_step true s (Draw key) ms rest q e = e
 active_step true s (DropNet key) ms rest q e = e
@@ -67,7 +72,8 @@ active_step false s (Untold device) ms rest q e = e
 pub active_is : (s : NodeState) (ms : List Move) → active_in s (map Moved ms) ≡ activated s (filter (changes s) ms)
 unfolding active_in
 active_is s [] = refl
-active_is s (m ∷ ms) = active_step (changes s m) s m (filter (changes s) ms) (active_in s (map Moved ms)) refl (active_is s ms)
+active_is s (m ∷ ms) = active_step (changes s m) s m (filter (changes s) ms) (active_in s (map Moved ms)) refl
+    (active_is s ms)
 
 -- the floors of the accepted terms
 
@@ -85,7 +91,8 @@ same_layer_self : (layer : Layer) → same_layer layer layer ≡ true
 same_layer_self Nwk = refl
 same_layer_self Aps = refl
 
-pub floors_are : (c : Setting) (s : NodeState) (ts : List Term) → Apart ts → flat_map (floors_by (floor_of c s ts)) ts ≡ flat_map (floor_edits c s) ts
+pub floors_are : (c : Setting) (s : NodeState) (ts : List Term) → Apart ts → flat_map (floors_by (floor_of c s ts)) ts
+    ≡ flat_map (floor_edits c s) ts
 unfolding floor_of
 floors_are c s [] a = refl
 floors_are c s (t ∷ []) a = rw (same_layer_self t.layer) refl
@@ -93,11 +100,18 @@ floors_are c s (t ∷ u ∷ []) a = rw (a.0, a.1) refl
 floors_are c s (t ∷ u ∷ v ∷ ts) a = absurd a
 
 -- all together
-pub stored_is : (c : Setting) (s : NodeState) (p : Plan) → Apart p.accepts → edits_of s (counting_of c s p) p ≡ stored_edits c s p.accepts (map Moved (moves_of p.outcome)) (sending_of p.outcome)
+pub stored_is : (c : Setting) (s : NodeState) (p : Plan) → Apart p.accepts → edits_of s (counting_of c s p) p
+    ≡ stored_edits c s p.accepts (map Moved (moves_of p.outcome)) (sending_of p.outcome)
 unfolding edits_of counting_of
-stored_is c s p a = rw (floors_are c s p.accepts a, sym (settled_is s (counting_of c s p) (moves_of p.outcome)), active_is s (moves_of p.outcome)) refl
+stored_is c s p a =
+    rw (
+      floors_are c s p.accepts a,
+      sym (settled_is s (counting_of c s p) (moves_of p.outcome)),
+      active_is s (moves_of p.outcome),
+    ) refl
 
 -- what a refusal keeps: the floors alone
-pub kept_is : (c : Setting) (s : NodeState) (ts : List Term) → stored_edits c s ts [] None ≡ flat_map (floor_edits c s) ts
+pub kept_is : (c : Setting) (s : NodeState) (ts : List Term) → stored_edits c s ts [] None
+    ≡ flat_map (floor_edits c s) ts
 unfolding reserve_of
 kept_is c s ts = append-nil (flat_map (floor_edits c s) ts)

@@ -24,8 +24,10 @@ use Rattle.zb_sched.specs.Valid.{IsSchedule}
 use Rattle.zb_sched_line.specs.Said.{Event}
 
 -- an event of the outside
-pub answered_outside : (p : sched.Schedule) (h : List Line) (ds : List Disk) (number : ℕ) (e : Event) (old new : Run) (disks : List Medium)
-    → IsSchedule p → FitsRun p number e → RunStands p h ds number old disks → seat_for (stations (schedule_of p)) e ≡ None
+pub answered_outside : (p : sched.Schedule) (h : List Line) (ds : List Disk) (number : ℕ) (e : Event) (old new : Run)
+    (disks : List Medium)
+    → IsSchedule p → FitsRun p number e → RunStands p h ds number old disks → seat_for (stations (schedule_of p)) e
+    ≡ None
     → ((known : List Station) → IsTold (schedule_of p) h old.ledger → is_outside e ≡ true
     → Adds (schedule_of p) h (step real (schedule_of p) h ds number (event_for known e)).lines old.ledger new.ledger)
     → new.nodes ≡ old.nodes → new.seats ≡ old.seats → new.draws.now ≡ old.draws.now
@@ -33,16 +35,20 @@ pub answered_outside : (p : sched.Schedule) (h : List Line) (ds : List Disk) (nu
 answered_outside p h ds number e old new disks is fits stands none adds nodes seats draws =
     let outside : is_outside e ≡ true =
     is_of_outside p.nodes e is.centre fits.fits.1 (subst (λ ps. seat_for ps e ≡ None) (same_stations p) none) in
-    went_outside p h ds number (event_for (stations_for p) e) old new disks stands (adds (stations_for p) stands.told outside)
+    went_outside p h ds number (event_for (stations_for p) e) old new disks stands
+    (adds (stations_for p) stands.told outside)
     (λ q. of_outside p.nodes e q outside) nodes seats draws
 
 -- an event of a node
-pub answered_at : (p : sched.Schedule) (h : List Line) (ds : List Disk) (number : ℕ) (e : Event) (it : Seat) (a : Act) (old new : Run) (disks same disks' : List Medium)
-    → IsSchedule p → FitsRun p number e → RunStands p h ds number old disks → seat_for (stations (schedule_of p)) e ≡ Some it
+pub answered_at : (p : sched.Schedule) (h : List Line) (ds : List Disk) (number : ℕ) (e : Event) (it : Seat) (a : Act)
+    (old new : Run) (disks same disks' : List Medium)
+    → IsSchedule p → FitsRun p number e → RunStands p h ds number old disks → seat_for (stations (schedule_of p)) e
+    ≡ Some it
     → (HasNames (stations (schedule_of p)) e → (x : Seat) → seat_for (stations (schedule_of p)) e ≡ Some x
     → act_for x.eui.0 a ≡ Some (event_for (stations (schedule_of p)) e))
     → same ≡ disks
-    → ((p : sched.Schedule) (h : List Line) (ds : List Disk) (event : play.Event) (q : Station) → IsSchedule p → RunStands p h ds number old same
+    → ((p : sched.Schedule) (h : List Line) (ds : List Disk) (event : play.Event) (q : Station) → IsSchedule p
+    → RunStands p h ds number old same
     → IsEventAt p it.place q a event → RunGoes p (step_of p h ds number event) h number old new disks')
     → RunGoes p (step_of p h ds number (event_for (stations_for p) e)) h number old new disks'
 answered_at p h ds number e it a old new disks same disks' is fits stands found acts unswapped goes =
@@ -54,8 +60,10 @@ answered_at p h ds number e it a old new disks same disks' is fits stands found 
     (event_at p number e it a Rattle.zb_model.specs.Play.no_station is fits found act)
 
 -- the device calls of an event of the outside
-pub outside_made : (p : sched.Schedule) (h : List Line) (ds : List Disk) (number : ℕ) (e : Event) (old : Run) (disks : List Medium)
-    → IsSchedule p → FitsRun p number e → RunStands p h ds number old disks → seat_for (stations (schedule_of p)) e ≡ None
+pub outside_made : (p : sched.Schedule) (h : List Line) (ds : List Disk) (number : ℕ) (e : Event) (old : Run)
+    (disks : List Medium)
+    → IsSchedule p → FitsRun p number e → RunStands p h ds number old disks → seat_for (stations (schedule_of p)) e
+    ≡ None
     → AreCalledBy p h ds (event_for (stations_for p) e) disks disks
 outside_made p h ds number e old disks is fits stands none =
     let outside : is_outside e ≡ true =
@@ -63,12 +71,15 @@ outside_made p h ds number e old disks is fits stands none =
     outside_calls p h ds number (event_for (stations_for p) e) old disks stands (λ q. of_outside p.nodes e q outside)
 
 -- and of one of a node
-pub made_at : (p : sched.Schedule) (h : List Line) (ds : List Disk) (number : ℕ) (e : Event) (it : Seat) (a : Act) (old : Run) (disks same disks' : List Medium)
-    → IsSchedule p → FitsRun p number e → RunStands p h ds number old disks → seat_for (stations (schedule_of p)) e ≡ Some it
+pub made_at : (p : sched.Schedule) (h : List Line) (ds : List Disk) (number : ℕ) (e : Event) (it : Seat) (a : Act)
+    (old : Run) (disks same disks' : List Medium)
+    → IsSchedule p → FitsRun p number e → RunStands p h ds number old disks → seat_for (stations (schedule_of p)) e
+    ≡ Some it
     → (HasNames (stations (schedule_of p)) e → (x : Seat) → seat_for (stations (schedule_of p)) e ≡ Some x
     → act_for x.eui.0 a ≡ Some (event_for (stations (schedule_of p)) e))
     → same ≡ disks
-    → ((p : sched.Schedule) (h : List Line) (ds : List Disk) (event : play.Event) (q : Station) → IsSchedule p → RunStands p h ds number old same
+    → ((p : sched.Schedule) (h : List Line) (ds : List Disk) (event : play.Event) (q : Station) → IsSchedule p
+    → RunStands p h ds number old same
     → IsEventAt p it.place q a event → AreCalledBy p h ds event same disks')
     → AreCalledBy p h ds (event_for (stations_for p) e) disks disks'
 made_at p h ds number e it a old disks same disks' is fits stands found acts unswapped calls =

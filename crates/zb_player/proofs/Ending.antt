@@ -27,7 +27,8 @@ use Rattle.zb_trace.specs.Text.{text}
 use Rattle.zb_trace.specs.declared.line.Line.{Line as Printed}
 
 -- the run of a schedule at its start
-pub started : (schedule : CodeSchedule) (declared : List CodeNode) (run : Run) (disks : List Medium) → declared ≡ schedule.nodes
+pub started : (schedule : CodeSchedule) (declared : List CodeNode) (run : Run) (disks : List Medium) → declared
+    ≡ schedule.nodes
     → Kept (start (schedule_of (sched.schedule_of schedule))) run.ledger.scribe
     → AllStand (schedule_of (sched.schedule_of schedule)) (start (schedule_of (sched.schedule_of schedule))) [] 1
     (stations (schedule_of (sched.schedule_of schedule))) run.nodes.items disks
@@ -38,20 +39,24 @@ started schedule declared run disks nodes kept all seats draws =
     record {
       told = record { known = start-stations (schedule_of p); kept = kept };
       nodes = all;
-      seats = subst (AreSeats run.seats) (ap (λ ds. map station_for (map node_of ds)) nodes ∙ sym (same_stations p)) seats;
+      seats = subst (AreSeats run.seats) (ap (λ ds. map station_for (map node_of ds)) nodes ∙ sym (same_stations p))
+          seats;
       draws = ap (map (λ (k : Key). k.0)) draws;
     }
 
 -- the events that are played are the schedule's
-pub are_played : (schedule : CodeSchedule) (events : List CodeEvent) → IsSchedule (sched.schedule_of schedule) → events ≡ schedule.events
+pub are_played : (schedule : CodeSchedule) (events : List CodeEvent) → IsSchedule (sched.schedule_of schedule)
+    → events ≡ schedule.events
     → IsPlayed (sched.schedule_of schedule) (map event_of events)
 are_played schedule events is same = record { schedule = is; events_are = ap (map event_of) same }
 
 -- the text of the last line
-pub last_text : (known : List Station) (line : Printed) (m last : Line) → IsLineOf known line m → m ≡ last → text line ≡ text_of known (last ∷ [])
+pub last_text : (known : List Station) (line : Printed) (m last : Line) → IsLineOf known line m → m ≡ last → text line
+    ≡ text_of known (last ∷ [])
 unfolding text_of
 last_text known line m last is same = is.text_is ∙ ap (line_text known) same ∙ sym (append-nil (line_text known last))
 
 -- the disks of a vector, once a slice of it was written
 pub disks_kept : (n : ℕ) (now items : List Medium) → length now ≡ n → take n (now ++ drop (length now) items) ≡ now
-disks_kept n now items long = subst (λ (k : ℕ). take k (now ++ drop (length now) items) ≡ now) long (take-append_seam now (drop (length now) items))
+disks_kept n now items long = subst (λ (k : ℕ). take k (now ++ drop (length now) items) ≡ now) long
+    (take-append_seam now (drop (length now) items))

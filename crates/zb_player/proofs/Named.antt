@@ -30,9 +30,11 @@ pub record FoundAt (test : Station → Bool) (k : ℕ) (ps : List Station) (it :
   pub eui : (get_or ps index d).eui ≡ it.eui.0
   pub found : find test ps ≡ Some (get_or ps index d)
 
-found_by : (test : Station → Bool) (k : ℕ) (p : Station) (ps : List Station) (it : Seat) (d : Station) (b : Bool) → test p ≡ b
+found_by : (test : Station → Bool) (k : ℕ) (p : Station) (ps : List Station) (it : Seat) (d : Station) (b : Bool)
+    → test p ≡ b
     → (first_seat test (k + 1) ps ≡ Some it → FoundAt test (k + 1) ps it d)
-    → (if b then Some (record { place = k; eui = record { 0 = p.eui } }) else first_seat test (k + 1) ps) ≡ Some it → FoundAt test k (p ∷ ps) it d
+    → (if b then Some (record { place = k; eui = record { 0 = p.eui } }) else first_seat test (k + 1) ps) ≡ Some it
+    → FoundAt test k (p ∷ ps) it d
 found_by test k p ps it d true hit more e =
     let same : record { place = k; eui = record { 0 = p.eui } } ≡ it = cc in
     record {
@@ -52,7 +54,8 @@ found_by test k p ps it d false hit more e =
       found = ap (λ b. cond b (Some p) (find test ps)) hit ∙ f.found;
     }
 
-pub found_at : (test : Station → Bool) (k : ℕ) (ps : List Station) (it : Seat) (d : Station) → first_seat test k ps ≡ Some it → FoundAt test k ps it d
+pub found_at : (test : Station → Bool) (k : ℕ) (ps : List Station) (it : Seat) (d : Station) → first_seat test k ps
+    ≡ Some it → FoundAt test k ps it d
 found_at test k [] it d e = absurd (cc)
 found_at test k (p ∷ ps) it d e = found_by test k p ps it d (test p) refl (found_at test (k + 1) ps it d) e
 
@@ -63,27 +66,41 @@ not_of n q other = grind (arith, nat_tests, other)
 none_some : (event : play.Event) → None ≡ Some event → ⊥
 none_some event e = cc
 
-pub of_others : (n q : ℕ) (a : Act) (event : play.Event) → act_for n a ≡ Some event → (q ≡ n → ⊥) → is_of q event ≡ false
-of_others n q (act.Own task) event e other = let same : play.Own n (model_task task) ≡ event = cc in subst (λ (x : play.Event). is_of q x ≡ false) same (not_of n q other)
-of_others n q act.Roll event e other = let same : play.RollOver n ≡ event = cc in subst (λ (x : play.Event). is_of q x ≡ false) same (not_of n q other)
-of_others n q (act.Deliver frame) event e other = let same : play.Deliver frame n ≡ event = cc in subst (λ (x : play.Event). is_of q x ≡ false) same (not_of n q other)
-of_others n q act.Reset event e other = let same : play.Reset n ≡ event = cc in subst (λ (x : play.Event). is_of q x ≡ false) same (not_of n q other)
-of_others n q act.Boot event e other = let same : play.PowerOn n ≡ event = cc in subst (λ (x : play.Event). is_of q x ≡ false) same (not_of n q other)
-of_others n q act.Dump event e other = let same : play.ShowRecord n ≡ event = cc in subst (λ (x : play.Event). is_of q x ≡ false) same (not_of n q other)
-of_others n q (act.Stop calls torn) event e other = let same : play.ArmStop n calls torn.items ≡ event = cc in subst (λ (x : play.Event). is_of q x ≡ false) same (not_of n q other)
-of_others n q (act.Fail call) event e other = let same : play.ArmFail n call ≡ event = cc in subst (λ (x : play.Event). is_of q x ≡ false) same (not_of n q other)
+pub of_others : (n q : ℕ) (a : Act) (event : play.Event) → act_for n a ≡ Some event → (q ≡ n → ⊥) → is_of q event
+    ≡ false
+of_others n q (act.Own task) event e other = let same : play.Own n (model_task task) ≡ event =
+    cc in subst (λ (x : play.Event). is_of q x ≡ false) same (not_of n q other)
+of_others n q act.Roll event e other = let same : play.RollOver n ≡ event =
+    cc in subst (λ (x : play.Event). is_of q x ≡ false) same (not_of n q other)
+of_others n q (act.Deliver frame) event e other = let same : play.Deliver frame n ≡ event =
+    cc in subst (λ (x : play.Event). is_of q x ≡ false) same (not_of n q other)
+of_others n q act.Reset event e other = let same : play.Reset n ≡ event =
+    cc in subst (λ (x : play.Event). is_of q x ≡ false) same (not_of n q other)
+of_others n q act.Boot event e other = let same : play.PowerOn n ≡ event =
+    cc in subst (λ (x : play.Event). is_of q x ≡ false) same (not_of n q other)
+of_others n q act.Dump event e other = let same : play.ShowRecord n ≡ event =
+    cc in subst (λ (x : play.Event). is_of q x ≡ false) same (not_of n q other)
+of_others n q (act.Stop calls torn) event e other = let same : play.ArmStop n calls torn.items ≡ event =
+    cc in subst (λ (x : play.Event). is_of q x ≡ false) same (not_of n q other)
+of_others n q (act.Fail call) event e other = let same : play.ArmFail n call ≡ event =
+    cc in subst (λ (x : play.Event). is_of q x ≡ false) same (not_of n q other)
 of_others n q act.Outside event e other = absurd (none_some event e)
 
 -- Names that a schedule declares are found.
 
 named_by : (name : Bytes) (k : ℕ) (m : Node) (ms : List Node) (b : Bool)
-    → (is_some (role_named name (map seated ms)) ≡ true → is_some (first_seat (has_name name) (k + 1) (map station_for ms)) ≡ true)
-    → is_some (option_map (λ (seat : judge.Seat). seat.node.role) (cond b (Some (seated m)) (find (λ seat. judge.has_name name seat) (map seated ms)))) ≡ true
-    → is_some (if b then Some (record { place = k; eui = record { 0 = m.eui } }) else first_seat (has_name name) (k + 1) (map station_for ms)) ≡ true
+    → (is_some (role_named name (map seated ms)) ≡ true
+    → is_some (first_seat (has_name name) (k + 1) (map station_for ms)) ≡ true)
+    → is_some
+    (option_map (λ (seat : judge.Seat). seat.node.role)
+    (cond b (Some (seated m)) (find (λ seat. judge.has_name name seat) (map seated ms)))) ≡ true
+    → is_some (if b then Some (record { place = k; eui = record { 0 = m.eui } })
+    else first_seat (has_name name) (k + 1) (map station_for ms)) ≡ true
 named_by name k m ms true more e = refl
 named_by name k m ms false more e = more e
 
-pub named_from : (name : Bytes) (k : ℕ) (ms : List Node) → is_some (role_named name (map seated ms)) ≡ true → is_some (first_seat (has_name name) k (map station_for ms)) ≡ true
+pub named_from : (name : Bytes) (k : ℕ) (ms : List Node) → is_some (role_named name (map seated ms)) ≡ true
+    → is_some (first_seat (has_name name) k (map station_for ms)) ≡ true
 named_from name k [] e = absurd (false≢true e)
 named_from name k (m ∷ ms) e = named_by name k m ms (bytes_eq m.name name) (named_from name (k + 1) ms) e
 
@@ -103,24 +120,32 @@ second_of : (a b : Bool) → (a && b) ≡ true → b ≡ true
 second_of true b e = e
 second_of false b e = absurd (false≢true e)
 
-is_named : (ms : List Node) (name : Bytes) → is_joiner (role_named name (map seated ms)) ≡ true → IsNamed (map station_for ms) name
+is_named : (ms : List Node) (name : Bytes) → is_joiner (role_named name (map seated ms)) ≡ true
+    → IsNamed (map station_for ms) name
 is_named ms name e = named_from name 0 ms (joins (role_named name (map seated ms)) e)
 
-is_named_parent : (ms : List Node) (name : Bytes) → is_parent (role_named name (map seated ms)) ≡ true → IsNamed (map station_for ms) name
+is_named_parent : (ms : List Node) (name : Bytes) → is_parent (role_named name (map seated ms)) ≡ true
+    → IsNamed (map station_for ms) name
 is_named_parent ms name e = named_from name 0 ms (adopts (role_named name (map seated ms)) e)
 
-pub of_partners : (ms : List Node) (name partner : Bytes) → are_partners name partner (map seated ms) ≡ true → is_joiner (role_named name (map seated ms)) ≡ true × (is_joiner (role_named partner (map seated ms)) ≡ true)
+pub of_partners : (ms : List Node) (name partner : Bytes) → are_partners name partner (map seated ms) ≡ true
+    → is_joiner (role_named name (map seated ms)) ≡ true × (is_joiner (role_named partner (map seated ms)) ≡ true)
 of_partners ms name partner e =
-    let both = first_of (not (bytes_eq name partner) && is_joiner (role_named name (map seated ms))) (is_joiner (role_named partner (map seated ms))) e in (
+    let both = first_of (not (bytes_eq name partner) && is_joiner (role_named name (map seated ms)))
+    (is_joiner (role_named partner (map seated ms))) e in (
       second_of (not (bytes_eq name partner)) (is_joiner (role_named name (map seated ms))) both,
-      second_of (not (bytes_eq name partner) && is_joiner (role_named name (map seated ms))) (is_joiner (role_named partner (map seated ms))) e,
+      second_of (not (bytes_eq name partner) && is_joiner (role_named name (map seated ms)))
+          (is_joiner (role_named partner (map seated ms))) e,
     )
 
-pub of_family : (ms : List Node) (name parent : Bytes) → are_child_and_parent name parent (map seated ms) ≡ true → is_joiner (role_named name (map seated ms)) ≡ true × (is_parent (role_named parent (map seated ms)) ≡ true)
+pub of_family : (ms : List Node) (name parent : Bytes) → are_child_and_parent name parent (map seated ms) ≡ true
+    → is_joiner (role_named name (map seated ms)) ≡ true × (is_parent (role_named parent (map seated ms)) ≡ true)
 of_family ms name parent e =
-    let both = first_of (not (bytes_eq name parent) && is_joiner (role_named name (map seated ms))) (is_parent (role_named parent (map seated ms))) e in (
+    let both = first_of (not (bytes_eq name parent) && is_joiner (role_named name (map seated ms)))
+    (is_parent (role_named parent (map seated ms))) e in (
       second_of (not (bytes_eq name parent)) (is_joiner (role_named name (map seated ms))) both,
-      second_of (not (bytes_eq name parent) && is_joiner (role_named name (map seated ms))) (is_parent (role_named parent (map seated ms))) e,
+      second_of (not (bytes_eq name parent) && is_joiner (role_named name (map seated ms)))
+          (is_parent (role_named parent (map seated ms))) e,
     )
 
 -- the other nodes that an event names are declared
@@ -135,7 +160,8 @@ has_names ms (said.Provisions name code) e = is_named ms name e
 has_names ms (said.Repeats name) e = is_named ms name e
 has_names ms said.Rolls e = tt
 has_names ms said.Switches e = tt
-has_names ms (said.Removes name parent) e = let f = of_family ms name parent e in (is_named ms name f.0, is_named_parent ms parent f.1)
+has_names ms (said.Removes name parent) e = let f =
+    of_family ms name parent e in (is_named ms name f.0, is_named_parent ms parent f.1)
 has_names ms (said.Resets name) e = tt
 has_names ms (said.Boots name) e = tt
 has_names ms (said.Dumps name) e = tt
@@ -146,5 +172,6 @@ has_names ms (said.ForgesNet to from source key sequence counter content) e = tt
 has_names ms (said.ForgesBoth to from source key sequence counter label base aps_counter command) e = tt
 has_names ms (said.ForgesOpen to from source label base aps_counter command) e = tt
 has_names ms (said.Asks name partner) e = is_named ms partner (of_partners ms name partner e).1
-has_names ms (said.Shares name partner) e = let f = of_partners ms name partner e in (is_named ms name f.0, is_named ms partner f.1)
+has_names ms (said.Shares name partner) e = let f =
+    of_partners ms name partner e in (is_named ms name f.0, is_named ms partner f.1)
 has_names ms (said.Tells name partner bytes) e = is_named ms partner (of_partners ms name partner e).1

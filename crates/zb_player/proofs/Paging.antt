@@ -13,30 +13,40 @@ use Rattle.zb_sched.specs.Schedules as sched
 use Rattle.zb_player_scribe.specs.Pages.{cleared, IsClear, IsFor, Takes, TakesFront}
 
 -- a text that was printed on a clear page and handed out
-handed_out : (page : Option Bytes) (text : Bytes) (before after : Option Bytes) → IsClear page → IsFor page before → Takes (append_known page text) before after → Appends before after text
+handed_out : (page : Option Bytes) (text : Bytes) (before after : Option Bytes) → IsClear page → IsFor page before
+    → Takes (append_known page text) before after → Appends before after text
 handed_out None text before after clear fit took = subst (λ (b : Option Bytes). Appends b after text) (sym fit) tt
-handed_out (Some blank) text before after clear fit took = subst (Appends before after) (ap (λ (l : Bytes). l ++ text) clear) took
+handed_out (Some blank) text before after clear fit took =
+    subst (Appends before after) (ap (λ (l : Bytes). l ++ text) clear) took
 
-pub handed : (page shown : Option Bytes) (text : Bytes) (before after : Option Bytes) → shown ≡ append_known page text → IsClear page → IsFor page before → Takes shown before after
+pub handed : (page shown : Option Bytes) (text : Bytes) (before after : Option Bytes) → shown ≡ append_known page text
+    → IsClear page → IsFor page before → Takes shown before after
     → Appends before after text
-handed page shown text before after is clear fit took = handed_out page text before after clear fit (subst (λ (s : Option Bytes). Takes s before after) is took)
+handed page shown text before after is clear fit took = handed_out page text before after clear fit
+    (subst (λ (s : Option Bytes). Takes s before after) is took)
 
 -- one whose sink failed
-front_out : (page : Option Bytes) (text : Bytes) (before after : Option Bytes) → IsClear page → TakesFront (append_known page text) before after → AppendsFront before after text
+front_out : (page : Option Bytes) (text : Bytes) (before after : Option Bytes) → IsClear page
+    → TakesFront (append_known page text) before after → AppendsFront before after text
 front_out None text before after clear took = absurd took
-front_out (Some blank) text before after clear took = subst (AppendsFront before after) (ap (λ (l : Bytes). l ++ text) clear) took
+front_out (Some blank) text before after clear took =
+    subst (AppendsFront before after) (ap (λ (l : Bytes). l ++ text) clear) took
 
-pub handed_front : (page shown : Option Bytes) (text : Bytes) (before after : Option Bytes) → shown ≡ append_known page text → IsClear page → TakesFront shown before after
+pub handed_front : (page shown : Option Bytes) (text : Bytes) (before after : Option Bytes) → shown
+    ≡ append_known page text → IsClear page → TakesFront shown before after
     → AppendsFront before after text
-handed_front page shown text before after is clear took = front_out page text before after clear (subst (λ (s : Option Bytes). TakesFront s before after) is took)
+handed_front page shown text before after is clear took =
+    front_out page text before after clear (subst (λ (s : Option Bytes). TakesFront s before after) is took)
 
 -- A page is for the same sink once it is handed out.
-for_cleared : (page : Option Bytes) (text : Bytes) (before after : Option Bytes) → IsFor page before → Takes (append_known page text) before after
+for_cleared : (page : Option Bytes) (text : Bytes) (before after : Option Bytes) → IsFor page before
+    → Takes (append_known page text) before after
     → IsFor (cleared (append_known page text)) after
 for_cleared None text before after fit took = took ∙ fit
 for_cleared (Some blank) text before after fit took = tt
 
-pub still_for : (page shown blank : Option Bytes) (text : Bytes) (before after : Option Bytes) → shown ≡ append_known page text → blank ≡ cleared shown → IsFor page before
+pub still_for : (page shown blank : Option Bytes) (text : Bytes) (before after : Option Bytes) → shown
+    ≡ append_known page text → blank ≡ cleared shown → IsFor page before
     → Takes shown before after → IsFor blank after
 still_for page shown blank text before after is empty fit took =
     subst (λ (b : Option Bytes). IsFor b after) (sym (empty ∙ ap cleared is))
@@ -56,14 +66,19 @@ pub record IsSameRun (one other : Run) : Type 0 where
   pub draws : other.draws.now ≡ one.draws.now
   pub scribe : other.ledger.scribe ≡ one.ledger.scribe
 
-pub paged : (p : sched.Schedule) (h : List Line) (ds : List Disk) (number : ℕ) (one other : Run) (disks : List Medium) → IsSameRun one other
+pub paged : (p : sched.Schedule) (h : List Line) (ds : List Disk) (number : ℕ) (one other : Run) (disks : List Medium)
+    → IsSameRun one other
     → RunStands p h ds number one disks → RunStands p h ds number other disks
 paged p h ds number one other disks same stands = record {
   told = record {
     known = stands.told.known;
     kept = subst (λ k. Rattle.zb_player_scribe.specs.Kept.Kept h k) (sym same.scribe) stands.told.kept;
   };
-  nodes = subst (λ v. Rattle.zb_player_events.specs.Nodes.AllStand (schedule_of p) h ds number (Rattle.zb_model.specs.Play.stations (schedule_of p)) v.items disks) (sym same.nodes) stands.nodes;
-  seats = subst (λ v. Rattle.zb_player_events.specs.Seats.AreSeats v (Rattle.zb_model.specs.Play.stations (schedule_of p))) (sym same.seats) stands.seats;
+  nodes =
+      subst (λ v. Rattle.zb_player_events.specs.Nodes.AllStand (schedule_of p) h ds number
+      (Rattle.zb_model.specs.Play.stations (schedule_of p)) v.items disks) (sym same.nodes) stands.nodes;
+  seats =
+      subst (λ v. Rattle.zb_player_events.specs.Seats.AreSeats v
+      (Rattle.zb_model.specs.Play.stations (schedule_of p))) (sym same.seats) stands.seats;
   draws = ap (map (λ (k : Rattle.zb_base.specs.declared.key.Key.Key). k.0)) same.draws ∙ stands.draws;
 }

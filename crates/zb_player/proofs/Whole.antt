@@ -37,11 +37,14 @@ run_is : (p : sched.Schedule) → run_lines real (schedule_of p) ≡ begin p ++ 
 unfolding run_lines schedule_of
 run_is p = refl
 
-last_is : (p : sched.Schedule) → end_line real (length (schedule_of p).events) (run_lines real (schedule_of p)) ≡ last p
+last_is : (p : sched.Schedule) → end_line real (length (schedule_of p).events) (run_lines real (schedule_of p))
+    ≡ last p
 unfolding schedule_of run_lines
-last_is p = ap (λ n. end_line real n (run_lines real (schedule_of p))) (length-map p.events (event_for (stations_for p)))
+last_is p = ap (λ n. end_line real n (run_lines real (schedule_of p)))
+    (length-map p.events (event_for (stations_for p)))
 
-pub whole_text : (p : sched.Schedule) → transcript_text p ≡ text_in p (begin p) ++ (text_in p (middle p) ++ text_in p (last p ∷ []))
+pub whole_text : (p : sched.Schedule) → transcript_text p ≡ text_in p (begin p)
+    ++ (text_in p (middle p) ++ text_in p (last p ∷ []))
 unfolding transcript
 whole_text p =
     let known = stations (schedule_of p) in
@@ -52,18 +55,23 @@ whole_text p =
     ∙ append_assoc (text_in p (begin p)) (text_in p (middle p)) (text_in p (last p ∷ []))
 
 -- the start isn't taken whole
-pub front_start : (p : sched.Schedule) (before after : Option Bytes) → AppendsFront before after (text_in p (begin p)) → IsFront p before after
+pub front_start : (p : sched.Schedule) (before after : Option Bytes) → AppendsFront before after (text_in p (begin p))
+    → IsFront p before after
 front_start p before after out =
     subst (AppendsFront before after) (sym (whole_text p))
-    (front_of before before after [] (text_in p (begin p)) (text_in p (middle p) ++ text_in p (last p ∷ [])) (Appends-nil before) out)
+    (front_of before before after [] (text_in p (begin p)) (text_in p (middle p) ++ text_in p (last p ∷ []))
+    (Appends-nil before) out)
 
 -- not all events are answered
-pub front_middle : (p : sched.Schedule) (run : Run) (disks : List Medium) (events : List said.Event) (before mid after : Option Bytes)
-    → IsPlayed p events → RunStands p (begin p) [] 1 run disks → Appends before mid (text_in p (begin p)) → PrintsAll run disks events mid after
+pub front_middle : (p : sched.Schedule) (run : Run) (disks : List Medium) (events : List said.Event)
+    (before mid after : Option Bytes)
+    → IsPlayed p events → RunStands p (begin p) [] 1 run disks → Appends before mid (text_in p (begin p))
+    → PrintsAll run disks events mid after
     → IsFront p before after
 front_middle p run disks events before mid after played stands out prints =
     let text : AppendsFront mid after (text_in p (middle p)) =
-    subst (λ es. AppendsFront mid after (text_in p (lines_of p (begin p) [] es))) played.events_are (prints p (begin p) [] played stands) in
+    subst (λ es. AppendsFront mid after (text_in p (lines_of p (begin p) [] es))) played.events_are
+    (prints p (begin p) [] played stands) in
     subst (AppendsFront before after) (sym (whole_text p))
     (front_of before mid after (text_in p (begin p)) (text_in p (middle p)) (text_in p (last p ∷ [])) out text)
 
@@ -74,32 +82,41 @@ pub record Ended (p : sched.Schedule) (run : Run) (disks : List Medium) (before 
   pub ds : List Disk
   pub stands : RunStands p (begin p ++ middle p) ds (length p.events + 1) run disks
 
-pub all_answered : (p : sched.Schedule) (old new : Run) (disks disks' : List Medium) (events : List said.Event) (n : ℕ) (before mid after : Option Bytes)
-    → IsPlayed p events → n ≡ length events → RunStands p (begin p) [] 1 old disks → Appends before mid (text_in p (begin p))
+pub all_answered : (p : sched.Schedule) (old new : Run) (disks disks' : List Medium) (events : List said.Event)
+    (n : ℕ) (before mid after : Option Bytes)
+    → IsPlayed p events → n ≡ length events → RunStands p (begin p) [] 1 old disks
+    → Appends before mid (text_in p (begin p))
     → Answers old disks events n new disks' mid after → Ended p new disks' before after
 all_answered p old new disks disks' events n before mid after played many stands out answers =
     let a = answers p (begin p) [] played stands in
     let whole : take n events ≡ p.events = ap (λ k. take k events) many ∙ take-length events ∙ played.events_are in
     let count : n ≡ length p.events = many ∙ ap (λ (es : List said.Event). length es) played.events_are in
     record {
-      taken = subst (Appends before after) (ap (λ es. text_in p (begin p) ++ text_in p (lines_of p (begin p) [] es)) whole)
-          (Appends-trans before mid after (text_in p (begin p)) (text_in p (lines_of p (begin p) [] (take n events))) out a.taken);
+      taken =
+          subst (Appends before after) (ap (λ es. text_in p (begin p) ++ text_in p (lines_of p (begin p) [] es)) whole)
+          (Appends-trans before mid after (text_in p (begin p)) (text_in p (lines_of p (begin p) [] (take n events)))
+          out a.taken);
       page = a.page;
       ds = disks_after (schedule_of p) (begin p) [] 1 (acts_of p (take n events));
       stands =
-          subst (λ k. RunStands p (begin p ++ middle p) (disks_after (schedule_of p) (begin p) [] 1 (acts_of p (take n events))) (k + 1) new disks') count
-          (subst (λ es. RunStands p (begin p ++ lines_of p (begin p) [] es) (disks_after (schedule_of p) (begin p) [] 1 (acts_of p (take n events))) (n + 1) new disks') whole a.stands);
+          subst (λ k. RunStands p (begin p ++ middle p)
+          (disks_after (schedule_of p) (begin p) [] 1 (acts_of p (take n events))) (k + 1) new disks') count
+          (subst (λ es. RunStands p (begin p ++ lines_of p (begin p) [] es)
+          (disks_after (schedule_of p) (begin p) [] 1 (acts_of p (take n events))) (n + 1) new disks') whole
+          a.stands);
     }
 
 -- the last line isn't printed
-pub front_last : (p : sched.Schedule) (run : Run) (disks : List Medium) (before after : Option Bytes) → Ended p run disks before after → IsFront p before after
+pub front_last : (p : sched.Schedule) (run : Run) (disks : List Medium) (before after : Option Bytes)
+    → Ended p run disks before after → IsFront p before after
 front_last p run disks before after e =
     subst (AppendsFront before after)
     (append_assoc (text_in p (begin p)) (text_in p (middle p)) (text_in p (last p ∷ [])) ∙ sym (whole_text p))
     (front_at before after (text_in p (begin p) ++ text_in p (middle p)) (text_in p (last p ∷ [])) e.taken)
 
 -- it isn't taken whole
-pub front_end : (p : sched.Schedule) (run : Run) (disks : List Medium) (before mid after : Option Bytes) → Ended p run disks before mid
+pub front_end : (p : sched.Schedule) (run : Run) (disks : List Medium) (before mid after : Option Bytes)
+    → Ended p run disks before mid
     → AppendsFront mid after (text_in p (last p ∷ [])) → IsFront p before after
 front_end p run disks before mid after e out =
     subst (AppendsFront before after)
@@ -108,27 +125,35 @@ front_end p run disks before mid after e out =
     (front_of before mid after (text_in p (begin p) ++ text_in p (middle p)) (text_in p (last p ∷ [])) [] e.taken out)
 
 -- all is written
-pub whole_run : (p : sched.Schedule) (run : Run) (disks : List Medium) (before mid after : Option Bytes) → Ended p run disks before mid
+pub whole_run : (p : sched.Schedule) (run : Run) (disks : List Medium) (before mid after : Option Bytes)
+    → Ended p run disks before mid
     → Appends mid after (text_in p (last p ∷ [])) → IsWhole p before after
 whole_run p run disks before mid after e out =
     subst (Appends before after)
     (append_assoc (text_in p (begin p)) (text_in p (middle p)) (text_in p (last p ∷ [])) ∙ sym (whole_text p))
-    (Appends-trans before mid after (text_in p (begin p) ++ text_in p (middle p)) (text_in p (last p ∷ [])) e.taken out)
+    (Appends-trans before mid after (text_in p (begin p) ++ text_in p (middle p)) (text_in p (last p ∷ [])) e.taken
+    out)
 
 -- the disks, and the words of the last line
-pub played_disks : (p : sched.Schedule) (run : Run) (disks : List Medium) (before after : Option Bytes) → Ended p run disks before after
-    → HaveMade (run_calls real (schedule_of p) (start (schedule_of p)) [] 1 (schedule_of p).events) (stations (schedule_of p)) disks → Played p disks
+pub played_disks : (p : sched.Schedule) (run : Run) (disks : List Medium) (before after : Option Bytes)
+    → Ended p run disks before after
+    → HaveMade (run_calls real (schedule_of p) (start (schedule_of p)) [] 1 (schedule_of p).events)
+    (stations (schedule_of p)) disks → Played p disks
 played_disks p run disks before after e calls = record {
   nodes = run.nodes.items;
   ds = e.ds;
-  stand = subst (λ h. Rattle.zb_player_events.specs.Nodes.AllStand (schedule_of p) h e.ds (length p.events + 1) (stations (schedule_of p)) run.nodes.items disks) (sym (run_is p)) e.stands.nodes;
+  stand =
+      subst (λ h. Rattle.zb_player_events.specs.Nodes.AllStand (schedule_of p) h e.ds (length p.events + 1)
+      (stations (schedule_of p)) run.nodes.items disks) (sym (run_is p)) e.stands.nodes;
   calls = calls;
 }
 
 -- what a scribe sums up are the words of the last line
-pub sums_up : (p : sched.Schedule) (run : Run) (disks : List Medium) (before after : Option Bytes) (s : Summary) (events : ℕ) → Ended p run disks before after
+pub sums_up : (p : sched.Schedule) (run : Run) (disks : List Medium) (before after : Option Bytes) (s : Summary)
+    (events : ℕ) → Ended p run disks before after
     → events ≡ length p.events
-    → ((h : List Line) → Rattle.zb_player_scribe.specs.Kept.Kept h run.ledger.scribe → last_line s ≡ end_line real events h)
+    → ((h : List Line) → Rattle.zb_player_scribe.specs.Kept.Kept h run.ledger.scribe → last_line s
+    ≡ end_line real events h)
     → last_line s ≡ last p
 sums_up p run disks before after s events e many of =
     of (begin p ++ middle p) e.stands.told.kept ∙ ap (λ n. end_line real n (begin p ++ middle p)) many

@@ -22,14 +22,16 @@ use Rattle.zb_sched.specs.Valid.{FitsSchedule}
 use Rattle.zb_sched_line.specs.Said as said
 
 -- The run of a schedule stands, after these lines and with these disks of the model, before the event of that number.
-pub record RunStands (p : sched.Schedule) (h : List Line) (ds : List Disk) (number : ℕ) (run : Run) (disks : List Medium) : Type 0 where
+pub record RunStands (p : sched.Schedule) (h : List Line) (ds : List Disk) (number : ℕ) (run : Run)
+    (disks : List Medium) : Type 0 where
   pub told : IsTold (schedule_of p) h run.ledger
   pub nodes : AllStand (schedule_of p) h ds number (stations (schedule_of p)) run.nodes.items disks
   pub seats : AreSeats run.seats (stations (schedule_of p))
   pub draws : map (λ (k : Key). k.0) run.draws.now ≡ p.draws
 
 -- The run went on by a step.
-pub record RunGoes (p : sched.Schedule) (g : Step) (h : List Line) (number : ℕ) (old new : Run) (disks : List Medium) : Type 0 where
+pub record RunGoes (p : sched.Schedule) (g : Step) (h : List Line) (number : ℕ) (old new : Run)
+    (disks : List Medium) : Type 0 where
   pub page : new.ledger.page ≡ append_known old.ledger.page (text_of (stations (schedule_of p)) g.lines)
   pub stands : RunStands p (h ++ g.lines) g.disks (number + 1) new disks
 

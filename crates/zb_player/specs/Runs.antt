@@ -44,8 +44,10 @@ pub record IsPlayed (p : sched.Schedule) (events : List said.Event) : Type 0 whe
 
 -- So many of these events were answered: their lines were written where anyone reads them, and the run stands after
 -- them.
-pub record Answered (p : sched.Schedule) (h : List Line) (ds : List Disk) (events : List said.Event) (n : ℕ) (run : Run) (disks : List Medium) (before after : Option Bytes) : Type 0 where
-  pub stands : RunStands p (h ++ lines_of p h ds (take n events)) (disks_after (schedule_of p) h ds 1 (acts_of p (take n events))) (n + 1) run disks
+pub record Answered (p : sched.Schedule) (h : List Line) (ds : List Disk) (events : List said.Event) (n : ℕ)
+    (run : Run) (disks : List Medium) (before after : Option Bytes) : Type 0 where
+  pub stands : RunStands p (h ++ lines_of p h ds (take n events))
+      (disks_after (schedule_of p) h ds 1 (acts_of p (take n events))) (n + 1) run disks
   pub taken : Appends before after (text_in p (lines_of p h ds (take n events)))
   pub page : IsFor run.ledger.page after
 
@@ -58,7 +60,8 @@ Answers old disks events n new disks' before after =
 abbrev pub AreMade : List Medium → Run → List said.Event → ℕ → List Medium → Type 0
 AreMade disks old events n disks' =
     (p : sched.Schedule) (h : List Line) (ds : List Disk) → IsPlayed p events → RunStands p h ds 1 old disks
-    → AreCalled (run_calls real (schedule_of p) h ds 1 (acts_of p (take n events))) (stations (schedule_of p)) disks disks'
+    → AreCalled (run_calls real (schedule_of p) h ds 1 (acts_of p (take n events))) (stations (schedule_of p)) disks
+    disks'
 
 abbrev pub PrintsAll : Run → List Medium → List said.Event → Option Bytes → Option Bytes → Type 0
 PrintsAll old disks events before after =
@@ -94,5 +97,7 @@ HaveMade more _ _ = ⊥
 pub record Played (p : sched.Schedule) (disks : List Medium) : Type 0 where
   pub nodes : List NodeValue
   pub ds : List Disk
-  pub stand : AllStand (schedule_of p) (run_lines real (schedule_of p)) ds (length p.events + 1) (stations (schedule_of p)) nodes disks
-  pub calls : HaveMade (run_calls real (schedule_of p) (start (schedule_of p)) [] 1 (schedule_of p).events) (stations (schedule_of p)) disks
+  pub stand : AllStand (schedule_of p) (run_lines real (schedule_of p)) ds (length p.events + 1)
+      (stations (schedule_of p)) nodes disks
+  pub calls : HaveMade (run_calls real (schedule_of p) (start (schedule_of p)) [] 1 (schedule_of p).events)
+      (stations (schedule_of p)) disks

@@ -44,15 +44,18 @@ whole_made : (armed : Armed) (calls : play.Calls) → falls armed calls ≡ fals
 unfolding made_of
 whole_made armed calls e = ap (λ b. cond b (fallen_call armed) (count_of calls)) e
 
-pub whole_counted : (armed : Armed) (calls : play.Calls) (old new : ℕ) → falls armed calls ≡ false → new ≡ calls_after old calls → new ≡ counted_on old (made_of armed calls)
-whole_counted armed calls old new e is = is ∙ all_counted old calls ∙ ap (counted_on old) (sym (whole_made armed calls e))
+pub whole_counted : (armed : Armed) (calls : play.Calls) (old new : ℕ) → falls armed calls ≡ false → new
+    ≡ calls_after old calls → new ≡ counted_on old (made_of armed calls)
+whole_counted armed calls old new e is = is ∙ all_counted old calls ∙ ap (counted_on old)
+    (sym (whole_made armed calls e))
 
 -- what is armed falls on one of them
 some_counted : (count : ℕ) (made : ℕ) → 1 ≤ made → risen count made ≡ counted_on count made
 some_counted count zero one = absurd (omega (arith, one))
 some_counted count (suc made) one = refl
 
-fallen_counted : (count : ℕ) (armed : Armed) (calls : play.Calls) → falls armed calls ≡ true → IsArming armed → risen count (fallen_calls armed) ≡ counted_on count (fallen_call armed)
+fallen_counted : (count : ℕ) (armed : Armed) (calls : play.Calls) → falls armed calls ≡ true → IsArming armed
+    → risen count (fallen_calls armed) ≡ counted_on count (fallen_call armed)
 fallen_counted count NotArmed calls e arming = absurd (false≢true e)
 fallen_counted count (StopAfter k torn) calls e arming = some_counted count (k + 1) (omega arith)
 fallen_counted count (FailAt k) calls e arming = some_counted count k arming
@@ -61,8 +64,10 @@ cut_made : (armed : Armed) (calls : play.Calls) → falls armed calls ≡ true �
 unfolding made_of
 cut_made armed calls e = ap (λ b. cond b (fallen_call armed) (count_of calls)) e
 
-pub cut_counted : (armed : Armed) (calls : play.Calls) (old new : ℕ) → falls armed calls ≡ true → IsArming armed → new ≡ risen old (fallen_calls armed) → new ≡ counted_on old (made_of armed calls)
-cut_counted armed calls old new e arming is = is ∙ fallen_counted old armed calls e arming ∙ ap (counted_on old) (sym (cut_made armed calls e))
+pub cut_counted : (armed : Armed) (calls : play.Calls) (old new : ℕ) → falls armed calls ≡ true → IsArming armed → new
+    ≡ risen old (fallen_calls armed) → new ≡ counted_on old (made_of armed calls)
+cut_counted armed calls old new e arming is = is ∙ fallen_counted old armed calls e arming ∙ ap (counted_on old)
+    (sym (cut_made armed calls e))
 
 -- ---- tasks
 
@@ -72,48 +77,62 @@ while_up b made old new up is = is ∙ ap (λ x. counted_on old (cond x made 0))
 while_down : (b : Bool) (made old : ℕ) → b ≡ false → old ≡ counted_on old (cond b made 0)
 while_down b made old down = ap (λ x. counted_on old (cond x made 0)) (sym down)
 
-pub down_calls : (w : Schedule) (h : List Line) (ds : List Disk) (number n : ℕ) (task : model.Task) (k : Ledger) (node : NodeValue) (m : Medium) → Before w h ds number n k node m → false ≡ is_some node.machine
+pub down_calls : (w : Schedule) (h : List Line) (ds : List Disk) (number n : ℕ) (task : model.Task) (k : Ledger)
+    (node : NodeValue) (m : Medium) → Before w h ds number n k node m → false ≡ is_some node.machine
     → Calls (task_calls real (condition_of w h ds n) task) m m
 down_calls w h ds number n task k node m before off =
     let x = condition_of w h ds n in
-    while_down (is_up h n) (made_of x.disk.armed (calls_by x.commits (answer real x.setting x.state task).edits)) m.calls (power_of w h ds number n k node m false before off)
+    while_down (is_up h n) (made_of x.disk.armed (calls_by x.commits (answer real x.setting x.state task).edits))
+    m.calls (power_of w h ds number n k node m false before off)
 
-pub whole_calls : (w : Schedule) (h : List Line) (ds : List Disk) (number n : ℕ) (task : model.Task) (result : Option Handled) (p : CorePlan) (k : Ledger)
-    (node after : NodeValue) (m m' : Medium) → Before w h ds number n k node m → suits (setting_of w n).me.role task ≡ true → true ≡ is_some node.machine → result ≡ Some Whole
+pub whole_calls : (w : Schedule) (h : List Line) (ds : List Disk) (number n : ℕ) (task : model.Task)
+    (result : Option Handled) (p : CorePlan) (k : Ledger)
+    (node after : NodeValue) (m m' : Medium) → Before w h ds number n k node m → suits (setting_of w n).me.role task
+    ≡ true → true ≡ is_some node.machine → result ≡ Some Whole
     → HasHandled task node m result p after m' → Calls (task_calls real (condition_of w h ds n) task) m m'
 whole_calls w h ds number n task result p k node after m m' before is on made handled =
     let x = condition_of w h ds n in
     let calls = calls_by x.commits (answer real x.setting x.state task).edits in
-    let how : HasHandled task node m (Some Whole) p after m' = subst (λ (r : Option Handled). HasHandled task node m r p after m') made handled in
+    let how : HasHandled task node m (Some Whole) p after m' =
+    subst (λ (r : Option Handled). HasHandled task node m r p after m') made handled in
     let was = how x number before.is_in (can_have w h ds number n task k node m before is) in
-    while_up (is_up h n) (made_of x.disk.armed calls) m.calls m'.calls (power_of w h ds number n k node m true before on)
+    while_up (is_up h n) (made_of x.disk.armed calls) m.calls m'.calls
+    (power_of w h ds number n k node m true before on)
     (whole_counted x.disk.armed calls m.calls m'.calls was.missed was.calls)
 
-pub cut_calls : (w : Schedule) (h : List Line) (ds : List Disk) (number n : ℕ) (task : model.Task) (result : Option Handled) (p : CorePlan) (fall : Fall) (k : Ledger)
-    (node after : NodeValue) (m m' : Medium) → Before w h ds number n k node m → suits (setting_of w n).me.role task ≡ true → true ≡ is_some node.machine → result ≡ Some (Cut fall)
+pub cut_calls : (w : Schedule) (h : List Line) (ds : List Disk) (number n : ℕ) (task : model.Task)
+    (result : Option Handled) (p : CorePlan) (fall : Fall) (k : Ledger)
+    (node after : NodeValue) (m m' : Medium) → Before w h ds number n k node m → suits (setting_of w n).me.role task
+    ≡ true → true ≡ is_some node.machine → result ≡ Some (Cut fall)
     → HasHandled task node m result p after m' → Calls (task_calls real (condition_of w h ds n) task) m m'
 cut_calls w h ds number n task result p fall k node after m m' before is on made handled =
     let x = condition_of w h ds n in
     let calls = calls_by x.commits (answer real x.setting x.state task).edits in
-    let how : HasHandled task node m (Some (Cut fall)) p after m' = subst (λ (r : Option Handled). HasHandled task node m r p after m') made handled in
+    let how : HasHandled task node m (Some (Cut fall)) p after m' =
+    subst (λ (r : Option Handled). HasHandled task node m r p after m') made handled in
     let was = how x number before.is_in (can_have w h ds number n task k node m before is) in
-    while_up (is_up h n) (made_of x.disk.armed calls) m.calls m'.calls (power_of w h ds number n k node m true before on)
+    while_up (is_up h n) (made_of x.disk.armed calls) m.calls m'.calls
+    (power_of w h ds number n k node m true before on)
     (cut_counted x.disk.armed calls m.calls m'.calls was.fell before.is_in.arming was.calls)
 
 -- ---- boots
 
-pub no_boot_calls : (w : Schedule) (h : List Line) (ds : List Disk) (number n : ℕ) (k : Ledger) (node : NodeValue) (m : Medium) → Before w h ds number n k node m → true ≡ is_some node.machine
+pub no_boot_calls : (w : Schedule) (h : List Line) (ds : List Disk) (number n : ℕ) (k : Ledger) (node : NodeValue)
+    (m : Medium) → Before w h ds number n k node m → true ≡ is_some node.machine
     → Calls (event_calls real w h (condition_of w h ds n) (PowerOn n)) m m
 unfolding event_calls
 no_boot_calls w h ds number n k node m before on =
     let x = condition_of w h ds n in
-    ap (λ b. counted_on m.calls (cond b 0 (made_of x.disk.armed (BootCalls x.disk.both_open)))) (sym (power_of w h ds number n k node m true before on))
+    ap (λ b. counted_on m.calls (cond b 0 (made_of x.disk.armed (BootCalls x.disk.both_open))))
+    (sym (power_of w h ds number n k node m true before on))
 
 at_boot : (b : Bool) (made old new : ℕ) → b ≡ false → new ≡ counted_on old made → new ≡ counted_on old (cond b 0 made)
 at_boot b made old new down is = is ∙ ap (λ x. counted_on old (cond x 0 made)) (sym down)
 
-pub boot_calls : (w : Schedule) (h : List Line) (ds : List Disk) (number n : ℕ) (result : Option Fall) (k : Ledger) (node after : NodeValue) (m m' : Medium) → Before w h ds number n k node m → false ≡ is_some node.machine
-    → result ≡ None → HasBooted node m result after m' → Calls (event_calls real w h (condition_of w h ds n) (PowerOn n)) m m'
+pub boot_calls : (w : Schedule) (h : List Line) (ds : List Disk) (number n : ℕ) (result : Option Fall) (k : Ledger)
+    (node after : NodeValue) (m m' : Medium) → Before w h ds number n k node m → false ≡ is_some node.machine
+    → result ≡ None → HasBooted node m result after m'
+    → Calls (event_calls real w h (condition_of w h ds n) (PowerOn n)) m m'
 unfolding event_calls
 boot_calls w h ds number n result k node after m m' before off made booting =
     let x = condition_of w h ds n in
@@ -123,36 +142,49 @@ boot_calls w h ds number n result k node after m m' before off made booting =
     at_boot (is_up h n) (made_of x.disk.armed (BootCalls x.disk.both_open)) m.calls m'.calls down
     (whole_counted x.disk.armed (BootCalls x.disk.both_open) m.calls m'.calls was.missed was.calls)
 
-pub cut_boot_calls : (w : Schedule) (h : List Line) (ds : List Disk) (number n : ℕ) (result : Option Fall) (fall : Fall) (k : Ledger) (node after : NodeValue) (m m' : Medium) → Before w h ds number n k node m
-    → false ≡ is_some node.machine → result ≡ Some fall → HasBooted node m result after m' → Calls (event_calls real w h (condition_of w h ds n) (PowerOn n)) m m'
+pub cut_boot_calls : (w : Schedule) (h : List Line) (ds : List Disk) (number n : ℕ) (result : Option Fall)
+    (fall : Fall) (k : Ledger) (node after : NodeValue) (m m' : Medium) → Before w h ds number n k node m
+    → false ≡ is_some node.machine → result ≡ Some fall → HasBooted node m result after m'
+    → Calls (event_calls real w h (condition_of w h ds n) (PowerOn n)) m m'
 unfolding event_calls
 cut_boot_calls w h ds number n result fall k node after m m' before off made booting =
     let x = condition_of w h ds n in
     let down = power_of w h ds number n k node m false before off in
-    let how : HasBooted node m (Some fall) after m' = subst (λ (r : Option Fall). HasBooted node m r after m') made booting in
+    let how : HasBooted node m (Some fall) after m' = subst (λ (r : Option Fall). HasBooted node m r after m') made
+    booting in
     let was = how x number before.is_in down in
     at_boot (is_up h n) (made_of x.disk.armed (BootCalls x.disk.both_open)) m.calls m'.calls down
     (cut_counted x.disk.armed (BootCalls x.disk.both_open) m.calls m'.calls was.fell before.is_in.arming was.calls)
 
 -- ---- the event that it is
 
-pub by_event_calls : (w : Schedule) (h : List Line) (x : Condition) (this event : play.Event) (old new : Medium) → this ≡ event
+pub by_event_calls : (w : Schedule) (h : List Line) (x : Condition) (this event : play.Event) (old new : Medium)
+    → this ≡ event
     → Calls (event_calls real w h x this) old new → Calls (event_calls real w h x event) old new
-by_event_calls w h x this event old new same made = subst (λ (e : play.Event). Calls (event_calls real w h x e) old new) same made
+by_event_calls w h x this event old new same made =
+    subst (λ (e : play.Event). Calls (event_calls real w h x e) old new) same made
 
 -- an event that makes none
-pub none_called : (w : Schedule) (h : List Line) (x : Condition) (this event : play.Event) (old new : Medium) → event_calls real w h x this ≡ 0 → this ≡ event → Calls 0 old new → Calls (event_calls real w h x event) old new
-none_called w h x this event old new none same is = by_event_calls w h x this event old new same (is ∙ ap (counted_on old.calls) (sym none))
+pub none_called : (w : Schedule) (h : List Line) (x : Condition) (this event : play.Event) (old new : Medium)
+    → event_calls real w h x this ≡ 0 → this ≡ event → Calls 0 old new → Calls (event_calls real w h x event) old new
+none_called w h x this event old new none same is = by_event_calls w h x this event old new same
+    (is ∙ ap (counted_on old.calls) (sym none))
 
-pub own_calls : (w : Schedule) (h : List Line) (ds : List Disk) (n : ℕ) (task : model.Task) (event : play.Event) (old new : Medium) → play.Own n task ≡ event → IsFor (setting_of w n).me.role event
-    → (suits (setting_of w n).me.role task ≡ true → Calls (task_calls real (condition_of w h ds n) task) old new) → Calls (event_calls real w h (condition_of w h ds n) event) old new
+pub own_calls : (w : Schedule) (h : List Line) (ds : List Disk) (n : ℕ) (task : model.Task) (event : play.Event)
+    (old new : Medium) → play.Own n task ≡ event → IsFor (setting_of w n).me.role event
+    → (suits (setting_of w n).me.role task ≡ true → Calls (task_calls real (condition_of w h ds n) task) old new)
+    → Calls (event_calls real w h (condition_of w h ds n) event) old new
 unfolding event_calls
 own_calls w h ds n task event old new same fits calls =
-    by_event_calls w h (condition_of w h ds n) (play.Own n task) event old new same (calls (subst (λ (e : play.Event). IsFor (setting_of w n).me.role e) (sym same) fits))
+    by_event_calls w h (condition_of w h ds n) (play.Own n task) event old new same
+    (calls (subst (λ (e : play.Event). IsFor (setting_of w n).me.role e) (sym same) fits))
 
-pub roll_calls : (w : Schedule) (h : List Line) (ds : List Disk) (n : ℕ) (draw : Option Key) (event : play.Event) (old new : Medium) → play.RollOver n ≡ event → IsFor (setting_of w n).me.role event
+pub roll_calls : (w : Schedule) (h : List Line) (ds : List Disk) (n : ℕ) (draw : Option Key) (event : play.Event)
+    (old new : Medium) → play.RollOver n ≡ event → IsFor (setting_of w n).me.role event
     → option_map (λ (key : Key). key.0) draw ≡ supply w h
-    → (suits (setting_of w n).me.role (model.DoRoll (option_map (λ (key : Key). key.0) draw)) ≡ true → Calls (task_calls real (condition_of w h ds n) (model.DoRoll (option_map (λ (key : Key). key.0) draw))) old new)
+    → (suits (setting_of w n).me.role (model.DoRoll (option_map (λ (key : Key). key.0) draw)) ≡ true
+    → Calls (task_calls real (condition_of w h ds n) (model.DoRoll (option_map (λ (key : Key). key.0) draw))) old
+    new)
     → Calls (event_calls real w h (condition_of w h ds n) event) old new
 unfolding event_calls
 roll_calls w h ds n draw event old new same fits is calls =
@@ -160,10 +192,13 @@ roll_calls w h ds n draw event old new same fits is calls =
     (subst (λ (d : Option model.Bytes). Calls (task_calls real (condition_of w h ds n) (model.DoRoll d)) old new) is
     (calls (subst (λ (e : play.Event). IsFor (setting_of w n).me.role e) (sym same) fits)))
 
-pub deliver_calls : (w : Schedule) (h : List Line) (ds : List Disk) (n frame : ℕ) (event : play.Event) (old new : Medium) → play.Deliver frame n ≡ event
-    → Calls (frame_calls real (condition_of w h ds n) (supply w h) (frame_at h frame)) old new → Calls (event_calls real w h (condition_of w h ds n) event) old new
+pub deliver_calls : (w : Schedule) (h : List Line) (ds : List Disk) (n frame : ℕ) (event : play.Event)
+    (old new : Medium) → play.Deliver frame n ≡ event
+    → Calls (frame_calls real (condition_of w h ds n) (supply w h) (frame_at h frame)) old new
+    → Calls (event_calls real w h (condition_of w h ds n) event) old new
 unfolding event_calls
-deliver_calls w h ds n frame event old new same calls = by_event_calls w h (condition_of w h ds n) (play.Deliver frame n) event old new same calls
+deliver_calls w h ds n frame event old new same calls = by_event_calls w h (condition_of w h ds n)
+    (play.Deliver frame n) event old new same calls
 
 pub reset_none : (w : Schedule) (h : List Line) (x : Condition) (n : ℕ) → event_calls real w h x (play.Reset n) ≡ 0
 unfolding event_calls
@@ -173,10 +208,12 @@ pub dump_none : (w : Schedule) (h : List Line) (x : Condition) (n : ℕ) → eve
 unfolding event_calls
 dump_none w h x n = refl
 
-pub stop_none : (w : Schedule) (h : List Line) (x : Condition) (n calls : ℕ) (torn : model.Bytes) → event_calls real w h x (play.ArmStop n calls torn) ≡ 0
+pub stop_none : (w : Schedule) (h : List Line) (x : Condition) (n calls : ℕ) (torn : model.Bytes)
+    → event_calls real w h x (play.ArmStop n calls torn) ≡ 0
 unfolding event_calls
 stop_none w h x n calls torn = refl
 
-pub failure_none : (w : Schedule) (h : List Line) (x : Condition) (n call : ℕ) → event_calls real w h x (play.ArmFail n call) ≡ 0
+pub failure_none : (w : Schedule) (h : List Line) (x : Condition) (n call : ℕ)
+    → event_calls real w h x (play.ArmFail n call) ≡ 0
 unfolding event_calls
 failure_none w h x n call = refl

@@ -38,18 +38,22 @@ or-none true n few = omega arith
 or-none false n few = few
 
 few-tasked : (tools : Tools) (x : Condition) (task : Task) → task_calls tools x task ≤ 6
-few-tasked tools x task = none-or x.up (made_of x.disk.armed (calls_by x.commits (answer tools x.setting x.state task).edits)) (few-made x.disk.armed (calls_by x.commits (answer tools x.setting x.state task).edits))
+few-tasked tools x task =
+    none-or x.up (made_of x.disk.armed (calls_by x.commits (answer tools x.setting x.state task).edits))
+    (few-made x.disk.armed (calls_by x.commits (answer tools x.setting x.state task).edits))
 
 few-framed : (tools : Tools) (x : Condition) (draw found : Option Bytes) → frame_calls tools x draw found ≤ 6
 few-framed tools x draw None = omega arith
 few-framed tools x draw (Some bytes) = few-tasked tools x (Received bytes draw)
 
-few-in : (tools : Tools) (w : Schedule) (h : List Line) (x : Condition) (event : Event) → event_calls tools w h x event ≤ 6
+few-in : (tools : Tools) (w : Schedule) (h : List Line) (x : Condition) (event : Event)
+    → event_calls tools w h x event ≤ 6
 unfolding event_calls
 few-in tools w h x (Own n task) = few-tasked tools x task
 few-in tools w h x (RollOver n) = few-tasked tools x (DoRoll (supply w h))
 few-in tools w h x (Deliver frame n) = few-framed tools x (supply w h) (frame_at h frame)
-few-in tools w h x (PowerOn n) = or-none x.up (made_of x.disk.armed (BootCalls x.disk.both_open)) (few-made x.disk.armed (BootCalls x.disk.both_open))
+few-in tools w h x (PowerOn n) = or-none x.up (made_of x.disk.armed (BootCalls x.disk.both_open))
+    (few-made x.disk.armed (BootCalls x.disk.both_open))
 few-in tools w h x (Reset n) = omega arith
 few-in tools w h x (ShowRecord n) = omega arith
 few-in tools w h x (ArmStop n calls torn) = omega arith
@@ -59,11 +63,14 @@ few-in tools w h x (ForgeNet to from source key sequence counter content) = omeg
 few-in tools w h x (ForgeNetAps to from source key sequence counter label base aps_counter command) = omega arith
 few-in tools w h x (ForgeOpen to from source label base aps_counter command) = omega arith
 
-few-calls : (tools : Tools) (w : Schedule) (h : List Line) (ds : List Disk) (n : ℕ) (event : Event) → calls_of tools w h ds n event ≤ 6
+few-calls : (tools : Tools) (w : Schedule) (h : List Line) (ds : List Disk) (n : ℕ) (event : Event)
+    → calls_of tools w h ds n event ≤ 6
 unfolding calls_of
-few-calls tools w h ds n event = none-or (is_of n event) (event_calls tools w h (condition_of w h ds n) event) (few-in tools w h (condition_of w h ds n) event)
+few-calls tools w h ds n event = none-or (is_of n event) (event_calls tools w h (condition_of w h ds n) event)
+    (few-in tools w h (condition_of w h ds n) event)
 
-pub few_in_run : (tools : Tools) (w : Schedule) (h : List Line) (ds : List Disk) (number : ℕ) (events : List Event) (n : ℕ) → run_calls tools w h ds number events n ≤ 6 * length events
+pub few_in_run : (tools : Tools) (w : Schedule) (h : List Line) (ds : List Disk) (number : ℕ) (events : List Event)
+    (n : ℕ) → run_calls tools w h ds number events n ≤ 6 * length events
 unfolding run_calls
 few_in_run tools w h ds number [] n = omega arith
 few_in_run tools w h ds number (event ∷ events) n =

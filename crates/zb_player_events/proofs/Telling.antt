@@ -29,10 +29,13 @@ use Rattle.zb_trace.specs.Views.{the_centre}
 
 -- ---- a refusal
 
-pub refused_as : (w : Schedule) (h : List Line) (number n : ℕ) (why : model.Reason) (r : Refusal) (old new : Ledger) → IsRefusedFor why r
-    → Adds w h (Refuse number n (model_place (place_of r)) (reason r) ∷ []) old new → Adds w h (Refuse number n AtEvent why ∷ []) old new
+pub refused_as : (w : Schedule) (h : List Line) (number n : ℕ) (why : model.Reason) (r : Refusal) (old new : Ledger)
+    → IsRefusedFor why r
+    → Adds w h (Refuse number n (model_place (place_of r)) (reason r) ∷ []) old new
+    → Adds w h (Refuse number n AtEvent why ∷ []) old new
 refused_as w h number n why r old new is adds =
-    subst (λ (p : model.Place). Adds w h (Refuse number n p why ∷ []) old new) is.0 (subst (λ (q : model.Reason). Adds w h (Refuse number n (model_place (place_of r)) q ∷ []) old new) is.1 adds)
+    subst (λ (p : model.Place). Adds w h (Refuse number n p why ∷ []) old new) is.0
+    (subst (λ (q : model.Reason). Adds w h (Refuse number n (model_place (place_of r)) q ∷ []) old new) is.1 adds)
 
 -- ---- the lines of an answer
 
@@ -40,35 +43,48 @@ terms_same : (first second : Option Term) → terms first second ≡ plan.terms 
 terms_same first None = refl
 terms_same first (Some t) = refl
 
-refusals_as : (number n : ℕ) (place : model.Place) (o : Option Refusal) (found : Option model.Reason) → option_map reason o ≡ found → IsAt place o → refused_lines number n o ≡ refuse_lines number n place found
+refusals_as : (number n : ℕ) (place : model.Place) (o : Option Refusal) (found : Option model.Reason)
+    → option_map reason o ≡ found → IsAt place o → refused_lines number n o ≡ refuse_lines number n place found
 refusals_as number n place None found e at = ap (refuse_lines number n place) e
-refusals_as number n place (Some r) found e at = ap (λ (p : model.Place). Refuse number n p (reason r) ∷ []) at ∙ ap (refuse_lines number n place) e
+refusals_as number n place (Some r) found e at = ap (λ (p : model.Place). Refuse number n p (reason r) ∷ []) at ∙ ap
+    (refuse_lines number n place) e
 
-four : (number n frame : ℕ) (ts ts' ss ss' : List model.Term) (rs rs' : List Line) (f f' : Option Bytes) → ts ≡ ts' → rs ≡ rs' → ss ≡ ss' → f ≡ f'
+four : (number n frame : ℕ) (ts ts' ss ss' : List model.Term) (rs rs' : List Line) (f f' : Option Bytes) → ts ≡ ts'
+    → rs ≡ rs' → ss ≡ ss' → f ≡ f'
     → map (Accept number n) ts ++ (rs ++ (map (Seal number n) ss ++ send_lines number (Some n) frame f))
     ≡ map (Accept number n) ts' ++ (rs' ++ (map (Seal number n) ss' ++ send_lines number (Some n) frame f'))
 four number n frame ts ts' ss ss' rs rs' f f' one two three last =
-    ap (λ (z : List model.Term). map (Accept number n) z ++ (rs ++ (map (Seal number n) ss ++ send_lines number (Some n) frame f))) one
-    ∙ (ap (λ (z : List Line). map (Accept number n) ts' ++ (z ++ (map (Seal number n) ss ++ send_lines number (Some n) frame f))) two
-    ∙ (ap (λ (z : List model.Term). map (Accept number n) ts' ++ (rs' ++ (map (Seal number n) z ++ send_lines number (Some n) frame f))) three
-    ∙ ap (λ (z : Option Bytes). map (Accept number n) ts' ++ (rs' ++ (map (Seal number n) ss' ++ send_lines number (Some n) frame z))) last))
+    ap (λ (z : List model.Term). map (Accept number n) z
+    ++ (rs ++ (map (Seal number n) ss ++ send_lines number (Some n) frame f))) one
+    ∙ (ap (λ (z : List Line). map (Accept number n) ts'
+    ++ (z ++ (map (Seal number n) ss ++ send_lines number (Some n) frame f))) two
+    ∙ (ap (λ (z : List model.Term). map (Accept number n) ts'
+    ++ (rs' ++ (map (Seal number n) z ++ send_lines number (Some n) frame f))) three
+    ∙ ap (λ (z : Option Bytes). map (Accept number n) ts'
+    ++ (rs' ++ (map (Seal number n) ss' ++ send_lines number (Some n) frame z))) last))
 
-pub out_is : (number n frame : ℕ) (p : CorePlan) (a : Answer) → IsAnswer p a → out_lines number n frame p.out ≡ told_lines number n frame a
+pub out_is : (number n frame : ℕ) (p : CorePlan) (a : Answer) → IsAnswer p a → out_lines number n frame p.out
+    ≡ told_lines number n frame a
 unfolding out_lines told_lines
 out_is number n frame p a is =
-    four number n frame (terms p.out.accepted_nwk p.out.accepted_aps) a.accepts (terms p.out.sealed_aps p.out.sealed_nwk) a.seals (refused_lines number n p.out.refused) (refuse_lines number n a.place a.refusal)
-    (items_of p.out.frame) a.frame (terms_same p.out.accepted_nwk p.out.accepted_aps ∙ is.accepts) (refusals_as number n a.place p.out.refused a.refusal is.refusal is.place)
+    four number n frame (terms p.out.accepted_nwk p.out.accepted_aps) a.accepts
+    (terms p.out.sealed_aps p.out.sealed_nwk) a.seals (refused_lines number n p.out.refused)
+    (refuse_lines number n a.place a.refusal)
+    (items_of p.out.frame) a.frame (terms_same p.out.accepted_nwk p.out.accepted_aps ∙ is.accepts)
+    (refusals_as number n a.place p.out.refused a.refusal is.refusal is.place)
     (terms_same p.out.sealed_aps p.out.sealed_nwk ∙ is.seals) is.frame
 
 -- Changes put nothing on the air.
-stored_air : (number n : ℕ) (es rest : List Edit) (frames : List Bytes) → fold air_line frames (map (Changed number n) es ++ commit_lines number n rest) ≡ frames
+stored_air : (number n : ℕ) (es rest : List Edit) (frames : List Bytes)
+    → fold air_line frames (map (Changed number n) es ++ commit_lines number n rest) ≡ frames
 stored_air number n [] [] frames = refl
 stored_air number n [] (e ∷ es) frames = refl
 stored_air number n (e ∷ es) rest frames = stored_air number n es rest frames
 
 pub air_stays : (h : List Line) (number n : ℕ) (es : List Edit) → air (h ++ lines_of_edits number n es) ≡ air h
 unfolding air
-air_stays h number n es = fold-append air_line [] h (lines_of_edits number n es) ∙ stored_air number n es es (fold air_line [] h)
+air_stays h number n es = fold-append air_line [] h (lines_of_edits number n es) ∙ stored_air number n es es
+    (fold air_line [] h)
 
 -- ---- whose changes they are
 
@@ -120,18 +136,23 @@ all_of_centre : (known : List Station) (n : ℕ) (cs : List Change) → the_cent
 all_of_centre known n [] is = tt
 all_of_centre known n (c ∷ cs) is = (of_centre known n (edit c) is, all_of_centre known n cs is)
 
-none_of_centre : (known : List Station) (n : ℕ) (cs : List Change) → list_any is_of_the_centre (edits cs) ≡ false → AreOfCentre known n cs
+none_of_centre : (known : List Station) (n : ℕ) (cs : List Change) → list_any is_of_the_centre (edits cs) ≡ false
+    → AreOfCentre known n cs
 none_of_centre known n [] is = tt
-none_of_centre known n (c ∷ cs) is =
-    (of_others known n (edit c) (no_first (is_of_the_centre (edit c)) (list_any is_of_the_centre (edits cs)) is), none_of_centre known n cs (no_second (is_of_the_centre (edit c)) (list_any is_of_the_centre (edits cs)) is))
+none_of_centre known n (c ∷ cs) is = (
+  of_others known n (edit c) (no_first (is_of_the_centre (edit c)) (list_any is_of_the_centre (edits cs)) is),
+  none_of_centre known n cs (no_second (is_of_the_centre (edit c)) (list_any is_of_the_centre (edits cs)) is),
+)
 
-pub are_of_centre : (known : List Station) (n : ℕ) (cs : List Change) (b : Bool) → (b ≡ true → the_centre known ≡ n) → (b ≡ false → list_any is_of_the_centre (edits cs) ≡ false) → AreOfCentre known n cs
+pub are_of_centre : (known : List Station) (n : ℕ) (cs : List Change) (b : Bool) → (b ≡ true → the_centre known ≡ n)
+    → (b ≡ false → list_any is_of_the_centre (edits cs) ≡ false) → AreOfCentre known n cs
 are_of_centre known n cs true own others = all_of_centre known n cs (own refl)
 are_of_centre known n cs false own others = none_of_centre known n cs (others refl)
 
 -- ---- a fall
 
-pub fallen_is : (number n : ℕ) (armed : Armed) (calls : Calls) (fall : Fall) → falls armed calls ≡ true → fall ≡ fall_of armed → fallen_line armed number n ≡ fall_line fall number n ∷ []
+pub fallen_is : (number n : ℕ) (armed : Armed) (calls : Calls) (fall : Fall) → falls armed calls ≡ true → fall
+    ≡ fall_of armed → fallen_line armed number n ≡ fall_line fall number n ∷ []
 fallen_is number n NotArmed calls fall fell is = absurd (false≢true fell)
 fallen_is number n (StopAfter k torn) calls fall fell is = ap (λ (f : Fall). fall_line f number n ∷ []) (sym is)
 fallen_is number n (FailAt k) calls fall fell is = ap (λ (f : Fall). fall_line f number n ∷ []) (sym is)
@@ -140,10 +161,12 @@ pub fall_declares : (fall : Fall) (number n : ℕ) → declares_node (fall_line 
 fall_declares stopped number n = refl
 fall_declares failed number n = refl
 
-pub kept_lines : (number n : ℕ) (b : Bool) (es found : List Edit) → found ≡ (if b then es else []) → lines_of_edits number n found ≡ (if b then lines_of_edits number n es else [])
+pub kept_lines : (number n : ℕ) (b : Bool) (es found : List Edit) → found ≡ (if b then es else [])
+    → lines_of_edits number n found ≡ (if b then lines_of_edits number n es else [])
 kept_lines number n true es found e = ap (lines_of_edits number n) e
 kept_lines number n false es found e = ap (lines_of_edits number n) e
 
-pub none_kept : (b : Bool) (es found : List Edit) → found ≡ (if b then es else []) → list_any is_of_the_centre es ≡ false → list_any is_of_the_centre found ≡ false
+pub none_kept : (b : Bool) (es found : List Edit) → found ≡ (if b then es else []) → list_any is_of_the_centre es
+    ≡ false → list_any is_of_the_centre found ≡ false
 none_kept true es found e none = ap (list_any is_of_the_centre) e ∙ none
 none_kept false es found e none = ap (list_any is_of_the_centre) e

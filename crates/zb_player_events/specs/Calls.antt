@@ -20,7 +20,8 @@ made_of armed calls = if falls armed calls then fallen_call armed else count_of 
 
 -- The calls of an event that a node in this condition has to answer. A node without power answers none.
 abbrev pub task_calls : Tools → Condition → Task → ℕ
-task_calls tools x task = if x.up then made_of x.disk.armed (calls_by x.commits (answer tools x.setting x.state task).edits) else 0
+task_calls tools x task = if x.up
+    then made_of x.disk.armed (calls_by x.commits (answer tools x.setting x.state task).edits) else 0
 
 -- those of a frame, where there is one of its number
 abbrev pub frame_calls : Tools → Condition → Option Bytes → Option Bytes → ℕ

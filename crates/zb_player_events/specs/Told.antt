@@ -60,7 +60,8 @@ pub record IsSeated (w : Schedule) (n : ℕ) (node : NodeValue) : Type 0 where
   pub centre : is_centre (setting_of w n).me.role ≡ true → the_centre (stations w) ≡ n
 
 -- before an event of the node of this EUI, over its disk
-pub record Before (w : Schedule) (h : List Line) (ds : List Disk) (number n : ℕ) (k : Ledger) (node : NodeValue) (m : Medium) : Type 0 where
+pub record Before (w : Schedule) (h : List Line) (ds : List Disk) (number n : ℕ) (k : Ledger) (node : NodeValue)
+    (m : Medium) : Type 0 where
   pub told : IsTold w h k
   pub is_in : IsIn (condition_of w h ds n) number node m
   pub seat : IsSeated w n node
@@ -76,6 +77,7 @@ abbrev pub Calls : ℕ → Medium → Medium → Type 0
 Calls made old new = new.calls ≡ counted_on old.calls made
 
 -- The event's lines were told, and the node is in the condition that they leave.
-pub record Goes (w : Schedule) (g : Step) (h : List Line) (number n : ℕ) (old new : Ledger) (node : NodeValue) (m : Medium) : Type 0 where
+pub record Goes (w : Schedule) (g : Step) (h : List Line) (number n : ℕ) (old new : Ledger) (node : NodeValue)
+    (m : Medium) : Type 0 where
   pub adds : Adds w h g.lines old new
   pub is_in : IsIn (condition_of w (h ++ g.lines) g.disks n) (number + 1) node m

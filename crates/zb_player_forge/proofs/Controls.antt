@@ -12,7 +12,8 @@ pub of_leave : (content : List ℕ) (l : Leave) → leave_of content ≡ Ok l �
 unfolding real
 of_leave content l e = rw e refl
 
-pub of_data : (content : List ℕ) (e : CmdError) → leave_of content ≡ Err e → forged_control real content ≡ secured_frame
+pub of_data : (content : List ℕ) (e : CmdError) → leave_of content ≡ Err e → forged_control real content
+    ≡ secured_frame
 unfolding real
 of_data content (fault.Unknown id) e = rw e refl
 of_data content (fault.KeyType found) e = rw e refl

@@ -39,9 +39,11 @@ same_given s t e = ap (state_or s) e
 -- ---- states that a boot leaves alike
 
 alike_recorded : (t u : NodeState) → after_boot (shown t) ≡ after_boot (shown u) → record_of t ≡ record_of u
-alike_recorded t u same = sym (recorded_shown t) ∙ sym (recorded_booted (shown t)) ∙ ap record_of same ∙ recorded_booted (shown u) ∙ recorded_shown u
+alike_recorded t u same = sym (recorded_shown t) ∙ sym (recorded_booted (shown t)) ∙ ap record_of same ∙
+    recorded_booted (shown u) ∙ recorded_shown u
 
-pub stored_as : (role : Role) (t u : NodeState) (commits number : ℕ) (s : Standing) → after_boot (shown t) ≡ after_boot (shown u) → IsStored role t commits number s → IsStored role u commits number s
+pub stored_as : (role : Role) (t u : NodeState) (commits number : ℕ) (s : Standing) → after_boot (shown t)
+    ≡ after_boot (shown u) → IsStored role t commits number s → IsStored role u commits number s
 stored_as role t u commits number s same is = record {
   reads = is.reads ∙ ap gave same;
   gives_it = is.gives_it ∙ ap gives (alike_recorded t u same);
@@ -50,8 +52,16 @@ stored_as role t u commits number s same is = record {
   generation = is.generation;
 }
 
-pub stored_later : (role : Role) (t : NodeState) (commits number : ℕ) (s : Standing) → IsStored role t commits number s → IsStored role t commits (number + 1) s
-stored_later role t commits number s is = record { reads = is.reads; gives_it = is.gives_it; newest = is.newest; entries = is.entries; generation = omega (arith, is.generation) }
+pub stored_later : (role : Role) (t : NodeState) (commits number : ℕ) (s : Standing)
+    → IsStored role t commits number s → IsStored role t commits (number + 1) s
+stored_later role t commits number s is =
+    record {
+      reads = is.reads;
+      gives_it = is.gives_it;
+      newest = is.newest;
+      entries = is.entries;
+      generation = omega (arith, is.generation);
+    }
 
 -- a boot leaves the same
 pub boot_alike : (s : NodeState) → after_boot (shown (after_boot s)) ≡ after_boot (shown s)
@@ -60,12 +70,14 @@ boot_alike s = ap after_boot (sym (boot_same s)) ∙ changes_again [] (shown s)
 
 -- ---- the next commit
 
-pub calls_are : (whole : Bool) (entries commits : ℕ) (cs : List Change) → entries ≡ commits % 33 → whole ≡ (entries == 32) → calls_in whole cs ≡ calls_by commits (edits cs)
+pub calls_are : (whole : Bool) (entries commits : ℕ) (cs : List Change) → entries ≡ commits % 33 → whole
+    ≡ (entries == 32) → calls_in whole cs ≡ calls_by commits (edits cs)
 calls_are whole entries commits [] counted is = refl
 calls_are whole entries commits (c ∷ cs) counted is = ap commit_of is ∙ sym (full_is entries commits counted)
 
 -- a host whose next commit isn't the whole record by itself
-pub writes_are : (host : Hosted CoreValue) (s : Standing) → host.whole ≡ false → host.store ≡ Some (place_of s) → writes_whole host ≡ (length s.payloads == 32)
+pub writes_are : (host : Hosted CoreValue) (s : Standing) → host.whole ≡ false → host.store ≡ Some (place_of s)
+    → writes_whole host ≡ (length s.payloads == 32)
 writes_are host s entry place = ap (λ (b : Bool). b || is_full host.store) entry ∙ ap is_full place
 
 full_next : (n commits : ℕ) → n ≡ commits % 33 → true ≡ (n == 32) → 0 ≡ (commits + 1) % 33
@@ -78,17 +90,24 @@ one_more : (ps : List (List ℕ)) (p : List ℕ) → concat (ps ++ p ∷ []) ≡
 one_more ps p = concat-append ps (p ∷ []) ∙ ap (λ (l : List ℕ). concat ps ++ l) (append-nil p)
 
 -- Changes made a node's core have the tables u, whose record is that of the state after the changes.
-made_alike : (t u : NodeState) (cs : List Change) → IsStoredAfter cs (shown t) u → after_boot u ≡ after_boot (shown (applied_all (edits cs) t))
+made_alike : (t u : NodeState) (cs : List Change) → IsStoredAfter cs (shown t) u → after_boot u
+    ≡ after_boot (shown (applied_all (edits cs) t))
 made_alike t u cs after = after ∙ ap after_boot (applied_same (edits cs) t)
 
-made_recorded : (t u : NodeState) (cs : List Change) → IsStoredAfter cs (shown t) u → record_of u ≡ record_of (applied_all (edits cs) t)
+made_recorded : (t u : NodeState) (cs : List Change) → IsStoredAfter cs (shown t) u → record_of u
+    ≡ record_of (applied_all (edits cs) t)
 made_recorded t u cs after =
     let made = applied_all (edits cs) t in
-    sym (recorded_booted u) ∙ ap record_of (made_alike t u cs after) ∙ recorded_booted (shown made) ∙ recorded_shown made
+    sym (recorded_booted u) ∙ ap record_of (made_alike t u cs after) ∙ recorded_booted (shown made) ∙ recorded_shown
+    made
 
-stored_some : (role : Role) (t u : NodeState) (commits number : ℕ) (s : Standing) (c : Change) (cs : List Change) (whole : Bool) → IsStored role t commits number s → IsStorable role (shown t) (c ∷ cs)
-    → IsStoredAfter (c ∷ cs) (shown t) u → whole ≡ (length s.payloads == 32) → Gives (restored role) (standing_after whole s (record_of u) (payload (edits (c ∷ cs))) (c ∷ cs)) (record_of u)
-    → IsStored role (applied_all (edits (c ∷ cs)) t) (commits + 1) (number + 1) (standing_after whole s (record_of u) (payload (edits (c ∷ cs))) (c ∷ cs))
+stored_some : (role : Role) (t u : NodeState) (commits number : ℕ) (s : Standing) (c : Change) (cs : List Change)
+    (whole : Bool) → IsStored role t commits number s → IsStorable role (shown t) (c ∷ cs)
+    → IsStoredAfter (c ∷ cs) (shown t) u → whole ≡ (length s.payloads == 32)
+    → Gives (restored role) (standing_after whole s (record_of u) (payload (edits (c ∷ cs))) (c ∷ cs))
+    (record_of u)
+    → IsStored role (applied_all (edits (c ∷ cs)) t) (commits + 1) (number + 1)
+    (standing_after whole s (record_of u) (payload (edits (c ∷ cs))) (c ∷ cs))
 stored_some role t u commits number s c cs true is plan after full given = record {
   reads = state_keeps role (shown t) u (c ∷ cs) plan after ∙ ap gave (made_alike t u (c ∷ cs) after);
   gives_it = given ∙ ap gives (made_recorded t u (c ∷ cs) after);
@@ -99,7 +118,8 @@ stored_some role t u commits number s c cs true is plan after full given = recor
 stored_some role t u commits number s c cs false is plan after full given =
     let bytes = payload (edits (c ∷ cs)) in
     record {
-      reads = ap (state_given role s.content) (one_more s.payloads bytes) ∙ state_adds role (shown t) u (c ∷ cs) s.content (concat s.payloads) plan after is.newest is.reads
+      reads = ap (state_given role s.content) (one_more s.payloads bytes) ∙ state_adds role (shown t) u (c ∷ cs)
+          s.content (concat s.payloads) plan after is.newest is.reads
           ∙ ap gave (made_alike t u (c ∷ cs) after);
       gives_it = given ∙ ap gives (made_recorded t u (c ∷ cs) after);
       newest = is.newest;
@@ -107,13 +127,18 @@ stored_some role t u commits number s c cs false is plan after full given =
       generation = omega (arith, is.generation);
     }
 
-pub stored_next : (role : Role) (t u : NodeState) (commits number : ℕ) (s : Standing) (cs : List Change) (whole : Bool) → IsStored role t commits number s → IsStorable role (shown t) cs
-    → IsStoredAfter cs (shown t) u → whole ≡ (length s.payloads == 32) → Gives (restored role) (standing_after whole s (record_of u) (payload (edits cs)) cs) (record_of u)
-    → IsStored role (applied_all (edits cs) t) (commits_with commits (edits cs)) (number + 1) (standing_after whole s (record_of u) (payload (edits cs)) cs)
+pub stored_next : (role : Role) (t u : NodeState) (commits number : ℕ) (s : Standing) (cs : List Change)
+    (whole : Bool) → IsStored role t commits number s → IsStorable role (shown t) cs
+    → IsStoredAfter cs (shown t) u → whole ≡ (length s.payloads == 32)
+    → Gives (restored role) (standing_after whole s (record_of u) (payload (edits cs)) cs) (record_of u)
+    → IsStored role (applied_all (edits cs) t) (commits_with commits (edits cs)) (number + 1)
+    (standing_after whole s (record_of u) (payload (edits cs)) cs)
 unfolding applied_all
 stored_next role t u commits number s [] whole is plan after full given = stored_later role t commits number s is
-stored_next role t u commits number s (c ∷ cs) whole is plan after full given = stored_some role t u commits number s c cs whole is plan after full given
+stored_next role t u commits number s (c ∷ cs) whole is plan after full given =
+    stored_some role t u commits number s c cs whole is plan after full given
 
 -- what the state after the changes and the one after the whole answer have alike
-pub after_alike : (t u v : NodeState) (cs : List Change) → IsStoredAfter cs (shown t) u → u ≡ shown v → after_boot (shown (applied_all (edits cs) t)) ≡ after_boot (shown v)
+pub after_alike : (t u v : NodeState) (cs : List Change) → IsStoredAfter cs (shown t) u → u ≡ shown v
+    → after_boot (shown (applied_all (edits cs) t)) ≡ after_boot (shown v)
 after_alike t u v cs after is = sym (made_alike t u cs after) ∙ ap after_boot is

@@ -31,7 +31,8 @@ pub record IsStored (role : Role) (t : NodeState) (commits number : ℕ) (s : St
 
 -- what the laws on calls have of a core of this role
 abbrev pub words_for : Role → Words CoreValue Medium
-words_for role = memory_words (restored role) (λ (c : CoreValue). record_of c.tables) (λ changes. payload (edits changes))
+words_for role = memory_words (restored role) (λ (c : CoreValue). record_of c.tables)
+    (λ changes. payload (edits changes))
 
 -- A node that is up: its host has the setting and what is shown of the state, and every image of the disk represents
 -- them. The next commit is an entry, unless no entry more fits.
@@ -69,5 +70,6 @@ pub record IsSeat (p : Station) (node : NodeValue) : Type 0 where
 -- Nodes and disks, place by place, are as the model says after these lines.
 abbrev pub AllStand : Schedule → List Line → List Disk → ℕ → List Station → List NodeValue → List Medium → Type 0
 AllStand w h ds number [] [] [] = ⊤
-AllStand w h ds number (p ∷ ps) (node ∷ nodes) (m ∷ ms) = IsSeat p node × IsIn (condition_of w h ds p.eui) number node m × AllStand w h ds number ps nodes ms
+AllStand w h ds number (p ∷ ps) (node ∷ nodes) (m ∷ ms) = IsSeat p node
+    × IsIn (condition_of w h ds p.eui) number node m × AllStand w h ds number ps nodes ms
 AllStand w h ds number _ _ _ = ⊥

@@ -21,12 +21,14 @@ use Rattle.zb_trace_watch.specs.Standing.{Stands}
 use Rattle.zb_trace_watch.specs.declared.watch.Watch.{Watch}
 
 -- a line more
-pub kept_more : (h : List log.Line) (m : log.Line) (old new : Scribe) (w : Watch) → Stands real w (h ++ m ∷ []) → Counts m (record old { watch = w }) new → Kept h old
+pub kept_more : (h : List log.Line) (m : log.Line) (old new : Scribe) (w : Watch) → Stands real w (h ++ m ∷ [])
+    → Counts m (record old { watch = w }) new → Kept h old
     → Kept (h ++ m ∷ []) new
 unfolding air draws_used
 kept_more h m old new w stands counts kept = record {
   watch = subst (λ (v : Watch). Stands real v (h ++ m ∷ [])) (sym counts.watch) stands;
-  air = counts.air ∙ ap (λ (frames : List Bytes). air_line frames m) kept.air ∙ sym (fold-append air_line [] h (m ∷ []));
+  air = counts.air ∙ ap (λ (frames : List Bytes). air_line frames m) kept.air ∙ sym
+      (fold-append air_line [] h (m ∷ []));
   used = counts.used ∙ ap (λ n. draw_line n m) kept.used ∙ sym (fold-append draw_line 0 h (m ∷ []));
   seals = counts.seals ∙ ap (λ n. seal_count n m) kept.seals ∙ sym (fold-append seal_count 0 h (m ∷ []));
   accepts = counts.accepts ∙ ap (λ n. accept_count n m) kept.accepts ∙ sym (fold-append accept_count 0 h (m ∷ []));
@@ -65,16 +67,19 @@ one_text known m = append-nil (line_text known m)
 abbrev pub KeepsLine : Line → Scribe → Scribe → Type 0
 KeepsLine l old new = (h : List log.Line) → Kept h old → Kept (h ++ logged (stations_of h) l ∷ []) new
 
-pub one_told : (known : List Station) (l : Line) (m : log.Line) (old new : Scribe) (before after : Option (List ℕ)) → after ≡ append_known before (text l) → KeepsLine l old new
+pub one_told : (known : List Station) (l : Line) (m : log.Line) (old new : Scribe) (before after : Option (List ℕ))
+    → after ≡ append_known before (text l) → KeepsLine l old new
     → IsLineOf known l m → declares_node m ≡ false → Tells known (m ∷ []) old before new after
 one_told known l m old new before after prints keeps says none = record {
   page = prints ∙ ap (append_known before) (says.text_is ∙ sym (one_text known m));
-  kept = λ h e k. subst (λ (line : log.Line). Kept (h ++ line ∷ []) new) (ap (λ (stations : List Station). logged stations l) e ∙ says.logged_is) (keeps h k);
+  kept = λ h e k. subst (λ (line : log.Line). Kept (h ++ line ∷ []) new)
+      (ap (λ (stations : List Station). logged stations l) e ∙ says.logged_is) (keeps h k);
   nodes = λ h e. still_known h m none ∙ e;
 }
 
 -- what is known grows twice, and by nothing
-pub append_twice : (page : Option (List ℕ)) (xs ys : List ℕ) → append_known (append_known page xs) ys ≡ append_known page (xs ++ ys)
+pub append_twice : (page : Option (List ℕ)) (xs ys : List ℕ) → append_known (append_known page xs) ys
+    ≡ append_known page (xs ++ ys)
 append_twice None xs ys = refl
 append_twice (Some text) xs ys = ap Some (append_assoc text xs ys)
 
@@ -83,16 +88,20 @@ append_nothing None = refl
 append_nothing (Some text) = ap Some (append-nil text)
 
 -- lines one after the other
-pub told_in_turn : (known : List Station) (some more : List log.Line) (old between new : Scribe) (before page after : Option (List ℕ)) → Tells known some old before between page
+pub told_in_turn : (known : List Station) (some more : List log.Line) (old between new : Scribe)
+    (before page after : Option (List ℕ)) → Tells known some old before between page
     → Tells known more between page new after → Tells known (some ++ more) old before new after
 told_in_turn known some more old between new before page after first second = record {
-  page = second.page ∙ ap (λ p. append_known p (text_of known more)) first.page ∙ append_twice before (text_of known some) (text_of known more)
+  page = second.page ∙ ap (λ p. append_known p (text_of known more)) first.page ∙ append_twice before
+      (text_of known some) (text_of known more)
       ∙ ap (append_known before) (sym (text_append known some more));
-  kept = λ h e k. subst (λ (lines : List log.Line). Kept lines new) (append_assoc h some more) (second.kept (h ++ some) (first.nodes h e) (first.kept h e k));
+  kept = λ h e k. subst (λ (lines : List log.Line). Kept lines new) (append_assoc h some more)
+      (second.kept (h ++ some) (first.nodes h e) (first.kept h e k));
   nodes = λ h e. ap stations_of (sym (append_assoc h some more)) ∙ second.nodes (h ++ some) (first.nodes h e);
 }
 
-pub none_told : (known : List Station) (scribe : Scribe) (page : Option (List ℕ)) → Tells known [] scribe page scribe page
+pub none_told : (known : List Station) (scribe : Scribe) (page : Option (List ℕ))
+    → Tells known [] scribe page scribe page
 unfolding text_of
 none_told known scribe page = record {
   page = sym (append_nothing page);
@@ -101,6 +110,8 @@ none_told known scribe page = record {
 }
 
 -- before any line
-pub nothing_kept : (k : Scribe) → Stands real k.watch [] → k.air ≡ [] → k.used ≡ 0 → k.seals ≡ 0 → k.accepts ≡ 0 → k.refusals ≡ 0 → Kept [] k
+pub nothing_kept : (k : Scribe) → Stands real k.watch [] → k.air ≡ [] → k.used ≡ 0 → k.seals ≡ 0 → k.accepts ≡ 0
+    → k.refusals ≡ 0 → Kept [] k
 unfolding air draws_used
-nothing_kept k watch air used seals accepts refusals = record { watch = watch; air = air; used = used; seals = seals; accepts = accepts; refusals = refusals }
+nothing_kept k watch air used seals accepts refusals =
+    record { watch = watch; air = air; used = used; seals = seals; accepts = accepts; refusals = refusals }

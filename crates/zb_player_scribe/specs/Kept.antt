@@ -39,7 +39,8 @@ declares_node _ = false
 
 -- Lines of the model were told, none of which declares a node: where the page is read their text is after what stood
 -- on it, and the scribe keeps what they say after the lines before them.
-pub record Tells (known : List Station) (lines : List log.Line) (old : Scribe) (before : Option (List ℕ)) (new : Scribe) (after : Option (List ℕ)) : Type 0 where
+pub record Tells (known : List Station) (lines : List log.Line) (old : Scribe) (before : Option (List ℕ))
+    (new : Scribe) (after : Option (List ℕ)) : Type 0 where
   pub page : after ≡ append_known before (text_of known lines)
   pub kept : (h : List log.Line) → stations_of h ≡ known → Kept h old → Kept (h ++ lines) new
   pub nodes : (h : List log.Line) → stations_of h ≡ known → stations_of (h ++ lines) ≡ known

@@ -40,4 +40,5 @@ unfoldable pub out_lines : ℕ → ℕ → ℕ → Outcome Term Refusal → List
 out_lines event n frame out =
     map (Accept event n) (terms out.accepted_nwk out.accepted_aps)
     ++ (refused_lines event n out.refused
-    ++ (map (Seal event n) (terms out.sealed_aps out.sealed_nwk) ++ send_lines event (Some n) frame (items_of out.frame)))
+    ++ (map (Seal event n) (terms out.sealed_aps out.sealed_nwk)
+    ++ send_lines event (Some n) frame (items_of out.frame)))

@@ -16,7 +16,8 @@ use Rattle.zb_stored_tables.specs.Stored.{IsStorable, IsStoredAfter}
 use Rattle.zb_stored_tables.proofs.CoreLaws.{state_keeps, core_keeps, core_newest}
 use Rattle.zb_player_start.specs.Firsts.{IsFirstDisk}
 
-pub role_of : (role : Role) (network : Option (Bytes × ℕ)) (code : Option (ℕ × Bytes)) (nwk aps : ℕ) → (first_state role network code nwk aps).role ≡ role
+pub role_of : (role : Role) (network : Option (Bytes × ℕ)) (code : Option (ℕ × Bytes)) (nwk aps : ℕ)
+    → (first_state role network code nwk aps).role ≡ role
 unfolding first_state with_declared with_given_net with_given_link
 role_of role None None nwk aps = refl
 role_of role None (Some c) nwk aps = refl
@@ -24,15 +25,30 @@ role_of role (Some n) None nwk aps = refl
 role_of role (Some n) (Some c) nwk aps = refl
 
 -- its values are within the widths of a record
-pub fits : (role : Role) (network : Option HeldNetwork) (code : Option HeldCode) (nwk aps : ℕ) → nwk < 2 ^ 32 → aps < 2 ^ 32
-    → IfSome network (λ (held : HeldNetwork). length held.key.0 ≡ 16) → IfSome code (λ (held : HeldCode). (held.partner.0 < 2 ^ 64) × (length held.key.0 ≡ 16))
+pub fits : (role : Role) (network : Option HeldNetwork) (code : Option HeldCode) (nwk aps : ℕ) → nwk < 2 ^ 32 → aps
+    < 2 ^ 32
+    → IfSome network (λ (held : HeldNetwork). length held.key.0 ≡ 16)
+    → IfSome code (λ (held : HeldCode). (held.partner.0 < 2 ^ 64) × (length held.key.0 ≡ 16))
     → FitsBytes (first_state role (network_of network) (code_of code) nwk aps)
 unfolding first_state with_declared with_given_net with_given_link
-fits role None None nwk aps n a net link = record { declared = n; aps_limit = omega arith; nets = tt; links = tt; pairs = tt }
+fits role None None nwk aps n a net link =
+    record { declared = n; aps_limit = omega arith; nets = tt; links = tt; pairs = tt }
 fits role None (Some c) nwk aps n a net link =
-    record { declared = n; aps_limit = omega arith; nets = tt; links = (record { partner = link.0; key = link.1; stored = omega arith }, tt); pairs = tt }
+    record {
+      declared = n;
+      aps_limit = omega arith;
+      nets = tt;
+      links = (record { partner = link.0; key = link.1; stored = omega arith }, tt);
+      pairs = tt;
+    }
 fits role (Some h) None nwk aps n a net link =
-    record { declared = n; aps_limit = omega arith; nets = (record { key = net; limit = omega arith; floors = tt }, tt); links = tt; pairs = tt }
+    record {
+      declared = n;
+      aps_limit = omega arith;
+      nets = (record { key = net; limit = omega arith; floors = tt }, tt);
+      links = tt;
+      pairs = tt;
+    }
 fits role (Some h) (Some c) nwk aps n a net link = record {
   declared = n;
   aps_limit = omega arith;
@@ -41,16 +57,25 @@ fits role (Some h) (Some c) nwk aps n a net link = record {
   pairs = tt;
 }
 
-storable : (role : Role) (t : NodeState) → t.role ≡ role → keeps_rules t ≡ true → shown t ≡ t → FitsBytes t → IsStorable role t []
+storable : (role : Role) (t : NodeState) → t.role ≡ role → keeps_rules t ≡ true → shown t ≡ t → FitsBytes t
+    → IsStorable role t []
 unfolding all_fit payload
-storable role t is rules forgets widths = record { role_is = is; kept = record { rules = rules; forgets = forgets; widths = widths }; range = tt; fit = refl; short = omega arith }
+storable role t is rules forgets widths =
+    record {
+      role_is = is;
+      kept = record { rules = rules; forgets = forgets; widths = widths };
+      range = tt;
+      fit = refl;
+      short = omega arith;
+    }
 
 unchanged : (t : NodeState) → shown t ≡ t → IsStoredAfter [] t t
 unfolding applied_all
 unchanged t forgets = ap after_boot (sym forgets)
 
 -- on a disk where it stands
-pub first_disk_is : (role : Role) (t : NodeState) (m : Medium) → t.role ≡ role → keeps_rules t ≡ true → shown t ≡ t → FitsBytes t → after_boot t ≡ t
+pub first_disk_is : (role : Role) (t : NodeState) (m : Medium) → t.role ≡ role → keeps_rules t ≡ true → shown t ≡ t
+    → FitsBytes t → after_boot t ≡ t
     → IsHeld (formatted (record_of t)) (memory_view m) → IsUnarmed m → m.calls ≡ 5 → IsFirstDisk role t m
 first_disk_is role t m is rules forgets widths booted held unarmed calls =
     let may = storable role t is rules forgets widths in
@@ -66,9 +91,12 @@ first_disk_is role t m is rules forgets widths booted held unarmed calls =
     }
 
 -- the same of a call that may fail
-pub all_first : {E : Type 0} (role : Role) (t u : NodeState) (bytes : List ℕ) (r : Result Medium E) → t ≡ u → u.role ≡ role → keeps_rules t ≡ true → shown t ≡ t → FitsBytes u → after_boot t ≡ t → bytes ≡ record_of t
-    → IfOk r (λ m. IsHeld (formatted bytes) (memory_view m)) → IfOk r (λ m. IsUnarmed m) → IfOk r (λ m. m.calls ≡ 5) → IfOk r (λ m. IsFirstDisk role u m)
+pub all_first : {E : Type 0} (role : Role) (t u : NodeState) (bytes : List ℕ) (r : Result Medium E) → t ≡ u → u.role
+    ≡ role → keeps_rules t ≡ true → shown t ≡ t → FitsBytes u → after_boot t ≡ t → bytes ≡ record_of t
+    → IfOk r (λ m. IsHeld (formatted bytes) (memory_view m)) → IfOk r (λ m. IsUnarmed m) → IfOk r (λ m. m.calls ≡ 5)
+    → IfOk r (λ m. IsFirstDisk role u m)
 all_first role t u bytes (Ok m) e is rules forgets widths booted same held unarmed calls =
     subst (λ s. IsFirstDisk role s m) e
-    (first_disk_is role t m (ap (λ (s : NodeState). s.role) e ∙ is) rules forgets (subst FitsBytes (sym e) widths) booted (subst (λ b. IsHeld (formatted b) (memory_view m)) same held) unarmed calls)
+    (first_disk_is role t m (ap (λ (s : NodeState). s.role) e ∙ is) rules forgets (subst FitsBytes (sym e) widths)
+    booted (subst (λ b. IsHeld (formatted b) (memory_view m)) same held) unarmed calls)
 all_first role t u bytes (Err fault) e is rules forgets widths booted same held unarmed calls = tt

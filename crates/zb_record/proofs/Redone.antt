@@ -9,20 +9,25 @@ use Rattle.zb_record.specs.Redoing.{Redone, change_made, fits_behind, applied_be
 
 -- one change
 
-pub one_failed : (v : Version) (bytes : List ℕ) (s : NodeState) (e : ℕ) → change_at (length bytes) bytes ≡ Err e → change_redone v bytes s ≡ (s, Err e)
+pub one_failed : (v : Version) (bytes : List ℕ) (s : NodeState) (e : ℕ) → change_at (length bytes) bytes ≡ Err e
+    → change_redone v bytes s ≡ (s, Err e)
 unfolding change_redone
 one_failed v bytes s e read = ap (change_made v s (length bytes)) read
 
-pub one_unfit : (v : Version) (bytes rest : List ℕ) (s : NodeState) (c : Change) → change_at (length bytes) bytes ≡ Ok (c, rest) → fits_behind v (edit c) s ≡ false → change_redone v bytes s ≡ (s, Err (length bytes))
+pub one_unfit : (v : Version) (bytes rest : List ℕ) (s : NodeState) (c : Change) → change_at (length bytes) bytes
+    ≡ Ok (c, rest) → fits_behind v (edit c) s ≡ false → change_redone v bytes s ≡ (s, Err (length bytes))
 unfolding change_redone
 one_unfit v bytes rest s c read fit = ap (change_made v s (length bytes)) read ∙ rw fit refl
 
-pub one_made : (v : Version) (bytes rest : List ℕ) (s : NodeState) (c : Change) → change_at (length bytes) bytes ≡ Ok (c, rest) → fits_behind v (edit c) s ≡ true → change_redone v bytes s ≡ (shown (applied_behind v (edit c) s), Ok rest)
+pub one_made : (v : Version) (bytes rest : List ℕ) (s : NodeState) (c : Change) → change_at (length bytes) bytes
+    ≡ Ok (c, rest) → fits_behind v (edit c) s ≡ true → change_redone v bytes s
+    ≡ (shown (applied_behind v (edit c) s), Ok rest)
 unfolding change_redone
 one_made v bytes rest s c read fit = ap (change_made v s (length bytes)) read ∙ rw fit refl
 
 -- so many changes: those that are left give the whole
-module _ (v : Version) (count i : ℕ) (bytes rest : List ℕ) (s t : NodeState) (total : Redone) (lt : i < count) (so : changes_redone v (count - i) bytes s ≡ total) where
+module _ (v : Version) (count i : ℕ) (bytes rest : List ℕ) (s t : NodeState) (total : Redone) (lt : i < count)
+    (so : changes_redone v (count - i) bytes s ≡ total) where
   pub go_on : change_redone v bytes s ≡ (t, Ok rest) → changes_redone v (count - (i + 1)) rest t ≡ total
   unfolding changes_redone
   go_on one =
@@ -37,7 +42,8 @@ module _ (v : Version) (count i : ℕ) (bytes rest : List ℕ) (s t : NodeState)
       let step : changes_redone v (count - i) bytes s ≡ (t, Err e) = rw (k, one) refl in
       sym so ∙ step
 
-pub all_made : (v : Version) (count i : ℕ) (bytes : List ℕ) (s : NodeState) (total : Redone) → count ≤ i → changes_redone v (count - i) bytes s ≡ total → total ≡ (s, Ok bytes)
+pub all_made : (v : Version) (count i : ℕ) (bytes : List ℕ) (s : NodeState) (total : Redone) → count ≤ i
+    → changes_redone v (count - i) bytes s ≡ total → total ≡ (s, Ok bytes)
 unfolding changes_redone
 all_made v count i bytes s total le so =
     let k : count - i ≡ 0 = omega arith in
@@ -54,15 +60,18 @@ pub at_first : (v : Version) (bytes : List ℕ) (s : NodeState) → Left v bytes
 unfolding redone
 at_first v bytes s = record { greatest_counter = length bytes; enough = omega arith; gives = refl }
 
-pub at_last : (v : Version) (bytes : List ℕ) (s : NodeState) (total : Redone) → bytes ≡ [] → Left v bytes s total → total ≡ (s, Ok [])
+pub at_last : (v : Version) (bytes : List ℕ) (s : NodeState) (total : Redone) → bytes ≡ [] → Left v bytes s total
+    → total ≡ (s, Ok [])
 unfolding payloads_redone
-at_last v bytes s total none so = sym so.gives ∙ ap (λ b. payloads_redone v so.greatest_counter b s) none ∙ by_most so.greatest_counter
+at_last v bytes s total none so = sym so.gives ∙ ap (λ b. payloads_redone v so.greatest_counter b s) none ∙ by_most
+    so.greatest_counter
   where
     by_most : (n : ℕ) → payloads_redone v n [] s ≡ (s, Ok [])
     by_most zero = refl
     by_most (suc n) = refl
 
-module _ (v : Version) (bytes front rest : List ℕ) (count : ℕ) (s t : NodeState) (total : Redone) (parts : bytes ≡ count ∷ front) (so : Left v bytes s total) where
+module _ (v : Version) (bytes front rest : List ℕ) (count : ℕ) (s t : NodeState) (total : Redone)
+    (parts : bytes ≡ count ∷ front) (so : Left v bytes s total) where
   pub next_payload : changes_redone v count front s ≡ (t, Ok rest) → length rest ≤ length front → Left v rest t total
   unfolding payloads_redone
   next_payload one le = by_most so.greatest_counter so.enough so.gives
@@ -71,7 +80,11 @@ module _ (v : Version) (bytes front rest : List ℕ) (count : ℕ) (s t : NodeSt
       by_most zero enough gives = absurd (omega (arith, ap (length {A = ℕ}) parts, enough))
       by_most (suc n) enough gives =
           let step : payloads_redone v (suc n) (count ∷ front) s ≡ payloads_redone v n rest t = rw one refl in
-          record { greatest_counter = n; enough = omega (arith, ap (length {A = ℕ}) parts, enough, le); gives = sym step ∙ ap (λ b. payloads_redone v (suc n) b s) (sym parts) ∙ gives }
+          record {
+            greatest_counter = n;
+            enough = omega (arith, ap (length {A = ℕ}) parts, enough, le);
+            gives = sym step ∙ ap (λ b. payloads_redone v (suc n) b s) (sym parts) ∙ gives;
+          }
 
   pub bad_payload : (e : ℕ) → changes_redone v count front s ≡ (t, Err e) → total ≡ (t, Err e)
   unfolding payloads_redone

@@ -23,7 +23,8 @@ abbrev pub layer_of : ℕ → Option Layer
 layer_of b = if b == 0 then Some layer.Nwk else if b == 1 then Some layer.Aps else None
 
 abbrev pub attribute_of : ℕ → Option Attribute
-attribute_of b = if b == 0 then Some attribute.Provisional else if b == 1 then Some attribute.Unverified else if b == 2 then Some attribute.Verified else None
+attribute_of b = if b == 0 then Some attribute.Provisional else if b == 1 then Some attribute.Unverified
+    else if b == 2 then Some attribute.Verified else None
 
 abbrev pub state_of : ℕ → Option State
 state_of b =
@@ -60,7 +61,8 @@ rollover_at = do
   chosen (rollover_of b)
 
 abbrev pub role_of : ℕ → Option Role
-role_of b = if b == 0 then Some role.Centre else if b == 1 then Some role.Router else if b == 2 then Some role.Device else None
+role_of b = if b == 0 then Some role.Centre else if b == 1 then Some role.Router else if b == 2 then Some role.Device
+    else None
 
 unfoldable pub role_at : {E : Type 0} → Reading E Role
 role_at = do
@@ -68,7 +70,8 @@ role_at = do
   chosen (role_of b)
 
 abbrev pub version_of : ℕ → Option Version
-version_of b = if b == 1 then Some version.First else if b == 2 then Some version.Second else if b == 3 then Some version.Third else None
+version_of b = if b == 1 then Some version.First else if b == 2 then Some version.Second
+    else if b == 3 then Some version.Third else None
 
 -- the version of a record, which its first byte says
 abbrev pub record_version : List ℕ → Option Version

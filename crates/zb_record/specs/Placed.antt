@@ -7,7 +7,8 @@ use Rattle.zb_cursor.specs.Reading.{Reading}
 abbrev pub Placed : Type 0 → Type 0
 Placed A = List ℕ → Result (A × List ℕ) ℕ
 
-abbrev pub onward : {A B : Type 0} → Result (A × List ℕ) ℕ → (A → List ℕ → Result (B × List ℕ) ℕ) → Result (B × List ℕ) ℕ
+abbrev pub onward : {A B : Type 0} → Result (A × List ℕ) ℕ → (A → List ℕ → Result (B × List ℕ) ℕ)
+    → Result (B × List ℕ) ℕ
 onward (Ok x) next = next x.0 x.1
 onward (Err left) next = Err left
 

@@ -67,4 +67,6 @@ pair_fits p = nat_lt p.first (2 ^ 64) && (nat_lt p.second (2 ^ 64) && nat_eq (le
 
 unfoldable pub fits_widths : NodeState → Bool
 fits_widths s =
-    nat_lt s.declared (2 ^ 32) && (nat_lt s.aps_limit (2 ^ 32) && (list_all net_fits s.nets && (list_all link_fits s.links && list_all pair_fits s.pairs)))
+    nat_lt s.declared (2 ^ 32)
+    && (nat_lt s.aps_limit (2 ^ 32)
+    && (list_all net_fits s.nets && (list_all link_fits s.links && list_all pair_fits s.pairs)))

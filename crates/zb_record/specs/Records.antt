@@ -50,7 +50,14 @@ head_at node = do
   rolling ← field rollover_at (may_roll node.role)
   nets ← field (number_at w16) has_net_room
   active ← field (number_at w16) (is_place nets)
-  give (record { node = node; declared = declared; aps_limit = aps_limit; rolling = rolling; nets = nets; active = active })
+  give (record {
+    node = node;
+    declared = declared;
+    aps_limit = aps_limit;
+    rolling = rolling;
+    nets = nets;
+    active = active;
+  })
 
 unfoldable pub nets_at : Head → Placed (List NetKey)
 nets_at h = do
@@ -98,7 +105,8 @@ record_read bytes = ended (record_at bytes)
 
 -- the record of the program in the model
 abbrev pub record_seen : program.Record → NodeState
-record_seen r = state_from r.head (map net_seen r.nets.items) (map link_seen r.links.items) (map pair_seen r.pairs.items)
+record_seen r = state_from r.head (map net_seen r.nets.items) (map link_seen r.links.items)
+    (map pair_seen r.pairs.items)
 
 -- what a call answers that reads a record
 abbrev pub IsRecord : {A : Type 0} → (A → NodeState) → Result A (OrMemory ℕ) → Result NodeState ℕ → Type 0

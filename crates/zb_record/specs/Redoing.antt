@@ -27,7 +27,10 @@ with_limit limit s = record s { declared = limit; nets = map (limited limit) s.n
 
 -- a new row has it, too
 abbrev pub with_net : Bytes → ℕ → NodeState → NodeState
-with_net key sequence s = record s { nets = if has_net key s.nets then s.nets else s.nets ++ given_net s.declared key sequence ∷ [] }
+with_net key sequence s = record s {
+  nets = if has_net key s.nets then s.nets
+      else s.nets ++ given_net s.declared key sequence ∷ [];
+}
 
 -- all other changes are made as ever
 unfoldable pub first_applied : Edit → NodeState → NodeState
@@ -64,7 +67,8 @@ onward s (Err left) next = (s, Err left)
 
 -- a change that was read is made where it fits, and is else at fault from its first byte on
 abbrev pub change_made : Version → NodeState → ℕ → Result (Change × List ℕ) ℕ → Redone
-change_made v s left (Ok x) = if fits_behind v (edit x.0) s then (shown (applied_behind v (edit x.0) s), Ok x.1) else (s, Err left)
+change_made v s left (Ok x) = if fits_behind v (edit x.0) s then (shown (applied_behind v (edit x.0) s), Ok x.1)
+    else (s, Err left)
 change_made v s left (Err e) = (s, Err e)
 
 -- the change at the start
@@ -80,7 +84,8 @@ changes_redone v (suc n) bytes s = onward (change_redone v bytes s).0 (change_re
 unfoldable pub payloads_redone : Version → ℕ → List ℕ → NodeState → Redone
 payloads_redone v zero bytes s = (s, Ok bytes)
 payloads_redone v (suc n) [] s = (s, Ok [])
-payloads_redone v (suc n) (count ∷ bytes) s = onward (changes_redone v count bytes s).0 (changes_redone v count bytes s).1 (payloads_redone v n)
+payloads_redone v (suc n) (count ∷ bytes) s = onward (changes_redone v count bytes s).0
+    (changes_redone v count bytes s).1 (payloads_redone v n)
 
 -- all payloads after a record of a version; each has a byte at least
 unfoldable pub redone : Version → List ℕ → NodeState → Redone

@@ -68,7 +68,8 @@ net_flags Third = 4
 
 -- a third live row is refused, and an active row that isn't live
 abbrev pub net_flags_fit : Version → ℕ → List NetKey → ℕ → Bool
-net_flags_fit version active done flags = nat_lt flags (net_flags version) && (if bit flags 0 then nat_lt (lives done) 2 else not (nat_eq active (length done)))
+net_flags_fit version active done flags = nat_lt flags (net_flags version)
+    && (if bit flags 0 then nat_lt (lives done) 2 else not (nat_eq active (length done)))
 
 abbrev pub is_started : Version → ℕ → Bool
 is_started First flags = true
@@ -91,7 +92,15 @@ net_at version declared active done = do
   sequence ← whole byte_at
   flags ← field byte_at (net_flags_fit version active done)
   limit ← net_limit_at version declared (is_started version flags)
-  give (record { key = key.0; sequence = sequence; live = bit flags 0; started = is_started version flags; limit = limit; next = limit; floors = [] })
+  give (record {
+    key = key.0;
+    sequence = sequence;
+    live = bit flags 0;
+    started = is_started version flags;
+    limit = limit;
+    next = limit;
+    floors = [];
+  })
 
 -- senders ascend
 abbrev pub is_last : List SenderFloor → Eui → Bool
@@ -116,7 +125,8 @@ floors_at = do
 
 -- the floors of a live row
 abbrev pub live_floors_at : NetKey → Placed NetKey
-live_floors_at r bytes = if r.live then (floors_at >>= (λ floors. give (record r { floors = floors }))) bytes else Ok (r, bytes)
+live_floors_at r bytes = if r.live then (floors_at >>= (λ floors. give (record r { floors = floors }))) bytes
+    else Ok (r, bytes)
 
 -- those of all rows, in their order
 unfoldable pub all_floors_at : List NetKey → List NetKey → Placed (List NetKey)
@@ -153,7 +163,9 @@ is_marked d r = (not r.told || (r.live && is_centre d)) && (not (is_provisional 
 
 -- a partner has one live row of a kind, and its live rows agree in whether it was told
 abbrev pub link_fits : Role → List LinkKey → LinkKey → Bool
-link_fits d done r = is_marked d r && (not (list_any (λ (y : LinkKey). kinds_alike y r) done) && not (list_any (λ (y : LinkKey). told_apart y r) done))
+link_fits d done r = is_marked d r
+    && (not (list_any (λ (y : LinkKey). kinds_alike y r) done)
+    && not (list_any (λ (y : LinkKey). told_apart y r) done))
 
 abbrev pub link_flags_fit : Role → List LinkKey → ℕ → Bytes → Attribute → ℕ → Bool
 link_flags_fit d done partner key t flags = nat_lt flags 8 && link_fits d done (link_row partner key t flags)

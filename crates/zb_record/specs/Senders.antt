@@ -14,9 +14,11 @@ live_floor sender value r = if r.live then net_floor sender value r else r
 -- a sender's place among ascending ones: those before it are of smaller senders, and the one there isn't
 pub record IsPlace (floors : List SenderFloor) (sender place : ℕ) : Type 0 where
   pub within : place ≤ length floors
-  pub before : (value : ℕ) → floor_stored sender value (map heard_floor floors) ≡ map heard_floor (take place floors) ++ floor_stored sender value (map heard_floor (drop place floors))
+  pub before : (value : ℕ) → floor_stored sender value (map heard_floor floors) ≡ map heard_floor (take place floors)
+      ++ floor_stored sender value (map heard_floor (drop place floors))
   pub here : (f : SenderFloor) (rest : List SenderFloor) → drop place floors ≡ f ∷ rest → sender ≤ f.sender.0
 
 -- the floor at that place isn't of that sender
 abbrev pub IsAbsent : List SenderFloor → ℕ → ℕ → Type 0
-IsAbsent floors sender place = (f : SenderFloor) (rest : List SenderFloor) → drop place floors ≡ f ∷ rest → f.sender.0 ≢ sender
+IsAbsent floors sender place = (f : SenderFloor) (rest : List SenderFloor) → drop place floors ≡ f ∷ rest
+    → f.sender.0 ≢ sender

@@ -132,7 +132,8 @@ impl LinksSoFar {
 
 /// Notes the key of a row.
 fn note_key(keys: &mut BTreeSet<Key>, row: &LinkRecord) -> Result<(), AllocError>
-    ensures { OnOk result ((rows : List LinkKey) → HaveKeys keys.old rows → HaveKeys keys.new (rows ++ link_seen row.now ∷ [])) }
+    ensures { OnOk result ((rows : List LinkKey) → HaveKeys keys.old rows
+        → HaveKeys keys.new (rows ++ link_seen row.now ∷ [])) }
 {
     keys.insert(row.key)?;
     Ok(())
@@ -140,7 +141,8 @@ fn note_key(keys: &mut BTreeSet<Key>, row: &LinkRecord) -> Result<(), AllocError
 
 /// Notes what a row is to its partner, if it is live.
 fn note_live(live: &mut BTreeSet<LiveLink>, row: &LinkRecord) -> Result<(), AllocError>
-    ensures { OnOk result ((rows : List LinkKey) → HaveLive live.old rows → HaveLive live.new (rows ++ link_seen row.now ∷ [])) }
+    ensures { OnOk result ((rows : List LinkKey) → HaveLive live.old rows
+        → HaveLive live.new (rows ++ link_seen row.now ∷ [])) }
 {
     if row.live {
         live.insert(LiveLink {

@@ -9,10 +9,14 @@ pub settled_idle : (s : NodeState) (sending : Bool) → settled s (Roll sending 
 unfolding settled
 settled_idle s sending = refl
 
-pub settled_end : (s : NodeState) (key : Bytes) (sending : Bool) → settled s (Active key ∷ Roll sending ∷ []) ≡ settled s (Active key ∷ []) ++ Moved (Roll sending) ∷ []
+pub settled_end : (s : NodeState) (key : Bytes) (sending : Bool) → settled s (Active key ∷ Roll sending ∷ [])
+    ≡ settled s (Active key ∷ []) ++ Moved (Roll sending) ∷ []
 unfolding settled
 settled_end s key sending = at_test (is_active_key s.active key)
   where
-    at_test : (b : Bool) → flat_map (stored_move s) (if not b then Active key ∷ Roll sending ∷ [] else Roll sending ∷ []) ≡ flat_map (stored_move s) (if not b then Active key ∷ [] else []) ++ Moved (Roll sending) ∷ []
+    at_test : (b : Bool) → flat_map (stored_move s) (if not b then Active key ∷ Roll sending ∷ []
+        else Roll sending ∷ []) ≡ flat_map (stored_move s) (if not b then Active key ∷ [] else [])
+        ++ Moved (Roll sending) ∷ []
     at_test true = refl
-    at_test false = ap (λ (l : List Edit). l ++ Moved (Roll sending) ∷ []) (sym (append-nil (stored_move s (Active key))))
+    at_test false = ap (λ (l : List Edit). l ++ Moved (Roll sending) ∷ [])
+        (sym (append-nil (stored_move s (Active key))))

@@ -12,29 +12,41 @@ use Rattle.zb_record.specs.RowViews.{link_key}
 abbrev pub least_of : List LinkKey → Option ℕ
 least_of links = fold (λ (best : Option ℕ) (r : LinkKey). least best r.partner) None (filter is_waiting links)
 
-pub least_more : (rows : List LinkRow) (i : ℕ) (d : LinkRow) (b : Bool) → i < length rows → is_waiting (link_key (get_or rows i d)) ≡ b
-    → least_of (map link_key (take (i + 1) rows)) ≡ (if b then least (least_of (map link_key (take i rows))) (link_key (get_or rows i d)).partner else least_of (map link_key (take i rows)))
+pub least_more : (rows : List LinkRow) (i : ℕ) (d : LinkRow) (b : Bool) → i < length rows
+    → is_waiting (link_key (get_or rows i d)) ≡ b
+    → least_of (map link_key (take (i + 1) rows))
+    ≡ (if b then least (least_of (map link_key (take i rows))) (link_key (get_or rows i d)).partner
+    else least_of (map link_key (take i rows)))
 least_more rows i d b lt is =
     ap least_of (map_more link_key rows i d lt)
-    ∙ ap (fold (λ (best : Option ℕ) (r : LinkKey). least best r.partner) None) (filter-append is_waiting (map link_key (take i rows)) (link_key (get_or rows i d) ∷ []))
-    ∙ fold-append (λ (best : Option ℕ) (r : LinkKey). least best r.partner) None (filter is_waiting (map link_key (take i rows))) (filter is_waiting (link_key (get_or rows i d) ∷ []))
+    ∙ ap (fold (λ (best : Option ℕ) (r : LinkKey). least best r.partner) None)
+    (filter-append is_waiting (map link_key (take i rows)) (link_key (get_or rows i d) ∷ []))
+    ∙ fold-append (λ (best : Option ℕ) (r : LinkKey). least best r.partner) None
+    (filter is_waiting (map link_key (take i rows))) (filter is_waiting (link_key (get_or rows i d) ∷ []))
     ∙ at_test b is
   where
     at_test : (b : Bool) → is_waiting (link_key (get_or rows i d)) ≡ b
-        → fold (λ (best : Option ℕ) (r : LinkKey). least best r.partner) (least_of (map link_key (take i rows))) (filter is_waiting (link_key (get_or rows i d) ∷ []))
-        ≡ (if b then least (least_of (map link_key (take i rows))) (link_key (get_or rows i d)).partner else least_of (map link_key (take i rows)))
+        → fold (λ (best : Option ℕ) (r : LinkKey). least best r.partner) (least_of (map link_key (take i rows)))
+        (filter is_waiting (link_key (get_or rows i d) ∷ []))
+        ≡ (if b then least (least_of (map link_key (take i rows))) (link_key (get_or rows i d)).partner
+        else least_of (map link_key (take i rows)))
     at_test true yes_ = rw yes_ refl
     at_test false no_ = rw no_ refl
 
-pub waiting_step : (rows : List LinkRow) (i : ℕ) (d : LinkRow) (o next : Option ℕ) → i < length rows → o ≡ least_of (map link_key (take i rows))
-    → next ≡ (if is_waiting (link_key (get_or rows i d)) then least o (link_key (get_or rows i d)).partner else o) → next ≡ least_of (map link_key (take (i + 1) rows))
+pub waiting_step : (rows : List LinkRow) (i : ℕ) (d : LinkRow) (o next : Option ℕ) → i < length rows → o
+    ≡ least_of (map link_key (take i rows))
+    → next ≡ (if is_waiting (link_key (get_or rows i d)) then least o (link_key (get_or rows i d)).partner else o)
+    → next ≡ least_of (map link_key (take (i + 1) rows))
 waiting_step rows i d o next lt so is =
-    is ∙ ap (λ x. if is_waiting (link_key (get_or rows i d)) then least x (link_key (get_or rows i d)).partner else x) so
+    is ∙ ap (λ x. if is_waiting (link_key (get_or rows i d)) then least x (link_key (get_or rows i d)).partner
+    else x) so
     ∙ sym (least_more rows i d (is_waiting (link_key (get_or rows i d))) lt refl)
 
-pub least_all : (rows : List LinkRow) (i : ℕ) (o : Option ℕ) → length rows ≤ i → o ≡ least_of (map link_key (take i rows)) → o ≡ least_of (map link_key rows)
+pub least_all : (rows : List LinkRow) (i : ℕ) (o : Option ℕ) → length rows ≤ i → o
+    ≡ least_of (map link_key (take i rows)) → o ≡ least_of (map link_key rows)
 least_all rows i o long so = so ∙ ap (λ l. least_of (map link_key l)) (take_all i rows long)
 
-pub next_is : (s : NodeState) (rows : List LinkRow) (o : Option ℕ) → map link_key rows ≡ s.links → o ≡ least_of (map link_key rows) → o ≡ next_member s
+pub next_is : (s : NodeState) (rows : List LinkRow) (o : Option ℕ) → map link_key rows ≡ s.links → o
+    ≡ least_of (map link_key rows) → o ≡ next_member s
 unfolding next_member
 next_is s rows o same is = is ∙ ap least_of same

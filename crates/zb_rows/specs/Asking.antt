@@ -18,7 +18,8 @@ key_is_used s key = list_any (λ (r : LinkKey). same_key r.key key) s.links
 
 -- the row of a partner and a key, in use with that attribute
 abbrev pub is_row_as : ℕ → Bytes → Attribute → LinkKey → Bool
-is_row_as partner key attribute r = is_link partner key r && (r.live && nat_eq (attribute_byte r.attribute) (attribute_byte attribute))
+is_row_as partner key attribute r = is_link partner key r
+    && (r.live && nat_eq (attribute_byte r.attribute) (attribute_byte attribute))
 
 -- the row of the key that is spared, if there is one
 abbrev pub is_spared : Option Bytes → Bytes → Bool

@@ -10,4 +10,10 @@ use Rattle.zb_rules.specs.declared.heard.Heard.TheVariants.{Clear, Sealed}
 -- A command in clear at APS came in a secured NWK frame, whose source is its sender.
 abbrev pub heard_of : Heard → model.Heard
 heard_of (Clear nwk) = record { sender = nwk.0; label = None; row = None; nwk_source = Some nwk.0 }
-heard_of (Sealed sender label row nwk) = record { sender = sender.0; label = Some (model_label label); row = Some (link_key row); nwk_source = option_map (λ (e : Eui). e.0) nwk }
+heard_of (Sealed sender label row nwk) =
+    record {
+      sender = sender.0;
+      label = Some (model_label label);
+      row = Some (link_key row);
+      nwk_source = option_map (λ (e : Eui). e.0) nwk;
+    }

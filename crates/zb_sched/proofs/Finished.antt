@@ -29,15 +29,19 @@ pub start_keeps : (seen : Seen) → seen ≡ start → IsSoFar (finished seen)
 start_keeps seen e = subst (λ (s : Seen). IsSoFar (finished s)) (sym e) nothing_keeps
 
 -- a line that was taken keeps what every schedule keeps
-pub kept_by : (r : Result Unit (OrMemory SchedCause)) (seen next : Seen) (sentence : Sentence) → FitsSentence sentence → Steps r next (after_sentence seen sentence)
+pub kept_by : (r : Result Unit (OrMemory SchedCause)) (seen next : Seen) (sentence : Sentence) → FitsSentence sentence
+    → Steps r next (after_sentence seen sentence)
     → IsSoFar (finished seen) → OnOk r (IsSoFar (finished next))
 kept_by (Ok done) seen next sentence fits step keeps = kept seen next sentence fits step keeps
 kept_by (Err (Fault cause)) seen next sentence fits step keeps = tt
 kept_by (Err NoMemory) seen next sentence fits step keeps = tt
 
-any_node : (seats : List Seat) → has_centre seats ≡ list_any (λ (m : Node). is_centre m.role) (map (λ (s : Seat). s.node) seats)
+any_node : (seats : List Seat) → has_centre seats
+    ≡ list_any (λ (m : Node). is_centre m.role) (map (λ (s : Seat). s.node) seats)
 any_node [] = refl
 any_node (s ∷ seats) = ap (λ b. is_centre s.node.role || b) (any_node seats)
 
-pub is_schedule : (seen : Seen) (p : Schedule) → p ≡ finished seen → IsSoFar (finished seen) → has_centre seen.seats ≡ true → IsSchedule p
-is_schedule seen p e keeps centre = subst IsSchedule (sym e) (record { so_far = keeps; centre = sym (any_node seen.seats) ∙ centre })
+pub is_schedule : (seen : Seen) (p : Schedule) → p ≡ finished seen → IsSoFar (finished seen) → has_centre seen.seats
+    ≡ true → IsSchedule p
+is_schedule seen p e keeps centre =
+    subst IsSchedule (sym e) (record { so_far = keeps; centre = sym (any_node seen.seats) ∙ centre })

@@ -20,6 +20,8 @@ pub one_centre : (ms : List Node) → AllByRecursion FitsNode ms → Pairwise Ap
 one_centre [] fits apart = tt
 one_centre (m ∷ ms) fits apart = (
   all_map2 (Apart m) FitsNode (λ (n : Node). is_centre m.role ≡ true → is_centre n.role ≡ true → ⊥) ms
-      (λ n differ fit first second. differ.2 (zero_short m.role m.short fits.0.0.2 first ∙ sym (zero_short n.role n.short fit.0.2 second))) apart.0 fits.1,
+      (λ n differ fit first second. differ.2
+      (zero_short m.role m.short fits.0.0.2 first ∙ sym (zero_short n.role n.short fit.0.2 second))) apart.0
+      fits.1,
   one_centre ms fits.1 apart.1,
 )

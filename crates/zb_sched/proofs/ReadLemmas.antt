@@ -15,10 +15,13 @@ first_some : (xs : List (List ℕ)) (y : List ℕ) (ys : List (List ℕ)) → fi
 first_some [] y ys e = cc e
 first_some (x ∷ xs) y ys e = ap list_of e
 
-pub go_on : (number : ℕ) (seen next : Seen) (line : List ℕ) (ls more : List (List ℕ)) → first_of ls ≡ Some (line, more) → after_line seen line ≡ Ok next
+pub go_on : (number : ℕ) (seen next : Seen) (line : List ℕ) (ls more : List (List ℕ)) → first_of ls
+    ≡ Some (line, more) → after_line seen line ≡ Ok next
     → reads number seen ls ≡ reads (number + 1) next more
-go_on number seen next line ls more first step = ap (reads number seen) (first_some ls line more first) ∙ ap (λ r. numbered number r (λ n. reads (number + 1) n more)) step
+go_on number seen next line ls more first step = ap (reads number seen) (first_some ls line more first) ∙ ap
+    (λ r. numbered number r (λ n. reads (number + 1) n more)) step
 
-pub nodes_of : (es : List Entry) → map node_of (map (λ (e : Entry). e.node) es) ≡ map (λ (s : Seat). s.node) (map seat_of es)
+pub nodes_of : (es : List Entry) → map node_of (map (λ (e : Entry). e.node) es)
+    ≡ map (λ (s : Seat). s.node) (map seat_of es)
 nodes_of [] = refl
 nodes_of (e ∷ es) = rw (nodes_of es) refl

@@ -11,7 +11,8 @@ use Rattle.zb_sched.specs.Valid.{Pairwise}
 use Rattle.zb_sched.specs.declared.entry.Entry.{Entry}
 
 abbrev pub seat_of : Entry → Seat
-seat_of entry = record { node = node_of entry.node; nwk_declared = entry.nwk_declared; aps_declared = entry.aps_declared }
+seat_of entry =
+    record { node = node_of entry.node; nwk_declared = entry.nwk_declared; aps_declared = entry.aps_declared }
 
 -- The schedule so far, from its entries, the keys of its supply and its events.
 abbrev pub seen_so_far : List Entry → List Bytes → List Event → Seen
@@ -31,4 +32,5 @@ AreNamedApart seats = Pairwise (λ a b. a ≡ b → ⊥) (map (λ seat. seat.nod
 
 -- The part of the node of a name.
 abbrev pub role_among : Bytes → List Entry → Option Role
-role_among name entries = option_map (λ entry. entry.node.peer.role) (find (λ entry. has_name name (seat_of entry)) entries)
+role_among name entries = option_map (λ entry. entry.node.peer.role)
+    (find (λ entry. has_name name (seat_of entry)) entries)

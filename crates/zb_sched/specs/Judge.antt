@@ -81,7 +81,8 @@ is_drawn key draws = list_any (λ draw. bytes_eq draw key) draws
 -- The node of that name, changed.
 abbrev pub changed : Bytes → (Seat → Seat) → List Seat → List Seat
 changed name change [] = []
-changed name change (seat ∷ seats) = if has_name name seat then change seat ∷ seats else seat ∷ changed name change seats
+changed name change (seat ∷ seats) = if has_name name seat then change seat ∷ seats
+    else seat ∷ changed name change seats
 
 abbrev pub coded : Bytes → Seat → Seat
 coded code seat = record seat { node = record seat.node { code = Some code } }
@@ -90,8 +91,10 @@ abbrev pub holding : Bytes → ℕ → Seat → Seat
 holding key sequence seat = record seat { node = record seat.node { network = Some (key, sequence) } }
 
 abbrev pub starting : Layer → ℕ → Seat → Seat
-starting Nwk limit seat = record { node = record seat.node { start_nwk = limit }; nwk_declared = true; aps_declared = seat.aps_declared }
-starting Aps limit seat = record { node = record seat.node { start_aps = limit }; nwk_declared = seat.nwk_declared; aps_declared = true }
+starting Nwk limit seat =
+    record { node = record seat.node { start_nwk = limit }; nwk_declared = true; aps_declared = seat.aps_declared }
+starting Aps limit seat =
+    record { node = record seat.node { start_aps = limit }; nwk_declared = seat.nwk_declared; aps_declared = true }
 
 -- ---- declarations, of which none stands after an event
 
@@ -104,11 +107,23 @@ is_taken name eui short seat = has_name name seat || seat.node.eui == eui || sea
 
 -- The ranges of the blocks of counters: 1 to 65,536 outgoing and 1 to 1,024 incoming ones.
 abbrev pub are_blocks : ℕ → ℕ → Bool
-are_blocks out_block in_block = nat_le 1 out_block && nat_le out_block 65536 && nat_le 1 in_block && nat_le in_block 1024
+are_blocks out_block in_block = nat_le 1 out_block && nat_le out_block 65536 && nat_le 1 in_block
+    && nat_le in_block 1024
 
 abbrev pub new_seat : Bytes → Role → ℕ → ℕ → ℕ → ℕ → Seat
 new_seat name role eui short out_block in_block = record {
-  node = record { name = name; role = role; eui = eui; short = short; out_block = out_block; in_block = in_block; code = None; network = None; start_nwk = 0; start_aps = 0 };
+  node = record {
+    name = name;
+    role = role;
+    eui = eui;
+    short = short;
+    out_block = out_block;
+    in_block = in_block;
+    code = None;
+    network = None;
+    start_nwk = 0;
+    start_aps = 0;
+  };
   nwk_declared = false;
   aps_declared = false;
 }
@@ -126,7 +141,8 @@ has_code name seats = list_any (λ seat. has_name name seat && is_some seat.node
 
 -- A link key that no install code of that node may have beside what stands before.
 abbrev pub clashes : Bytes → Bytes → Seen → Bool
-clashes key name seen = is_link_of_other key name seen.seats || is_network key seen.seats || is_drawn key seen.draws || bytes_eq key well_known
+clashes key name seen = is_link_of_other key name seen.seats || is_network key seen.seats || is_drawn key seen.draws
+    || bytes_eq key well_known
 
 abbrev pub after_code_bytes : Seen → Bytes → Option Bytes → Result Seen SchedCause
 after_code_bytes seen name None = Err BadCode
@@ -169,18 +185,21 @@ after_counter seen name layer limit =
 abbrev pub after_draw : Seen → Bytes → Result Seen SchedCause
 after_draw seen key =
     if has_begun seen then Err Syntax
-    else if is_drawn key seen.draws || is_network key seen.seats || is_link key seen.seats || bytes_eq key well_known then Err DrawRepeated
+    else if is_drawn key seen.draws || is_network key seen.seats || is_link key seen.seats || bytes_eq key well_known
+    then Err DrawRepeated
     else Ok (record seen { draws = seen.draws ++ key ∷ [] })
 
 -- ---- events
 
 -- Two router or devices that differ.
 abbrev pub are_partners : Bytes → Bytes → List Seat → Bool
-are_partners name partner seats = not (bytes_eq name partner) && is_joiner (role_named name seats) && is_joiner (role_named partner seats)
+are_partners name partner seats = not (bytes_eq name partner) && is_joiner (role_named name seats)
+    && is_joiner (role_named partner seats)
 
 -- A router or device, and a parent other than itself.
 abbrev pub are_child_and_parent : Bytes → Bytes → List Seat → Bool
-are_child_and_parent name parent seats = not (bytes_eq name parent) && is_joiner (role_named name seats) && is_parent (role_named parent seats)
+are_child_and_parent name parent seats = not (bytes_eq name parent) && is_joiner (role_named name seats)
+    && is_parent (role_named parent seats)
 
 -- Whether the nodes that an event names are declared and have a part that it allows.
 abbrev pub has_its_nodes : Event → List Seat → Bool
@@ -224,7 +243,8 @@ after_event seen event =
 
 abbrev pub after_sentence : Seen → Sentence → Result Seen SchedCause
 after_sentence seen Quiet = Ok seen
-after_sentence seen (Introduces name role eui short out_block in_block) = after_node seen name role eui short out_block in_block
+after_sentence seen (Introduces name role eui short out_block in_block) =
+    after_node seen name role eui short out_block in_block
 after_sentence seen (Codes name code) = after_code seen name code
 after_sentence seen (Holds name key sequence) = after_netkey seen name key sequence
 after_sentence seen (Starts name layer limit) = after_counter seen name layer limit

@@ -41,7 +41,8 @@ numbered number (Ok seen) go_on = go_on seen
 
 -- The schedule of the lines from the one of that number on. Without a centre, the fault is after the last line.
 abbrev pub reads : ℕ → Seen → List (List ℕ) → Result Schedule SchedError
-reads number seen [] = if has_centre seen.seats then Ok (finished seen) else Err (record { line = number; cause = NoCentre })
+reads number seen [] = if has_centre seen.seats then Ok (finished seen)
+    else Err (record { line = number; cause = NoCentre })
 reads number seen (line ∷ more) = numbered number (after_line seen line) (λ next. reads (number + 1) next more)
 
 -- Nothing yet.

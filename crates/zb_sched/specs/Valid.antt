@@ -38,13 +38,16 @@ FitsNetwork held = IsKey held.0 × (held.1 ≤ 255) × (held.0 ≡ well_known �
 -- One node is in its ranges.
 abbrev pub FitsNode : Node → Type 0
 FitsNode m =
-    FitsSentence (Introduces m.name m.role m.eui m.short m.out_block m.in_block) × (are_blocks m.out_block m.in_block ≡ true)
-    × IfSome m.code (λ code. FitsNodeCode m code) × IfSome m.network FitsNetwork × (m.start_nwk ≤ greatest) × (m.start_aps ≤ greatest)
+    FitsSentence (Introduces m.name m.role m.eui m.short m.out_block m.in_block)
+    × (are_blocks m.out_block m.in_block ≡ true)
+    × IfSome m.code (λ code. FitsNodeCode m code) × IfSome m.network FitsNetwork × (m.start_nwk ≤ greatest)
+    × (m.start_aps ≤ greatest)
 
 -- A key of the supply is no key that a node has from the start, nor the well-known one.
 abbrev pub IsNewKey : List Node → Bytes → Type 0
 IsNewKey nodes draw =
-    IsKey draw × (draw ≡ well_known → ⊥) × AllByRecursion (λ m. Differ (Some draw) (link_of m) × Differ (Some draw) (network_of m)) nodes
+    IsKey draw × (draw ≡ well_known → ⊥)
+    × AllByRecursion (λ m. Differ (Some draw) (link_of m) × Differ (Some draw) (network_of m)) nodes
 
 -- The nodes as the judge of lines sees them.
 abbrev pub seated : Node → Seat
@@ -56,7 +59,8 @@ seen_of p = record { seats = map seated p.nodes; draws = p.draws; events = [] }
 -- An event is in its ranges and its nodes are declared with parts that it allows; an install code that it brings gives
 -- no link key that is another node's or a network key, and none of the supply or the well-known one.
 abbrev pub FitsSchedule : Schedule → Event → Type 0
-FitsSchedule p event = FitsEvent event × (has_its_nodes event (map seated p.nodes) ≡ true) × (provision_clashes event (seen_of p) ≡ false)
+FitsSchedule p event = FitsEvent event × (has_its_nodes event (map seated p.nodes) ≡ true)
+    × (provision_clashes event (seen_of p) ≡ false)
 
 -- A schedule but for its centre.
 pub record IsSoFar (p : Schedule) : Type 0 where

@@ -50,12 +50,14 @@ FitsEvent (Stops name calls torn) = IsName name × (calls ≤ 5) × AtMost 32 to
 FitsEvent (Fails name call) = IsName name × (1 ≤ call) × (call ≤ 6)
 FitsEvent (Injects bytes) = SomeUpTo 127 bytes
 FitsEvent (ForgesNet to from source key sequence counter content) =
-    (to < 2 ^ 16) × (from < 2 ^ 16) × IsEui source × IsKey key × (sequence ≤ 255) × (counter ≤ greatest) × SomeUpTo 64 content
+    (to < 2 ^ 16) × (from < 2 ^ 16) × IsEui source × IsKey key × (sequence ≤ 255) × (counter ≤ greatest)
+    × SomeUpTo 64 content
 FitsEvent (ForgesBoth to from source key sequence counter label base aps_counter command) =
     (to < 2 ^ 16) × (from < 2 ^ 16) × IsEui source × IsKey key × (sequence ≤ 255) × (counter ≤ greatest)
     × FitsSealed (record { label = label; base = base; counter = aps_counter; command = command })
 FitsEvent (ForgesOpen to from source label base aps_counter command) =
-    (to < 2 ^ 16) × (from < 2 ^ 16) × IsEui source × FitsSealed (record { label = label; base = base; counter = aps_counter; command = command })
+    (to < 2 ^ 16) × (from < 2 ^ 16) × IsEui source
+    × FitsSealed (record { label = label; base = base; counter = aps_counter; command = command })
 FitsEvent (Asks name partner) = IsName name × IsName partner
 FitsEvent (Shares name partner) = IsName name × IsName partner
 FitsEvent (Tells name partner bytes) = IsName name × IsName partner × AtMost 64 bytes
@@ -67,7 +69,8 @@ FitsCode (Some code) = IsCode code
 abbrev pub FitsSentence : Sentence → Type 0
 FitsSentence Quiet = ⊤
 FitsSentence (Introduces name role eui short out_block in_block) =
-    IsName name × IsEui eui × (is_short_of role short ≡ true) × (short < 2 ^ 16) × (out_block ≤ greatest) × (in_block ≤ greatest)
+    IsName name × IsEui eui × (is_short_of role short ≡ true) × (short < 2 ^ 16) × (out_block ≤ greatest)
+    × (in_block ≤ greatest)
 FitsSentence (Codes name code) = IsName name × FitsCode code
 FitsSentence (Holds name key sequence) = IsName name × IsKey key × (sequence ≤ 255)
 FitsSentence (Starts name layer limit) = IsName name × (limit ≤ greatest)

@@ -232,7 +232,10 @@ last_content word ws = do
 
 abbrev pub forge_content : ℕ → ℕ → ℕ → Bytes → ℕ → ℕ → List ℕ → List (List ℕ) → Option Event
 forge_content to from source key sequence counter word ws =
-    if bytes_eq word (codes "aps") then option_map (λ part. ForgesBoth to from source key sequence counter part.label part.base part.counter part.command) (sealed_of ws)
+    if bytes_eq word (codes "aps")
+    then option_map
+    (λ part. ForgesBoth to from source key sequence counter part.label part.base part.counter part.command)
+    (sealed_of ws)
     else option_map (λ content. ForgesNet to from source key sequence counter content) (last_content word ws)
 
 abbrev pub forge_net_of : ℕ → ℕ → ℕ → List (List ℕ) → Option Event
@@ -255,7 +258,8 @@ forge_of ws = do
   from ← field short_of to.1
   source ← field real_eui_of from.1
   kind ← first_of source.1
-  if bytes_eq kind.0 (codes "net") then forge_net_of to.0 from.0 source.0 kind.1 else if bytes_eq kind.0 (codes "open") then forge_open_of to.0 from.0 source.0 kind.1 else None
+  if bytes_eq kind.0 (codes "net") then forge_net_of to.0 from.0 source.0 kind.1
+      else if bytes_eq kind.0 (codes "open") then forge_open_of to.0 from.0 source.0 kind.1 else None
 
 -- ---- lines
 
@@ -314,4 +318,5 @@ meaning_of line =
     if is_quiet line then Some Quiet
     else do
       first ← first_of (words (Some line))
-      or_else (option_map Happens (own_event first.0 first.1)) (or_else (declaration first.0 first.1) (option_map Happens (other_event first.0 first.1)))
+      or_else (option_map Happens (own_event first.0 first.1))
+          (or_else (declaration first.0 first.1) (option_map Happens (other_event first.0 first.1)))

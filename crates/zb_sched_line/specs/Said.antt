@@ -37,7 +37,8 @@ pub data Event : Type 0 where
   -- the hostile air: bytes, and frames sealed by an outsider
   Injects : (bytes : Bytes) → Event
   ForgesNet : (to from source : ℕ) (key : Bytes) (sequence counter : ℕ) (content : Bytes) → Event
-  ForgesBoth : (to from source : ℕ) (key : Bytes) (sequence counter : ℕ) (label : Label) (base : Bytes) (aps_counter : ℕ) (command : Bytes) → Event
+  ForgesBoth : (to from source : ℕ) (key : Bytes) (sequence counter : ℕ) (label : Label) (base : Bytes)
+      (aps_counter : ℕ) (command : Bytes) → Event
   ForgesOpen : (to from source : ℕ) (label : Label) (base : Bytes) (aps_counter : ℕ) (command : Bytes) → Event
   -- application link keys: a device asks for one, the centre shares it with the partner, a device uses it
   Asks : (name : Bytes) (partner : Bytes) → Event

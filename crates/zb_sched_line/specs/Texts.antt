@@ -39,7 +39,8 @@ draw_words key = codes "draw" ∷ encode_upper key ∷ []
 -- ---- events
 
 abbrev pub sealed_words : Label → Bytes → ℕ → Bytes → List (List ℕ)
-sealed_words label base counter command = codes "aps" ∷ label_text label ∷ encode_upper base ∷ decimal counter ∷ bytes_text command ∷ []
+sealed_words label base counter command = codes "aps" ∷ label_text label ∷ encode_upper base ∷ decimal counter
+    ∷ bytes_text command ∷ []
 
 abbrev pub event_words : Event → List (List ℕ)
 event_words (Says name to bytes) = codes "say" ∷ name ∷ short_text to ∷ bytes_text bytes ∷ []
@@ -60,12 +61,15 @@ event_words (Stops name calls torn) = codes "stop" ∷ name ∷ decimal calls �
 event_words (Fails name call) = codes "fail" ∷ name ∷ decimal call ∷ []
 event_words (Injects bytes) = codes "inject" ∷ bytes_text bytes ∷ []
 event_words (ForgesNet to from source key sequence counter content) =
-    codes "forge" ∷ short_text to ∷ short_text from ∷ eui_text source ∷ codes "net" ∷ encode_upper key ∷ decimal sequence ∷ decimal counter ∷ bytes_text content ∷ []
+    codes "forge" ∷ short_text to ∷ short_text from ∷ eui_text source ∷ codes "net" ∷ encode_upper key
+    ∷ decimal sequence ∷ decimal counter ∷ bytes_text content ∷ []
 event_words (ForgesBoth to from source key sequence counter label base aps_counter command) =
-    codes "forge" ∷ short_text to ∷ short_text from ∷ eui_text source ∷ codes "net" ∷ encode_upper key ∷ decimal sequence ∷ decimal counter
+    codes "forge" ∷ short_text to ∷ short_text from ∷ eui_text source ∷ codes "net" ∷ encode_upper key
+    ∷ decimal sequence ∷ decimal counter
     ∷ sealed_words label base aps_counter command
 event_words (ForgesOpen to from source label base aps_counter command) =
-    codes "forge" ∷ short_text to ∷ short_text from ∷ eui_text source ∷ codes "open" ∷ sealed_words label base aps_counter command
+    codes "forge" ∷ short_text to ∷ short_text from ∷ eui_text source ∷ codes "open"
+    ∷ sealed_words label base aps_counter command
 event_words (Asks name partner) = codes "ask" ∷ name ∷ partner ∷ []
 event_words (Shares name partner) = codes "share" ∷ name ∷ partner ∷ []
 event_words (Tells name partner bytes) = codes "tell" ∷ name ∷ partner ∷ bytes_text bytes ∷ []

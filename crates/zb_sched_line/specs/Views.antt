@@ -27,17 +27,20 @@ event_of (Dump name) = Dumps name.bytes
 event_of (Stop name calls torn) = Stops name.bytes calls torn.items
 event_of (Fail name call) = Fails name.bytes call
 event_of (Inject bytes) = Injects bytes.items
-event_of (ForgeNet to from source key sequence counter content) = ForgesNet to.0 from.0 source.0 key.0 sequence counter content.items
+event_of (ForgeNet to from source key sequence counter content) = ForgesNet to.0 from.0 source.0 key.0 sequence
+    counter content.items
 event_of (ForgeNetAps to from source key sequence counter label base aps_counter command) =
     ForgesBoth to.0 from.0 source.0 key.0 sequence counter label base.0 aps_counter command.items
-event_of (ForgeOpen to from source label base aps_counter command) = ForgesOpen to.0 from.0 source.0 label base.0 aps_counter command.items
+event_of (ForgeOpen to from source label base aps_counter command) = ForgesOpen to.0 from.0 source.0 label base.0
+    aps_counter command.items
 event_of (Ask name partner) = Asks name.bytes partner.bytes
 event_of (Share name partner) = Shares name.bytes partner.bytes
 event_of (Tell name partner bytes) = Tells name.bytes partner.bytes bytes.items
 
 abbrev pub sentence_of : Line → Sentence
 sentence_of Blank = Quiet
-sentence_of (Node peer out_block in_block) = Introduces peer.name.bytes peer.role peer.eui.0 peer.short.0 out_block in_block
+sentence_of (Node peer out_block in_block) = Introduces peer.name.bytes peer.role peer.eui.0 peer.short.0 out_block
+    in_block
 sentence_of (Code name code) = Codes name.bytes (code)
 sentence_of (NetKey name key sequence) = Holds name.bytes key.0 sequence
 sentence_of (Counter name layer limit) = Starts name.bytes layer limit
@@ -46,4 +49,5 @@ sentence_of (BadProvision name) = Misprovisions name.bytes
 sentence_of (Played event) = Happens (event_of event)
 
 abbrev pub sealed : Command → Sealed
-sealed command = record { label = command.label; base = command.base.0; counter = command.counter; command = command.bytes.items }
+sealed command =
+    record { label = command.label; base = command.base.0; counter = command.counter; command = command.bytes.items }

@@ -28,13 +28,16 @@ use Rattle.zb_script.specs.declared.script.Step.{Step}
 
 -- ---- lists with one item more
 
-all_push : {X : Type 0} (P : X → Type 0) (xs : List X) (x : X) → AllByRecursion P xs → P x → AllByRecursion P (xs ++ x ∷ [])
+all_push : {X : Type 0} (P : X → Type 0) (xs : List X) (x : X) → AllByRecursion P xs → P x
+    → AllByRecursion P (xs ++ x ∷ [])
 all_push P [] x all one = (one, tt)
 all_push P (y ∷ ys) x all one = (all.0, all_push P ys x all.1 one)
 
-apart_push : {X V : Type 0} (reading : X → V) (xs : List X) (x : X) → ApartBy reading xs → AllByRecursion (λ y. reading y ≢ reading x) xs → ApartBy reading (xs ++ x ∷ [])
+apart_push : {X V : Type 0} (reading : X → V) (xs : List X) (x : X) → ApartBy reading xs
+    → AllByRecursion (λ y. reading y ≢ reading x) xs → ApartBy reading (xs ++ x ∷ [])
 apart_push reading [] x apart others = (tt, tt)
-apart_push reading (y ∷ ys) x apart others = (all_push (λ other. reading y ≢ reading other) ys x apart.0 others.0, apart_push reading ys x apart.1 others.1)
+apart_push reading (y ∷ ys) x apart others =
+    (all_push (λ other. reading y ≢ reading other) ys x apart.0 others.0, apart_push reading ys x apart.1 others.1)
 
 -- ---- the lines
 
@@ -47,7 +50,8 @@ pub record AreFree (name : Bytes) (eui short : ℕ) (stations : List Station) : 
 differs : (a b : Bytes) → bytes_eq a b ≡ false → a ≢ b
 differs a b no_match = λ same. false≢true (sym no_match ∙ (bytes_eq-Decides a b).1 same)
 
-are_free : (name : Bytes) (eui short : ℕ) (stations : List Station) → list_any (λ station. is_taken name eui short station) stations ≡ false → AreFree name eui short stations
+are_free : (name : Bytes) (eui short : ℕ) (stations : List Station)
+    → list_any (λ station. is_taken name eui short station) stations ≡ false → AreFree name eui short stations
 are_free name eui short [] free = record { names = tt; euis = tt; shorts = tt }
 are_free name eui short (y ∷ ys) free =
     let p = or_parts (is_taken name eui short y) _ free in
@@ -60,15 +64,18 @@ are_free name eui short (y ∷ ys) free =
       shorts = (eqb-false y.short short q.1, more.shorts);
     }
 
-led_push : (stations : List Station) (x : Station) → AreLed stations → 0 < length stations → is_joiner x.role ≡ true → AreLed (stations ++ x ∷ [])
+led_push : (stations : List Station) (x : Station) → AreLed stations → 0 < length stations → is_joiner x.role ≡ true
+    → AreLed (stations ++ x ∷ [])
 led_push [] x led some joins = absurd (omega arith)
-led_push (first ∷ others) x led some joins = (led.0, all_push (λ (station : Station). is_joiner station.role ≡ true) others x led.1 joins)
+led_push (first ∷ others) x led some joins =
+    (led.0, all_push (λ (station : Station). is_joiner station.role ≡ true) others x led.1 joins)
 
 some_of : (stations : List Station) → not (length stations == 0) ≡ true → 0 < length stations
 some_of [] h = absurd (false≢true h)
 some_of (x ∷ xs) h = omega arith
 
-pub peer_kept : (s : Script) (x : Station) → IsSoFar s → has_centre s ≡ true → list_any (λ station. is_taken x.name x.eui x.short station) s.stations ≡ false → is_joiner x.role ≡ true
+pub peer_kept : (s : Script) (x : Station) → IsSoFar s → has_centre s ≡ true
+    → list_any (λ station. is_taken x.name x.eui x.short station) s.stations ≡ false → is_joiner x.role ≡ true
     → IsSoFar (record s { stations = s.stations ++ x ∷ [] })
 peer_kept s x kept has free joins =
     let apart = are_free x.name x.eui x.short s.stations free in
@@ -83,52 +90,68 @@ peer_kept s x kept has free joins =
     }
 
 -- the same of the program's peers
-pub with_peer : (peers new : List Peer) (p : Peer) (out_block in_block : ℕ) (steps : List Step) (s : Script) → script_with peers out_block in_block steps ≡ s → new ≡ peers ++ p ∷ []
-    → IsSoFar (script_with peers out_block in_block steps) → has_centre s ≡ true → list_any (λ station. is_taken p.name.bytes p.eui.0 p.short.0 station) s.stations ≡ false → is_joiner p.role ≡ true
+pub with_peer : (peers new : List Peer) (p : Peer) (out_block in_block : ℕ) (steps : List Step) (s : Script)
+    → script_with peers out_block in_block steps ≡ s → new ≡ peers ++ p ∷ []
+    → IsSoFar (script_with peers out_block in_block steps) → has_centre s ≡ true
+    → list_any (λ station. is_taken p.name.bytes p.eui.0 p.short.0 station) s.stations ≡ false → is_joiner p.role
+    ≡ true
     → IsSoFar (script_with new out_block in_block steps)
 with_peer peers new p out_block in_block steps s view is kept has free joins =
     let old = script_with peers out_block in_block steps in
-    let seen : map station_of new ≡ map station_of peers ++ station_of p ∷ [] = ap (map station_of) is ∙ map_push station_of peers p in
+    let seen : map station_of new ≡ map station_of peers ++ station_of p
+    ∷ [] = ap (map station_of) is ∙ map_push station_of peers p in
     let apart : list_any (λ station. is_taken p.name.bytes p.eui.0 p.short.0 station) old.stations ≡ false =
-    ap (λ (t : Script). list_any (λ station. is_taken p.name.bytes p.eui.0 p.short.0 station) t.stations) view ∙ free in
-    subst (λ stations. IsSoFar (record { stations = stations; out_block = out_block; in_block = in_block; steps = steps })) (sym seen) (peer_kept old (station_of p) kept (ap has_centre view ∙ has) apart joins)
+    ap (λ (t : Script). list_any (λ station. is_taken p.name.bytes p.eui.0 p.short.0 station) t.stations) view ∙ free
+    in
+    subst (λ stations. IsSoFar
+    (record { stations = stations; out_block = out_block; in_block = in_block; steps = steps })) (sym seen)
+    (peer_kept old (station_of p) kept (ap has_centre view ∙ has) apart joins)
 
 -- ---- the whole
 
-all_seen : {X Y : Type 0} (view : X → Y) (P : Y → Type 0) (xs : List X) → AllByRecursion P (map view xs) → AllByRecursion (λ x. P (view x)) xs
+all_seen : {X Y : Type 0} (view : X → Y) (P : Y → Type 0) (xs : List X) → AllByRecursion P (map view xs)
+    → AllByRecursion (λ x. P (view x)) xs
 all_seen view P [] all = tt
 all_seen view P (x ∷ xs) all = (all.0, all_seen view P xs all.1)
 
-apart_seen : {X Y V : Type 0} (view : X → Y) (reading : Y → V) (xs : List X) → ApartBy reading (map view xs) → ApartBy (λ x. reading (view x)) xs
+apart_seen : {X Y V : Type 0} (view : X → Y) (reading : Y → V) (xs : List X) → ApartBy reading (map view xs)
+    → ApartBy (λ x. reading (view x)) xs
 apart_seen view reading [] apart = tt
-apart_seen view reading (x ∷ xs) apart = (all_seen view (λ other. reading (view x) ≢ reading other) xs apart.0, apart_seen view reading xs apart.1)
+apart_seen view reading (x ∷ xs) apart =
+    (all_seen view (λ other. reading (view x) ≢ reading other) xs apart.0, apart_seen view reading xs apart.1)
 
 joins_is : (role : Role) → is_joiner role ≡ true → is_centre role ≡ false
 joins_is Centre h = absurd (false≢true h)
 joins_is Router h = refl
 joins_is Device h = refl
 
-none_leads : (peers : List Peer) → AllByRecursion (λ (station : Station). is_joiner station.role ≡ true) (map station_of peers) → count_by (λ (peer : Peer). is_centre peer.role) peers ≡ 0
+none_leads : (peers : List Peer) → AllByRecursion (λ (station : Station). is_joiner station.role ≡ true)
+    (map station_of peers) → count_by (λ (peer : Peer). is_centre peer.role) peers ≡ 0
 none_leads [] all = refl
 none_leads (p ∷ ps) all = rw (joins_is p.role all.0, none_leads ps all.1) refl
 
 leads : (role : Role) → role ≡ Centre → is_centre role ≡ true
 leads role is = ap is_centre is
 
-one_leads : (peers : List Peer) → AreLed (map station_of peers) → 0 < length peers → count_by (λ (peer : Peer). is_centre peer.role) peers ≡ 1
+one_leads : (peers : List Peer) → AreLed (map station_of peers) → 0 < length peers
+    → count_by (λ (peer : Peer). is_centre peer.role) peers ≡ 1
 one_leads [] led some = absurd (omega arith)
 one_leads (p ∷ ps) led some =
-    sum_by-cons (λ (q : Peer). cond (is_centre q.role) 1 0) p ps ∙ ap₂ (λ (a b : ℕ). a + b) (ap (λ b. cond b 1 0) (leads p.role led.0)) (none_leads ps led.1)
+    sum_by-cons (λ (q : Peer). cond (is_centre q.role) 1 0) p ps ∙ ap₂ (λ (a b : ℕ). a + b)
+    (ap (λ b. cond b 1 0) (leads p.role led.0)) (none_leads ps led.1)
 
-first_is : (out_block in_block : ℕ) (peers : List Peer) → AreLed (map station_of peers) → 0 < length peers → (own out_block in_block (slice_get peers 0)).role ≡ model.Centre
+first_is : (out_block in_block : ℕ) (peers : List Peer) → AreLed (map station_of peers) → 0 < length peers
+    → (own out_block in_block (slice_get peers 0)).role ≡ model.Centre
 first_is out_block in_block [] led some = absurd (omega arith)
 first_is out_block in_block (p ∷ ps) led some = ap model_role led.0
 
-centre_first : (config : Config) → AreLed (map station_of config.peers.items) → 0 < length config.peers.items → config.me ≡ 0 → IsOfRole model.Centre config
+centre_first : (config : Config) → AreLed (map station_of config.peers.items) → 0 < length config.peers.items
+    → config.me ≡ 0 → IsOfRole model.Centre config
 unfolding setting_for
 centre_first config led some me = rw me (first_is config.out_block config.in_block config.peers.items led some)
 
-pub script_kept : (script : Read) → IsSoFar (script_of script) → has_centre (script_of script) ≡ true → script.config.me ≡ 0 → IsScript script
+pub script_kept : (script : Read) → IsSoFar (script_of script) → has_centre (script_of script) ≡ true
+    → script.config.me ≡ 0 → IsScript script
 script_kept script kept has me =
     let peers = script.config.peers.items in
     let some : 0 < length peers = omega (arith, some_of (map station_of peers) has, length-map peers station_of) in
@@ -154,6 +177,9 @@ script_kept script kept has me =
       steps = kept.steps;
     }
 
-pub finished : (config : Config) (steps made : List Step) (s : Script) → made ≡ steps → script_with config.peers.items config.out_block config.in_block steps ≡ s
-    → IsSoFar (script_with config.peers.items config.out_block config.in_block steps) → config.me ≡ 0 → has_centre s ≡ true → IsScript (record { config = config; steps = made })
-finished config steps made s is view kept me has = rw is (script_kept (record { config = config; steps = steps }) kept (ap has_centre view ∙ has) me)
+pub finished : (config : Config) (steps made : List Step) (s : Script) → made ≡ steps
+    → script_with config.peers.items config.out_block config.in_block steps ≡ s
+    → IsSoFar (script_with config.peers.items config.out_block config.in_block steps) → config.me ≡ 0 → has_centre s
+    ≡ true → IsScript (record { config = config; steps = made })
+finished config steps made s is view kept me has =
+    rw is (script_kept (record { config = config; steps = steps }) kept (ap has_centre view ∙ has) me)

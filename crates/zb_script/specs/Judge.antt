@@ -29,7 +29,14 @@ abbrev pub after_centre : Script → Bytes → ℕ → ℕ → ℕ → Result Sc
 after_centre s name eui out_block in_block =
     if has_centre s then Err Syntax
     else if not (are_blocks out_block in_block) then Err Block
-    else Ok (record { stations = s.stations ++ record { name = name; role = Centre; eui = eui; short = 0 } ∷ []; out_block = out_block; in_block = in_block; steps = s.steps })
+    else Ok
+    (record {
+      stations = s.stations ++ record { name = name; role = Centre; eui = eui; short = 0 }
+          ∷ [];
+      out_block = out_block;
+      in_block = in_block;
+      steps = s.steps;
+    })
 
 -- a name, an EUI or a short address is taken
 abbrev pub is_taken : Bytes → ℕ → ℕ → Station → Bool
@@ -47,11 +54,14 @@ after_peer s name role eui short =
 
 -- one step more, of at most 10,000
 abbrev pub with_order : ℕ → Order → Script → Result Script ScriptCause
-with_order line order s = if nat_le 10000 (length s.steps) then Err TooMany else Ok (record s { steps = s.steps ++ record { line = line; order = order } ∷ [] })
+with_order line order s = if nat_le 10000 (length s.steps) then Err TooMany
+    else Ok (record s { steps = s.steps ++ record { line = line; order = order } ∷ [] })
 
 -- the EUI of the router or device of that name
 abbrev pub device_named : Bytes → List Station → Option ℕ
-device_named name stations = option_map (λ station. station.eui) (find (λ station. bytes_eq station.name name && is_joiner station.role) stations)
+device_named name stations =
+    option_map (λ station. station.eui)
+    (find (λ station. bytes_eq station.name name && is_joiner station.role) stations)
 
 -- the EUI of the centre or router of that name
 abbrev pub is_parent : Role → Bool
@@ -60,7 +70,9 @@ is_parent Router = true
 is_parent Device = false
 
 abbrev pub parent_named : Bytes → List Station → Option ℕ
-parent_named name stations = option_map (λ station. station.eui) (find (λ station. bytes_eq station.name name && is_parent station.role) stations)
+parent_named name stations =
+    option_map (λ station. station.eui)
+    (find (λ station. bytes_eq station.name name && is_parent station.role) stations)
 
 abbrev pub provided : ℕ → Option ℕ → Option Bytes → Script → Result Script ScriptCause
 provided line None code s = Err UnknownNode
@@ -75,7 +87,8 @@ removed line (Some device) (Some via) s = with_order line (Remove (record { 0 = 
 -- a parent is another node than the device
 abbrev pub after_remove : ℕ → Script → Bytes → Bytes → Result Script ScriptCause
 after_remove line s name parent =
-    if bytes_eq name parent then Err UnknownNode else removed line (device_named name s.stations) (parent_named parent s.stations) s
+    if bytes_eq name parent then Err UnknownNode
+    else removed line (device_named name s.stations) (parent_named parent s.stations) s
 
 -- the record of the tables of a backup
 abbrev pub restored : ℕ → ℕ → Option NodeState → Script → Result Script ScriptCause

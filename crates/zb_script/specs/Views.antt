@@ -13,7 +13,8 @@ station_of peer = record { name = peer.name.bytes; role = peer.role; eui = peer.
 
 -- the script with these peers, blocks and steps
 abbrev pub script_with : List Peer → ℕ → ℕ → List Step → Script
-script_with peers out_block in_block steps = record { stations = map station_of peers; out_block = out_block; in_block = in_block; steps = steps }
+script_with peers out_block in_block steps =
+    record { stations = map station_of peers; out_block = out_block; in_block = in_block; steps = steps }
 
 abbrev pub script_of : Read → Script
 script_of script = script_with script.config.peers.items script.config.out_block script.config.in_block script.steps

@@ -17,9 +17,11 @@ use Rattle.zb_seal.specs.declared.term.Term.{Term}
 use Rattle.zb_seal.proofs.Places.{length-at_place}
 
 length-mixed : (value block : List ℕ) → length value ≡ 16 → 16 ≤ length block → length (mixed value block) ≡ 16
-length-mixed value block h le = length-xored (enciphered value block) block (omega (arith, length-enciphered value block h)) ∙ length-enciphered value block h
+length-mixed value block h le = length-xored (enciphered value block) block
+    (omega (arith, length-enciphered value block h)) ∙ length-enciphered value block h
 
-mixed_range : (bytes value : List ℕ) (a n : ℕ) → length value ≡ 16 → 16 * (a + n) ≤ length bytes → length (fold mixed value (map (λ i. take 16 (drop (16 * i) bytes)) (range_with_len a n))) ≡ 16
+mixed_range : (bytes value : List ℕ) (a n : ℕ) → length value ≡ 16 → 16 * (a + n) ≤ length bytes
+    → length (fold mixed value (map (λ i. take 16 (drop (16 * i) bytes)) (range_with_len a n))) ≡ 16
 mixed_range bytes value a zero h le = h
 mixed_range bytes value a (suc n) h le =
     let block : List ℕ = take 16 (drop (16 * a) bytes) in
@@ -40,9 +42,11 @@ length-sealing_key Network base h = h
 length-sealing_key Transport base h = length-keyed base (0 ∷ [])
 length-sealing_key Load base h = length-keyed base (2 ∷ [])
 
-length-chain : (key value : List ℕ) (blocks : List (List ℕ)) → length key ≡ 16 → length value ≡ 16 → length (chain key value blocks) ≡ 16
+length-chain : (key value : List ℕ) (blocks : List (List ℕ)) → length key ≡ 16 → length value ≡ 16
+    → length (chain key value blocks) ≡ 16
 length-chain key value [] h g = g
-length-chain key value (b ∷ bs) h g = length-chain key (chained key value b) bs h (length-enciphered key (xored value b) h)
+length-chain key value (b ∷ bs) h g = length-chain key (chained key value b) bs h
+    (length-enciphered key (xored value b) h)
 
 pub length-mic : (key nonce a message : List ℕ) → length key ≡ 16 → length (sealed key nonce a message 4).mic ≡ 4
 unfolding sealed mic_of stream_block
@@ -58,12 +62,23 @@ length-one_of true xs ys h = h
 length-one_of false xs ys h = refl
 
 length-on_air : (size : ℕ) (header : List ℕ) → length (on_air size header) ≡ length header
-length-on_air size header = length-one_of (nat_le size (length header)) (at_place zero_level (length header - size) header) header (length-at_place zero_level (length header - size) header)
+length-on_air size header = length-one_of (nat_le size (length header))
+    (at_place zero_level (length header - size) header) header
+    (length-at_place zero_level (length header - size) header)
 
 -- the length on the air, from those of the cipher text and of the MIC
-pub length-wire : (t : Term) (key text mic : List ℕ) → key ≡ sealing_key t.label t.base.0 → text ≡ (sealed_term key t).text → mic ≡ (sealed_term key t).mic → length text ≡ length t.content.items → length mic ≡ 4
+pub length-wire : (t : Term) (key text mic : List ℕ) → key ≡ sealing_key t.label t.base.0 → text
+    ≡ (sealed_term key t).text → mic ≡ (sealed_term key t).mic → length text ≡ length t.content.items → length mic ≡ 4
     → length (wire t) ≡ wire_length t
 length-wire t key text mic is at mic_of same four =
     let air : List ℕ = on_air (aux_size t.layer t.control) t.header.items in
     let parts : wire t ≡ (air ++ text) ++ mic = rw (at, mic_of, is) refl in
-    ap (length {A = ℕ}) parts ∙ omega (arith, length-append (air ++ text) mic, length-append air text, length-on_air (aux_size t.layer t.control) t.header.items, same, four)
+    ap (length {A = ℕ}) parts ∙ omega (
+      arith,
+      length-append (air ++ text) mic,
+      length-append air text,
+      length-on_air (aux_size t.layer t.control)
+          t.header.items,
+      same,
+      four,
+    )

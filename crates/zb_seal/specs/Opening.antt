@@ -61,7 +61,12 @@ nwk_envelope f (Some a) = Ok (nwk_layer f a)
 abbrev pub nwk_closed : NwkFrame → Option NwkAux → Result NwkEnvelope OpenError
 nwk_closed f None = Err NotSecured
 nwk_closed f (Some a) =
-    Ok (record { destination = f.header.destination; source = f.header.source; key_sequence = a.key_sequence; envelope = nwk_layer f a })
+    Ok (record {
+      destination = f.header.destination;
+      source = f.header.source;
+      key_sequence = a.key_sequence;
+      envelope = nwk_layer f a;
+    })
 
 abbrev pub nwk_seen : Result NwkFrame NwkError → Result Envelope OpenError
 nwk_seen (Err e) = Err (Frame (Some e) None)

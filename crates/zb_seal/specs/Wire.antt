@@ -43,7 +43,8 @@ abbrev pub sealed_term : List ℕ → Term → Sealed
 sealed_term key t = sealed key (nonce t.source t.counter t.control) t.header.items t.content.items 4
 
 abbrev pub wire_under : List ℕ → Term → List ℕ
-wire_under key t = on_air (aux_size t.layer t.control) t.header.items ++ (sealed_term key t).text ++ (sealed_term key t).mic
+wire_under key t = on_air (aux_size t.layer t.control) t.header.items ++ (sealed_term key t).text
+    ++ (sealed_term key t).mic
 
 abbrev pub wire : Term → List ℕ
 wire t = wire_under (sealing_key t.label t.base.0) t

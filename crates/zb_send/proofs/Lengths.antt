@@ -30,11 +30,14 @@ least_room true = omega arith
 least_room false = omega arith
 
 -- the third byte of a sealed command is its auxiliary control, with the extended nonce
-third : (key : Bytes) (me counter : ℕ) (content : Bytes) → bit (slice_index (real.wire (aps_term sealed_command ForTransport key me counter content)) 2) 5 ≡ true
+third : (key : Bytes) (me counter : ℕ) (content : Bytes)
+    → bit (slice_index (real.wire (aps_term sealed_command ForTransport key me counter content)) 2) 5 ≡ true
 unfolding real
 third key me counter content = refl
 
-pub inner_shaped : (key : Bytes) (me counter : ℕ) (content bytes : Bytes) → bytes ≡ real.wire (aps_term sealed_command ForTransport key me counter content) → 19 ≤ length bytes → is_inner bytes ≡ true
+pub inner_shaped : (key : Bytes) (me counter : ℕ) (content bytes : Bytes) → bytes
+    ≡ real.wire (aps_term sealed_command ForTransport key me counter content) → 19 ≤ length bytes → is_inner bytes
+    ≡ true
 inner_shaped key me counter content bytes is long =
     let whole : leb 19 (length bytes) ≡ true = le-leb _ _ long in
     let extended : bit (slice_index bytes 2) 5 ≡ true = rw is (third key me counter content) in

@@ -19,7 +19,8 @@ pub record IsAbove (by limit lost : ℕ) : Type 0 where
 -- skip starts it.
 pub record HasUsed (by : ℕ) (backup lost : NodeState) : Type 0 where
   pub aps : IsAbove by backup.aps_limit lost.aps_limit
-  pub nets : (key : Bytes) (r l : NetKey) → net_of key backup ≡ Some r → net_of key lost ≡ Some l → IsAbove by (counted_from (stored_limit Nwk backup) r) l.limit
+  pub nets : (key : Bytes) (r l : NetKey) → net_of key backup ≡ Some r → net_of key lost ≡ Some l
+      → IsAbove by (counted_from (stored_limit Nwk backup) r) l.limit
 
 -- What a centre lives through: events, and boots.
 pub data Deed : Type 0 where
@@ -38,13 +39,15 @@ seals_of tools c boots s = []
 -- P holds of each term that is sealed
 abbrev pub EachSeal : (Term → Type 0) → Tools → Setting → List Deed → NodeState → Type 0
 EachSeal P tools c [] s = ⊤
-EachSeal P tools c (d ∷ ds) s = AllByRecursion P (seals_of tools c d s) × EachSeal P tools c ds (after_deed tools c d s)
+EachSeal P tools c (d ∷ ds) s = AllByRecursion P (seals_of tools c d s)
+    × EachSeal P tools c ds (after_deed tools c d s)
 
 -- A counter that the lost store can't have used: not below its limit at APS, nor below that of a network key of the
 -- backup.
 abbrev pub IsUnusedAt : Layer → NodeState → NodeState → Bytes → ℕ → Type 0
 IsUnusedAt Aps backup lost key counter = lost.aps_limit ≤ counter
-IsUnusedAt Nwk backup lost key counter = (r l : NetKey) → net_of key backup ≡ Some r → net_of key lost ≡ Some l → l.limit ≤ counter
+IsUnusedAt Nwk backup lost key counter = (r l : NetKey) → net_of key backup ≡ Some r → net_of key lost ≡ Some l
+    → l.limit ≤ counter
 
 abbrev pub IsUnused : NodeState → NodeState → Term → Type 0
 IsUnused backup lost t = IsUnusedAt t.layer backup lost t.base t.counter

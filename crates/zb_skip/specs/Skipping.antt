@@ -33,10 +33,12 @@ raised by active r = record (skipped_net by active r) { next = max r.next (skipp
 
 -- The change of the row at a place of these, and that the row's limit is within its width.
 abbrev pub StartsAt : ℕ → ℕ → ℕ → List NetKey → Change → Type 0
-StartsAt by active place rows change = (before after : List NetKey) (r : NetKey) → rows ≡ before ++ r ∷ after → length before ≡ place
+StartsAt by active place rows change = (before after : List NetKey) (r : NetKey) → rows ≡ before ++ r ∷ after
+    → length before ≡ place
     → (edit change ≡ Start r.key (skipped_limit by (counted_from active r))) × (r.limit < 2 ^ 32)
 
 -- The row at a place has skipped so many, and all else is as it was.
 abbrev pub Raises : ℕ → ℕ → ℕ → NodeState → NodeState → Type 0
-Raises by active place old new = (before after : List NetKey) (r : NetKey) → old.nets ≡ before ++ r ∷ after → length before ≡ place
+Raises by active place old new = (before after : List NetKey) (r : NetKey) → old.nets ≡ before ++ r ∷ after
+    → length before ≡ place
     → new ≡ record old { nets = before ++ raised by active r ∷ after }

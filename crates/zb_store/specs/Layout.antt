@@ -35,8 +35,14 @@ size_of bytes = from_le_bytes w32 (take 4 (drop 9 bytes))
 
 -- a slot is open where its gate is, and the record's length is at most the room of a record and lies within the disk
 unfoldable pub opened : List ℕ → Option Opened
-opened bytes = if gate_of bytes == open_gate && nat_le (size_of bytes) record_room && nat_le (13 + size_of bytes) (length bytes)
-    then Some (record { generation = generation_of bytes; content = take (size_of bytes) (drop 13 bytes); behind = drop (13 + size_of bytes) bytes })
+opened bytes = if gate_of bytes == open_gate && nat_le (size_of bytes) record_room
+    && nat_le (13 + size_of bytes) (length bytes)
+    then Some
+    (record {
+      generation = generation_of bytes;
+      content = take (size_of bytes) (drop 13 bytes);
+      behind = drop (13 + size_of bytes) bytes;
+    })
     else None
 
 -- a slot is open, and what it then holds
@@ -46,14 +52,16 @@ pub record IsOpen (s : List ℕ) : Type 0 where
   pub within : 13 + size_of s ≤ length s
 
 abbrev pub fields_of : List ℕ → Opened
-fields_of s = record { generation = generation_of s; content = take (size_of s) (drop 13 s); behind = drop (13 + size_of s) s }
+fields_of s =
+    record { generation = generation_of s; content = take (size_of s) (drop 13 s); behind = drop (13 + size_of s) s }
 
 -- An entry is a gate, a length of two bytes and that many bytes of payload. It stands where the gate is open and the
 -- length is at most the room of a payload and lies within the slot.
 unfoldable pub entry_of : List ℕ → Option (List ℕ)
 entry_of bytes =
     let size = from_le_bytes w16 (take 2 (drop 1 bytes)) in
-    if get_or bytes 0 0 == open_gate && nat_le size payload_room && nat_le (3 + size) (length bytes) then Some (take size (drop 3 bytes)) else None
+    if get_or bytes 0 0 == open_gate && nat_le size payload_room && nat_le (3 + size) (length bytes)
+    then Some (take size (drop 3 bytes)) else None
 
 -- one payload and those after it, or none
 abbrev pub followed : Option (List ℕ) → (List ℕ → List (List ℕ)) → List (List ℕ)
@@ -82,14 +90,22 @@ abbrev pub end_of : Standing → ℕ
 end_of s = 13 + length s.content + extent s.payloads
 
 abbrev pub standing_in : Bool → Opened → Standing
-standing_in second o = record { second = second; generation = o.generation; content = o.content; payloads = payloads_of entries_room o.behind }
+standing_in second o =
+    record {
+      second = second;
+      generation = o.generation;
+      content = o.content;
+      payloads = payloads_of entries_room
+          o.behind;
+    }
 
 -- of two open slots the one of the greater generation stands, and the first on a tie
 unfoldable pub elected : Option Opened → Option Opened → Option Standing
 elected None None = None
 elected (Some a) None = Some (standing_in false a)
 elected None (Some b) = Some (standing_in true b)
-elected (Some a) (Some b) = if nat_lt a.generation b.generation then Some (standing_in true b) else Some (standing_in false a)
+elected (Some a) (Some b) = if nat_lt a.generation b.generation then Some (standing_in true b)
+    else Some (standing_in false a)
 
 -- what the bytes represent
 unfoldable pub stands : List ℕ → Option Standing

@@ -20,7 +20,8 @@ failure_commits call = nat_lt 3 call
 
 -- whether the gates of both slots are open after a `put` that a stop ended, or a failure
 abbrev pub stop_opens_both : ℕ → List ℕ → Bool
-stop_opens_both calls torn = if calls == 3 then reads_open torn open_gate else (if calls == 4 then true else (calls == 5 && reads_open torn 0))
+stop_opens_both calls torn = if calls == 3 then reads_open torn open_gate
+    else (if calls == 4 then true else (calls == 5 && reads_open torn 0))
 
 abbrev pub failure_opens_both : ℕ → Bool
 failure_opens_both call = call == 4 || call == 5

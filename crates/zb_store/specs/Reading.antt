@@ -18,12 +18,20 @@ abbrev pub opens : Header → ℕ → Bool
 opens h room = h.gate == open_gate && nat_le h.size record_room && nat_le (13 + h.size) room
 
 abbrev pub found_in : Bool → Header → ℕ → Header → Found
-found_in second h room other = record { second = second; generation = h.generation; size = h.size; room = room; other_open = other.gate == open_gate }
+found_in second h room other =
+    record {
+      second = second;
+      generation = h.generation;
+      size = h.size;
+      room = room;
+      other_open = other.gate == open_gate;
+    }
 
 -- which of two slots stands
 abbrev pub chosen : Header → ℕ → Header → ℕ → Option Found
 chosen a a_room b b_room =
-    if opens b b_room && (not (opens a a_room) || nat_lt a.generation b.generation) then Some (found_in true b b_room a) else (if opens a a_room then Some (found_in false a a_room b) else None)
+    if opens b b_room && (not (opens a a_room) || nat_lt a.generation b.generation)
+    then Some (found_in true b b_room a) else (if opens a a_room then Some (found_in false a a_room b) else None)
 
 -- what was found is what stands
 pub record IsFoundIn (f : Found) (seen : List ℕ) : Type 0 where
@@ -61,11 +69,13 @@ pub record IsReadAs (s : Standing) (r : Contents) (seen : List ℕ) : Type 0 whe
 
 -- the generation that stands, and how many entries
 abbrev pub AreCounted : ℕ → ℕ → List ℕ → Type 0
-AreCounted generation entries seen = (s : Standing) × (stands seen ≡ Some s) × (generation ≡ s.generation) × (entries ≡ length s.payloads)
+AreCounted generation entries seen = (s : Standing) × (stands seen ≡ Some s) × (generation ≡ s.generation)
+    × (entries ≡ length s.payloads)
 
 -- the record that stands, and the payloads after it one after the other
 abbrev pub AreContents : List ℕ → List ℕ → List ℕ → Type 0
-AreContents content payloads seen = (s : Standing) × (stands seen ≡ Some s) × (content ≡ s.content) × (payloads ≡ concat s.payloads)
+AreContents content payloads seen = (s : Standing) × (stands seen ≡ Some s) × (content ≡ s.content)
+    × (payloads ≡ concat s.payloads)
 
 abbrev pub IsReadIn : Contents → List ℕ → Type 0
 IsReadIn r seen = (s : Standing) × IsReadAs s r seen

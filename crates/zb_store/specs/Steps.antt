@@ -54,7 +54,8 @@ pub data PlaceStop (tells : Telling) (at : ℕ) (bytes : List ℕ) (old new : Vi
   before_sync : StoppedAfter tells 1 old new → IsOpenRange at bytes old new → PlaceStop tells at bytes old new
 
 -- a range is written, and synced
-pub record IsPlaced {T E : Type 0} (tells : Telling) (at : ℕ) (bytes : List ℕ) (old new : View) (result : Result T E) : Type 0 where
+pub record IsPlaced {T E : Type 0} (tells : Telling) (at : ℕ) (bytes : List ℕ) (old new : View)
+    (result : Result T E) : Type 0 where
   pub seen : OnOk result (IsTrue tells.content → new.seen ≡ overwrite old.seen at bytes)
   pub durable : OnOk result (Only new.seen new.images)
   pub through : OnOk result (WentThrough tells 2 old new)
@@ -73,16 +74,21 @@ gated gate bytes seen = overwrite (staged gate bytes seen) gate (open_gate ∷ [
 -- bytes after a gate and then the gate: where it stopped
 pub data GateStop (tells : Telling) (gate : ℕ) (bytes : List ℕ) (old new : View) : Type 0 where
   before_bytes : StoppedAfter tells 0 old new → IsSame old new → GateStop tells gate bytes old new
-  bytes_unsynced : StoppedAfter tells 1 old new → Follows (Torn (gate + 1) (length bytes)) old.images new.images → GateStop tells gate bytes old new
-  before_gate : StoppedAfter tells 2 old new → Only (staged gate bytes old.seen) new.images → GateStop tells gate bytes old new
+  bytes_unsynced : StoppedAfter tells 1 old new → Follows (Torn (gate + 1) (length bytes)) old.images new.images
+      → GateStop tells gate bytes old new
+  before_gate : StoppedAfter tells 2 old new → Only (staged gate bytes old.seen) new.images
+      → GateStop tells gate bytes old new
   gate_unsynced : StoppedAfter tells 3 old new → new.seen ≡ gated gate bytes old.seen
-      → ((c : List ℕ) → new.images c → Torn gate 1 (staged gate bytes old.seen) c) → ((c : List ℕ) → Torn gate 1 (staged gate bytes old.seen) c → new.images c) → GateStop tells gate bytes old new
+      → ((c : List ℕ) → new.images c → Torn gate 1 (staged gate bytes old.seen) c)
+      → ((c : List ℕ) → Torn gate 1 (staged gate bytes old.seen) c → new.images c)
+      → GateStop tells gate bytes old new
 
 -- an image while bytes are written after a gate, and then the gate
 abbrev pub IsStage : ℕ → List ℕ → View → List ℕ → Type 0
 IsStage gate bytes old c = TornFrom old.images (gate + 1) (length bytes) c ⊎ Torn gate 1 (staged gate bytes old.seen) c
 
-pub record IsGated {T E : Type 0} (tells : Telling) (gate : ℕ) (bytes : List ℕ) (old new : View) (result : Result T E) : Type 0 where
+pub record IsGated {T E : Type 0} (tells : Telling) (gate : ℕ) (bytes : List ℕ) (old new : View)
+    (result : Result T E) : Type 0 where
   pub seen : OnOk result (IsTrue tells.content → new.seen ≡ gated gate bytes old.seen)
   pub durable : OnOk result (Only new.seen new.images)
   pub through : OnOk result (WentThrough tells 4 old new)

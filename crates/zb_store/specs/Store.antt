@@ -78,15 +78,21 @@ IsOtherShut s v = (c : List ℕ) → v.images c → gate_of (slot (not s.second)
 
 -- An `append` that failed: after how many writes and syncs, and what it left.
 pub data AppendStop (tells : Telling) (s : Standing) (payload : List ℕ) (old new : View) : Type 0 where
-  not_begun : (n : ℕ) → n < 3 → StoppedAfter tells n old new → IsUntouched (entry_gate s) s new → IsOtherShut s new → AppendStop tells s payload old new
-  opening : StoppedAfter tells 3 old new → IsGateOpening (entry_gate s) s (appended s payload) new → IsOtherShut s new → AppendStop tells s payload old new
+  not_begun : (n : ℕ) → n < 3 → StoppedAfter tells n old new → IsUntouched (entry_gate s) s new → IsOtherShut s new
+      → AppendStop tells s payload old new
+  opening : StoppedAfter tells 3 old new → IsGateOpening (entry_gate s) s (appended s payload) new → IsOtherShut s new
+      → AppendStop tells s payload old new
 
 -- A `put` that failed likewise.
 pub data PutStop (tells : Telling) (s : Standing) (content : List ℕ) (old new : View) : Type 0 where
-  not_begun : (n : ℕ) → n < 3 → StoppedAfter tells n old new → IsUntouched (other_gate s) s new → PutStop tells s content old new
-  opening : StoppedAfter tells 3 old new → IsGateOpening (other_gate s) s (replaced s content) new → PutStop tells s content old new
-  both_open : StoppedAfter tells 4 old new → IsBothOpen (other_gate s) (base_of s.second) (replaced s content) new → PutStop tells s content old new
-  closing : StoppedAfter tells 5 old new → IsGateClosing (base_of s.second) (replaced s content) new → PutStop tells s content old new
+  not_begun : (n : ℕ) → n < 3 → StoppedAfter tells n old new → IsUntouched (other_gate s) s new
+      → PutStop tells s content old new
+  opening : StoppedAfter tells 3 old new → IsGateOpening (other_gate s) s (replaced s content) new
+      → PutStop tells s content old new
+  both_open : StoppedAfter tells 4 old new → IsBothOpen (other_gate s) (base_of s.second) (replaced s content) new
+      → PutStop tells s content old new
+  closing : StoppedAfter tells 5 old new → IsGateClosing (base_of s.second) (replaced s content) new
+      → PutStop tells s content old new
 
 -- the gates of both slots are open
 abbrev pub both_gates_open : List ℕ → Bool
@@ -101,8 +107,10 @@ open_calls bytes = if both_gates_open bytes then 3 else 1
 pub data OpenStop (tells : Telling) (s : Standing) (old new : View) : Type 0 where
   reading : (IsTrue tells.refusals → old.off 0 ≡ true) → IsStill old new → OpenStop tells s old new
   not_synced : StoppedAfter tells 0 old new → IsSame old new → OpenStop tells s old new
-  both_open : both_gates_open old.seen ≡ true → StoppedAfter tells 1 old new → IsBothOpen (base_of s.second) (other_gate s) s new → OpenStop tells s old new
-  closing : both_gates_open old.seen ≡ true → StoppedAfter tells 2 old new → IsGateClosing (other_gate s) s new → OpenStop tells s old new
+  both_open : both_gates_open old.seen ≡ true → StoppedAfter tells 1 old new
+      → IsBothOpen (base_of s.second) (other_gate s) s new → OpenStop tells s old new
+  closing : both_gates_open old.seen ≡ true → StoppedAfter tells 2 old new → IsGateClosing (other_gate s) s new
+      → OpenStop tells s old new
 
 -- what `put` writes for this record: into the other slot, with the next generation
 pub record IsReplacement (s : Standing) (content : List ℕ) (second : Bool) (bytes : List ℕ) : Type 0 where
@@ -112,11 +120,15 @@ pub record IsReplacement (s : Standing) (content : List ℕ) (second : Bool) (by
   pub later : s.generation + 1 < 2 ^ 64
 
 -- a record with no entries is written into a slot, its gate is opened, and that of the other slot is closed
-pub record IsReplaced {T E : Type 0} (tells : Telling) (second : Bool) (bytes : List ℕ) (old new : View) (result : Result T E) : Type 0 where
-  pub moments : (s : Standing) (content : List ℕ) → IsReplacement s content second bytes → IsHeld s old → IsTrue tells.content → LeavesOnly old new (IsWholeEither s (replaced s content))
-  pub held : OnOk result ((s : Standing) (content : List ℕ) → IsReplacement s content second bytes → IsHeld s old → IsTrue tells.content → IsHeld (replaced s content) new)
+pub record IsReplaced {T E : Type 0} (tells : Telling) (second : Bool) (bytes : List ℕ) (old new : View)
+    (result : Result T E) : Type 0 where
+  pub moments : (s : Standing) (content : List ℕ) → IsReplacement s content second bytes → IsHeld s old
+      → IsTrue tells.content → LeavesOnly old new (IsWholeEither s (replaced s content))
+  pub held : OnOk result ((s : Standing) (content : List ℕ) → IsReplacement s content second bytes → IsHeld s old
+      → IsTrue tells.content → IsHeld (replaced s content) new)
   pub through : OnOk result (WentThrough tells 6 old new)
-  pub stopped : OnErr result ((s : Standing) (content : List ℕ) → IsReplacement s content second bytes → IsHeld s old → IsTrue tells.content → IsTrue tells.steady → PutStop tells s content old new)
+  pub stopped : OnErr result ((s : Standing) (content : List ℕ) → IsReplacement s content second bytes → IsHeld s old
+      → IsTrue tells.content → IsTrue tells.steady → PutStop tells s content old new)
   pub cause : HasCause old.faults new.faults result
   pub asked : WasAsked tells old new
 
@@ -131,11 +143,14 @@ pub record IsFound (s : Standing) (second other_open : Bool) (v : View) : Type 0
   pub gate : other_open ≡ (gate_of (slot (not s.second) v.seen) == open_gate)
 
 -- all is synced, and the other gate is closed where it was open
-pub record IsSettled {T E : Type 0} (tells : Telling) (second other_open : Bool) (old new : View) (result : Result T E) : Type 0 where
-  pub moments : (s : Standing) → IsFound s second other_open old → ((c : List ℕ) → old.images c → WasThere old c) → IsTrue tells.content → LeavesOnly old new (WasThere old)
+pub record IsSettled {T E : Type 0} (tells : Telling) (second other_open : Bool) (old new : View)
+    (result : Result T E) : Type 0 where
+  pub moments : (s : Standing) → IsFound s second other_open old → ((c : List ℕ) → old.images c → WasThere old c)
+      → IsTrue tells.content → LeavesOnly old new (WasThere old)
   pub held : OnOk result ((s : Standing) → IsFound s second other_open old → IsTrue tells.content → IsHeld s new)
   pub through : OnOk result (WentThrough tells (if other_open then 3 else 1) old new)
-  pub stopped : OnErr result ((s : Standing) → IsFound s second other_open old → IsTrue tells.content → IsTrue tells.steady → OpenStop tells s old new)
+  pub stopped : OnErr result ((s : Standing) → IsFound s second other_open old → IsTrue tells.content
+      → IsTrue tells.steady → OpenStop tells s old new)
   pub cause : HasCause old.faults new.faults result
   pub asked : WasAsked tells old new
 
@@ -151,18 +166,25 @@ IsTornLayout n old new = (c : List ℕ) × Torn 1 n old c × Torn (base_of true)
 -- the first is written. Where that was closed, nothing stands then, and the record stands in an image where the gate
 -- is open in it.
 pub data FormatStop (tells : Telling) (content : List ℕ) (old new : View) : Type 0 where
-  unsynced : (n : ℕ) → n < 3 → StoppedAfter tells n old new → Follows (IsTornLayout (13 + length content)) old.images new.images → FormatStop tells content old new
-  before_gate : StoppedAfter tells 3 old new → (get_or old.seen 0 0 ≢ open_gate → (c : List ℕ) → new.images c → stands c ≡ None) → FormatStop tells content old new
-  opening : StoppedAfter tells 4 old new → ((c : List ℕ) → new.images c → get_or c 0 0 ≡ open_gate → IsWhole (formatted content) c)
+  unsynced : (n : ℕ) → n < 3 → StoppedAfter tells n old new → Follows (IsTornLayout (13 + length content)) old.images
+      new.images → FormatStop tells content old new
+  before_gate : StoppedAfter tells 3 old new
+      → (get_or old.seen 0 0 ≢ open_gate → (c : List ℕ) → new.images c → stands c ≡ None)
+      → FormatStop tells content old new
+  opening : StoppedAfter tells 4 old new
+      → ((c : List ℕ) → new.images c → get_or c 0 0 ≡ open_gate → IsWhole (formatted content) c)
       → ((c : List ℕ) → new.images c → get_or c 0 0 ≢ open_gate → stands c ≡ None) → FormatStop tells content old new
 
 -- the body of a first record is written, and its gate is opened
-pub record IsLaidOut {T E : Type 0} (tells : Telling) (bytes : List ℕ) (old new : View) (result : Result T E) : Type 0 where
-  pub held : OnOk result ((content : List ℕ) → bytes ≡ body 1 content → length content ≤ record_room → IsTrue tells.content → IsHeld (formatted content) new)
-  pub through : OnOk result (WentThrough tells 5 old new)
-  pub stopped : OnErr result ((content : List ℕ) → bytes ≡ body 1 content → length content ≤ record_room → IsTrue tells.content → IsTrue tells.steady → FormatStop tells content old new)
-  pub cause : HasCause old.faults new.faults result
-  pub asked : WasAsked tells old new
+pub record IsLaidOut {T E : Type 0} (tells : Telling) (bytes : List ℕ) (old new : View) (result : Result T E) : Type 0
+  where
+    pub held : OnOk result ((content : List ℕ) → bytes ≡ body 1 content → length content ≤ record_room
+        → IsTrue tells.content → IsHeld (formatted content) new)
+    pub through : OnOk result (WentThrough tells 5 old new)
+    pub stopped : OnErr result ((content : List ℕ) → bytes ≡ body 1 content → length content ≤ record_room
+        → IsTrue tells.content → IsTrue tells.steady → FormatStop tells content old new)
+    pub cause : HasCause old.faults new.faults result
+    pub asked : WasAsked tells old new
 
 -- each image is whole
 abbrev pub AllWhole : View → Type 0

@@ -28,15 +28,19 @@ record Picked {A : Type 0} (pick : ℕ → Option A) (bytes rest : List ℕ) (x 
   parts : bytes ≡ byte ∷ rest
   stands : pick byte ≡ Some x
 
-picked : {A : Type 0} (pick : ℕ → Option A) (cut : ℕ) (bytes rest : List ℕ) (x : A) → follow (byte_at cut bytes) (λ b left. chosen (pick b) cut left) ≡ found x rest → Picked pick bytes rest x
+picked : {A : Type 0} (pick : ℕ → Option A) (cut : ℕ) (bytes rest : List ℕ) (x : A)
+    → follow (byte_at cut bytes) (λ b left. chosen (pick b) cut left) ≡ found x rest → Picked pick bytes rest x
 picked pick cut [] rest x e = absurd (cc)
 picked {A = A} pick cut (b ∷ bytes) rest x e = by_value (pick b) refl e
   where
     by_value : (o : Option A) → pick b ≡ o → chosen o cut bytes ≡ found x rest → Picked pick (b ∷ bytes) rest x
     by_value None is e = absurd (cc)
-    by_value (Some y) is e = let g = given y x bytes rest e in record { byte = b; parts = ap (λ l. b ∷ l) g.left; stands = is ∙ ap (λ z. Some z) g.value }
+    by_value (Some y) is e = let g =
+        given y x bytes rest e in
+        record { byte = b; parts = ap (λ l. b ∷ l) g.left; stands = is ∙ ap (λ z. Some z) g.value }
 
-version_picked : (bytes rest : List ℕ) (v : Version) → whole version_at bytes ≡ found v rest → Picked version_of bytes rest v
+version_picked : (bytes rest : List ℕ) (v : Version) → whole version_at bytes ≡ found v rest
+    → Picked version_of bytes rest v
 unfolding version_at
 version_picked bytes rest v e = picked version_of (length bytes) bytes rest v e
 
@@ -99,7 +103,8 @@ record_role bytes rest s e =
     record {
       read_role = a.value.role;
       begins = node_begins bytes a.between a.value a.one;
-      role_is = ap (λ (x : NodeState). x.role) (sym g.value) ∙ ap (λ (n : Node). model_role n.role) (head_node a.value a.between b.between b.value b.one);
+      role_is = ap (λ (x : NodeState). x.role) (sym g.value) ∙ ap (λ (n : Node). model_role n.role)
+          (head_node a.value a.between b.between b.value b.one);
     }
 
 read_begins : (bytes : List ℕ) (s : NodeState) → record_read bytes ≡ Ok s → RoleRead bytes s
@@ -109,7 +114,8 @@ read_begins bytes s e = by_result (record_at bytes) refl e
     answered : NodeState → Result NodeState ℕ
     answered t = Ok t
 
-    by_end : (x : NodeState × List ℕ) (b : Bool) → record_at bytes ≡ found x.0 x.1 → (if b then answered x.0 else Err (length x.1)) ≡ answered s → RoleRead bytes s
+    by_end : (x : NodeState × List ℕ) (b : Bool) → record_at bytes ≡ found x.0 x.1
+        → (if b then answered x.0 else Err (length x.1)) ≡ answered s → RoleRead bytes s
     by_end x true is e = let same : x.0 ≡ s = cc in subst (RoleRead bytes) same (record_role bytes x.1 x.0 is)
     by_end x false is e = absurd (cc)
 
@@ -125,15 +131,20 @@ byte_of_role b r e = by_tests (b == 0) (b == 1) (b == 2) refl refl refl e
     is_role x e = cc
 
     by_tests : (zero_ one two : Bool) → (b == 0) ≡ zero_ → (b == 1) ≡ one → (b == 2) ≡ two
-        → (if zero_ then Some role.Centre else if one then Some role.Router else if two then Some role.Device else None) ≡ Some r → b ≡ role_byte (model_role r)
-    by_tests true one two z o t e = eqb-true b 0 z ∙ ap (λ (x : Role). role_byte (model_role x)) (is_role role.Centre e)
-    by_tests false true two z o t e = eqb-true b 1 o ∙ ap (λ (x : Role). role_byte (model_role x)) (is_role role.Router e)
-    by_tests false false true z o t e = eqb-true b 2 t ∙ ap (λ (x : Role). role_byte (model_role x)) (is_role role.Device e)
+        → (if zero_ then Some role.Centre else if one then Some role.Router else if two then Some role.Device
+        else None) ≡ Some r → b ≡ role_byte (model_role r)
+    by_tests true one two z o t e = eqb-true b 0 z ∙ ap (λ (x : Role). role_byte (model_role x))
+        (is_role role.Centre e)
+    by_tests false true two z o t e = eqb-true b 1 o ∙ ap (λ (x : Role). role_byte (model_role x))
+        (is_role role.Router e)
+    by_tests false false true z o t e = eqb-true b 2 t ∙ ap (λ (x : Role). role_byte (model_role x))
+        (is_role role.Device e)
     by_tests false false false z o t e = absurd (cc)
 
 second_byte : (bytes : List ℕ) (s : NodeState) → RoleRead bytes s → get_or bytes 1 3 ≡ role_byte s.role
 second_byte bytes s read =
-    ap (λ (l : List ℕ). get_or l 1 3) read.begins.parts ∙ byte_of_role read.begins.second read.read_role read.begins.role_is ∙ ap role_byte (sym read.role_is)
+    ap (λ (l : List ℕ). get_or l 1 3) read.begins.parts ∙ byte_of_role read.begins.second read.read_role
+    read.begins.role_is ∙ ap role_byte (sym read.role_is)
 
 role_of_byte : (a b : model.Role) → role_byte a ≡ role_byte b → a ≡ b
 role_of_byte Centre Centre e = refl
@@ -147,18 +158,23 @@ role_of_byte Device Centre e = absurd (cc)
 role_of_byte Device Router e = absurd (cc)
 
 -- What is read of a record that isn't of another role is of this one, and the other way round.
-pub read_of_role : (role : model.Role) (bytes : List ℕ) (s : NodeState) → record_read bytes ≡ Ok s → is_of_other role bytes ≡ false → s.role ≡ role
+pub read_of_role : (role : model.Role) (bytes : List ℕ) (s : NodeState) → record_read bytes ≡ Ok s
+    → is_of_other role bytes ≡ false → s.role ≡ role
 read_of_role role bytes s e other =
     let read = read_begins bytes s e in
-    let versioned : is_some (record_version bytes) ≡ true = ap (λ (l : List ℕ). is_some (record_version l)) read.begins.parts ∙ read.begins.versioned in
-    role_of_byte s.role role (sym (second_byte bytes s read) ∙ eqb-true _ _ (by_tests (is_some (record_version bytes)) (get_or bytes 1 3 == role_byte role) versioned other))
+    let versioned : is_some (record_version bytes) ≡ true = ap (λ (l : List ℕ). is_some (record_version l))
+    read.begins.parts ∙ read.begins.versioned in
+    role_of_byte s.role role
+    (sym (second_byte bytes s read) ∙ eqb-true _ _
+    (by_tests (is_some (record_version bytes)) (get_or bytes 1 3 == role_byte role) versioned other))
   where
     by_tests : (a b : Bool) → a ≡ true → (a && not b) ≡ false → b ≡ true
     by_tests true true p q = refl
     by_tests true false p q = absurd (cc)
     by_tests false b p q = absurd (cc)
 
-pub of_this_role : (role : model.Role) (bytes : List ℕ) (s : NodeState) → record_read bytes ≡ Ok s → s.role ≡ role → is_of_other role bytes ≡ false
+pub of_this_role : (role : model.Role) (bytes : List ℕ) (s : NodeState) → record_read bytes ≡ Ok s → s.role ≡ role
+    → is_of_other role bytes ≡ false
 of_this_role role bytes s e role_is =
     let same = second_byte bytes s (read_begins bytes s e) ∙ ap role_byte role_is in
     rw (eq-eqb (get_or bytes 1 3) (role_byte role) same) (no_test (is_some (record_version bytes)))

@@ -33,4 +33,5 @@ tables_after changes accepts seals s = sealed_all seals (accepted_all accepts (s
 
 -- The core after an event: its setting stays.
 abbrev pub IsValueAfter : List Change → List Term → List Term → CoreValue → CoreValue → Type 0
-IsValueAfter changes accepts seals c d = d ≡ record { setting = c.setting; tables = tables_after changes accepts seals c.tables }
+IsValueAfter changes accepts seals c d = d
+    ≡ record { setting = c.setting; tables = tables_after changes accepts seals c.tables }

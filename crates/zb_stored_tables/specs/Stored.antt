@@ -40,13 +40,15 @@ behind before total t (Ok rest) = Ok (after_boot t)
 behind before total t (Err left) = Err (before + place_of total left)
 
 abbrev pub state_behind : List ℕ → List ℕ → Result NodeState ℕ → Result NodeState ℕ
-state_behind content entries (Ok s) = behind (length content) (length entries) (redone (version_in content) entries s).0 (redone (version_in content) entries s).1
+state_behind content entries (Ok s) = behind (length content) (length entries)
+    (redone (version_in content) entries s).0 (redone (version_in content) entries s).1
 state_behind content entries (Err left) = Err (place_of (length content) left)
 
 -- The state with which a node of this role boots on a record and the payloads after it, or the place of the first
 -- fault.
 unfoldable pub state_given : Role → List ℕ → List ℕ → Result NodeState ℕ
-state_given role content entries = if is_of_other role content then Err 1 else state_behind content entries (record_read content)
+state_given role content entries = if is_of_other role content then Err 1
+    else state_behind content entries (record_read content)
 
 -- of tables that aren't made: bad bytes, at their place, or out of memory, and no other fault
 abbrev pub IsGivenFault : Result NodeState ℕ → OrMemory KeyError → Type 0

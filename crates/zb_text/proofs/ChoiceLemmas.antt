@@ -23,13 +23,15 @@ abbrev value_or : {X : Type 0} → X → Option X → X
 value_or x None = x
 value_or x (Some y) = y
 
-by_test : {X : Type 0} (text : X → List ℕ) (word : List ℕ) (x y : X) (rest : Option X) (same : Bool) → bytes_eq word (text y) ≡ same
+by_test : {X : Type 0} (text : X → List ℕ) (word : List ℕ) (x y : X) (rest : Option X) (same : Bool)
+    → bytes_eq word (text y) ≡ same
     → (rest ≡ Some x → word ≡ text x) → (if same then Some y else rest) ≡ Some x → word ≡ text x
 by_test text word x y rest true e behind h = (bytes_eq-Decides word (text y)).0 e ∙ ap (λ o. text (value_or y o)) h
 by_test text word x y rest false e behind h = behind h
 
 -- a word that reads as a value is its text
-pub value_is_text : {X : Type 0} (text : X → List ℕ) (values : List X) (word : List ℕ) (x : X) → value_among text values word ≡ Some x → word ≡ text x
+pub value_is_text : {X : Type 0} (text : X → List ℕ) (values : List X) (word : List ℕ) (x : X)
+    → value_among text values word ≡ Some x → word ≡ text x
 value_is_text text [] word x h = cc h
 value_is_text text (y ∷ more) word x h =
     by_test text word x y (value_among text more word) (bytes_eq word (text y)) refl (value_is_text text more word x) h
@@ -84,7 +86,8 @@ attribute_words attribute.Unverified = refl
 attribute_words attribute.Verified = refl
 
 pub attribute_both_ways : IsBothWays attribute_text attribute_of
-attribute_both_ways = record { word = attribute_words; reads = attribute_again; printed = value_is_text attribute_text attributes }
+attribute_both_ways =
+    record { word = attribute_words; reads = attribute_again; printed = value_is_text attribute_text attributes }
 
 pub state_again : (x : State) → state_of (state_text x) ≡ Some x
 state_again state.Fresh = refl
@@ -116,7 +119,8 @@ rollover_words rollover.Idle = refl
 rollover_words rollover.Sending = refl
 
 pub rollover_both_ways : IsBothWays rollover_text rollover_of
-rollover_both_ways = record { word = rollover_words; reads = rollover_again; printed = value_is_text rollover_text rollovers }
+rollover_both_ways =
+    record { word = rollover_words; reads = rollover_again; printed = value_is_text rollover_text rollovers }
 
 pub place_again : (x : Place) → place_of (place_text x) ≡ Some x
 place_again place.Nwk = refl

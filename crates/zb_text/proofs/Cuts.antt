@@ -24,10 +24,12 @@ cut_none c xs none =
 pub cut_some : (c at : ℕ) (xs : List ℕ) → position (λ b. b == c) xs ≡ Some at
     → parts c xs ≡ take at xs ∷ parts c (take (length (drop at xs) - 1) (drop 1 (drop at xs)))
 cut_some c at xs found =
-    let here = cond_some (nat_lt (position_or_len (λ b. b == c) xs) (length xs)) (position_or_len (λ b. b == c) xs) at found in
+    let here = cond_some (nat_lt (position_or_len (λ b. b == c) xs) (length xs)) (position_or_len (λ b. b == c) xs) at
+    found in
     let within : position_or_len (λ b. b == c) xs < length xs = grind (arith, nat_tests, here.0) in
     let behind : drop (at + 1) xs ≡ take (length (drop at xs) - 1) (drop 1 (drop at xs)) =
-    sym (take_all (length (drop at xs) - 1) (drop 1 (drop at xs)) (omega (arith, length-drop 1 (drop at xs))) ∙ drop-drop 1 at xs) in
+    sym (take_all (length (drop at xs) - 1) (drop 1 (drop at xs)) (omega (arith, length-drop 1 (drop at xs))) ∙
+    drop-drop 1 at xs) in
     slice_split_first (λ b. b == c) xs 0 within
     ∙ ap (λ (i : ℕ). take i xs ∷ slice_split (λ b. b == c) (drop (i + 1) xs)) here.1
     ∙ ap (λ (rest : List ℕ). take at xs ∷ slice_split (λ b. b == c) rest) behind

@@ -12,7 +12,9 @@ encode_upper-append (x ∷ xs) ys = rw (encode_upper-append xs ys) refl
 
 pub encode_upper_more : (bytes : List ℕ) (i : ℕ) → i < length bytes
     → encode_upper (take (i + 1) bytes) ≡ encode_upper (take i bytes) ++ encode_upper (get_or bytes i 0 ∷ [])
-encode_upper_more bytes i within = rw add-one (ap encode_upper (take-suc bytes i 0 within) ∙ encode_upper-append (take i bytes) (get_or bytes i 0 ∷ []))
+encode_upper_more bytes i within =
+    rw add-one
+    (ap encode_upper (take-suc bytes i 0 within) ∙ encode_upper-append (take i bytes) (get_or bytes i 0 ∷ []))
 
 pub ruleset one_more_byte = (encode_upper_more, append_assoc)
 

@@ -5,12 +5,14 @@ use Rattle.std.proofs.lemmas.Bool.Decides.{nat_tests}
 use Rattle.zb_text.specs.Words.{parts, nothing}
 use Rattle.zb_text.proofs.Cuts.{parts_are_some}
 
-front_line : (line : List ℕ) (ps : List (List ℕ)) → nothing ps ≡ None → lines_of_parts (line ∷ ps) ≡ strip_carriage_return line ∷ lines_of_parts ps
+front_line : (line : List ℕ) (ps : List (List ℕ)) → nothing ps ≡ None → lines_of_parts (line ∷ ps)
+    ≡ strip_carriage_return line ∷ lines_of_parts ps
 front_line line [] some = cc some
 front_line line (part ∷ ps) some = refl
 
 -- a line feed ends the first line
-pub lines_front : (text line rest : List ℕ) → parts 10 text ≡ line ∷ parts 10 rest → lines text ≡ strip_carriage_return line ∷ lines rest
+pub lines_front : (text line rest : List ℕ) → parts 10 text ≡ line ∷ parts 10 rest → lines text
+    ≡ strip_carriage_return line ∷ lines rest
 lines_front text line rest e = ap lines_of_parts e ∙ front_line line (parts 10 rest) (parts_are_some 10 rest)
 
 last_line : (line : List ℕ) → (line ≡ [] → ⊥) → lines_of_parts (line ∷ []) ≡ line ∷ []

@@ -15,9 +15,11 @@ name_byte_is_ascii b h = (grind (arith, nat_tests), grind (arith, nat_tests))
 byte_of_name : (word : List ℕ) → list_all is_name_byte word ≡ true → (i : ℕ) → i < length word → get_or word i 0 < 128
 byte_of_name word h i lt = (name_byte_is_ascii (get_or word i 0) (AllPass-from_list_all is_name_byte word h i 0 lt)).1
 
-some_place : (word : List ℕ) (i : ℕ) → ((i < length word) → get_or word i 0 < 128) → (i < length word) ⊎ (length word ≤ i) → get_or word i 0 < 128
+some_place : (word : List ℕ) (i : ℕ) → ((i < length word) → get_or word i 0 < 128) → (i < length word)
+    ⊎ (length word ≤ i) → get_or word i 0 < 128
 some_place word i within (inl lt) = within lt
 some_place word i within (inr le) = omega (arith, get_or_past word i 0 le)
 
 pub name_is_text : (word : List ℕ) → list_all is_name_byte word ≡ true → IsUtf8 word
-name_is_text word h = IsUtf8-from_ascii word (λ i. some_place word i (byte_of_name word h i) (cases_lt i (length word)))
+name_is_text word h =
+    IsUtf8-from_ascii word (λ i. some_place word i (byte_of_name word h i) (cases_lt i (length word)))

@@ -84,7 +84,8 @@ itself None = refl
 itself (Some x) = refl
 
 judged : (text : List ℕ) (is_odd : Bool) → (length text % 2 == 1) ≡ is_odd
-    → result_ok (cond {A = Result (List ℕ) FromHexError} is_odd (Err OddLength) (decode_pairs 0 text)) ≡ spelled_from [] text
+    → result_ok (cond {A = Result (List ℕ) FromHexError} is_odd (Err OddLength) (decode_pairs 0 text))
+    ≡ spelled_from [] text
 judged text true e =
     let is_odd : length text % 2 ≡ 1 = grind (arith, nat_tests) in sym (odd [] text is_odd)
 judged text false e = sym (itself (result_ok (decode_pairs 0 text))) ∙ decodes 0 [] text

@@ -21,9 +21,11 @@ place_of n at = cond (nat_lt at n) (Some at) None
 pub first_place : (c : ℕ) (xs : List ℕ) (r : Option ℕ) → IsFirstByte (is_byte c) xs r → r ≡ position (λ b. b == c) xs
 first_place c xs None h =
     let n = length xs in
-    let behind = position_or_len_is (λ b. b == c) xs n 0 (omega arith) (λ k within. not_true _ (h k (omega arith) within)) (λ within. absurd (omega (arith, within))) in
+    let behind = position_or_len_is (λ b. b == c) xs n 0 (omega arith)
+    (λ k within. not_true _ (h k (omega arith) within)) (λ within. absurd (omega (arith, within))) in
     sym (ap (place_of n) behind ∙ ap (λ (b : Bool). cond b (Some n) None) (not_less n))
 first_place c xs (Some k) h =
     let n = length xs in
-    let here = position_or_len_is (λ b. b == c) xs k 0 (omega (arith, h.0.high)) (λ j before. not_true _ (h.0.before j (omega arith) before)) (λ within. h.1) in
+    let here = position_or_len_is (λ b. b == c) xs k 0 (omega (arith, h.0.high))
+    (λ j before. not_true _ (h.0.before j (omega arith) before)) (λ within. h.1) in
     sym (ap (place_of n) here ∙ ap (λ (b : Bool). cond b (Some k) None) (is_less k n h.0.high))

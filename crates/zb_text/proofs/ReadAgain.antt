@@ -30,7 +30,8 @@ use Rattle.zb_text.proofs.NameLemmas.{name_byte_is_ascii}
 
 lacks_space : (word : List ℕ) → IsWord word → (k d : ℕ) → k < length word → (get_or word k d == 32) ≡ false
 lacks_space word fits k d lt =
-    let above : nat_lt 32 (get_or word k d) ≡ true = AllPass-from_list_all (λ byte. nat_lt 32 byte) word fits k d lt in grind (arith, nat_tests)
+    let above : nat_lt 32 (get_or word k d) ≡ true = AllPass-from_list_all (λ byte. nat_lt 32 byte) word fits k d lt
+    in grind (arith, nat_tests)
 
 -- the words of a line of words
 pub words_again : (word : List ℕ) (more : List (List ℕ)) → IsWord word → AllByRecursion IsWord more
@@ -42,12 +43,14 @@ words_again word (next ∷ more) fits rest =
 
 lacks_line_feed : (line : List ℕ) → IsLine line → (k d : ℕ) → k < length line → (get_or line k d == 10) ≡ false
 lacks_line_feed line fits k d lt =
-    let above : nat_lt 31 (get_or line k d) ≡ true = AllPass-from_list_all (λ byte. nat_lt 31 byte) line fits k d lt in grind (arith, nat_tests)
+    let above : nat_lt 31 (get_or line k d) ≡ true = AllPass-from_list_all (λ byte. nat_lt 31 byte) line fits k d lt
+    in grind (arith, nat_tests)
 
 keeps_its_end : (line : List ℕ) → IsLine line → strip_carriage_return line ≡ line
 keeps_its_end [] fits = refl
 keeps_its_end (b ∷ bs) fits =
-    let above : nat_lt 31 (get_or (b ∷ bs) (length (b ∷ bs) - 1) 0) ≡ true = AllPass-from_list_all (λ byte. nat_lt 31 byte) (b ∷ bs) fits (length (b ∷ bs) - 1) 0 (omega arith) in
+    let above : nat_lt 31 (get_or (b ∷ bs) (length (b ∷ bs) - 1) 0) ≡ true =
+    AllPass-from_list_all (λ byte. nat_lt 31 byte) (b ∷ bs) fits (length (b ∷ bs) - 1) 0 (omega arith) in
     let other : (get_or (b ∷ bs) (length (b ∷ bs) - 1) 0 == 13) ≡ false = grind (arith, nat_tests) in
     rw other refl
 
@@ -56,7 +59,8 @@ pub lines_again : (ls : List (List ℕ)) → AllByRecursion IsLine ls → lines 
 lines_again [] fit = refl
 lines_again (line ∷ more) fit =
     ap lines (append_assoc line (10 ∷ []) (page more))
-    ∙ lines_front (line ++ 10 ∷ page more) line (page more) (slice_split_at (λ b. b == 10) line 10 (page more) (lacks_line_feed line fit.0) refl)
+    ∙ lines_front (line ++ 10 ∷ page more) line (page more)
+    (slice_split_at (λ b. b == 10) line 10 (page more) (lacks_line_feed line fit.0) refl)
     ∙ rw (keeps_its_end line fit.0, lines_again more fit.1) refl
 
 -- ---- numbers
@@ -74,7 +78,8 @@ one_more_digit : (before after : ℕ) (digits : List ℕ) (digit : ℕ) → digi
     → digits_after before (digits ++ digit ∷ []) ≡ digits_after after (digit ∷ [])
 one_more_digit before after [] digit e = ap (λ n. digits_after n (digit ∷ [])) (ap value_or_zero e)
 one_more_digit before after (b ∷ bs) digit e =
-    if_read (is_ascii_digit b) (digits_after (before * 10 + (b - 48)) bs) (digits_after (before * 10 + (b - 48)) (bs ++ digit ∷ []))
+    if_read (is_ascii_digit b) (digits_after (before * 10 + (b - 48)) bs)
+    (digits_after (before * 10 + (b - 48)) (bs ++ digit ∷ []))
     (digits_after after (digit ∷ [])) after (one_more_digit (before * 10 + (b - 48)) after bs digit) e
 
 last_digit : (before n : ℕ) → before * 10 + n % 10 ≡ n → digits_after before ((48 + n % 10) ∷ []) ≡ Some n
@@ -107,7 +112,8 @@ well_begun_above n pos lt =
 
 well_begun_by : (n : ℕ) → n < 2 ^ 64 → (0 < n) ⊎ (n ≤ 0) → is_ill_begun (decimal n) ≡ false
 well_begun_by n lt (inl pos) = well_begun_above n pos lt
-well_begun_by n lt (inr zero_at_most) = let is_zero : n ≡ 0 = omega arith in rw (is_zero, decimal_digit 0 (lit< tt)) refl
+well_begun_by n lt (inr zero_at_most) = let is_zero : n ≡ 0 = omega arith in rw (is_zero, decimal_digit 0 (lit< tt))
+    refl
 
 well_begun : (n : ℕ) → n < 2 ^ 64 → is_ill_begun (decimal n) ≡ false
 well_begun n lt = well_begun_by n lt (cases_lt 0 n)
@@ -119,7 +125,8 @@ number_again limit n le lt =
 
 -- ---- bytes
 
-pub fixed_again : (bytes : List ℕ) (count : ℕ) → length bytes ≡ count → IsBytes bytes → fixed_of count (encode_upper bytes) ≡ Some bytes
+pub fixed_again : (bytes : List ℕ) (count : ℕ) → length bytes ≡ count → IsBytes bytes
+    → fixed_of count (encode_upper bytes) ≡ Some bytes
 fixed_again bytes count long fit =
     let twice : length (encode_upper bytes) ≡ 2 * count = omega (arith, length-encode_with upper_digits bytes) in
     ap result_ok (decode_sized-twice (encode_upper bytes) count twice ∙ decode_of-encode_upper bytes fit)
@@ -129,14 +136,17 @@ false_unless true no_way = absurd (no_way refl)
 false_unless false no_way = refl
 
 pub differ : (xs ys : List ℕ) → (length xs ≡ length ys → ⊥) → bytes_eq xs ys ≡ false
-differ xs ys longer = false_unless (bytes_eq xs ys) (λ same. longer (ap (length {A = ℕ}) ((bytes_eq-Decides xs ys).0 same)))
+differ xs ys longer =
+    false_unless (bytes_eq xs ys) (λ same. longer (ap (length {A = ℕ}) ((bytes_eq-Decides xs ys).0 same)))
 
-pub bytes_again : (limit : ℕ) (bytes : List ℕ) → length bytes ≤ limit → IsBytes bytes → bytes_of limit (bytes_text bytes) ≡ Some bytes
+pub bytes_again : (limit : ℕ) (bytes : List ℕ) → length bytes ≤ limit → IsBytes bytes
+    → bytes_of limit (bytes_text bytes) ≡ Some bytes
 bytes_again limit [] le fit = refl
 bytes_again limit (b ∷ bs) le fit =
     let twice = length-encode_with upper_digits (b ∷ bs) in
     let many : 0 < length (b ∷ bs) = omega arith in
-    let no_dash : bytes_eq (encode_upper (b ∷ bs)) (codes "-") ≡ false = differ (encode_upper (b ∷ bs)) (codes "-") (λ e. absurd (omega arith)) in
+    let no_dash : bytes_eq (encode_upper (b ∷ bs)) (codes "-") ≡ false = differ (encode_upper (b ∷ bs)) (codes "-")
+    (λ e. absurd (omega arith)) in
     let some : (length (encode_upper (b ∷ bs)) == 0) ≡ false = grind (arith, nat_tests, twice, many) in
     let room : nat_lt limit (length (encode_upper (b ∷ bs)) / 2) ≡ false = grind (arith, nat_tests, twice, le) in
     rw (no_dash, some, room) (ap result_ok (decode_of-encode_upper (b ∷ bs) fit))
@@ -148,17 +158,22 @@ bytes_from_each (b ∷ bs) fit (suc i) = bytes_from_each bs fit.1 i
 
 pub IsBytes-eui : (eui : ℕ) → IsBytes (to_be_bytes w64 eui)
 IsBytes-eui eui =
-    bytes_from_each (to_be_bytes w64 eui)
-    (omega arith, (omega arith, (omega arith, (omega arith, (omega arith, (omega arith, (omega arith, (omega arith, tt))))))))
+    bytes_from_each (to_be_bytes w64 eui) (
+      omega arith,
+      (omega arith, (omega arith, (omega arith, (omega arith, (omega arith, (omega arith, (omega arith, tt))))))),
+    )
 
 pub IsBytes-short : (short : ℕ) → IsBytes (to_be_bytes w16 short)
 IsBytes-short short = bytes_from_each (to_be_bytes w16 short) (omega arith, (omega arith, tt))
 
 pub eui_again : (eui : ℕ) → eui < 2 ^ 64 → eui_of (eui_text eui) ≡ Some eui
-eui_again eui lt = ap (option_map (from_be_bytes w64)) (fixed_again (to_be_bytes w64 eui) 8 refl (IsBytes-eui eui)) ∙ ap Some (from_be_bytes-to_be_bytes_8 eui lt)
+eui_again eui lt = ap (option_map (from_be_bytes w64)) (fixed_again (to_be_bytes w64 eui) 8 refl (IsBytes-eui eui)) ∙
+    ap Some (from_be_bytes-to_be_bytes_8 eui lt)
 
 pub short_again : (short : ℕ) → short < 2 ^ 16 → short_of (short_text short) ≡ Some short
-short_again short lt = ap (option_map (from_be_bytes w16)) (fixed_again (to_be_bytes w16 short) 2 refl (IsBytes-short short)) ∙ ap Some (from_be_bytes-to_be_bytes_2 short lt)
+short_again short lt =
+    ap (option_map (from_be_bytes w16)) (fixed_again (to_be_bytes w16 short) 2 refl (IsBytes-short short)) ∙ ap Some
+    (from_be_bytes-to_be_bytes_2 short lt)
 
 -- ---- which texts are words
 
@@ -166,15 +181,18 @@ and_right : (a b : Bool) → (a && b) ≡ true → b ≡ true
 and_right true b h = h
 and_right false b h = cc h
 
-weaker : (p q : ℕ → Bool) → ((b : ℕ) → p b ≡ true → q b ≡ true) → (bs : List ℕ) → list_all p bs ≡ true → list_all q bs ≡ true
-weaker p q implies bs h = list_all-from_AllPass q bs (λ k d lt. implies (get_or bs k d) (AllPass-from_list_all p bs h k d lt))
+weaker : (p q : ℕ → Bool) → ((b : ℕ) → p b ≡ true → q b ≡ true) → (bs : List ℕ) → list_all p bs ≡ true → list_all q bs
+    ≡ true
+weaker p q implies bs h =
+    list_all-from_AllPass q bs (λ k d lt. implies (get_or bs k d) (AllPass-from_list_all p bs h k d lt))
 
 above_space : (b : ℕ) → is_name_byte b ≡ true → nat_lt 32 b ≡ true
 above_space b h = let ranges = name_byte_is_ascii b h in grind (arith, nat_tests, ranges)
 
 pub IsWord-name : (name : List ℕ) → is_name name ≡ true → IsWord name
 IsWord-name name h =
-    weaker is_name_byte (λ byte. nat_lt 32 byte) above_space name (and_right (nat_le 1 (length name) && nat_le (length name) 16) (list_all is_name_byte name) h)
+    weaker is_name_byte (λ byte. nat_lt 32 byte) above_space name
+    (and_right (nat_le 1 (length name) && nat_le (length name) 16) (list_all is_name_byte name) h)
 
 IsWord-append : (xs ys : List ℕ) → IsWord xs → IsWord ys → IsWord (xs ++ ys)
 IsWord-append xs ys p q = rw (list_all-append (λ byte. nat_lt 32 byte) xs ys, p, q) refl
@@ -213,7 +231,11 @@ pub IsLine-words : (words : List (List ℕ)) → AllByRecursion IsWord words →
 IsLine-words [] fit = refl
 IsLine-words (word ∷ []) fit = IsLine-word word fit.0
 IsLine-words (word ∷ next ∷ more) fit =
-    rw (list_all-append (λ byte. nat_lt 31 byte) word (32 ∷ line_of_words (next ∷ more)), IsLine-word word fit.0, IsLine-words (next ∷ more) fit.1) refl
+    rw (
+      list_all-append (λ byte. nat_lt 31 byte) word (32 ∷ line_of_words (next ∷ more)),
+      IsLine-word word fit.0,
+      IsLine-words (next ∷ more) fit.1,
+    ) refl
 
 pub name_again : (name : List ℕ) → is_name name ≡ true → name_of name ≡ Some name
 name_again name h = rw h refl

@@ -82,7 +82,8 @@ abbrev pub attributes : List Attribute
 attributes = attribute.Provisional ∷ attribute.Unverified ∷ attribute.Verified ∷ []
 
 abbrev pub states : List State
-states = state.Fresh ∷ state.Knocked ∷ state.Joined ∷ state.Offered ∷ state.Confirmed ∷ state.Rejoining ∷ state.Gone ∷ []
+states = state.Fresh ∷ state.Knocked ∷ state.Joined ∷ state.Offered ∷ state.Confirmed ∷ state.Rejoining ∷ state.Gone
+    ∷ []
 
 abbrev pub rollovers : List Rollover
 rollovers = rollover.Sending ∷ rollover.Idle ∷ []

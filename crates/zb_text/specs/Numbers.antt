@@ -5,7 +5,8 @@ use Rattle.std.specs.Char.{is_ascii_digit}
 -- The number whose digits are those of `number` and then `digits`.
 abbrev pub digits_after : ℕ → List ℕ → Option ℕ
 digits_after number [] = Some number
-digits_after number (digit ∷ more) = if is_ascii_digit digit then digits_after (number * 10 + (digit - 48)) more else None
+digits_after number (digit ∷ more) = if is_ascii_digit digit then digits_after (number * 10 + (digit - 48)) more
+    else None
 
 -- A number that is at most `limit`.
 abbrev pub up_to : ℕ → Option ℕ → Option ℕ

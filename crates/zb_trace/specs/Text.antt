@@ -133,7 +133,8 @@ detail_words (detail.Number number) = counted number ∷ []
 detail_words (detail.Partner partner) = Address partner.0 ∷ []
 
 unfoldable pub refusal_words : Refusal → List Word
-refusal_words r = Chosen places (place_text (place_of r)) ∷ Fixed (reason_word (reason_of r)) ∷ detail_words (reason_detail (reason_of r))
+refusal_words r = Chosen places (place_text (place_of r)) ∷ Fixed (reason_word (reason_of r))
+    ∷ detail_words (reason_detail (reason_of r))
 
 -- the beginning of a line: the number of its event and its kind, and the node that it speaks of
 abbrev pub begun : ℕ → List ℕ → List Word → List Word
@@ -145,22 +146,33 @@ begun_of event kind node more = counted event ∷ Fixed kind ∷ Called node ∷
 -- The words of each line.
 abbrev pub words : Line → List Word
 words (line.Node name r eui short out_block in_block) =
-    begun_of 0 (codes "node") name.bytes (Chosen roles (role_text r) ∷ Address eui.0 ∷ ShortAddress short.0 ∷ counted out_block ∷ counted in_block ∷ [])
-words (line.GivenNet node key sequence) = begun_of 0 (codes "given") node.bytes (Fixed (codes "net") ∷ Secret key.0 ∷ sequenced sequence ∷ [])
-words (line.GivenLink node partner key) = begun_of 0 (codes "given") node.bytes (Fixed (codes "link") ∷ Address partner.0 ∷ Secret key.0 ∷ [])
-words (line.Counter node l limit) = begun_of 0 (codes "counter") node.bytes (Chosen layers (layer_text l) ∷ counted limit ∷ [])
-words (line.Reserve event node l limit) = begun_of event (codes "reserve") node.bytes (Chosen layers (layer_text l) ∷ counted limit ∷ [])
+    begun_of 0 (codes "node") name.bytes
+    (Chosen roles (role_text r) ∷ Address eui.0 ∷ ShortAddress short.0 ∷ counted out_block ∷ counted in_block ∷ [])
+words (line.GivenNet node key sequence) =
+    begun_of 0 (codes "given") node.bytes (Fixed (codes "net") ∷ Secret key.0 ∷ sequenced sequence ∷ [])
+words (line.GivenLink node partner key) =
+    begun_of 0 (codes "given") node.bytes (Fixed (codes "link") ∷ Address partner.0 ∷ Secret key.0 ∷ [])
+words (line.Counter node l limit) =
+    begun_of 0 (codes "counter") node.bytes (Chosen layers (layer_text l) ∷ counted limit ∷ [])
+words (line.Reserve event node l limit) = begun_of event (codes "reserve") node.bytes
+    (Chosen layers (layer_text l) ∷ counted limit ∷ [])
 words (line.Floor event node l key sender value) =
-    begun_of event (codes "floor") node.bytes (Chosen layers (layer_text l) ∷ Secret key.0 ∷ Address sender.0 ∷ counted value ∷ [])
+    begun_of event (codes "floor") node.bytes
+    (Chosen layers (layer_text l) ∷ Secret key.0 ∷ Address sender.0 ∷ counted value ∷ [])
 words (line.Draw event key) = begun event (codes "draw") (Secret key.0 ∷ [])
-words (line.DropNet event node key) = begun_of event (codes "drop") node.bytes (Fixed (codes "net") ∷ Secret key.0 ∷ [])
-words (line.DropLink event node partner key) = begun_of event (codes "drop") node.bytes (Fixed (codes "link") ∷ Address partner.0 ∷ Secret key.0 ∷ [])
-words (line.Install event node key sequence) = begun_of event (codes "install") node.bytes (Secret key.0 ∷ sequenced sequence ∷ [])
+words (line.DropNet event node key) = begun_of event (codes "drop") node.bytes
+    (Fixed (codes "net") ∷ Secret key.0 ∷ [])
+words (line.DropLink event node partner key) = begun_of event (codes "drop") node.bytes
+    (Fixed (codes "link") ∷ Address partner.0 ∷ Secret key.0 ∷ [])
+words (line.Install event node key sequence) = begun_of event (codes "install") node.bytes
+    (Secret key.0 ∷ sequenced sequence ∷ [])
 words (line.Active event node key) = begun_of event (codes "active") node.bytes (Secret key.0 ∷ [])
 words (line.Start event node key value) = begun_of event (codes "start") node.bytes (Secret key.0 ∷ counted value ∷ [])
 words (line.Row event node partner key a) =
-    begun_of event (codes "row") node.bytes (Address partner.0 ∷ Secret key.0 ∷ Chosen attributes (attribute_text a) ∷ [])
-words (line.Pair event node first second key) = begun_of event (codes "pair") node.bytes (Address first.0 ∷ Address second.0 ∷ Secret key.0 ∷ [])
+    begun_of event (codes "row") node.bytes (Address partner.0 ∷ Secret key.0 ∷ Chosen attributes (attribute_text a)
+    ∷ [])
+words (line.Pair event node first second key) = begun_of event (codes "pair") node.bytes
+    (Address first.0 ∷ Address second.0 ∷ Secret key.0 ∷ [])
 words (line.State event node s) = begun_of event (codes "state") node.bytes (Chosen states (state_text s) ∷ [])
 words (line.Live event device) = begun event (codes "live") (Address device.0 ∷ [])
 words (line.Removed event device) = begun event (codes "removed") (Address device.0 ∷ [])
@@ -172,7 +184,8 @@ words (line.Accept event node t) = begun_of event (codes "accept") node.bytes (t
 words (line.Refuse event node r) = begun_of event (codes "refuse") node.bytes (refusal_words r)
 words (line.Seal event node t) = begun_of event (codes "seal") node.bytes (term_words t)
 words (line.Forge event t) = begun event (codes "forge") (term_words t)
-words (line.Send event node frame bytes) = begun event (codes "send") (CalledOrNobody node.bytes ∷ counted frame ∷ Octets 127 bytes.items ∷ [])
+words (line.Send event node frame bytes) =
+    begun event (codes "send") (CalledOrNobody node.bytes ∷ counted frame ∷ Octets 127 bytes.items ∷ [])
 words (line.Inject event frame bytes) = begun event (codes "inject") (counted frame ∷ Octets 127 bytes.items ∷ [])
 words (line.Stopped event node) = begun_of event (codes "stopped") node.bytes []
 words (line.DownReset event node) = begun_of event (codes "down") node.bytes (Fixed (codes "reset") ∷ [])

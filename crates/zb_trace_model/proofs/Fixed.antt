@@ -26,13 +26,17 @@ all_proper known (m ∷ ms) proper = (proper.0.words, all_proper known ms proper
 abbrev all_said : List Station → List (List Word) → List log.Line
 all_said known ws = map (λ w. said known w) ws
 
-said_back : (known : List Station) → AreNamed known → (ms : List log.Line) → AreProper known ms → all_said known (map words (lines_for known ms)) ≡ ms
+said_back : (known : List Station) → AreNamed known → (ms : List log.Line) → AreProper known ms
+    → all_said known (map words (lines_for known ms)) ≡ ms
 said_back known fits [] proper = refl
 said_back known fits (m ∷ ms) proper =
-    ap (λ first. first ∷ all_said known (map words (lines_for known ms))) (words_read known (line_for known m) ∙ said_again known fits m proper.0.node)
+    ap (λ first. first ∷ all_said known (map words (lines_for known ms)))
+    (words_read known (line_for known m) ∙ said_again known fits m proper.0.node)
     ∙ ap (λ rest. m ∷ rest) (said_back known fits ms proper.1)
 
-pub text_fixes : (known : List Station) → AreNamed known → (hs gs : List log.Line) → AreProper known hs → AreProper known gs → text_of known hs ≡ text_of known gs → hs ≡ gs
+pub text_fixes : (known : List Station) → AreNamed known → (hs gs : List log.Line) → AreProper known hs
+    → AreProper known gs → text_of known hs ≡ text_of known gs → hs ≡ gs
 text_fixes known fits hs gs proper_h proper_g same =
-    let lines_same = one_text (lines_for known hs) (lines_for known gs) (all_proper known hs proper_h) (all_proper known gs proper_g) (sym (texts_are known hs) ∙ (same ∙ texts_are known gs)) in
+    let lines_same = one_text (lines_for known hs) (lines_for known gs) (all_proper known hs proper_h)
+    (all_proper known gs proper_g) (sym (texts_are known hs) ∙ (same ∙ texts_are known gs)) in
     sym (said_back known fits hs proper_h) ∙ (ap (all_said known) lines_same ∙ said_back known fits gs proper_g)

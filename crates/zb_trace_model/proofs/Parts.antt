@@ -64,7 +64,8 @@ place_same place.Event = refl
 
 pub term_same : (t : Term) → term_of (model_term t) ≡ t
 term_same t =
-    ap (λ l. record t { layer = l; label = label_of (model_label t.label) }) (layer_same t.layer) ∙ ap (λ l. record t { label = l }) (label_same t.label)
+    ap (λ l. record t { layer = l; label = label_of (model_label t.label) }) (layer_same t.layer) ∙ ap
+    (λ l. record t { label = l }) (label_same t.label)
 
 pub refusal_same : (r : Refusal) → refusal_for (place_for (model_place (place_of r))) (reason r) ≡ r
 refusal_same (refusal.Down at) = ap refusal.Down (place_same at)
@@ -129,7 +130,8 @@ place_again model.AtEvent = refl
 
 pub term_again : (t : model.Term) → model_term (term_of t) ≡ t
 term_again t =
-    ap (λ l. record t { layer = l; label = model_label (label_of t.label) }) (layer_again t.layer) ∙ ap (λ l. record t { label = l }) (label_again t.label)
+    ap (λ l. record t { layer = l; label = model_label (label_of t.label) }) (layer_again t.layer) ∙ ap
+    (λ l. record t { label = l }) (label_again t.label)
 
 pub reason_again : (at : Place) (why : model.Reason) → reason (refusal_for at why) ≡ why
 reason_again at model.Down = refl

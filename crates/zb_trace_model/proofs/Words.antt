@@ -44,7 +44,8 @@ label_said word =
     else model.ForLoad
 
 abbrev role_said : Bytes → model.Role
-role_said word = if is_word word (codes "centre") then model.Centre else if is_word word (codes "router") then model.Router else model.Device
+role_said word = if is_word word (codes "centre") then model.Centre
+    else if is_word word (codes "router") then model.Router else model.Device
 
 abbrev attribute_said : Bytes → model.Attribute
 attribute_said word =
@@ -205,7 +206,8 @@ reason_said why detail =
 abbrev of_power : ℕ → Bytes → ℕ → List Word → log.Line
 of_power event kind n more =
     if is_word kind (codes "stopped") then log.Stopped event n
-    else if is_word kind (codes "down") then (if is_word (bytes_in (first more)) (codes "reset") then log.DownReset event n else log.DownDisk event n)
+    else if is_word kind (codes "down")
+    then (if is_word (bytes_in (first more)) (codes "reset") then log.DownReset event n else log.DownDisk event n)
     else if is_word kind (codes "boot") then log.Boot event n
     else log.Dump event n (bytes_in (first more))
 
@@ -213,49 +215,73 @@ abbrev of_frame : ℕ → Bytes → ℕ → List Word → log.Line
 of_frame event kind n more =
     if is_word kind (codes "commit") then log.Commit event n
     else if is_word kind (codes "accept") then log.Accept event n (term_said more)
-    else if is_word kind (codes "refuse") then log.Refuse event n (place_said (bytes_in (first more))) (reason_said (bytes_in (second more)) (third more))
+    else if is_word kind (codes "refuse")
+    then log.Refuse event n (place_said (bytes_in (first more)))
+    (reason_said (bytes_in (second more)) (third more))
     else if is_word kind (codes "seal") then log.Seal event n (term_said more)
     else of_power event kind n more
 
 abbrev of_link : ℕ → Bytes → ℕ → List Word → log.Line
 of_link event kind n more =
-    if is_word kind (codes "row") then log.Changed event n (model.Moved (model.Row (number_in (first more)) (bytes_in (second more)) (attribute_said (bytes_in (third more)))))
-    else if is_word kind (codes "pair") then log.Changed event n (model.Moved (model.Pair (number_in (first more)) (number_in (second more)) (bytes_in (third more))))
-    else if is_word kind (codes "state") then log.Changed event n (model.Moved (model.Became (state_said (bytes_in (first more)))))
-    else if is_word kind (codes "roll") then log.Changed event n (model.Moved (model.Roll (rollover_said (bytes_in (first more)))))
+    if is_word kind (codes "row")
+    then log.Changed event n
+    (model.Moved
+    (model.Row (number_in (first more)) (bytes_in (second more)) (attribute_said (bytes_in (third more)))))
+    else if is_word kind (codes "pair")
+    then log.Changed event n
+    (model.Moved (model.Pair (number_in (first more)) (number_in (second more)) (bytes_in (third more))))
+    else if is_word kind (codes "state")
+    then log.Changed event n (model.Moved (model.Became (state_said (bytes_in (first more)))))
+    else if is_word kind (codes "roll")
+    then log.Changed event n (model.Moved (model.Roll (rollover_said (bytes_in (first more)))))
     else of_frame event kind n more
 
 abbrev of_key : ℕ → Bytes → ℕ → List Word → log.Line
 of_key event kind n more =
     if is_word kind (codes "drop") then (
-    if is_word (bytes_in (first more)) (codes "net") then log.Changed event n (model.Moved (model.DropNet (bytes_in (second more))))
+    if is_word (bytes_in (first more)) (codes "net")
+    then log.Changed event n (model.Moved (model.DropNet (bytes_in (second more))))
     else log.Changed event n (model.Moved (model.DropLink (number_in (second more)) (bytes_in (third more))))
     )
-    else if is_word kind (codes "install") then log.Changed event n (model.Moved (model.Install (bytes_in (first more)) (number_in (second more))))
+    else if is_word kind (codes "install")
+    then log.Changed event n (model.Moved (model.Install (bytes_in (first more)) (number_in (second more))))
     else if is_word kind (codes "active") then log.Changed event n (model.Moved (model.Active (bytes_in (first more))))
-    else if is_word kind (codes "start") then log.Changed event n (model.Start (bytes_in (first more)) (number_in (second more)))
+    else if is_word kind (codes "start")
+    then log.Changed event n (model.Start (bytes_in (first more)) (number_in (second more)))
     else of_link event kind n more
 
 abbrev of_counter : ℕ → Bytes → ℕ → List Word → log.Line
 of_counter event kind n more =
     if is_word kind (codes "given") then (
-    if is_word (bytes_in (first more)) (codes "net") then log.GivenNet n (bytes_in (second more)) (number_in (third more))
+    if is_word (bytes_in (first more)) (codes "net")
+    then log.GivenNet n (bytes_in (second more)) (number_in (third more))
     else log.GivenLink n (number_in (second more)) (bytes_in (third more))
     )
-    else if is_word kind (codes "counter") then log.Counter n (layer_said (bytes_in (first more))) (number_in (second more))
-    else if is_word kind (codes "reserve") then log.Changed event n (model.Reserve (layer_said (bytes_in (first more))) (number_in (second more)))
-    else if is_word kind (codes "floor") then log.Changed event n (model.Floor (layer_said (bytes_in (first more))) (bytes_in (second more)) (number_in (third more)) (number_in (fourth more)))
+    else if is_word kind (codes "counter")
+    then log.Counter n (layer_said (bytes_in (first more))) (number_in (second more))
+    else if is_word kind (codes "reserve")
+    then log.Changed event n (model.Reserve (layer_said (bytes_in (first more))) (number_in (second more)))
+    else if is_word kind (codes "floor")
+    then log.Changed event n
+    (model.Floor (layer_said (bytes_in (first more))) (bytes_in (second more)) (number_in (third more))
+    (number_in (fourth more)))
     else of_key event kind n more
 
 abbrev of_nobody : List Station → ℕ → Bytes → List Word → log.Line
 of_nobody known event kind ws =
-    if is_word kind (codes "draw") then log.Changed event (the_centre known) (model.Moved (model.Draw (bytes_in (first ws))))
-    else if is_word kind (codes "live") then log.Changed event (the_centre known) (model.Moved (model.Live (number_in (first ws))))
-    else if is_word kind (codes "removed") then log.Changed event (the_centre known) (model.Moved (model.Removed (number_in (first ws))))
-    else if is_word kind (codes "told") then log.Changed event (the_centre known) (model.Moved (model.Told (number_in (first ws))))
-    else if is_word kind (codes "untold") then log.Changed event (the_centre known) (model.Moved (model.Untold (number_in (first ws))))
+    if is_word kind (codes "draw")
+    then log.Changed event (the_centre known) (model.Moved (model.Draw (bytes_in (first ws))))
+    else if is_word kind (codes "live")
+    then log.Changed event (the_centre known) (model.Moved (model.Live (number_in (first ws))))
+    else if is_word kind (codes "removed")
+    then log.Changed event (the_centre known) (model.Moved (model.Removed (number_in (first ws))))
+    else if is_word kind (codes "told")
+    then log.Changed event (the_centre known) (model.Moved (model.Told (number_in (first ws))))
+    else if is_word kind (codes "untold")
+    then log.Changed event (the_centre known) (model.Moved (model.Untold (number_in (first ws))))
     else if is_word kind (codes "forge") then log.Forge event (term_said ws)
-    else if is_word kind (codes "send") then log.Send event (sent_by known (bytes_in (first ws))) (number_in (second ws)) (bytes_in (third ws))
+    else if is_word kind (codes "send")
+    then log.Send event (sent_by known (bytes_in (first ws))) (number_in (second ws)) (bytes_in (third ws))
     else if is_word kind (codes "inject") then log.Inject event (number_in (first ws)) (bytes_in (second ws))
     else of_counter event kind (named known (bytes_in (first ws))) (behind ws)
 
@@ -274,7 +300,8 @@ of_kind known event kind ws = if is_word kind (codes "node") then of_declared ws
 
 abbrev of_end : List Word → log.Line
 of_end ws =
-    log.End (number_in (first ws)) (number_in (second ws)) (number_in (third ws)) (number_in (fourth ws)) (answer_said (bytes_in (fifth ws))) (answer_said (bytes_in (sixth ws)))
+    log.End (number_in (first ws)) (number_in (second ws)) (number_in (third ws)) (number_in (fourth ws))
+    (answer_said (bytes_in (fifth ws))) (answer_said (bytes_in (sixth ws)))
 
 abbrev pub said : List Station → List Word → log.Line
 said known ws =
@@ -289,7 +316,8 @@ with_parts t l b = record t { layer = l; label = b }
 term_read : (t : Term) → term_said (term_words t) ≡ model_term t
 unfolding term_words
 term_read t =
-    ap (λ l. with_parts (model_term t) l (label_said (label_text t.label))) (layer_read t.layer) ∙ ap (with_parts (model_term t) (model_layer t.layer)) (label_read t.label)
+    ap (λ l. with_parts (model_term t) l (label_said (label_text t.label))) (layer_read t.layer) ∙ ap
+    (with_parts (model_term t) (model_layer t.layer)) (label_read t.label)
 
 abbrev refusal_said : List Word → model.Place × model.Reason
 refusal_said ws = (place_said (bytes_in (first ws)), reason_said (bytes_in (second ws)) (third ws))
@@ -324,24 +352,32 @@ refused event n parts = log.Refuse event n parts.0 parts.1
 
 pub words_read : (known : List Station) (l : Line) → said known (words l) ≡ logged known l
 words_read known (line.Node name r eui short out_block in_block) =
-    ap (λ x. log.Declared (record { name = name.bytes; eui = eui.0; short = short.0; role = x; out_block = out_block; in_block = in_block })) (role_read r)
+    ap (λ x. log.Declared
+    (record
+    { name = name.bytes; eui = eui.0; short = short.0; role = x; out_block = out_block; in_block = in_block }))
+    (role_read r)
 words_read known (line.GivenNet node key sequence) = refl
 words_read known (line.GivenLink node partner key) = refl
 words_read known (line.Counter node l limit) = ap (λ x. log.Counter (named known node.bytes) x limit) (layer_read l)
-words_read known (line.Reserve event node l limit) = ap (λ x. log.Changed event (named known node.bytes) (model.Reserve x limit)) (layer_read l)
-words_read known (line.Floor event node l key sender value) = ap (λ x. log.Changed event (named known node.bytes) (model.Floor x key.0 sender.0 value)) (layer_read l)
+words_read known (line.Reserve event node l limit) =
+    ap (λ x. log.Changed event (named known node.bytes) (model.Reserve x limit)) (layer_read l)
+words_read known (line.Floor event node l key sender value) =
+    ap (λ x. log.Changed event (named known node.bytes) (model.Floor x key.0 sender.0 value)) (layer_read l)
 words_read known (line.Draw event key) = refl
 words_read known (line.DropNet event node key) = refl
 words_read known (line.DropLink event node partner key) = refl
 words_read known (line.Install event node key sequence) = refl
 words_read known (line.Active event node key) = refl
 words_read known (line.Start event node key value) = refl
-words_read known (line.Row event node partner key a) = ap (λ x. log.Changed event (named known node.bytes) (model.Moved (model.Row partner.0 key.0 x))) (attribute_read a)
+words_read known (line.Row event node partner key a) =
+    ap (λ x. log.Changed event (named known node.bytes) (model.Moved (model.Row partner.0 key.0 x))) (attribute_read a)
 words_read known (line.Pair event node one two key) = refl
-words_read known (line.State event node s) = ap (λ x. log.Changed event (named known node.bytes) (model.Moved (model.Became x))) (state_read s)
+words_read known (line.State event node s) =
+    ap (λ x. log.Changed event (named known node.bytes) (model.Moved (model.Became x))) (state_read s)
 words_read known (line.Live event device) = refl
 words_read known (line.Removed event device) = refl
-words_read known (line.Roll event node r) = ap (λ x. log.Changed event (named known node.bytes) (model.Moved (model.Roll x))) (rollover_read r)
+words_read known (line.Roll event node r) =
+    ap (λ x. log.Changed event (named known node.bytes) (model.Moved (model.Roll x))) (rollover_read r)
 words_read known (line.Told event device) = refl
 words_read known (line.Untold event device) = refl
 words_read known (line.Commit event node) = refl

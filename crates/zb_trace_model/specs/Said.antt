@@ -45,7 +45,8 @@ move_line event node (model.Untold device) = line.Untold event (eui_of device)
 
 abbrev pub edit_line : ℕ → ArrayString → model.Edit → Line
 edit_line event node (model.Reserve l limit) = line.Reserve event node (layer_of l) limit
-edit_line event node (model.Floor l key from value) = line.Floor event node (layer_of l) (key_of key) (eui_of from) value
+edit_line event node (model.Floor l key from value) = line.Floor event node (layer_of l) (key_of key) (eui_of from)
+    value
 edit_line event node (model.Start key value) = line.Start event node (key_of key) value
 edit_line event node (model.Moved move) = move_line event node move
 
@@ -69,7 +70,8 @@ line_for known (log.DownReset event n) = line.DownReset event (called known n)
 line_for known (log.DownDisk event n) = line.DownDisk event (called known n)
 line_for known (log.Boot event n) = line.Boot event (called known n)
 line_for known (log.Dump event n bytes) = line.Dump event (called known n) bytes
-line_for known (log.End events seals accepts refusals ideal private) = line.End events seals accepts refusals ideal private
+line_for known (log.End events seals accepts refusals ideal private) = line.End events seals accepts refusals ideal
+    private
 
 -- The text of a line of the model, and of lines, with the names of these nodes.
 unfoldable pub line_text : List Station → log.Line → List ℕ

@@ -60,7 +60,8 @@ value_of AllBytes word = option_map AllOctets (all_bytes_of word)
 abbrev pub shaped : List Field → List (List ℕ) → Option (List Word)
 shaped [] words = option_map (λ _. []) (nothing words)
 shaped (place ∷ more) words =
-    option_and_then (λ (taken : Word × List (List ℕ)). option_map (λ behind. taken.0 ∷ behind) (shaped more taken.1)) (field (value_of place) words)
+    option_and_then (λ (taken : Word × List (List ℕ)). option_map (λ behind. taken.0 ∷ behind) (shaped more taken.1))
+    (field (value_of place) words)
 
 -- The shapes
 
@@ -86,7 +87,8 @@ two_forms one first other second words =
     else None)
     (first_of words)
 
--- The reasons of a refusal that have no detail: those of frames, and those of the policy. Their words are those that are
+-- The reasons of a refusal that have no detail: those of frames, and those of the policy. Their words are those that
+-- are
 -- printed.
 abbrev pub reason_or : (List ℕ → Option Word) → List (List ℕ) → List ℕ → Option Word
 reason_or other [] word = other word
@@ -95,7 +97,8 @@ reason_or other (one ∷ more) word = if bytes_eq word one then Some (Fixed one)
 unfoldable pub policy_reason : List ℕ → Option Word
 policy_reason word =
     reason_or (λ _. None)
-    (map reason_word (NotMember ∷ WrongState ∷ KeysFull ∷ RowsFull ∷ NoDraw ∷ CounterSpent ∷ WrongHash ∷ NoFrame ∷ [])) word
+    (map reason_word (NotMember ∷ WrongState ∷ KeysFull ∷ RowsFull ∷ NoDraw ∷ CounterSpent ∷ WrongHash ∷ NoFrame
+    ∷ [])) word
 
 unfoldable pub plain_reason : List ℕ → Option Word
 plain_reason word =
@@ -104,10 +107,14 @@ plain_reason word =
 
 abbrev pub behind_reason : Word → List ℕ → List (List ℕ) → Option (List Word)
 behind_reason place word words =
-    if bytes_eq word stale_word then option_map (λ behind. place ∷ Fixed stale_word ∷ behind) (shaped (a_count ∷ []) words)
-    else if bytes_eq word key_old_word then option_map (λ behind. place ∷ Fixed key_old_word ∷ behind) (shaped (a_count ∷ []) words)
-    else if bytes_eq word key_in_use_word then option_map (λ behind. place ∷ Fixed key_in_use_word ∷ behind) (shaped (AnAddress ∷ []) words)
-    else option_and_then (λ reason. option_map (λ behind. place ∷ reason ∷ behind) (shaped [] words)) (plain_reason word)
+    if bytes_eq word stale_word
+    then option_map (λ behind. place ∷ Fixed stale_word ∷ behind) (shaped (a_count ∷ []) words)
+    else if bytes_eq word key_old_word
+    then option_map (λ behind. place ∷ Fixed key_old_word ∷ behind) (shaped (a_count ∷ []) words)
+    else if bytes_eq word key_in_use_word
+    then option_map (λ behind. place ∷ Fixed key_in_use_word ∷ behind) (shaped (AnAddress ∷ []) words)
+    else option_and_then (λ reason. option_map (λ behind. place ∷ reason ∷ behind) (shaped [] words))
+    (plain_reason word)
 
 -- where and why an event was refused
 unfoldable pub a_refusal : List (List ℕ) → Option (List Word)

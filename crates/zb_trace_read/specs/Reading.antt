@@ -10,24 +10,41 @@ use Rattle.zb_trace_read.specs.Grammar.{OneOf, ANameOrDash, AnAddress, AShort, A
 -- after the name of a node, at the start
 unfoldable pub of_start : List ℕ → List ℕ → List (List ℕ) → Option (List Word)
 of_start kind node words =
-    if bytes_eq kind (codes "node") then option_map (begun_of 0 (codes "node") node) (shaped (OneOf roles ∷ AnAddress ∷ AShort ∷ a_count ∷ a_count ∷ []) words)
-    else if bytes_eq kind (codes "given") then option_map (begun_of 0 (codes "given") node) (two_forms (codes "net") (AKey ∷ a_sequence ∷ []) (codes "link") (AnAddress ∷ AKey ∷ []) words)
-    else if bytes_eq kind (codes "counter") then option_map (begun_of 0 (codes "counter") node) (shaped (a_layer ∷ a_count ∷ []) words)
+    if bytes_eq kind (codes "node")
+    then option_map (begun_of 0 (codes "node") node)
+    (shaped (OneOf roles ∷ AnAddress ∷ AShort ∷ a_count ∷ a_count ∷ []) words)
+    else if bytes_eq kind (codes "given")
+    then option_map (begun_of 0 (codes "given") node)
+    (two_forms (codes "net") (AKey ∷ a_sequence ∷ []) (codes "link") (AnAddress ∷ AKey ∷ []) words)
+    else if bytes_eq kind (codes "counter")
+    then option_map (begun_of 0 (codes "counter") node) (shaped (a_layer ∷ a_count ∷ []) words)
     else None
 
 -- after the name of a node whose stable state changes
 unfoldable pub of_change : ℕ → List ℕ → List ℕ → List (List ℕ) → Option (List Word)
 of_change event kind node words =
-    if bytes_eq kind (codes "reserve") then option_map (begun_of event (codes "reserve") node) (shaped (a_layer ∷ a_count ∷ []) words)
-    else if bytes_eq kind (codes "floor") then option_map (begun_of event (codes "floor") node) (shaped (a_layer ∷ AKey ∷ AnAddress ∷ a_count ∷ []) words)
-    else if bytes_eq kind (codes "drop") then option_map (begun_of event (codes "drop") node) (two_forms (codes "net") (AKey ∷ []) (codes "link") (AnAddress ∷ AKey ∷ []) words)
-    else if bytes_eq kind (codes "install") then option_map (begun_of event (codes "install") node) (shaped (AKey ∷ a_sequence ∷ []) words)
-    else if bytes_eq kind (codes "active") then option_map (begun_of event (codes "active") node) (shaped (AKey ∷ []) words)
-    else if bytes_eq kind (codes "start") then option_map (begun_of event (codes "start") node) (shaped (AKey ∷ a_count ∷ []) words)
-    else if bytes_eq kind (codes "row") then option_map (begun_of event (codes "row") node) (shaped (AnAddress ∷ AKey ∷ OneOf attributes ∷ []) words)
-    else if bytes_eq kind (codes "pair") then option_map (begun_of event (codes "pair") node) (shaped (AnAddress ∷ AnAddress ∷ AKey ∷ []) words)
-    else if bytes_eq kind (codes "state") then option_map (begun_of event (codes "state") node) (shaped (OneOf states ∷ []) words)
-    else if bytes_eq kind (codes "roll") then option_map (begun_of event (codes "roll") node) (shaped (OneOf rollovers ∷ []) words)
+    if bytes_eq kind (codes "reserve")
+    then option_map (begun_of event (codes "reserve") node) (shaped (a_layer ∷ a_count ∷ []) words)
+    else if bytes_eq kind (codes "floor")
+    then option_map (begun_of event (codes "floor") node)
+    (shaped (a_layer ∷ AKey ∷ AnAddress ∷ a_count ∷ []) words)
+    else if bytes_eq kind (codes "drop")
+    then option_map (begun_of event (codes "drop") node)
+    (two_forms (codes "net") (AKey ∷ []) (codes "link") (AnAddress ∷ AKey ∷ []) words)
+    else if bytes_eq kind (codes "install")
+    then option_map (begun_of event (codes "install") node) (shaped (AKey ∷ a_sequence ∷ []) words)
+    else if bytes_eq kind (codes "active")
+    then option_map (begun_of event (codes "active") node) (shaped (AKey ∷ []) words)
+    else if bytes_eq kind (codes "start")
+    then option_map (begun_of event (codes "start") node) (shaped (AKey ∷ a_count ∷ []) words)
+    else if bytes_eq kind (codes "row")
+    then option_map (begun_of event (codes "row") node) (shaped (AnAddress ∷ AKey ∷ OneOf attributes ∷ []) words)
+    else if bytes_eq kind (codes "pair")
+    then option_map (begun_of event (codes "pair") node) (shaped (AnAddress ∷ AnAddress ∷ AKey ∷ []) words)
+    else if bytes_eq kind (codes "state")
+    then option_map (begun_of event (codes "state") node) (shaped (OneOf states ∷ []) words)
+    else if bytes_eq kind (codes "roll")
+    then option_map (begun_of event (codes "roll") node) (shaped (OneOf rollovers ∷ []) words)
     else if event == 0 then of_start kind node words
     else None
 
@@ -39,27 +56,34 @@ of_node event kind node words =
     else if bytes_eq kind (codes "commit") then option_map (begun_of event (codes "commit") node) (shaped [] words)
     else if bytes_eq kind (codes "refuse") then option_map (begun_of event (codes "refuse") node) (a_refusal words)
     else if bytes_eq kind (codes "boot") then option_map (begun_of event (codes "boot") node) (shaped [] words)
-    else if bytes_eq kind (codes "down") then option_map (begun_of event (codes "down") node) (two_forms (codes "reset") [] (codes "disk") [] words)
+    else if bytes_eq kind (codes "down")
+    then option_map (begun_of event (codes "down") node) (two_forms (codes "reset") [] (codes "disk") [] words)
     else if bytes_eq kind (codes "stopped") then option_map (begun_of event (codes "stopped") node) (shaped [] words)
     else of_change event kind node words
 
 -- lines that show no node
 unfoldable pub of_nobody : ℕ → List ℕ → List (List ℕ) → Option (List Word)
 of_nobody event kind words =
-    if bytes_eq kind (codes "send") then option_map (begun event (codes "send")) (shaped (ANameOrDash ∷ a_count ∷ SomeBytes 127 ∷ []) words)
+    if bytes_eq kind (codes "send")
+    then option_map (begun event (codes "send")) (shaped (ANameOrDash ∷ a_count ∷ SomeBytes 127 ∷ []) words)
     else if bytes_eq kind (codes "forge") then option_map (begun event (codes "forge")) (shaped a_term words)
-    else if bytes_eq kind (codes "inject") then option_map (begun event (codes "inject")) (shaped (a_count ∷ SomeBytes 127 ∷ []) words)
+    else if bytes_eq kind (codes "inject")
+    then option_map (begun event (codes "inject")) (shaped (a_count ∷ SomeBytes 127 ∷ []) words)
     else if bytes_eq kind (codes "draw") then option_map (begun event (codes "draw")) (shaped (AKey ∷ []) words)
     else if bytes_eq kind (codes "live") then option_map (begun event (codes "live")) (shaped (AnAddress ∷ []) words)
-    else if bytes_eq kind (codes "removed") then option_map (begun event (codes "removed")) (shaped (AnAddress ∷ []) words)
+    else if bytes_eq kind (codes "removed")
+    then option_map (begun event (codes "removed")) (shaped (AnAddress ∷ []) words)
     else if bytes_eq kind (codes "told") then option_map (begun event (codes "told")) (shaped (AnAddress ∷ []) words)
-    else if bytes_eq kind (codes "untold") then option_map (begun event (codes "untold")) (shaped (AnAddress ∷ []) words)
+    else if bytes_eq kind (codes "untold")
+    then option_map (begun event (codes "untold")) (shaped (AnAddress ∷ []) words)
     else option_and_then (λ (node : List ℕ × List (List ℕ)). of_node event kind node.0 node.1) (field name_of words)
 
 -- the record of a node's disk, which may be longer than any other word
 abbrev pub of_dump : ℕ → List (List ℕ) → Option (List Word)
 of_dump event words =
-    option_and_then (λ (node : List ℕ × List (List ℕ)). option_map (begun_of event (codes "dump") node.0) (shaped (AllBytes ∷ []) node.1)) (field name_of words)
+    option_and_then
+    (λ (node : List ℕ × List (List ℕ)). option_map (begun_of event (codes "dump") node.0)
+    (shaped (AllBytes ∷ []) node.1)) (field name_of words)
 
 -- after the number of an event
 abbrev pub of_event : ℕ → List (List ℕ) → Option (List Word)

@@ -37,7 +37,8 @@ or_right : (a b : Bool) → b ≡ true → (a || b) ≡ true
 or_right true b h = refl
 or_right false b h = h
 
-pub holds_within : (S : Bytes → Bool) (keys : List Bytes) (key : Bytes) → Within S keys → holds keys key ≡ true → S key ≡ true
+pub holds_within : (S : Bytes → Bool) (keys : List Bytes) (key : Bytes) → Within S keys → holds keys key ≡ true
+    → S key ≡ true
 holds_within S [] key within h = cc h
 holds_within S (k ∷ keys) key within h =
     elim (either (bytes_eq key k) (holds keys key) h) [
@@ -45,7 +46,8 @@ holds_within S (k ∷ keys) key within h =
       | inr there ↦ holds_within S keys key within.1 there
     ]
 
-holds_end : (keys : List Bytes) (key q : Bytes) → holds (keys ++ key ∷ []) q ≡ (holds keys q || (bytes_eq q key || false))
+holds_end : (keys : List Bytes) (key q : Bytes) → holds (keys ++ key ∷ []) q
+    ≡ (holds keys q || (bytes_eq q key || false))
 holds_end keys key q = list_any-append (bytes_eq q) keys (key ∷ [])
 
 grows_end : (keys : List Bytes) (key : Bytes) → Subset keys (keys ++ key ∷ [])
@@ -54,7 +56,8 @@ grows_end keys key q h = holds_end keys key q ∙ or_left _ _ h
 has_end : (keys : List Bytes) (key : Bytes) → holds (keys ++ key ∷ []) key ≡ true
 has_end keys key = holds_end keys key key ∙ or_right _ _ (or_left _ _ (itself key))
 
-within_end : (S : Bytes → Bool) (keys : List Bytes) (key : Bytes) → Within S keys → S key ≡ true → Within S (keys ++ key ∷ [])
+within_end : (S : Bytes → Bool) (keys : List Bytes) (key : Bytes) → Within S keys → S key ≡ true
+    → Within S (keys ++ key ∷ [])
 within_end S [] key within h = (h, tt)
 within_end S (k ∷ keys) key within h = (within.0, within_end S keys key within.1 h)
 
@@ -75,11 +78,13 @@ step_grows false o keys q h = h
 step_grows true None keys q h = h
 step_grows true (Some k) keys q h = put_grows (holds keys k) k keys q h
 
-put_within : (S : Bytes → Bool) (held : Bool) (key : Bytes) (keys : List Bytes) → Within S keys → S key ≡ true → Within S (put held key keys)
+put_within : (S : Bytes → Bool) (held : Bool) (key : Bytes) (keys : List Bytes) → Within S keys → S key ≡ true
+    → Within S (put held key keys)
 put_within S true key keys within h = within
 put_within S false key keys within h = within_end S keys key within h
 
-step_within : (S : Bytes → Bool) (base : Bool) (o : Option Bytes) (keys : List Bytes) → Within S keys → (base ≡ true → IfSome o (λ k. S k ≡ true)) → Within S (stepped base o keys)
+step_within : (S : Bytes → Bool) (base : Bool) (o : Option Bytes) (keys : List Bytes) → Within S keys
+    → (base ≡ true → IfSome o (λ k. S k ≡ true)) → Within S (stepped base o keys)
 step_within S false o keys within passes = within
 step_within S true None keys within passes = within
 step_within S true (Some k) keys within passes = put_within S (holds keys k) k keys within (passes refl)
@@ -87,7 +92,8 @@ step_within S true (Some k) keys within passes = put_within S (holds keys k) k k
 module _ (tools : Tools) where
   grows : (ts : List Term) (keys : List Bytes) → Subset keys (fold (opened_by tools) keys ts)
   grows [] keys q h = h
-  grows (t ∷ ts) keys q h = grows ts (opened_by tools keys t) q (step_grows (holds keys t.base) (carried tools t) keys q h)
+  grows (t ∷ ts) keys q h =
+      grows ts (opened_by tools keys t) q (step_grows (holds keys t.base) (carried tools t) keys q h)
 
   round_grows : (ts : List Term) (keys : List Bytes) → Subset keys (a_round tools ts keys)
   unfolding a_round
@@ -99,20 +105,25 @@ module _ (tools : Tools) where
   rounds_grow (suc n) ts keys q h = rounds_grow n ts (a_round tools ts keys) q (round_grows ts keys q h)
 
   -- No key comes out of a closed set.
-  stays_within : (S : Bytes → Bool) (ts : List Term) (keys : List Bytes) → IsClosed tools S ts → Within S keys → Within S (fold (opened_by tools) keys ts)
+  stays_within : (S : Bytes → Bool) (ts : List Term) (keys : List Bytes) → IsClosed tools S ts → Within S keys
+      → Within S (fold (opened_by tools) keys ts)
   stays_within S [] keys closed within = within
   stays_within S (t ∷ ts) keys closed within =
       stays_within S ts (opened_by tools keys t) closed.1
-      (step_within S (holds keys t.base) (carried tools t) keys within (λ base. closed.0 (holds_within S keys t.base within base)))
+      (step_within S (holds keys t.base) (carried tools t) keys within
+      (λ base. closed.0 (holds_within S keys t.base within base)))
 
-  round_within : (S : Bytes → Bool) (ts : List Term) (keys : List Bytes) → IsClosed tools S ts → Within S keys → Within S (a_round tools ts keys)
+  round_within : (S : Bytes → Bool) (ts : List Term) (keys : List Bytes) → IsClosed tools S ts → Within S keys
+      → Within S (a_round tools ts keys)
   unfolding a_round
   round_within S ts keys closed within = stays_within S ts keys closed within
 
-  pub rounds_within : (n : ℕ) (S : Bytes → Bool) (ts : List Term) (keys : List Bytes) → IsClosed tools S ts → Within S keys → Within S (rounds n tools ts keys)
+  pub rounds_within : (n : ℕ) (S : Bytes → Bool) (ts : List Term) (keys : List Bytes) → IsClosed tools S ts
+      → Within S keys → Within S (rounds n tools ts keys)
   unfolding rounds
   rounds_within zero S ts keys closed within = within
-  rounds_within (suc n) S ts keys closed within = rounds_within n S ts (a_round tools ts keys) closed (round_within S ts keys closed within)
+  rounds_within (suc n) S ts keys closed within = rounds_within n S ts (a_round tools ts keys) closed
+      (round_within S ts keys closed within)
 
   -- How many terms carry a key that is not among these.
 
@@ -154,46 +165,60 @@ module _ (tools : Tools) where
   IsCarried k [] = ⊥
   IsCarried k (t ∷ ts) = (carried tools t ≡ Some k) ⊎ IsCarried k ts
 
-  less_one : (o : Option Bytes) (k : Bytes) (keys keys' : List Bytes) → o ≡ Some k → holds keys k ≡ false → holds keys' k ≡ true → lacks o keys' < lacks o keys
+  less_one : (o : Option Bytes) (k : Bytes) (keys keys' : List Bytes) → o ≡ Some k → holds keys k ≡ false
+      → holds keys' k ≡ true → lacks o keys' < lacks o keys
   less_one o k keys keys' is before after = rw (is, before, after) (omega arith)
 
-  less : (ts : List Term) (k : Bytes) (keys keys' : List Bytes) → Subset keys keys' → IsCarried k ts → holds keys k ≡ false → holds keys' k ≡ true → missing ts keys' < missing ts keys
+  less : (ts : List Term) (k : Bytes) (keys keys' : List Bytes) → Subset keys keys' → IsCarried k ts → holds keys k
+      ≡ false → holds keys' k ≡ true → missing ts keys' < missing ts keys
   less [] k keys keys' more there before after = absurd there
-  less (t ∷ ts) k keys keys' more (inl here) before after = omega (arith, less_one (carried tools t) k keys keys' here before after, fewer ts keys keys' more)
-  less (t ∷ ts) k keys keys' more (inr there) before after = omega (arith, fewer_one (carried tools t) keys keys' more, less ts k keys keys' more there before after)
+  less (t ∷ ts) k keys keys' more (inl here) before after =
+      omega (arith, less_one (carried tools t) k keys keys' here before after, fewer ts keys keys' more)
+  less (t ∷ ts) k keys keys' more (inr there) before after =
+      omega (arith, fewer_one (carried tools t) keys keys' more, less ts k keys keys' more there before after)
 
   -- A round either brings nothing new, and then the keys are closed, or fewer are missing.
   abbrev Turns : List Term → List Term → List Bytes → Type 0
-  Turns all ts keys = (IsClosed tools (holds keys) ts × (fold (opened_by tools) keys ts ≡ keys)) ⊎ (missing all (fold (opened_by tools) keys ts) < missing all keys)
+  Turns all ts keys = (IsClosed tools (holds keys) ts × (fold (opened_by tools) keys ts ≡ keys))
+      ⊎ (missing all (fold (opened_by tools) keys ts) < missing all keys)
 
   abbrev Among : List Term → List Term → Type 0
   Among all ts = AllByRecursion (λ t. (k : Bytes) → carried tools t ≡ Some k → IsCarried k all) ts
 
   turn_on : (all ts : List Term) (keys : List Bytes) (t : Term) → Passes tools (holds keys) t → Turns all ts keys
-      → (IsClosed tools (holds keys) (t ∷ ts) × (fold (opened_by tools) keys ts ≡ keys)) ⊎ (missing all (fold (opened_by tools) keys ts) < missing all keys)
+      → (IsClosed tools (holds keys) (t ∷ ts) × (fold (opened_by tools) keys ts ≡ keys))
+      ⊎ (missing all (fold (opened_by tools) keys ts) < missing all keys)
   turn_on all ts keys t passes (inl done) = inl ((passes, done.0), done.1)
   turn_on all ts keys t passes (inr lt) = inr lt
 
   abbrev StepTurns : List Term → List Term → List Bytes → Term → List Bytes → Type 0
   StepTurns all ts keys t stepped_keys =
-      (IsClosed tools (holds keys) (t ∷ ts) × (fold (opened_by tools) stepped_keys ts ≡ keys)) ⊎ (missing all (fold (opened_by tools) stepped_keys ts) < missing all keys)
+      (IsClosed tools (holds keys) (t ∷ ts) × (fold (opened_by tools) stepped_keys ts ≡ keys))
+      ⊎ (missing all (fold (opened_by tools) stepped_keys ts) < missing all keys)
 
-  put_turns : (all ts : List Term) (keys : List Bytes) (t : Term) (k : Bytes) (held : Bool) → holds keys k ≡ held → carried tools t ≡ Some k → IsCarried k all
+  put_turns : (all ts : List Term) (keys : List Bytes) (t : Term) (k : Bytes) (held : Bool) → holds keys k ≡ held
+      → carried tools t ≡ Some k → IsCarried k all
       → Turns all ts keys → StepTurns all ts keys t (put held k keys)
   put_turns all ts keys t k true held is there turns = turn_on all ts keys t (λ base. rw is held) turns
   put_turns all ts keys t k false held is there turns =
       inr (less all k keys (fold (opened_by tools) (keys ++ k ∷ []) ts)
-      (λ q h. grows ts (keys ++ k ∷ []) q (grows_end keys k q h)) there held (grows ts (keys ++ k ∷ []) k (has_end keys k)))
+      (λ q h. grows ts (keys ++ k ∷ []) q (grows_end keys k q h)) there held
+      (grows ts (keys ++ k ∷ []) k (has_end keys k)))
 
-  step_turns : (all ts : List Term) (keys : List Bytes) (t : Term) (base : Bool) (o : Option Bytes) → holds keys t.base ≡ base → carried tools t ≡ o
-      → ((k : Bytes) → carried tools t ≡ Some k → IsCarried k all) → Turns all ts keys → StepTurns all ts keys t (stepped base o keys)
-  step_turns all ts keys t false o no_base is among turns = turn_on all ts keys t (λ base. cc (sym no_base ∙ base)) turns
+  step_turns : (all ts : List Term) (keys : List Bytes) (t : Term) (base : Bool) (o : Option Bytes)
+      → holds keys t.base ≡ base → carried tools t ≡ o
+      → ((k : Bytes) → carried tools t ≡ Some k → IsCarried k all) → Turns all ts keys
+      → StepTurns all ts keys t (stepped base o keys)
+  step_turns all ts keys t false o no_base is among turns = turn_on all ts keys t (λ base. cc (sym no_base ∙ base))
+      turns
   step_turns all ts keys t true None base is among turns = turn_on all ts keys t (λ _. rw is tt) turns
-  step_turns all ts keys t true (Some k) base is among turns = put_turns all ts keys t k (holds keys k) refl is (among k is) turns
+  step_turns all ts keys t true (Some k) base is among turns = put_turns all ts keys t k (holds keys k) refl is
+      (among k is) turns
 
   turns : (all ts : List Term) (keys : List Bytes) → Among all ts → Turns all ts keys
   turns all [] keys among = inl (tt, refl)
-  turns all (t ∷ ts) keys among = step_turns all ts keys t (holds keys t.base) (carried tools t) refl refl among.0 (turns all ts keys among.1)
+  turns all (t ∷ ts) keys among = step_turns all ts keys t (holds keys t.base) (carried tools t) refl refl among.0
+      (turns all ts keys among.1)
 
   among_more : (t : Term) (all ts : List Term) → Among all ts → Among (t ∷ all) ts
   among_more t all [] among = tt
@@ -213,25 +238,32 @@ module _ (tools : Tools) where
 
   none_missing : (ts : List Term) (keys : List Bytes) → missing ts keys ≤ 0 → IsClosed tools (holds keys) ts
   none_missing [] keys le = tt
-  none_missing (t ∷ ts) keys le = ((λ base. none_lacks (carried tools t) keys (omega (arith, le))), none_missing ts keys (omega (arith, le)))
+  none_missing (t ∷ ts) keys le =
+      ((λ base. none_lacks (carried tools t) keys (omega (arith, le))), none_missing ts keys (omega (arith, le)))
 
-  same_rounds : (n : ℕ) (ts : List Term) (keys : List Bytes) → a_round tools ts keys ≡ keys → rounds n tools ts keys ≡ keys
+  same_rounds : (n : ℕ) (ts : List Term) (keys : List Bytes) → a_round tools ts keys ≡ keys → rounds n tools ts keys
+      ≡ keys
   unfolding rounds
   same_rounds zero ts keys same = refl
   same_rounds (suc n) ts keys same = ap (rounds n tools ts) same ∙ same_rounds n ts keys same
 
-  by_turn : (n : ℕ) (ts : List Term) (keys : List Bytes) → ((more : List Bytes) → missing ts more ≤ n → IsClosed tools (holds (rounds n tools ts more)) ts)
-      → missing ts keys ≤ n + 1 → Turns ts ts keys → IsClosed tools (holds (rounds n tools ts (a_round tools ts keys))) ts
+  by_turn : (n : ℕ) (ts : List Term) (keys : List Bytes)
+      → ((more : List Bytes) → missing ts more ≤ n → IsClosed tools (holds (rounds n tools ts more)) ts)
+      → missing ts keys ≤ n + 1 → Turns ts ts keys
+      → IsClosed tools (holds (rounds n tools ts (a_round tools ts keys))) ts
   unfolding a_round
   by_turn n ts keys later le (inl done) =
-      subst (λ (known : List Bytes). IsClosed tools (holds known) ts) (sym (ap (rounds n tools ts) done.1 ∙ same_rounds n ts keys done.1)) done.0
+      subst (λ (known : List Bytes). IsClosed tools (holds known) ts)
+      (sym (ap (rounds n tools ts) done.1 ∙ same_rounds n ts keys done.1)) done.0
   by_turn n ts keys later le (inr lt) = later (a_round tools ts keys) (omega (arith, lt, le))
 
-  closed_after : (n : ℕ) (ts : List Term) (keys : List Bytes) → missing ts keys ≤ n → IsClosed tools (holds (rounds n tools ts keys)) ts
+  closed_after : (n : ℕ) (ts : List Term) (keys : List Bytes) → missing ts keys ≤ n
+      → IsClosed tools (holds (rounds n tools ts keys)) ts
   unfolding rounds
   closed_after zero ts keys le = none_missing ts keys le
   closed_after (suc n) ts keys le =
-      by_turn n ts keys (λ more fewer_left. closed_after n ts more fewer_left) (omega (arith, le)) (turns ts ts keys (all_among ts))
+      by_turn n ts keys (λ more fewer_left. closed_after n ts more fewer_left) (omega (arith, le))
+      (turns ts ts keys (all_among ts))
 
 one_term : (l : Line) → length (terms_in l) ≤ 1
 one_term (Seal e n t) = omega arith
@@ -243,20 +275,25 @@ unfolding terms_of
 few_terms [] = omega arith
 few_terms (l ∷ h) = omega (arith, length-append (terms_in l) (flat_map terms_in h), one_term l, few_terms h)
 
-pub exposed_covers : (tools : Tools) (h : List Line) (from : List Bytes) (k : Bytes) → holds from k ≡ true → holds (exposed tools h from) k ≡ true
+pub exposed_covers : (tools : Tools) (h : List Line) (from : List Bytes) (k : Bytes) → holds from k ≡ true
+    → holds (exposed tools h from) k ≡ true
 unfolding exposed
 exposed_covers tools h from k there = rounds_grow tools (length h) (terms_of h) from k there
 
-pub exposed_closed : (tools : Tools) (h : List Line) (from : List Bytes) → IsClosed tools (holds (exposed tools h from)) (terms_of h)
+pub exposed_closed : (tools : Tools) (h : List Line) (from : List Bytes)
+    → IsClosed tools (holds (exposed tools h from)) (terms_of h)
 unfolding exposed
-exposed_closed tools h from = closed_after tools (length h) (terms_of h) from (omega (arith, missing_at_most tools (terms_of h) from, few_terms h))
+exposed_closed tools h from = closed_after tools (length h) (terms_of h) from
+    (omega (arith, missing_at_most tools (terms_of h) from, few_terms h))
 
-all_within : (S : Bytes → Bool) (keys all : List Bytes) → ((k : Bytes) → holds all k ≡ true → S k ≡ true) → Subset keys all → Within S keys
+all_within : (S : Bytes → Bool) (keys all : List Bytes) → ((k : Bytes) → holds all k ≡ true → S k ≡ true)
+    → Subset keys all → Within S keys
 all_within S [] all covers sub = tt
 all_within S (k ∷ keys) all covers sub =
     (covers k (sub k (or_left _ _ (itself k))), all_within S keys all covers (λ q h. sub q (or_right _ _ h)))
 
-pub exposed_least : (tools : Tools) (h : List Line) (from : List Bytes) (S : Bytes → Bool) → ((k : Bytes) → holds from k ≡ true → S k ≡ true) → IsClosed tools S (terms_of h)
+pub exposed_least : (tools : Tools) (h : List Line) (from : List Bytes) (S : Bytes → Bool)
+    → ((k : Bytes) → holds from k ≡ true → S k ≡ true) → IsClosed tools S (terms_of h)
     → (k : Bytes) → holds (exposed tools h from) k ≡ true → S k ≡ true
 unfolding exposed
 exposed_least tools h from S covers closed k there =

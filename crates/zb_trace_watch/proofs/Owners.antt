@@ -13,13 +13,16 @@ use Rattle.zb_trace_watch.proofs.Alike.{bytes_alike, bytes_eq_sym, true_or}
 use Rattle.zb_trace_watch.proofs.Truth.{number_alike}
 
 pub added_number : (new old : Holdings Eui) (device : Eui) (key : Key)
-    → ((o : Eui) (k : List ℕ) → held eui_cmp new o k ≡ (held eui_cmp old o k || (is_eq (eui_cmp device o) && bytes_eq k key.0)))
+    → ((o : Eui) (k : List ℕ) → held eui_cmp new o k
+    ≡ (held eui_cmp old o k || (is_eq (eui_cmp device o) && bytes_eq k key.0)))
     → (d : ℕ) (k : List ℕ) → node_has new d k ≡ (node_has old d k || (nat_eq d device.0 && bytes_eq k key.0))
 added_number new old device key adds d k =
-    adds (record { 0 = d }) k ∙ ap (λ (x : Bool). node_has old d k || (x && bytes_eq k key.0)) (number_alike device.0 d)
+    adds (record { 0 = d }) k ∙ ap (λ (x : Bool). node_has old d k || (x && bytes_eq k key.0))
+    (number_alike device.0 d)
 
 pub added_bytes : (new old : Holdings Key) (base key : Key)
-    → ((o : Key) (k : List ℕ) → held key_cmp new o k ≡ (held key_cmp old o k || (is_eq (key_cmp base o) && bytes_eq k key.0)))
+    → ((o : Key) (k : List ℕ) → held key_cmp new o k
+    ≡ (held key_cmp old o k || (is_eq (key_cmp base o) && bytes_eq k key.0)))
     → (b k : List ℕ) → is_carried new b k ≡ (is_carried old b k || (bytes_eq b base.0 && bytes_eq k key.0))
 added_bytes new old base key adds b k =
     adds (record { 0 = b }) k
@@ -27,20 +30,30 @@ added_bytes new old base key adds b k =
 
 pub removed_number : (new old : BTreeSet Eui) (device : Eui)
     → ((q : Eui) → contains eui_cmp new q ≡ cond (is_at (eui_cmp device) q) true (contains eui_cmp old q))
-    → (d : ℕ) → contains eui_cmp new (record { 0 = d }) ≡ (contains eui_cmp old (record { 0 = d }) || nat_eq d device.0)
+    → (d : ℕ) → contains eui_cmp new (record { 0 = d })
+    ≡ (contains eui_cmp old (record { 0 = d }) || nat_eq d device.0)
 removed_number new old device updates d =
     updates (record { 0 = d })
     ∙ (true_or (is_eq (nat_cmp device.0 d)) (contains eui_cmp old (record { 0 = d }))
     ∙ ap (λ (x : Bool). contains eui_cmp old (record { 0 = d }) || x) (number_alike device.0 d))
 
-pub added_at : (result : Result (Unit {0}) AllocError) (new old : Holdings Eui) (node : Option Eui) (eui : Eui) (key : Key) → node ≡ Some eui
-    → OnOk result ((o : Eui) (k : List ℕ) → held eui_cmp new o k ≡ (held eui_cmp old o k || (is_eq (eui_cmp eui o) && bytes_eq k key.0)))
-    → OnOk result ((n : ℕ) (k : List ℕ) → node_has new n k ≡ (node_has old n k || (is_node node n && bytes_eq k key.0)))
-added_at (Ok u) new old who eui key is adds = λ n k. added_number new old eui key adds n k ∙ ap (λ (o : Option Eui). node_has old n k || (is_node o n && bytes_eq k key.0)) (sym is)
+pub added_at : (result : Result (Unit {0}) AllocError) (new old : Holdings Eui) (node : Option Eui) (eui : Eui)
+    (key : Key) → node ≡ Some eui
+    → OnOk result
+    ((o : Eui) (k : List ℕ) → held eui_cmp new o k
+    ≡ (held eui_cmp old o k || (is_eq (eui_cmp eui o) && bytes_eq k key.0)))
+    → OnOk result
+    ((n : ℕ) (k : List ℕ) → node_has new n k ≡ (node_has old n k || (is_node node n && bytes_eq k key.0)))
+added_at (Ok u) new old who eui key is adds = λ n k. added_number new old eui key adds n k ∙ ap
+    (λ (o : Option Eui). node_has old n k || (is_node o n && bytes_eq k key.0)) (sym is)
 added_at (Err e) new old who eui key is adds = tt
 
-pub added_under : (result : Result (Unit {0}) AllocError) (new old : Holdings Key) (owner : Option Key) (one key : Key) → owner ≡ Some one
-    → OnOk result ((o : Key) (k : List ℕ) → held key_cmp new o k ≡ (held key_cmp old o k || (is_eq (key_cmp one o) && bytes_eq k key.0)))
+pub added_under : (result : Result (Unit {0}) AllocError) (new old : Holdings Key) (owner : Option Key)
+    (one key : Key) → owner ≡ Some one
+    → OnOk result
+    ((o : Key) (k : List ℕ) → held key_cmp new o k
+    ≡ (held key_cmp old o k || (is_eq (key_cmp one o) && bytes_eq k key.0)))
     → OnOk result ((o k : List ℕ) → is_carried new o k ≡ (is_carried old o k || (is_key owner o && bytes_eq k key.0)))
-added_under (Ok u) new old who one key is adds = λ o k. added_bytes new old one key adds o k ∙ ap (λ (w : Option Key). is_carried old o k || (is_key w o && bytes_eq k key.0)) (sym is)
+added_under (Ok u) new old who one key is adds = λ o k. added_bytes new old one key adds o k ∙ ap
+    (λ (w : Option Key). is_carried old o k || (is_key w o && bytes_eq k key.0)) (sym is)
 added_under (Err e) new old who one key is adds = tt

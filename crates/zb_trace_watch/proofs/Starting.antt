@@ -42,40 +42,50 @@ use Rattle.zb_trace_watch.proofs.Truth.{not_both}
 
 -- A node, if there is one, has one more key.
 abbrev pub node_has_more : Holdings Eui → Holdings Eui → Option Eui → Key → Type 0
-node_has_more old new node key = (n : ℕ) (k : Bytes) → node_has new n k ≡ (node_has old n k || (is_node node n && bytes_eq k key.0))
+node_has_more old new node key = (n : ℕ) (k : Bytes) → node_has new n k
+    ≡ (node_has old n k || (is_node node n && bytes_eq k key.0))
 
 pub on_ok : {T E : Type 0} (r : Result T E) (P Q : Type 0) → (P → Q) → OnOk r P → OnOk r Q
 on_ok (Ok x) P Q f p = f p
 on_ok (Err e) P Q f p = tt
 
-pub private_is : (tools : Tools) (w : Watch) (h : List log.Line) → Stands tools w h → (w.exposure.based && not w.passing.passed_on) ≡ private tools h
+pub private_is : (tools : Tools) (w : Watch) (h : List log.Line) → Stands tools w h
+    → (w.exposure.based && not w.passing.passed_on) ≡ private tools h
 unfolding private
 private_is tools w h stands = rw (stands.based, stands.passed_on) refl
 
 module _ (tools : Tools) (nodes : Nodes) (origins : Origins) (passing : Passing) (exposure : Exposure) where
-  pub new_stands : Declares nodes [] → ((t : Term) → has_term origins.terms t ≡ false) → ((n : ℕ) (k : Bytes) → node_has origins.codes n k ≡ false) → ((n : ℕ) (k : Bytes) → node_has origins.bases n k ≡ false)
-      → ((k b : Bytes) → is_carried origins.carriers k b ≡ false) → ((n : ℕ) (k : Bytes) → node_has origins.traced n k ≡ false) → origins.ideal ≡ true → ((k : Bytes) → has passing.network k ≡ false) → ((k : Bytes) → has passing.forged k ≡ false) → passing.passed_on ≡ false
-      → IsSettled exposure → ((n : ℕ) (k : Bytes) → node_has exposure.ever n k ≡ false) → ((d : ℕ) → was_removed exposure d ≡ false) → ((b k : Bytes) → is_carried exposure.carried b k ≡ false) → exposure.based ≡ true
+  pub new_stands : Declares nodes [] → ((t : Term) → has_term origins.terms t ≡ false)
+      → ((n : ℕ) (k : Bytes) → node_has origins.codes n k ≡ false)
+      → ((n : ℕ) (k : Bytes) → node_has origins.bases n k ≡ false)
+      → ((k b : Bytes) → is_carried origins.carriers k b ≡ false)
+      → ((n : ℕ) (k : Bytes) → node_has origins.traced n k ≡ false) → origins.ideal ≡ true
+      → ((k : Bytes) → has passing.network k ≡ false) → ((k : Bytes) → has passing.forged k ≡ false)
+      → passing.passed_on ≡ false
+      → IsSettled exposure → ((n : ℕ) (k : Bytes) → node_has exposure.ever n k ≡ false)
+      → ((d : ℕ) → was_removed exposure d ≡ false) → ((b k : Bytes) → is_carried exposure.carried b k ≡ false)
+      → exposure.based ≡ true
       → Stands tools (record { nodes = nodes; origins = origins; passing = passing; exposure = exposure }) []
   unfolding stations_of terms_of ever codes_of bases removed_devices network_keys passes_on ideal each_line
-  new_stands declares terms codes bases carriers traced ideal network forged passed settled ever removed carried based = record {
-    nodes = declares;
-    terms = terms;
-    carried = carried;
-    ever = λ n some k. ever n k;
-    codes = λ n some k. codes n k;
-    bases = λ n some k. bases n k;
-    carriers = λ b k. carriers k b;
-    traced = λ n some k it. absurd (not_both _ it (traced n k));
-    removed = removed;
-    somebody = refl;
-    known = known_is_exposed tools exposure [] carried (λ n some k. ever n k) removed refl settled;
-    network = network;
-    forged = forged;
-    passed_on = passed;
-    ideal = ideal;
-    based = based;
-  }
+  new_stands declares terms codes bases carriers traced ideal network forged passed settled ever removed carried
+      based = record {
+        nodes = declares;
+        terms = terms;
+        carried = carried;
+        ever = λ n some k. ever n k;
+        codes = λ n some k. codes n k;
+        bases = λ n some k. bases n k;
+        carriers = λ b k. carriers k b;
+        traced = λ n some k it. absurd (not_both _ it (traced n k));
+        removed = removed;
+        somebody = refl;
+        known = known_is_exposed tools exposure [] carried (λ n some k. ever n k) removed refl settled;
+        network = network;
+        forged = forged;
+        passed_on = passed;
+        ideal = ideal;
+        based = based;
+      }
 
 -- The model's tools find what this program's readers find, where they read as these do.
 
@@ -97,7 +107,8 @@ command_found (Err (fault.Short at)) = refl
 command_found (Err (fault.Trailing count)) = refl
 
 unsealed_found : (f : ApsFrame) (aux : Option ApsAux) (b : Bool)
-    → unsealed_key real (record { is_command = b; auxiliary = option_map auxiliary aux; body = f.body.items }) (option_map auxiliary aux)
+    → unsealed_key real (record { is_command = b; auxiliary = option_map auxiliary aux; body = f.body.items })
+    (option_map auxiliary aux)
     ≡ bytes_of (if is_none aux && b then carrying.key_in (command_of f.body.items) else None)
 unfolding real
 unsealed_found f None true = command_found (command_of f.body.items)
@@ -115,6 +126,8 @@ readers_find = record {
   in_frame = λ bytes. frame_found (frame_of bytes);
 }
 
-pub log_more : (lines : List Line) (i : ℕ) (l : Line) → i < length lines → l ≡ get_or lines i l → log_of (take (i + 1) lines) ≡ with_line (log_of (take i lines)) l
+pub log_more : (lines : List Line) (i : ℕ) (l : Line) → i < length lines → l ≡ get_or lines i l
+    → log_of (take (i + 1) lines) ≡ with_line (log_of (take i lines)) l
 unfolding log_of
-log_more lines i l in_range is = fold_more with_line [] lines i l in_range ∙ ap (with_line (log_of (take i lines))) (sym is)
+log_more lines i l in_range is = fold_more with_line [] lines i l in_range ∙ ap (with_line (log_of (take i lines)))
+    (sym is)

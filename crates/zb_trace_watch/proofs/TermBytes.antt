@@ -69,24 +69,30 @@ both_and e f = λ i. e i && f i
 
 divided : (a b : ℕ) → a % 256 ≡ b % 256 → a / 256 ≡ b / 256 → a ≡ b
 divided a b low high =
-    sym (div-add-mod' a 256) ∙ (ap (λ (x : ℕ). x * 256 + a % 256) high ∙ (ap (λ (x : ℕ). b / 256 * 256 + x) low ∙ div-add-mod' b 256))
+    sym (div-add-mod' a 256) ∙
+    (ap (λ (x : ℕ). x * 256 + a % 256) high ∙ (ap (λ (x : ℕ). b / 256 * 256 + x) low ∙ div-add-mod' b 256))
 
 divided_alike : (a b : ℕ) → (nat_eq (a % 256) (b % 256) && nat_eq (a / 256) (b / 256)) ≡ nat_eq a b
 divided_alike a b = same_truth _ _ apart together
   where
     apart : (nat_eq (a % 256) (b % 256) && nat_eq (a / 256) (b / 256)) ≡ true → nat_eq a b ≡ true
     apart h =
-        ap (λ (x : ℕ). nat_eq x b) (divided a b (same_number _ _ (and_left _ _ h)) (same_number _ _ (and_right (nat_eq (a % 256) (b % 256)) _ h)))
+        ap (λ (x : ℕ). nat_eq x b)
+        (divided a b (same_number _ _ (and_left _ _ h))
+        (same_number _ _ (and_right (nat_eq (a % 256) (b % 256)) _ h)))
         ∙ itself_number b
 
     together : nat_eq a b ≡ true → (nat_eq (a % 256) (b % 256) && nat_eq (a / 256) (b / 256)) ≡ true
-    together h = ap (λ (x : ℕ). nat_eq (x % 256) (b % 256) && nat_eq (x / 256) (b / 256)) (same_number a b h) ∙ both _ _ (itself_number (b % 256)) (itself_number (b / 256))
+    together h = ap (λ (x : ℕ). nat_eq (x % 256) (b % 256) && nat_eq (x / 256) (b / 256)) (same_number a b h) ∙ both _
+        _ (itself_number (b % 256)) (itself_number (b / 256))
 
-number_alike : (n a b : ℕ) (c d : List ℕ) → bytes_eq (low_bytes n a ++ c) (low_bytes n b ++ d) ≡ (nat_eq a b && bytes_eq c d)
+number_alike : (n a b : ℕ) (c d : List ℕ) → bytes_eq (low_bytes n a ++ c) (low_bytes n b ++ d)
+    ≡ (nat_eq a b && bytes_eq c d)
 number_alike zero a b c d = refl
 number_alike (suc n) a b c d =
     ap (λ (x : Bool). nat_eq (a % 256) (b % 256) && x) (number_alike n (a / 256) (b / 256) c d)
-    ∙ (and_assoc (nat_eq (a % 256) (b % 256)) (nat_eq (a / 256) (b / 256)) (bytes_eq c d) ∙ ap (λ (x : Bool). x && bytes_eq c d) (divided_alike a b))
+    ∙ (and_assoc (nat_eq (a % 256) (b % 256)) (nat_eq (a / 256) (b / 256)) (bytes_eq c d) ∙ ap
+    (λ (x : Bool). x && bytes_eq c d) (divided_alike a b))
 
 -- a list with its length before it is told from another whatever follows
 
@@ -100,7 +106,8 @@ sized_alike [] (y ∷ b) c d = ap (λ (l : Bool). l && bytes_eq c (y ∷ (b ++ d
 sized_alike (x ∷ a) [] c d = ap (λ (l : Bool). l && bytes_eq (x ∷ (a ++ c)) d) (eqb-suc-zero (length a))
 sized_alike (x ∷ a) (y ∷ b) c d =
     ap (λ (l : Bool). l && (nat_eq x y && bytes_eq (a ++ c) (b ++ d))) (eqb-suc-suc (length a) (length b))
-    ∙ between (nat_eq x y) (nat_eq (length a) (length b)) (bytes_eq (a ++ c) (b ++ d)) (bytes_eq a b) (bytes_eq c d) (sized_alike a b c d)
+    ∙ between (nat_eq x y) (nat_eq (length a) (length b)) (bytes_eq (a ++ c) (b ++ d)) (bytes_eq a b) (bytes_eq c d)
+    (sized_alike a b c d)
 
 -- the parts of a term from one on
 
@@ -113,54 +120,75 @@ from_label t = label_number t.label ∷ (low_bytes 7 t.source.0 ++ from_control 
 from_layer : Term → List ℕ
 from_layer t = layer_number t.layer ∷ (sized t.base.0 ++ from_label t)
 
-controls : (a b : Term) → bytes_eq (from_control a) (from_control b) ≡ (nat_eq a.control b.control && (bytes_eq a.header.items b.header.items && bytes_eq a.content.items b.content.items))
+controls : (a b : Term) → bytes_eq (from_control a) (from_control b)
+    ≡ (nat_eq a.control b.control
+    && (bytes_eq a.header.items b.header.items && bytes_eq a.content.items b.content.items))
 unfolding from_control
-controls a b = ap (λ (x : Bool). nat_eq a.control b.control && x) (sized_alike a.header.items b.header.items a.content.items b.content.items)
+controls a b = ap (λ (x : Bool). nat_eq a.control b.control && x)
+    (sized_alike a.header.items b.header.items a.content.items b.content.items)
 
-labels : (a b : Term) → bytes_eq (from_label a) (from_label b) ≡ (same_label (model_label a.label) (model_label b.label) && (nat_eq a.source.0 b.source.0
-    && (nat_eq a.control b.control && (bytes_eq a.header.items b.header.items && bytes_eq a.content.items b.content.items))))
+labels : (a b : Term) → bytes_eq (from_label a) (from_label b)
+    ≡ (same_label (model_label a.label) (model_label b.label) && (nat_eq a.source.0 b.source.0
+    && (nat_eq a.control b.control
+    && (bytes_eq a.header.items b.header.items && bytes_eq a.content.items b.content.items))))
 unfolding from_label
 labels a b =
     both_and (label_alike a.label b.label)
-    (number_alike 7 a.source.0 b.source.0 (from_control a) (from_control b) ∙ ap (λ (x : Bool). nat_eq a.source.0 b.source.0 && x) (controls a b))
+    (number_alike 7 a.source.0 b.source.0 (from_control a) (from_control b) ∙ ap
+    (λ (x : Bool). nat_eq a.source.0 b.source.0 && x) (controls a b))
 
-layers : (a b : Term) → bytes_eq (from_layer a) (from_layer b) ≡ (same_layer (model_layer a.layer) (model_layer b.layer)
-    && (bytes_eq a.base.0 b.base.0 && (same_label (model_label a.label) (model_label b.label) && (nat_eq a.source.0 b.source.0
-    && (nat_eq a.control b.control && (bytes_eq a.header.items b.header.items && bytes_eq a.content.items b.content.items))))))
+layers : (a b : Term) → bytes_eq (from_layer a) (from_layer b)
+    ≡ (same_layer (model_layer a.layer) (model_layer b.layer)
+    && (bytes_eq a.base.0 b.base.0
+    && (same_label (model_label a.label) (model_label b.label) && (nat_eq a.source.0 b.source.0
+    && (nat_eq a.control b.control
+    && (bytes_eq a.header.items b.header.items && bytes_eq a.content.items b.content.items))))))
 unfolding from_layer
 layers a b =
     both_and (layer_alike a.layer b.layer)
-    (sized_alike a.base.0 b.base.0 (from_label a) (from_label b) ∙ ap (λ (x : Bool). bytes_eq a.base.0 b.base.0 && x) (labels a b))
+    (sized_alike a.base.0 b.base.0 (from_label a) (from_label b) ∙ ap (λ (x : Bool). bytes_eq a.base.0 b.base.0 && x)
+    (labels a b))
 
-in_order : (a b : Term) → bytes_eq (term_bytes a) (term_bytes b) ≡ (nat_eq a.counter b.counter && (same_layer (model_layer a.layer) (model_layer b.layer)
-    && (bytes_eq a.base.0 b.base.0 && (same_label (model_label a.label) (model_label b.label) && (nat_eq a.source.0 b.source.0
-    && (nat_eq a.control b.control && (bytes_eq a.header.items b.header.items && bytes_eq a.content.items b.content.items)))))))
+in_order : (a b : Term) → bytes_eq (term_bytes a) (term_bytes b)
+    ≡ (nat_eq a.counter b.counter && (same_layer (model_layer a.layer) (model_layer b.layer)
+    && (bytes_eq a.base.0 b.base.0
+    && (same_label (model_label a.label) (model_label b.label) && (nat_eq a.source.0 b.source.0
+    && (nat_eq a.control b.control
+    && (bytes_eq a.header.items b.header.items && bytes_eq a.content.items b.content.items)))))))
 unfolding term_bytes from_layer from_label from_control
-in_order a b = number_alike 3 a.counter b.counter (from_layer a) (from_layer b) ∙ ap (λ (x : Bool). nat_eq a.counter b.counter && x) (layers a b)
+in_order a b = number_alike 3 a.counter b.counter (from_layer a) (from_layer b) ∙ ap
+    (λ (x : Bool). nat_eq a.counter b.counter && x) (layers a b)
 
 pub bytes_tell : (a b : Term) → bytes_eq (term_bytes a) (term_bytes b) ≡ same_term (model_term a) (model_term b)
 unfolding same_term
 bytes_tell a b =
     in_order a b
-    ∙ fifth (nat_eq a.counter b.counter) (same_layer (model_layer a.layer) (model_layer b.layer)) (bytes_eq a.base.0 b.base.0) (same_label (model_label a.label) (model_label b.label)) (nat_eq a.source.0 b.source.0)
-    (nat_eq a.control b.control && (bytes_eq a.header.items b.header.items && bytes_eq a.content.items b.content.items))
+    ∙ fifth (nat_eq a.counter b.counter) (same_layer (model_layer a.layer) (model_layer b.layer))
+    (bytes_eq a.base.0 b.base.0) (same_label (model_label a.label) (model_label b.label))
+    (nat_eq a.source.0 b.source.0)
+    (nat_eq a.control b.control
+    && (bytes_eq a.header.items b.header.items && bytes_eq a.content.items b.content.items))
 
 -- After an insertion a set has what it had, and what was inserted, under each test that answers alike where keys are
 -- equal.
-pub inserted_alike : {K : Type 0} (cmp : K → K → Ordering) (test : K → Bool) → ((a b : K) → is_eq (cmp a b) ≡ true → test a ≡ test b)
+pub inserted_alike : {K : Type 0} (cmp : K → K → Ordering) (test : K → Bool)
+    → ((a b : K) → is_eq (cmp a b) ≡ true → test a ≡ test b)
     → (keys : List K) (key : K) → list_any test (insert_key cmp keys key) ≡ (list_any test keys || test key)
 inserted_alike cmp test alike [] key = or_swap (test key) false
 inserted_alike cmp test alike (x ∷ xs) key = by (cmp key x) refl (inserted_alike cmp test alike xs key)
   where
     by : (o : Ordering) → cmp key x ≡ o → list_any test (insert_key cmp xs key) ≡ (list_any test xs || test key)
-        → list_any test (match_ordering o (key ∷ x ∷ xs) (x ∷ xs) (x ∷ insert_key cmp xs key)) ≡ ((test x || list_any test xs) || test key)
+        → list_any test (match_ordering o (key ∷ x ∷ xs) (x ∷ xs) (x ∷ insert_key cmp xs key))
+        ≡ ((test x || list_any test xs) || test key)
     by Less e rest = or_swap (test key) (test x || list_any test xs)
-    by Equal e rest = or_again (test x) (list_any test xs) ∙ ap (λ (b : Bool). (test x || list_any test xs) || b) (sym (alike key x (ap is_eq e)))
+    by Equal e rest = or_again (test x) (list_any test xs) ∙ ap (λ (b : Bool). (test x || list_any test xs) || b)
+        (sym (alike key x (ap is_eq e)))
     by Greater e rest = ap (λ (r : Bool). test x || r) rest ∙ or_assoc (test x) (list_any test xs) (test key)
 
 -- Pieces that are put at the end of bytes with room for 287.
 
-pub put_then : (old piece new rest last : List ℕ) → (length old + length piece ≤ 287 → new ≡ old ++ piece) → (length new + length rest ≤ 287 → last ≡ new ++ rest)
+pub put_then : (old piece new rest last : List ℕ) → (length old + length piece ≤ 287 → new ≡ old ++ piece)
+    → (length new + length rest ≤ 287 → last ≡ new ++ rest)
     → length old + length (piece ++ rest) ≤ 287 → last ≡ old ++ (piece ++ rest)
 put_then old piece new rest last first second room =
     let lengths : length (piece ++ rest) ≡ length piece + length rest = length-append piece rest in
@@ -168,36 +196,74 @@ put_then old piece new rest last first second room =
     let size : length new ≡ length old + length piece = ap length is ∙ length-append old piece in
     second (omega (arith, room, lengths, size)) ∙ (ap (λ (s : List ℕ). s ++ rest) is ∙ append_assoc old piece rest)
 
-have_room : (t : Term) → length t.base.0 ≡ 16 → length t.header.items ≤ 127 → length t.content.items ≤ 127 → length (term_bytes t) ≤ 287
+have_room : (t : Term) → length t.base.0 ≡ 16 → length t.header.items ≤ 127 → length t.content.items ≤ 127
+    → length (term_bytes t) ≤ 287
 unfolding term_bytes from_layer from_label from_control
 have_room t key header content =
-    let base : length (t.base.0 ++ from_label t) ≡ length t.base.0 + length (from_label t) = length-append t.base.0 (from_label t) in
-    let frames : length (t.header.items ++ t.content.items) ≡ length t.header.items + length t.content.items = length-append t.header.items t.content.items in
-    let end : length (from_label t) ≡ suc (suc (suc (suc (suc (suc (suc (suc (suc (suc (suc (length (t.header.items ++ t.content.items)))))))))))) = refl in
+    let base : length (t.base.0 ++ from_label t) ≡ length t.base.0 + length (from_label t) =
+    length-append t.base.0 (from_label t) in
+    let frames : length (t.header.items ++ t.content.items) ≡ length t.header.items + length t.content.items =
+    length-append t.header.items t.content.items in
+    let end : length (from_label t)
+    ≡ suc (suc
+    (suc (suc (suc (suc (suc (suc (suc (suc (suc (length (t.header.items ++ t.content.items)))))))))))) = refl in
     let all : length (term_bytes t) ≡ suc (suc (suc (suc (suc (suc (length (t.base.0 ++ from_label t))))))) = refl in
     omega (arith, key, header, content, base, frames, end, all)
 
 are_all : (t : Term) (counter base source header content : List ℕ) (layer label size : ℕ)
-    → counter ≡ low_bytes 3 t.counter → layer ≡ layer_number t.layer → length t.base.0 ≡ 16 → base ≡ t.base.0 → label ≡ label_number t.label
-    → source ≡ low_bytes 7 t.source.0 → size ≡ length t.header.items → header ≡ t.header.items → content ≡ t.content.items
-    → counter ++ ((layer ∷ 16 ∷ []) ++ (base ++ ((label ∷ []) ++ (source ++ ((t.control ∷ size ∷ []) ++ (header ++ content)))))) ≡ term_bytes t
+    → counter ≡ low_bytes 3 t.counter → layer ≡ layer_number t.layer → length t.base.0 ≡ 16 → base ≡ t.base.0 → label
+    ≡ label_number t.label
+    → source ≡ low_bytes 7 t.source.0 → size ≡ length t.header.items → header ≡ t.header.items → content
+    ≡ t.content.items
+    → counter
+    ++ ((layer ∷ 16 ∷ [])
+    ++ (base ++ ((label ∷ []) ++ (source ++ ((t.control ∷ size ∷ []) ++ (header ++ content)))))) ≡ term_bytes t
 unfolding term_bytes
-are_all t counter base source header content layer label size counters same_layers keys bases same_labels sources sizes headers contents =
-    λ i. counters i ++ (same_layers i ∷ sym keys i ∷ (bases i ++ (same_labels i ∷ (sources i ++ (t.control ∷ sizes i ∷ (headers i ++ contents i))))))
+are_all t counter base source header content layer label size counters same_layers keys bases same_labels sources
+    sizes headers contents =
+    λ i. counters i
+    ++ (same_layers i ∷ sym keys i
+    ∷ (bases i ++ (same_labels i ∷ (sources i ++ (t.control ∷ sizes i ∷ (headers i ++ contents i))))))
 
 -- what was put there piece by piece is the bytes of the term
 pub all_put : (t : Term) (old counter base source header content last : List ℕ) (layer label size : ℕ)
-    → old ≡ [] → counter ≡ low_bytes 3 t.counter → layer ≡ layer_number t.layer → length t.base.0 ≡ 16 → base ≡ t.base.0 → label ≡ label_number t.label
-    → source ≡ low_bytes 7 t.source.0 → size ≡ length t.header.items → header ≡ t.header.items → content ≡ t.content.items
+    → old ≡ [] → counter ≡ low_bytes 3 t.counter → layer ≡ layer_number t.layer → length t.base.0 ≡ 16 → base
+    ≡ t.base.0 → label ≡ label_number t.label
+    → source ≡ low_bytes 7 t.source.0 → size ≡ length t.header.items → header ≡ t.header.items → content
+    ≡ t.content.items
     → length header ≤ 127 → length content ≤ 127
-    → (length old + length (counter ++ ((layer ∷ 16 ∷ []) ++ (base ++ ((label ∷ []) ++ (source ++ ((t.control ∷ size ∷ []) ++ (header ++ content))))))) ≤ 287
-    → last ≡ old ++ (counter ++ ((layer ∷ 16 ∷ []) ++ (base ++ ((label ∷ []) ++ (source ++ ((t.control ∷ size ∷ []) ++ (header ++ content))))))))
+    → (length old + length
+    (counter
+    ++ ((layer ∷ 16 ∷ [])
+    ++ (base ++ ((label ∷ []) ++ (source ++ ((t.control ∷ size ∷ []) ++ (header ++ content))))))) ≤ 287
+    → last ≡ old
+    ++ (counter
+    ++ ((layer ∷ 16 ∷ [])
+    ++ (base ++ ((label ∷ []) ++ (source ++ ((t.control ∷ size ∷ []) ++ (header ++ content))))))))
     → last ≡ term_bytes t
-all_put t old counter base source header content last layer label size none counters same_layers keys bases same_labels sources sizes headers contents short few put =
-    let all : counter ++ ((layer ∷ 16 ∷ []) ++ (base ++ ((label ∷ []) ++ (source ++ ((t.control ∷ size ∷ []) ++ (header ++ content)))))) ≡ term_bytes t =
-    are_all t counter base source header content layer label size counters same_layers keys bases same_labels sources sizes headers contents in
-    let lengths : length (counter ++ ((layer ∷ 16 ∷ []) ++ (base ++ ((label ∷ []) ++ (source ++ ((t.control ∷ size ∷ []) ++ (header ++ content))))))) ≡ length (term_bytes t) = ap length all in
+all_put t old counter base source header content last layer label size none counters same_layers keys bases
+    same_labels sources sizes headers contents short few put =
+    let all : counter
+    ++ ((layer ∷ 16 ∷ [])
+    ++ (base ++ ((label ∷ []) ++ (source ++ ((t.control ∷ size ∷ []) ++ (header ++ content)))))) ≡ term_bytes t =
+    are_all t counter base source header content layer label size counters same_layers keys bases same_labels sources
+    sizes headers contents in
+    let lengths : length
+    (counter
+    ++ ((layer ∷ 16 ∷ [])
+    ++ (base ++ ((label ∷ []) ++ (source ++ ((t.control ∷ size ∷ []) ++ (header ++ content)))))))
+    ≡ length (term_bytes t) = ap length all in
     let nothing : length old ≡ 0 = ap length none in
     let header_size : length header ≡ length t.header.items = ap length headers in
     let content_size : length content ≡ length t.content.items = ap length contents in
-    put (omega (arith, lengths, nothing, have_room t keys (omega (arith, header_size, short)) (omega (arith, content_size, few)))) ∙ (ap (λ (s : List ℕ). s ++ (counter ++ ((layer ∷ 16 ∷ []) ++ (base ++ ((label ∷ []) ++ (source ++ ((t.control ∷ size ∷ []) ++ (header ++ content)))))))) none ∙ all)
+    put (omega (
+      arith,
+      lengths,
+      nothing,
+      have_room t keys (omega (arith, header_size, short))
+          (omega (arith, content_size, few)),
+    )) ∙
+    (ap (λ (s : List ℕ). s
+    ++ (counter
+    ++ ((layer ∷ 16 ∷ [])
+    ++ (base ++ ((label ∷ []) ++ (source ++ ((t.control ∷ size ∷ []) ++ (header ++ content)))))))) none ∙ all)

@@ -72,9 +72,12 @@ fifth c true true false s r = and_false c
 fifth c true false k s r = and_false c
 fifth c false b k s r = and_false c
 
-in_order : (a b : Term) → is_eq (term_cmp a b) ≡ (nat_eq a.counter b.counter && (same_layer (model_layer a.layer) (model_layer b.layer)
-    && (bytes_eq a.base.0 b.base.0 && (same_label (model_label a.label) (model_label b.label) && (nat_eq a.source.0 b.source.0
-    && (nat_eq a.control b.control && (bytes_eq a.header.items b.header.items && bytes_eq a.content.items b.content.items)))))))
+in_order : (a b : Term) → is_eq (term_cmp a b)
+    ≡ (nat_eq a.counter b.counter && (same_layer (model_layer a.layer) (model_layer b.layer)
+    && (bytes_eq a.base.0 b.base.0
+    && (same_label (model_label a.label) (model_label b.label) && (nat_eq a.source.0 b.source.0
+    && (nat_eq a.control b.control
+    && (bytes_eq a.header.items b.header.items && bytes_eq a.content.items b.content.items)))))))
 in_order a b =
     part _ _ _ _ (number_so a.counter b.counter)
     (part _ _ _ _ (layer_alike a.layer b.layer)
@@ -88,17 +91,22 @@ pub term_alike : (a b : Term) → is_eq (term_cmp a b) ≡ same_term (model_term
 unfolding same_term
 term_alike a b =
     in_order a b
-    ∙ fifth (nat_eq a.counter b.counter) (same_layer (model_layer a.layer) (model_layer b.layer)) (bytes_eq a.base.0 b.base.0)
+    ∙ fifth (nat_eq a.counter b.counter) (same_layer (model_layer a.layer) (model_layer b.layer))
+    (bytes_eq a.base.0 b.base.0)
     (same_label (model_label a.label) (model_label b.label)) (nat_eq a.source.0 b.source.0)
-    (nat_eq a.control b.control && (bytes_eq a.header.items b.header.items && bytes_eq a.content.items b.content.items))
+    (nat_eq a.control b.control
+    && (bytes_eq a.header.items b.header.items && bytes_eq a.content.items b.content.items))
 
-same_again : (a b : Term) → same_term (model_term a) (model_term b) ≡ true → same_term (model_term b) (model_term a) ≡ true
-same_again a b h = sym (term_alike b a) ∙ ap is_eq (tied_back term_laws.total-law a b (equal (term_cmp a b) (term_alike a b ∙ h)))
+same_again : (a b : Term) → same_term (model_term a) (model_term b) ≡ true → same_term (model_term b) (model_term a)
+    ≡ true
+same_again a b h =
+    sym (term_alike b a) ∙ ap is_eq (tied_back term_laws.total-law a b (equal (term_cmp a b) (term_alike a b ∙ h)))
 
 pub term_turned : (a b : Term) → same_term (model_term a) (model_term b) ≡ same_term (model_term b) (model_term a)
 term_turned a b = same_truth _ _ (same_again a b) (same_again b a)
 
-pub same_model_term : (a b : Term) → a.layer ≡ b.layer → a.base ≡ b.base → a.label ≡ b.label → a.source ≡ b.source → a.counter ≡ b.counter → a.control ≡ b.control
+pub same_model_term : (a b : Term) → a.layer ≡ b.layer → a.base ≡ b.base → a.label ≡ b.label → a.source ≡ b.source
+    → a.counter ≡ b.counter → a.control ≡ b.control
     → a.header.items ≡ b.header.items → a.content.items ≡ b.content.items → model_term a ≡ model_term b
 same_model_term a b layers bases labels sources counters controls headers contents =
     λ i. record {

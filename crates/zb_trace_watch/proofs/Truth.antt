@@ -45,7 +45,8 @@ same_bytes a b h = (bytes_eq-Decides a b).0 h
 pub itself : (a : List ℕ) → bytes_eq a a ≡ true
 itself a = (bytes_eq-Decides a a).1 refl
 
-pub among_append : (keys more : List Key) (k : List ℕ) → is_among (keys ++ more) k ≡ (is_among keys k || is_among more k)
+pub among_append : (keys more : List Key) (k : List ℕ) → is_among (keys ++ more) k
+    ≡ (is_among keys k || is_among more k)
 among_append keys more k = list_any-append (λ (other : Key). bytes_eq k other.0) keys more
 
 pub among_end : (keys : List Key) (key : Key) → is_among (keys ++ key ∷ []) key.0 ≡ true
@@ -59,7 +60,9 @@ itself_number a = eq-eqb a a refl
 
 pub number_alike : (a b : ℕ) → is_eq (nat_cmp a b) ≡ nat_eq b a
 number_alike a b =
-    same_truth (is_eq (nat_cmp a b)) (nat_eq b a) (λ h. eq-eqb b a (sym (exact_unsigned a b (equal (nat_cmp a b) h)))) (λ h. ap (λ (x : ℕ). is_eq (nat_cmp x b)) (sym (exact_unsigned_eq b a h)) ∙ ap is_eq (tied_itself nat_cmp_total b))
+    same_truth (is_eq (nat_cmp a b)) (nat_eq b a) (λ h. eq-eqb b a (sym (exact_unsigned a b (equal (nat_cmp a b) h))))
+    (λ h. ap (λ (x : ℕ). is_eq (nat_cmp x b)) (sym (exact_unsigned_eq b a h)) ∙ ap is_eq
+    (tied_itself nat_cmp_total b))
   where
     equal : (o : Ordering) → is_eq o ≡ true → o ≡ Equal
     equal Less h = cc
@@ -86,7 +89,8 @@ decided true = inl refl
 decided false = inr refl
 
 pub turned_number : (a b : ℕ) → nat_eq a b ≡ nat_eq b a
-turned_number a b = same_truth _ _ (λ h. eq-eqb b a (sym (exact_unsigned_eq a b h))) (λ h. eq-eqb a b (sym (exact_unsigned_eq b a h)))
+turned_number a b = same_truth _ _ (λ h. eq-eqb b a (sym (exact_unsigned_eq a b h)))
+    (λ h. eq-eqb a b (sym (exact_unsigned_eq b a h)))
 
 pub number_so : (a b : ℕ) → is_eq (nat_cmp a b) ≡ nat_eq a b
 number_so a b = number_alike a b ∙ turned_number b a

@@ -29,6 +29,7 @@ pub record Learns (carried : Holdings Key) (old new : Keys) (keys : List Key) : 
   pub keeps : (k : List ℕ) → has old k ≡ true → has new k ≡ true
   pub learns : (k : List ℕ) → is_among keys k ≡ true → has new k ≡ true
   pub opens : (b k : List ℕ) → has old b ≡ false → has new b ≡ true → is_carried carried b k ≡ true → has new k ≡ true
-  pub least : (S : List ℕ → Bool) → ((k : List ℕ) → has old k ≡ true → S k ≡ true) → ((k : List ℕ) → is_among keys k ≡ true → S k ≡ true)
+  pub least : (S : List ℕ → Bool) → ((k : List ℕ) → has old k ≡ true → S k ≡ true)
+      → ((k : List ℕ) → is_among keys k ≡ true → S k ≡ true)
       → ((b k : List ℕ) → S b ≡ true → is_carried carried b k ≡ true → S k ≡ true)
       → (k : List ℕ) → has new k ≡ true → S k ≡ true

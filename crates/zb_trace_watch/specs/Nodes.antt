@@ -49,9 +49,12 @@ is_first_centre (Some centre) (Some eui) = nat_eq centre.0 eui.0
 -- The first node of a name, of an address and of the centre's role are those of the list; and no node has the address
 -- that represents nobody.
 pub record Declares (nodes : Nodes) (stations : List Station) : Type 0 where
-  pub addresses : (name : ArrayString) → option_map (λ (e : Eui). e.0) (address_of nodes name) ≡ option_map (λ (s : Station). s.eui) (find (λ (s : Station). bytes_eq s.name name.bytes) stations)
-  pub roles : (eui : ℕ) → option_map model_role (role_in nodes.roles eui) ≡ option_map (λ (s : Station). s.role) (station_of stations eui)
-  pub centre : option_map (λ (e : Eui). e.0) nodes.centre ≡ option_map (λ (s : Station). s.eui) (find (λ (s : Station). is_centre s.role) stations)
+  pub addresses : (name : ArrayString) → option_map (λ (e : Eui). e.0) (address_of nodes name)
+      ≡ option_map (λ (s : Station). s.eui) (find (λ (s : Station). bytes_eq s.name name.bytes) stations)
+  pub roles : (eui : ℕ) → option_map model_role (role_in nodes.roles eui)
+      ≡ option_map (λ (s : Station). s.role) (station_of stations eui)
+  pub centre : option_map (λ (e : Eui). e.0) nodes.centre
+      ≡ option_map (λ (s : Station). s.eui) (find (λ (s : Station). is_centre s.role) stations)
   pub somebody : AllByRecursion (λ (s : Station). nat_eq s.eui nobody ≡ false) stations
 
 -- the station of these parts

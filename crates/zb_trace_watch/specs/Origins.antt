@@ -8,7 +8,8 @@ use Rattle.zb_trace_watch.specs.declared.origins.Origins.{Origins}
 -- where there is no node
 abbrev pub came : Origins → Option Eui → List ℕ → Bool
 came o None key = true
-came o (Some node) key = node_has o.codes node.0 key || meet (keys_at eui_cmp o.bases node) (keys_at key_cmp o.carriers (record { 0 = key }))
+came o (Some node) key = node_has o.codes node.0 key
+    || meet (keys_at eui_cmp o.bases node) (keys_at key_cmp o.carriers (record { 0 = key }))
 
 -- if this key of this node was traced, it came
 abbrev pub IsTraced : Origins → Option Eui → List ℕ → Type 0

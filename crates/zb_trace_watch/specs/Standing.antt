@@ -26,8 +26,10 @@ bytes_of key = option_map (λ (key : Key). key.0) key
 
 -- The model's tools find the keys in frames and commands that this program's readers find.
 pub record FindKeys (tools : Tools) : Type 0 where
-  pub in_command : (bytes : List ℕ) → key_shown (tools.read_command bytes) ≡ bytes_of (carrying.key_in (command_of bytes))
-  pub in_frame : (bytes : List ℕ) → clear_key tools (tools.read_aps bytes) ≡ bytes_of (carrying.clear_key (frame_of bytes))
+  pub in_command : (bytes : List ℕ) → key_shown (tools.read_command bytes)
+      ≡ bytes_of (carrying.key_in (command_of bytes))
+  pub in_frame : (bytes : List ℕ) → clear_key tools (tools.read_aps bytes)
+      ≡ bytes_of (carrying.clear_key (frame_of bytes))
 
 -- whether there is a key, and it is this one
 abbrev pub is_that : Option Bytes → Bytes → Bool
@@ -43,14 +45,20 @@ pub record Stands (tools : Tools) (w : Watch) (h : List Line) : Type 0 where
   pub nodes : Declares w.nodes (stations_of h)
   -- the terms of seal and forge lines, and the keys that they carry
   pub terms : (t : Term) → has_term w.origins.terms t ≡ list_any (same_term (model_term t)) (terms_of h)
-  pub carried : (base key : Bytes) → is_carried w.exposure.carried base key ≡ list_any (carries tools base key) (terms_of h)
+  pub carried : (base key : Bytes) → is_carried w.exposure.carried base key
+      ≡ list_any (carries tools base key) (terms_of h)
   -- the keys that each node ever held, those of its code, and those under which it may be sent a key
-  pub ever : (node : ℕ) → nat_eq node nobody ≡ false → (key : Bytes) → node_has w.exposure.ever node key ≡ holds (ever h node) key
-  pub codes : (node : ℕ) → nat_eq node nobody ≡ false → (key : Bytes) → node_has w.origins.codes node key ≡ holds (codes_of h node) key
-  pub bases : (node : ℕ) → nat_eq node nobody ≡ false → (key : Bytes) → node_has w.origins.bases node key ≡ holds (bases h node) key
+  pub ever : (node : ℕ) → nat_eq node nobody ≡ false → (key : Bytes) → node_has w.exposure.ever node key
+      ≡ holds (ever h node) key
+  pub codes : (node : ℕ) → nat_eq node nobody ≡ false → (key : Bytes) → node_has w.origins.codes node key
+      ≡ holds (codes_of h node) key
+  pub bases : (node : ℕ) → nat_eq node nobody ≡ false → (key : Bytes) → node_has w.origins.bases node key
+      ≡ holds (bases h node) key
   -- under which keys a key was carried; and what was traced came
-  pub carriers : (base key : Bytes) → is_carried w.origins.carriers key base ≡ list_any (carries tools base key) (terms_of h)
-  pub traced : (node : ℕ) → nat_eq node nobody ≡ false → (key : Bytes) → node_has w.origins.traced node key ≡ true → came_by tools h node key ≡ true
+  pub carriers : (base key : Bytes) → is_carried w.origins.carriers key base
+      ≡ list_any (carries tools base key) (terms_of h)
+  pub traced : (node : ℕ) → nat_eq node nobody ≡ false → (key : Bytes) → node_has w.origins.traced node key ≡ true
+      → came_by tools h node key ≡ true
   -- the removed devices; nobody is none of them
   pub removed : (device : ℕ) → was_removed w.exposure device ≡ list_any (nat_eq device) (removed_devices h)
   pub somebody : list_any (nat_eq nobody) (removed_devices h) ≡ false
@@ -58,7 +66,9 @@ pub record Stands (tools : Tools) (w : Watch) (h : List Line) : Type 0 where
   pub known : (key : Bytes) → has w.exposure.known key ≡ holds (exposed tools h (outside h)) key
   -- the keys of the network, and those that forged terms carry
   pub network : (key : Bytes) → has w.passing.network key ≡ holds (network_keys h) key
-  pub forged : (key : Bytes) → has w.passing.forged key ≡ list_any (λ (t : model.Term). is_that (Rattle.zb_model.specs.Secrets.carried tools t) key) (flat_map forged_in h)
+  pub forged : (key : Bytes) → has w.passing.forged key
+      ≡ list_any (λ (t : model.Term). is_that (Rattle.zb_model.specs.Secrets.carried tools t) key)
+      (flat_map forged_in h)
   pub passed_on : w.passing.passed_on ≡ passes_on tools h
   -- the two words
   pub ideal : w.origins.ideal ≡ ideal tools h

@@ -10,7 +10,8 @@ first : (tools : Tools) (w : Schedule) → start w ++ groups tools w (start w) [
 unfolding run_lines
 first tools w = refl
 
-last : (tools : Tools) (w : Schedule) → transcript tools w ≡ run_lines tools w ++ end_line tools (length w.events) (run_lines tools w) ∷ []
+last : (tools : Tools) (w : Schedule) → transcript tools w ≡ run_lines tools w
+    ++ end_line tools (length w.events) (run_lines tools w) ∷ []
 unfolding transcript
 last tools w = refl
 

@@ -3,4 +3,5 @@ use Rattle.law_run_text.proofs.Back.{is_read_back}
 use Rattle.law_run_text.proofs.read_run.Goals as goal
 
 pub returns : goal.returns
-returns c = λ p is same. is_read_back p c.args.bytes.now c.read_lines.result c.read_lines.ensures.found c.read_lines.ensures.accepts is same
+returns c = λ p is same. is_read_back p c.args.bytes.now c.read_lines.result c.read_lines.ensures.found
+    c.read_lines.ensures.accepts is same

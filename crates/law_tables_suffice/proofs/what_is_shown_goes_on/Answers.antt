@@ -4,4 +4,11 @@ use Rattle.law_tables_suffice.proofs.Answered.{answered_same, applied_same, boot
 use Rattle.law_tables_suffice.proofs.what_is_shown_goes_on.Goals as goal
 
 pub returns : goal.returns
-returns c = record { answer = answered_same; change = shown_applied; changes = applied_same; boot = boot_same; again = twice_same }
+returns c =
+    record {
+      answer = answered_same;
+      change = shown_applied;
+      changes = applied_same;
+      boot = boot_same;
+      again = twice_same;
+    }

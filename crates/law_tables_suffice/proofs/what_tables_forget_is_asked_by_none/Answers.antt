@@ -6,4 +6,5 @@ use Rattle.law_tables_suffice.proofs.States.{read_differ}
 use Rattle.law_tables_suffice.proofs.what_tables_forget_is_asked_by_none.Goals as goal
 
 pub returns : goal.returns
-returns c = λ tools opens x h n task. answer_same tools x (state_of h n) task (accepts_live tools opens x (state_of h n) (read_differ h n) task)
+returns c = λ tools opens x h n task. answer_same tools x (state_of h n) task
+    (accepts_live tools opens x (state_of h n) (read_differ h n) task)

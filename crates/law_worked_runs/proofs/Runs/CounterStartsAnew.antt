@@ -19,11 +19,19 @@ use Rattle.zb_model.proofs.Toy.{x, toy}
 use Rattle.law_worked_runs.proofs.Terms.{term}
 
 abbrev c_station : Station
-c_station = record { name = x "63"; eui = 5149012952875009; short = 0; role = Role.Centre; out_block = 4; in_block = 2 }
+c_station =
+    record { name = x "63"; eui = 5149012952875009; short = 0; role = Role.Centre; out_block = 4; in_block = 2 }
 
 abbrev schedule : Schedule
 schedule = record {
-  nodes = record { station = c_station; code = None; network = Some (x "000102030405060708090A0B0C0D0E0F", 0); start_nwk = 2147483648; start_aps = 0 } ∷ [];
+  nodes =
+      record {
+        station = c_station;
+        code = None;
+        network = Some (x "000102030405060708090A0B0C0D0E0F", 0);
+        start_nwk = 2147483648;
+        start_aps = 0;
+      } ∷ [];
   draws = x "A0A1A2A3A4A5A6A7A8A9AAABACADAEAF" ∷ [];
   events =
       Own 5149012952875009 (SayTo 65535 (x "01")) ∷
@@ -40,7 +48,9 @@ lines =
     Counter 5149012952875009 Nwk 2147483648 ∷
     Changed 1 5149012952875009 (Reserve Nwk 2147483652) ∷
     Commit 1 5149012952875009 ∷
-    Seal 1 5149012952875009 (term Nwk (x "000102030405060708090A0B0C0D0E0F") ForNetwork 5149012952875009 2147483648 45 (x "0802FFFF00001E002D0000008001000000004B120000") (x "080100000401010001")) ∷
+    Seal 1 5149012952875009
+    (term Nwk (x "000102030405060708090A0B0C0D0E0F") ForNetwork 5149012952875009 2147483648 45
+    (x "0802FFFF00001E002D0000008001000000004B120000") (x "080100000401010001")) ∷
     Send 1 (Some 5149012952875009) 1 (x "0802FFFF00001E00280000008001000000004B12000008010000040101000100010203") ∷
     Changed 2 5149012952875009 (Moved (Draw (x "A0A1A2A3A4A5A6A7A8A9AAABACADAEAF"))) ∷
     Changed 2 5149012952875009 (Moved (Install (x "A0A1A2A3A4A5A6A7A8A9AAABACADAEAF") 1)) ∷
@@ -50,15 +60,33 @@ lines =
     Changed 3 5149012952875009 (Start (x "A0A1A2A3A4A5A6A7A8A9AAABACADAEAF") 0) ∷
     Changed 3 5149012952875009 (Moved (Roll false)) ∷
     Commit 3 5149012952875009 ∷
-    Seal 3 5149012952875009 (term Nwk (x "000102030405060708090A0B0C0D0E0F") ForNetwork 5149012952875009 2147483649 45 (x "0802FFFF00001E012D0100008001000000004B120000") (x "09010901")) ∷
+    Seal 3 5149012952875009
+    (term Nwk (x "000102030405060708090A0B0C0D0E0F") ForNetwork 5149012952875009 2147483649 45
+    (x "0802FFFF00001E012D0100008001000000004B120000") (x "09010901")) ∷
     Send 3 (Some 5149012952875009) 2 (x "0802FFFF00001E01280100008001000000004B1200000901090100010203") ∷
     Changed 4 5149012952875009 (Reserve Nwk 4) ∷
     Commit 4 5149012952875009 ∷
-    Seal 4 5149012952875009 (term Nwk (x "A0A1A2A3A4A5A6A7A8A9AAABACADAEAF") ForNetwork 5149012952875009 0 45 (x "0802FFFF00001E002D0000000001000000004B120001") (x "080100000401010002")) ∷
+    Seal 4 5149012952875009
+    (term Nwk (x "A0A1A2A3A4A5A6A7A8A9AAABACADAEAF") ForNetwork 5149012952875009 0 45
+    (x "0802FFFF00001E002D0000000001000000004B120001") (x "080100000401010002")) ∷
     Send 4 (Some 5149012952875009) 3 (x "0802FFFF00001E00280000000001000000004B120001080100000401010002A0A1A2A3") ∷
     End 4 3 0 0 true true ∷
     []
 
 counter_starts_anew : transcript toy schedule ≡ lines
-unfolding toy plan_of part_of may_seal out_of edits_of answer_by reserve_of stored_floor floor_of counting_of answer answered take_net_key take_row take_link_key take_app_key take_switch take_confirm take_remove take_tunnel take_update take_request take_app_request take_verify take_command take_leave rows_have_room keys_differ at_most_two_live active_is_live partners_agree links_are_marked floors_are_kept limits_are_started role_is_kept pairs_are_kept keeps_rules fits all_fit reject need judge_net judge_nwk candidates judge_aps say knock rejoin request_key verify_key member_timer ask tell child_of_router child_of_centre next_member is_unfinished centre_timer provision remove_device roll switch_over again share own start disk_of with_disk stands leaves_both stored_lines told_lines group_of cut_of setting_of supply task_step forged_net forged_both forged_open step_by step groups speaker after heard_line state_of is_up air draws_used commits_of stations_of record_of edit_bytes payload unless found_or choose station_of station_at centre_of short_of spent both_spent drop_partner drop_others drop_old carried terms_of a_round rounds exposed centre_in ever removed_devices outside network_keys each_line same_term bases codes_of came_by ideal_line ideal passes_on private active_row usable_nets usable_active newest usable_of live_of current offered is_live is_known is_told code_row other_user pair_of next_counter stored_limit sender_floor applied applied_all after_sealing after_counting after_hearing after_accepting after_boot shown with_given_net with_given_link with_declared sealing_key end_line run_lines transcript
+unfolding toy plan_of part_of may_seal out_of edits_of answer_by reserve_of stored_floor floor_of counting_of answer
+    answered take_net_key take_row take_link_key take_app_key take_switch take_confirm take_remove take_tunnel
+    take_update take_request take_app_request take_verify take_command take_leave rows_have_room keys_differ
+    at_most_two_live active_is_live partners_agree links_are_marked floors_are_kept limits_are_started role_is_kept
+    pairs_are_kept keeps_rules fits all_fit reject need judge_net judge_nwk candidates judge_aps say knock rejoin
+    request_key verify_key member_timer ask tell child_of_router child_of_centre next_member is_unfinished
+    centre_timer provision remove_device roll switch_over again share own start disk_of with_disk stands leaves_both
+    stored_lines told_lines group_of cut_of setting_of supply task_step forged_net forged_both forged_open step_by
+    step groups speaker after heard_line state_of is_up air draws_used commits_of stations_of record_of edit_bytes
+    payload unless found_or choose station_of station_at centre_of short_of spent both_spent drop_partner drop_others
+    drop_old carried terms_of a_round rounds exposed centre_in ever removed_devices outside network_keys each_line
+    same_term bases codes_of came_by ideal_line ideal passes_on private active_row usable_nets usable_active newest
+    usable_of live_of current offered is_live is_known is_told code_row other_user pair_of next_counter stored_limit
+    sender_floor applied applied_all after_sealing after_counting after_hearing after_accepting after_boot shown
+    with_given_net with_given_link with_declared sealing_key end_line run_lines transcript
 counter_starts_anew = refl

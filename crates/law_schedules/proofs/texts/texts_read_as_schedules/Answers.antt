@@ -10,4 +10,6 @@ loop-line-preserved c = record {
 }
 
 pub returns : goal.returns
-returns c = text_keeps c.args.text.now (c.loop-line.invariant.fits (no_more (lines c.loop-line.rest.now) c.in_default.ensures.value))
+returns c =
+    text_keeps c.args.text.now
+    (c.loop-line.invariant.fits (no_more (lines c.loop-line.rest.now) c.in_default.ensures.value))

@@ -10,36 +10,54 @@ use Rattle.zb_admin.proofs.service.on_empty.Goals as goal
 pub returns-in-Init-clause-carried : goal.returns-in-Init-clause-carried
 returns-in-Init-clause-carried g c = λ told empty.
     carried_for _ _ _ _ _ _ _ _ _ _ c.in-Init.is
-    (carried_new (setting_for c.args.config.now) _ (g.D.Disk.state c.args.disk.now) (g.D.Disk.state c.init-made.new.disk) c.args.page.now.items c.keep.result c.keep.new.centre c.keep.new.page.items c.args.step.now.line
-    (new_stands g.D.Disk.tells _ _ (g.D.Disk.state c.args.disk.now) (g.D.Disk.state c.init-made.new.disk) _ c.keep.result c.keep.new.centre c.init-made.ensures.made told c.keep.ensures.kept c.keep.ensures.made) c.keep.ensures.text)
+    (carried_new (setting_for c.args.config.now) _ (g.D.Disk.state c.args.disk.now)
+    (g.D.Disk.state c.init-made.new.disk) c.args.page.now.items c.keep.result c.keep.new.centre
+    c.keep.new.page.items c.args.step.now.line
+    (new_stands g.D.Disk.tells _ _ (g.D.Disk.state c.args.disk.now) (g.D.Disk.state c.init-made.new.disk) _
+    c.keep.result c.keep.new.centre c.init-made.ensures.made told c.keep.ensures.kept c.keep.ensures.made)
+    c.keep.ensures.text)
 
 pub returns-in-Restore-clause-carried : goal.returns-in-Restore-clause-carried
 returns-in-Restore-clause-carried g c = λ told empty.
     carried_for _ _ _ _ _ _ _ _ _ _ c.in-Restore.is
-    (carried_new (setting_for c.args.config.now) _ (g.D.Disk.state c.args.disk.now) (g.D.Disk.state c.restore-made.new.disk) c.args.page.now.items c.keep-in-Restore.result c.keep-in-Restore.new.centre c.keep-in-Restore.new.page.items c.args.step.now.line
-    (new_stands g.D.Disk.tells _ _ (g.D.Disk.state c.args.disk.now) (g.D.Disk.state c.restore-made.new.disk) c.restore-made.result c.keep-in-Restore.result c.keep-in-Restore.new.centre (subst (λ (bytes : List ℕ). HasLaidOut g.D.Disk.tells (setting_for c.args.config.now) (skipped c.in-Restore.skip (tables_of (record_read bytes))) (g.D.Disk.state c.args.disk.now) c.restore-made.result (g.D.Disk.state c.restore-made.new.disk)) c.as_slice.ensures c.restore-made.ensures.made) told c.keep-in-Restore.ensures.kept c.keep-in-Restore.ensures.made) c.keep-in-Restore.ensures.text)
+    (carried_new (setting_for c.args.config.now) _ (g.D.Disk.state c.args.disk.now)
+    (g.D.Disk.state c.restore-made.new.disk) c.args.page.now.items c.keep-in-Restore.result
+    c.keep-in-Restore.new.centre c.keep-in-Restore.new.page.items c.args.step.now.line
+    (new_stands g.D.Disk.tells _ _ (g.D.Disk.state c.args.disk.now) (g.D.Disk.state c.restore-made.new.disk)
+    c.restore-made.result c.keep-in-Restore.result c.keep-in-Restore.new.centre
+    (subst (λ (bytes : List ℕ). HasLaidOut g.D.Disk.tells (setting_for c.args.config.now)
+    (skipped c.in-Restore.skip (tables_of (record_read bytes))) (g.D.Disk.state c.args.disk.now)
+    c.restore-made.result (g.D.Disk.state c.restore-made.new.disk)) c.as_slice.ensures
+    c.restore-made.ensures.made) told c.keep-in-Restore.ensures.kept c.keep-in-Restore.ensures.made)
+    c.keep-in-Restore.ensures.text)
 
 pub returns-in-Init-clause-faults : goal.returns-in-Init-clause-faults
 returns-in-Init-clause-faults g c =
-    kept_command g.D.Disk.tells _ _ (g.D.Disk.state c.args.disk.now) (g.D.Disk.state c.init-made.new.disk) c.init-made.result c.keep.result
+    kept_command g.D.Disk.tells _ _ (g.D.Disk.state c.args.disk.now) (g.D.Disk.state c.init-made.new.disk)
+    c.init-made.result c.keep.result
     c.init-made.ensures.made c.keep.ensures.fault
 
 pub returns-in-Init-clause-unrisen : goal.returns-in-Init-clause-unrisen
 returns-in-Init-clause-unrisen g c =
-    kept_unrisen g.D.Disk.tells _ _ (g.D.Disk.state c.args.disk.now) (g.D.Disk.state c.init-made.new.disk) c.init-made.result c.keep.result
+    kept_unrisen g.D.Disk.tells _ _ (g.D.Disk.state c.args.disk.now) (g.D.Disk.state c.init-made.new.disk)
+    c.init-made.result c.keep.result
     c.init-made.ensures.made c.keep.ensures.made
 
 pub returns-in-Restore-clause-faults : goal.returns-in-Restore-clause-faults
 returns-in-Restore-clause-faults g c =
-    kept_command g.D.Disk.tells _ _ (g.D.Disk.state c.args.disk.now) (g.D.Disk.state c.restore-made.new.disk) c.restore-made.result
+    kept_command g.D.Disk.tells _ _ (g.D.Disk.state c.args.disk.now) (g.D.Disk.state c.restore-made.new.disk)
+    c.restore-made.result
     c.keep-in-Restore.result c.restore-made.ensures.made c.keep-in-Restore.ensures.fault
 
 pub returns-in-Restore-clause-unrisen : goal.returns-in-Restore-clause-unrisen
 returns-in-Restore-clause-unrisen g c =
-    kept_unrisen g.D.Disk.tells _ _ (g.D.Disk.state c.args.disk.now) (g.D.Disk.state c.restore-made.new.disk) c.restore-made.result
+    kept_unrisen g.D.Disk.tells _ _ (g.D.Disk.state c.args.disk.now) (g.D.Disk.state c.restore-made.new.disk)
+    c.restore-made.result
     c.keep-in-Restore.result c.restore-made.ensures.made c.keep-in-Restore.ensures.made
 
 pub returns-in_default-clause-carried : goal.returns-in_default-clause-carried
 returns-in_default-clause-carried g c = λ told empty.
-    carried_refused (setting_for c.args.config.now) c.args.step.now.line c.args.step.now.order c.args.centre.now (g.D.Disk.state c.args.disk.now) c.args.page.now.items c.refuse.result c.refuse.new.page.items (g.met.D.Disk.only_now c.args.disk.now) empty c.requires.none
+    carried_refused (setting_for c.args.config.now) c.args.step.now.line c.args.step.now.order c.args.centre.now
+    (g.D.Disk.state c.args.disk.now) c.args.page.now.items c.refuse.result c.refuse.new.page.items
+    (g.met.D.Disk.only_now c.args.disk.now) empty c.requires.none
     c.in_default.not-Init c.in_default.not-Restore c.refuse.ensures.text

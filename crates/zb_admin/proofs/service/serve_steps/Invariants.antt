@@ -17,6 +17,8 @@ invariant-loop-step g l = record {
   unrisen : Unrisen (g.D.Disk.state l.initial.disk).faults (g.D.Disk.state l.disk).faults;
   later : g.W.Sink.faults l.initial.out ≤ g.W.Sink.faults l.out;
   out_unrisen : Unrisen (g.W.Sink.faults l.initial.out) (g.W.Sink.faults l.out);
-  goes : IsTrue g.D.Disk.tells.content → (first : Option NodeState) → Stands (setting_for l.config) first l.initial.centre (g.D.Disk.state l.initial.disk)
-      → GoesOn (outside g.D.Disk.tells g.D.Disk.state g.W.Sink.taken g.W.Sink.faults) (setting_for l.config) l.steps first l.initial.disk l.initial.out l.step-index l.centre l.disk l.out;
+  goes : IsTrue g.D.Disk.tells.content → (first : Option NodeState)
+      → Stands (setting_for l.config) first l.initial.centre (g.D.Disk.state l.initial.disk)
+      → GoesOn (outside g.D.Disk.tells g.D.Disk.state g.W.Sink.taken g.W.Sink.faults) (setting_for l.config) l.steps
+      first l.initial.disk l.initial.out l.step-index l.centre l.disk l.out;
 }

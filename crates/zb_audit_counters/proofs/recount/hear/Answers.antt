@@ -8,8 +8,10 @@ use Rattle.zb_audit_counters.specs.declared.counters.Counters.{Counters}
 pub returns-in-Some : goal.returns-in-Some
 returns-in-Some c =
     let holds = c.get_mut.follows.holds c.hear.new.self in
-    heard_at c.args.group c.args.number c.args.line.now _ _ c.args.who.place c.args.nodes.now (c.get_mut.follows.lender c.hear.new.self) c.in-Some.counters.now c.hear.new.self c.hear.result
-    (found_there _ c.in-Some.counters.now c.in-Some.ensures.value) (holds.3 (there _ c.in-Some.counters.now c.in-Some.ensures.value)).0 c.hear.ensures.judged c.hear.ensures.heard
+    heard_at c.args.group c.args.number c.args.line.now _ _ c.args.who.place c.args.nodes.now
+    (c.get_mut.follows.lender c.hear.new.self) c.in-Some.counters.now c.hear.new.self c.hear.result
+    (found_there _ c.in-Some.counters.now c.in-Some.ensures.value)
+    (holds.3 (there _ c.in-Some.counters.now c.in-Some.ensures.value)).0 c.hear.ensures.judged c.hear.ensures.heard
 
 pub returns-in_ok-insert-in-None : goal.returns-in_ok-insert-in-None
 returns-in_ok-insert-in-None c =
@@ -21,5 +23,7 @@ returns-in_ok-insert-in-None c =
       heard = c.in_ok-judgement-in-None.ensures.heard;
       judged = c.in_ok-judgement-in-None.ensures.judged;
       puts = λ q. c.in_ok-insert-in-None.ensures.updates.0 q
-          ∙ (ap (λ (m : BTreeMap ℕ Counters). cond (is_at (nat_cmp c.args.who.place) q) (Some c.hear-in-None.new.self) (get nat_cmp m q)) same ∙ put_at c.args.who.place q c.hear-in-None.new.self (get nat_cmp c.args.nodes.now q));
+          ∙ (ap (λ (m : BTreeMap ℕ Counters). cond (is_at (nat_cmp c.args.who.place) q) (Some c.hear-in-None.new.self)
+          (get nat_cmp m q)) same ∙ put_at c.args.who.place q c.hear-in-None.new.self
+          (get nat_cmp c.args.nodes.now q));
     }

@@ -7,4 +7,5 @@ use Rattle.zb_trace.specs.declared.line.Line.{Line}
 use Rattle.zb_audit_lockout.proofs.past.learn_all.Given as goal
 
 abbrev pub invariant-loop-fact : goal.invariant-loop-fact
-invariant-loop-fact l = (tools : Tools) (names : List Bytes) (h : List Line) → Recalls tools names l.fn.before l.facts h → Recalls tools names l.before (drop l.fact-index l.facts) h
+invariant-loop-fact l = (tools : Tools) (names : List Bytes) (h : List Line)
+    → Recalls tools names l.fn.before l.facts h → Recalls tools names l.before (drop l.fact-index l.facts) h

@@ -7,4 +7,5 @@ use Rattle.zb_backup.proofs.told.floors_of.Given as goal
 
 abbrev pub invariant-loop-item : goal.invariant-loop-item
 invariant-loop-item l =
-    told_rows most_senders floor_told (map heard_floor l.floors.items) (items_view (drop l.item-index l.list)) ≡ told_rows most_senders floor_told [] (items_view l.list)
+    told_rows most_senders floor_told (map heard_floor l.floors.items) (items_view (drop l.item-index l.list))
+    ≡ told_rows most_senders floor_told [] (items_view l.list)

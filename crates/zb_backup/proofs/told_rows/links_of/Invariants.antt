@@ -8,4 +8,5 @@ use Rattle.zb_backup.proofs.told_rows.links_of.Given as goal
 
 abbrev pub invariant-loop-item : goal.invariant-loop-item
 invariant-loop-item l =
-    told_rows (most_links Centre) link_told (map link_key l.rows.items) (items_view (drop l.item-index l.list)) ≡ told_rows (most_links Centre) link_told [] (items_view l.list)
+    told_rows (most_links Centre) link_told (map link_key l.rows.items) (items_view (drop l.item-index l.list))
+    ≡ told_rows (most_links Centre) link_told [] (items_view l.list)

@@ -8,6 +8,8 @@ use Rattle.zb_backup.proofs.write.floors_value.Given as goal
 
 abbrev pub invariant-loop-floor : goal.invariant-loop-floor
 invariant-loop-floor l = record {
-  values : map view l.list.items ++ map floor_object (map heard_floor (drop l.floor-index l.floors)) ≡ map floor_object (map heard_floor l.floors);
-  fits : list_all floor_fits (map heard_floor (drop l.floor-index l.floors)) ≡ list_all floor_fits (map heard_floor l.floors);
+  values : map view l.list.items ++ map floor_object (map heard_floor (drop l.floor-index l.floors))
+      ≡ map floor_object (map heard_floor l.floors);
+  fits : list_all floor_fits (map heard_floor (drop l.floor-index l.floors))
+      ≡ list_all floor_fits (map heard_floor l.floors);
 }

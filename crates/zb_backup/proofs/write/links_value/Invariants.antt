@@ -8,6 +8,7 @@ use Rattle.zb_backup.proofs.write.links_value.Given as goal
 
 abbrev pub invariant-loop-row : goal.invariant-loop-row
 invariant-loop-row l = record {
-  values : map view l.list.items ++ map link_object (map link_key (drop l.row-index l.rows)) ≡ map link_object (map link_key l.rows);
+  values : map view l.list.items ++ map link_object (map link_key (drop l.row-index l.rows))
+      ≡ map link_object (map link_key l.rows);
   fits : list_all link_fits (map link_key (drop l.row-index l.rows)) ≡ list_all link_fits (map link_key l.rows);
 }

@@ -8,6 +8,7 @@ use Rattle.zb_backup.proofs.write.nets_value.Given as goal
 
 abbrev pub invariant-loop-row : goal.invariant-loop-row
 invariant-loop-row l = record {
-  values : map view l.list.items ++ map net_object (map net_key (drop l.row-index l.rows)) ≡ map net_object (map net_key l.rows);
+  values : map view l.list.items ++ map net_object (map net_key (drop l.row-index l.rows))
+      ≡ map net_object (map net_key l.rows);
   fits : list_all net_fits (map net_key (drop l.row-index l.rows)) ≡ list_all net_fits (map net_key l.rows);
 }

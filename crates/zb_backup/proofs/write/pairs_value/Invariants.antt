@@ -8,6 +8,7 @@ use Rattle.zb_backup.proofs.write.pairs_value.Given as goal
 
 abbrev pub invariant-loop-row : goal.invariant-loop-row
 invariant-loop-row l = record {
-  values : map view l.list.items ++ map pair_object (map pair_key (drop l.row-index l.rows)) ≡ map pair_object (map pair_key l.rows);
+  values : map view l.list.items ++ map pair_object (map pair_key (drop l.row-index l.rows))
+      ≡ map pair_object (map pair_key l.rows);
   fits : list_all pair_fits (map pair_key (drop l.row-index l.rows)) ≡ list_all pair_fits (map pair_key l.rows);
 }

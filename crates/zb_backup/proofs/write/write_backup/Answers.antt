@@ -11,7 +11,8 @@ use Rattle.zb_backup.proofs.write.write_backup.Goals as goal
 
 pub returns-clause-text : goal.returns-clause-text
 returns-clause-text c =
-    let same = c.in_ok-value.ensures.value in c.in_ok-text.ensures.text (ap has_float same ∙ (backup_has c.args.tables.now).whole) ∙ ap compact_text same
+    let same = c.in_ok-value.ensures.value in c.in_ok-text.ensures.text
+    (ap has_float same ∙ (backup_has c.args.tables.now).whole) ∙ ap compact_text same
 
 pub returns-clause-again : goal.returns-clause-again
 returns-clause-again c = λ centre.
@@ -20,7 +21,8 @@ returns-clause-again c = λ centre.
     text_complete c.in_ok-text.text.items (after_boot s) (record {
       utf8 = c.in_ok-text.ensures.utf8;
       value = backup_of (after_boot s);
-      reads = c.in_ok-text.ensures.reads_back (omega (arith, ap depth same, (backup_has s).depth)) ∙ ap Some (same ∙ sym (backup_same s));
+      reads = c.in_ok-text.ensures.reads_back (omega (arith, ap depth same, (backup_has s).depth)) ∙ ap Some
+          (same ∙ sym (backup_same s));
       same = backup_raised (after_boot s);
       kept = centre_booted s centre c.keep_rules.ensures.rules c.keep_rules.ensures.forgets c.in_ok-value.ensures.fits;
     })

@@ -4,5 +4,7 @@ use Rattle.zb_campaign.proofs.lines.print.Goals as goal
 
 pub returns : goal.returns
 returns c =
-    all_shown c.args.ends.now (length c.args.ends.now) c.total_of.result c.new-page.result.items c.put_runs.new.out.items c.put_total.new.out.items
-    c.new-page.ensures.items c.in_ok-put_runs.ensures c.in_ok-put_total.ensures refl c.total_of.ensures.seals c.total_of.ensures.accepts c.total_of.ensures.refusals
+    all_shown c.args.ends.now (length c.args.ends.now) c.total_of.result c.new-page.result.items
+    c.put_runs.new.out.items c.put_total.new.out.items
+    c.new-page.ensures.items c.in_ok-put_runs.ensures c.in_ok-put_total.ensures refl c.total_of.ensures.seals
+    c.total_of.ensures.accepts c.total_of.ensures.refusals

@@ -5,5 +5,6 @@ use Rattle.zb_campaign.proofs.lines.put_run.Goals as goal
 
 pub returns : goal.returns
 returns c =
-    run_shown c.line.result (last_line c.args.end.now) c.args.number c.args.out.now.items c.put_number.new.out.items c.put.new.out.items c.put_line.new.out.items
+    run_shown c.line.result (last_line c.args.end.now) c.args.number c.args.out.now.items c.put_number.new.out.items
+    c.put.new.out.items c.put_line.new.out.items
     (c.line.ensures []) c.in_ok-put_number.ensures c.in_ok-put.ensures c.in_ok-put_line.ensures

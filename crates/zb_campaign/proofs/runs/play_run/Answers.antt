@@ -10,4 +10,5 @@ returns-in_err-schedule c =
 
 pub returns : goal.returns
 returns c =
-    made_ended c.args.start c.args.run (schedule_of c.in_ok-schedule.schedule) c.in_ok-end.end c.in_ok-schedule.ensures.exact c.in_ok-end.ensures
+    made_ended c.args.start c.args.run (schedule_of c.in_ok-schedule.schedule) c.in_ok-end.end
+    c.in_ok-schedule.ensures.exact c.in_ok-end.ensures

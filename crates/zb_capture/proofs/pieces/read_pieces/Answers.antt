@@ -8,7 +8,13 @@ use Rattle.zb_capture.proofs.pieces.read_pieces.Goals as goal
 pub map_vec-requires-after_bounds : goal.map_vec-requires-after_bounds
 map_vec-requires-after_bounds g c lts sub i x within is =
     let ps = c.in_ok-pieces.pieces.items in
-    omega (arith, c.requires.text, piece_within ps i x within, ap (λ (p : Piece). length p.text.now) is, ap (length {A = ℕ}) c.in_ok-pieces.ensures.whole)
+    omega (
+      arith,
+      c.requires.text,
+      piece_within ps i x within,
+      ap (λ (p : Piece). length p.text.now) is,
+      ap (length {A = ℕ}) c.in_ok-pieces.ensures.whole,
+    )
 
 pub returns-clause-cut : goal.returns-clause-cut
 returns-clause-cut g c =

@@ -13,7 +13,8 @@ returns-in-Some-clause-lines c more =
     ∙ ap (λ n. lines (take n text) ++ lines (drop n text ++ more)) (sym (add-one at))
 
 pub returns-in-Some-clause-all : goal.returns-in-Some-clause-all
-returns-in-Some-clause-all c = none_behind (c.in-Some.at + 1) c.args.text.now (λ k low high is. c.in-Some.ensures.0.after k low high is)
+returns-in-Some-clause-all c = none_behind (c.in-Some.at + 1) c.args.text.now
+    (λ k low high is. c.in-Some.ensures.0.after k low high is)
 
 pub returns-in-None-clause-all : goal.returns-in-None-clause-all
 returns-in-None-clause-all c = none_behind 0 c.args.text.now (λ k low high is. c.in-None.ensures k low high is)

@@ -5,7 +5,8 @@ use Rattle.zb_ccm.proofs.Chains.{chain_more, chain_end}
 
 pub loop-i-preserved : goal.loop-i-preserved
 loop-i-preserved c =
-    chain_more c.args.cipher.now (state_bytes c.args.start) c.args.bytes.now _ _ _ _ c.loop-i.i c.loop-i.invariant c.block_of.ensures
+    chain_more c.args.cipher.now (state_bytes c.args.start) c.args.bytes.now _ _ _ _ c.loop-i.i c.loop-i.invariant
+    c.block_of.ensures
     c.plus.ensures c.encrypt_state-next.ensures
 
 pub returns : goal.returns

@@ -9,7 +9,8 @@ loop-i-init c = crypted_none c.args.cipher.now c.args.nonce.now c.args.text.now
 pub loop-i-preserved : goal.loop-i-preserved
 loop-i-preserved c =
     crypted_more c.args.cipher.now c.args.nonce.now c.args.text.now c.loop-i.text _ _ c.loop-i.i c.min.result
-    c.loop-i.invariant c.loop-i.auto.text (omega arith) c.min.ensures c.stream_block_of-block.ensures (length_state _) c.add.ensures
+    c.loop-i.invariant c.loop-i.auto.text (omega arith) c.min.ensures c.stream_block_of-block.ensures (length_state _)
+    c.add.ensures
 
 pub returns : goal.returns
 returns c = record {

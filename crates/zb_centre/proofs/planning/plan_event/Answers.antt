@@ -11,4 +11,5 @@ returns-in_default c =
     let network = c.args.network.now in
     let tables = c.args.tables.now in
     let event = c.args.event.now in
-    event_answer network tables event c.plan_own.new.plan c.requires c.in_default.not-Deliver (c.plan_own.ensures (own_at_centre network tables (task_of event)) c.decide.ensures.rule)
+    event_answer network tables event c.plan_own.new.plan c.requires c.in_default.not-Deliver
+    (c.plan_own.ensures (own_at_centre network tables (task_of event)) c.decide.ensures.rule)

@@ -9,12 +9,18 @@ use Rattle.zb_centre_store.proofs.store.handle.Goals as goal
 pub returns-in-Ok-clause-handled : goal.returns-in-Ok-clause-handled
 returns-in-Ok-clause-handled g c = λ setting.
     let e = c.in-Ok.ensures in
-    handled_ok g.D.Disk.tells setting c.args.event.now c.args.host.now c.handle.new.self e.planned.0 e.planned.1 e.planned.2 (g.D.Disk.state c.args.disk.now) (g.D.Disk.state c.handle.new.disk) c.in-Ok.changes c.in-Ok.changes.items c.in-Ok.out
-    e.planned.3.1 e.planned.3.0 (ap (λ (v : ArrayVec Change). v.items) e.planned.3.0) c.keep_rules.ensures (λ none. subst (λ disk. IsStill (g.D.Disk.state c.args.disk.now) (g.D.Disk.state disk)) (sym (e.idle none)) (still_refl (g.D.Disk.state c.args.disk.now)))
-    (λ some z current told. (_, e.step.kept some z current told)) (λ none z current. e.step.idle_kept none z current) e.entry_next e.idle_whole e.step.moments e.up
+    handled_ok g.D.Disk.tells setting c.args.event.now c.args.host.now c.handle.new.self e.planned.0 e.planned.1
+    e.planned.2 (g.D.Disk.state c.args.disk.now) (g.D.Disk.state c.handle.new.disk) c.in-Ok.changes
+    c.in-Ok.changes.items c.in-Ok.out
+    e.planned.3.1 e.planned.3.0 (ap (λ (v : ArrayVec Change). v.items) e.planned.3.0) c.keep_rules.ensures
+    (λ none. subst (λ disk. IsStill (g.D.Disk.state c.args.disk.now) (g.D.Disk.state disk)) (sym (e.idle none))
+    (still_refl (g.D.Disk.state c.args.disk.now)))
+    (λ some z current told. (_, e.step.kept some z current told)) (λ none z current. e.step.idle_kept none z current)
+    e.entry_next e.idle_whole e.step.moments e.up
 
 pub returns-in-Err-clause-handled : goal.returns-in-Err-clause-handled
 returns-in-Err-clause-handled g c = λ setting.
     let e = c.in-Err.ensures in
-    handled_err g.D.Disk.tells setting c.args.event.now c.args.host.now c.handle.new.self e.planned.0 e.planned.1 e.planned.2 (g.D.Disk.state c.args.disk.now) (g.D.Disk.state c.handle.new.disk) c.in-Err.fault c.of_host.result
+    handled_err g.D.Disk.tells setting c.args.event.now c.args.host.now c.handle.new.self e.planned.0 e.planned.1
+    e.planned.2 (g.D.Disk.state c.args.disk.now) (g.D.Disk.state c.handle.new.disk) c.in-Err.fault c.of_host.result
     c.of_host.ensures (g.met.D.Disk.reads_image c.args.disk.now) e.step.moments e.faults e.worn

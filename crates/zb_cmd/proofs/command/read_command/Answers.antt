@@ -9,5 +9,7 @@ returns-clause-only c = λ f spells. c.read_whole.ensures.exact ∙ spelled_agai
 
 pub returns-clause-fault : goal.returns-clause-fault
 returns-clause-fault c = λ e.
-    let fits : IsBytes c.args.bytes.now = λ i. omega (arith, c.type_inv.bytes i) in
-    (λ given. fault_found c.args.bytes.now fits e (sym c.read_whole.ensures.exact ∙ given), λ has. c.read_whole.ensures.exact ∙ fault_only c.args.bytes.now fits e has)
+    let fits : IsBytes c.args.bytes.now = λ i. omega (arith, c.type_inv.bytes i) in (
+      λ given. fault_found c.args.bytes.now fits e (sym c.read_whole.ensures.exact ∙ given),
+      λ has. c.read_whole.ensures.exact ∙ fault_only c.args.bytes.now fits e has,
+    )

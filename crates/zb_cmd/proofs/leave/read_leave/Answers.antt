@@ -7,4 +7,8 @@ pub returns-clause-only : goal.returns-clause-only
 returns-clause-only c = λ l spells. c.read_whole.ensures.exact ∙ leave_spelled_again c.args.bytes.now l spells
 
 pub returns-clause-fault : goal.returns-clause-fault
-returns-clause-fault c = λ e. (λ given. leave_fault_found c.args.bytes.now e (sym c.read_whole.ensures.exact ∙ given), λ has. c.read_whole.ensures.exact ∙ leave_fault_only c.args.bytes.now e has)
+returns-clause-fault c =
+    λ e. (
+      λ given. leave_fault_found c.args.bytes.now e (sym c.read_whole.ensures.exact ∙ given),
+      λ has. c.read_whole.ensures.exact ∙ leave_fault_only c.args.bytes.now e has,
+    )

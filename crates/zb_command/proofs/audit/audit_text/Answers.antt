@@ -13,20 +13,24 @@ loop-rest-init c =
 
 pub loop-rest-preserved-in_ok-line-2 : goal.loop-rest-preserved-in_ok-line-2
 loop-rest-preserved-in_ok-line-2 c =
-    let f : IsProper c.in-Some.line × (c.loop-rest.rest.now ≡ text c.in-Some.line ++ c.in-Some.after.now) = search rules in
+    let f : IsProper c.in-Some.line × (c.loop-rest.rest.now ≡ text c.in-Some.line ++ c.in-Some.after.now) =
+    search rules in
     let bound : c.loop-rest.count + length c.loop-rest.rest.now ≤ length c.args.text.now = c.loop-rest.invariant.1 in
     let less : length c.in-Some.after.now < length c.loop-rest.rest.now = search rules in (
-      taken c.args.text.now c.loop-rest.rest.now c.in-Some.after.now c.loop-rest.count c.loop-rest.auditor c.line.new.self c.in-Some.line c.loop-rest.invariant.0 f.0 f.1 c.in_ok-line-2.ensures,
+      taken c.args.text.now c.loop-rest.rest.now c.in-Some.after.now c.loop-rest.count c.loop-rest.auditor
+          c.line.new.self c.in-Some.line c.loop-rest.invariant.0 f.0 f.1 c.in_ok-line-2.ensures,
       omega arith,
       c.loop-rest.invariant.2,
     )
 
 pub loop-rest-preserved : goal.loop-rest-preserved
 loop-rest-preserved c =
-    let f : IsProper c.in-Some.line × (c.loop-rest.rest.now ≡ text c.in-Some.line ++ c.in-Some.after.now) = search rules in
+    let f : IsProper c.in-Some.line × (c.loop-rest.rest.now ≡ text c.in-Some.line ++ c.in-Some.after.now) =
+    search rules in
     let bound : c.loop-rest.count + length c.loop-rest.rest.now ≤ length c.args.text.now = c.loop-rest.invariant.1 in
     let less : length c.in-Some.after.now < length c.loop-rest.rest.now = search rules in (
-      taken c.args.text.now c.loop-rest.rest.now c.in-Some.after.now c.loop-rest.count c.loop-rest.auditor c.line.new.self c.in-Some.line c.loop-rest.invariant.0 f.0 f.1 c.in_ok-line-2.ensures,
+      taken c.args.text.now c.loop-rest.rest.now c.in-Some.after.now c.loop-rest.count c.loop-rest.auditor
+          c.line.new.self c.in-Some.line c.loop-rest.invariant.0 f.0 f.1 c.in_ok-line-2.ensures,
       omega arith,
       c.loop-rest.invariant.2,
     )
@@ -35,13 +39,15 @@ pub returns-in-Ok-clause-sound : goal.returns-in-Ok-clause-sound
 returns-in-Ok-clause-sound c =
     let none : length c.loop-rest.rest.now ≡ 0 = search rules in
     let s = c.loop-rest.invariant.0 in
-    sound_of c.args.text.now c.loop-rest.rest.now c.loop-rest.count c.loop-rest.auditor s c.end.result c.in-Ok.verdict c.in-Ok.is (c.end.ensures real s.lines s.stands) none
+    sound_of c.args.text.now c.loop-rest.rest.now c.loop-rest.count c.loop-rest.auditor s c.end.result c.in-Ok.verdict
+    c.in-Ok.is (c.end.ensures real s.lines s.stands) none
 
 pub returns-in-Err-Broken-clause-fault : goal.returns-in-Err-Broken-clause-fault
 returns-in-Err-Broken-clause-fault c =
     let none : length c.loop-rest.rest.now ≡ 0 = search rules in
     let s = c.loop-rest.invariant.0 in
-    broken_of c.args.text.now c.loop-rest.rest.now c.loop-rest.count c.loop-rest.auditor s c.end.result c.in-Err-Broken.field-0 c.in-Err-Broken.line c.in-Err-Broken.clause
+    broken_of c.args.text.now c.loop-rest.rest.now c.loop-rest.count c.loop-rest.auditor s c.end.result
+    c.in-Err-Broken.field-0 c.in-Err-Broken.line c.in-Err-Broken.clause
     c.in-Err-Broken.is c.in-Err-Broken.field-0-is (c.end.ensures real s.lines s.stands) none
 
 pub returns-in_err-line-2-clause-fault : goal.returns-in_err-line-2-clause-fault

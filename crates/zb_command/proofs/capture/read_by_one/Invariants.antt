@@ -5,7 +5,8 @@ use Rattle.zb_command.proofs.capture.read_by_one.Given as goal
 
 abbrev pub invariant-parts : goal.invariant-parts
 invariant-parts g l = record {
-  coming : IsComing (g.R.Source.rest l.fn.input) (g.R.Source.rest l.input) l.reader l.incoming.part.items l.incoming.count;
+  coming : IsComing (g.R.Source.rest l.fn.input) (g.R.Source.rest l.input) l.reader l.incoming.part.items
+      l.incoming.count;
   within : l.incoming.count ≤ 16777216;
   later : g.R.Source.faults l.fn.input ≤ g.R.Source.faults l.input;
   unrisen : Unrisen (g.R.Source.faults l.fn.input) (g.R.Source.faults l.input);

@@ -18,7 +18,8 @@ returns g c =
     let back = c.read_both-first.new.back.part.items in
     let left = c.in_ok-alone.field-0.rest.part.items in
     let second = c.as_slice-3.result.now in
-    let T : Result Taken InputFault → Type 0 = λ r. IsTaken r mid new c.go_on_from.new.self c.read_both-first.new.back (g.R.Source.faults c.args.input.now)
+    let T : Result Taken InputFault → Type 0 = λ r. IsTaken r mid new c.go_on_from.new.self c.read_both-first.new.back
+    (g.R.Source.faults c.args.input.now)
     (g.R.Source.faults c.read_both-first.new.input) in
     let taken = subst T c.in_ok-alone.was c.read_both-first.ensures.taken in
     let G : List ℕ → Type 0 = λ zs. Grows mid new zs (back ++ left) in
@@ -28,12 +29,20 @@ returns g c =
     let M : List ℕ → Type 0 = λ zs. OnOk read (next.lines ≤ reading.lines + length first + length zs) in
     let K : ℕ → Type 0 = λ n. TakesAtMost mid new (16777217 - n) in
     record {
-      came = round_read read mid new c.args.front.now c.go_on_from-2.new.self reading next first rest back left c.in_ok-split.ensures.parts
+      came = round_read read mid new c.args.front.now c.go_on_from-2.new.self reading next first rest back left
+          c.in_ok-split.ensures.parts
           c.in_ok-split.ensures.lines (subst G c.in_ok-go_on_from.ensures.part taken.grown) taken.cut
           (subst S c.as_slice-3.ensures.value (subst F c.as_slice-2.ensures.value c.add_both-read.ensures.exact))
           (subst M c.as_slice-3.ensures.value (subst N c.as_slice-2.ensures.value c.add_both-read.ensures.count))
           c.in_ok-go_on_from-2.ensures.part
-          (omega (arith, c.in_ok-go_on_from-2.ensures.count, taken.count, c.in_ok-go_on_from.ensures.count, c.in_ok-split.ensures.count, ap (length {A = ℕ}) c.in_ok-go_on_from.ensures.part))
+          (omega (
+            arith,
+            c.in_ok-go_on_from-2.ensures.count,
+            taken.count,
+            c.in_ok-go_on_from.ensures.count,
+            c.in_ok-split.ensures.count,
+            ap (length {A = ℕ}) c.in_ok-go_on_from.ensures.part,
+          ))
           (omega (arith, c.in_ok-go_on_from-2.ensures.count, taken.within));
       few = subst K (c.in_ok-go_on_from.ensures.count ∙ c.in_ok-split.ensures.count) taken.few;
       later = taken.later;

@@ -14,6 +14,8 @@ returns-in-Some-clause-front g c =
     let after = g.W.Sink.taken c.carry_out.new.output in
     let told = c.in-Some.ensures.value ∙ is in
     let same : invocation c.in-Some.command ≡ job = cc told in
-    let F : Invocation → Type 0 = λ j. IfSome (wanted j rest) (λ answer. WritesFront c.carry_out.result answer before after) in
-    subst F same (front (invocation c.in-Some.command) c.carry_out.result rest before after (g.W.Sink.faults c.args.output.now)
+    let F : Invocation → Type 0 =
+    λ j. IfSome (wanted j rest) (λ answer. WritesFront c.carry_out.result answer before after) in
+    subst F same
+    (front (invocation c.in-Some.command) c.carry_out.result rest before after (g.W.Sink.faults c.args.output.now)
     (g.W.Sink.faults c.carry_out.new.output) c.carry_out.ensures.ends)

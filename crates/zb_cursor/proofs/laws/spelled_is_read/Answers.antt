@@ -26,7 +26,9 @@ pub returns-clause-key : goal.returns-clause-key
 returns-clause-key g c = λ cut k rest len. key_again cut k rest len
 
 pub returns-clause-optional : goal.returns-clause-optional
-returns-clause-optional g c = λ cut o rest fits. optional_again cut eui eui_at (λ e. e.0 < 2 ^ 64) (λ x rest lt. eui_again cut x rest lt) (is_some o) o rest refl fits
+returns-clause-optional g c = λ cut o rest fits. optional_again cut eui eui_at (λ e. e.0 < 2 ^ 64)
+    (λ x rest lt. eui_again cut x rest lt) (is_some o) o rest refl fits
 
 pub returns-clause-times : goal.returns-clause-times
-returns-clause-times g c = λ cut xs rest fits. times_again cut short short_at (λ s. s.0 < 2 ^ 16) (λ x rest lt. short_again cut x rest lt) xs rest fits
+returns-clause-times g c = λ cut xs rest fits. times_again cut short short_at (λ s. s.0 < 2 ^ 16)
+    (λ x rest lt. short_again cut x rest lt) xs rest fits

@@ -15,7 +15,13 @@ pub returns-in-Err : goal.returns-in-Err
 returns-in-Err c =
     let bytes = payload_of (nwk_frame_shown c.args.frame.now) (option_map model_term c.args.nwk.now) in
     let fault : frame_of bytes ≡ Err c.in-Err.field-0 = sym (rw c.payload_of.ensures at c.in-Err.ensures.exact) in
-    rw (c.refuse.ensures.refused, c.refuse.ensures.nothing) (payload_read c.args.network.now c.args.tables.now c.args.draw (nwk_frame_shown c.args.frame.now) c.args.nwk.now None (real.read_aps bytes) (record { nwk = c.args.nwk.now; aps = None; effect = Err (Malformed Aps) }) (unread_is bytes c.in-Err.field-0 fault) (payload_refused c.args.network.now c.args.tables.now c.args.draw (nwk_frame_shown c.args.frame.now) c.args.nwk.now c.requires.nwk))
+    rw (c.refuse.ensures.refused, c.refuse.ensures.nothing)
+    (payload_read c.args.network.now c.args.tables.now c.args.draw (nwk_frame_shown c.args.frame.now)
+    c.args.nwk.now None (real.read_aps bytes)
+    (record { nwk = c.args.nwk.now; aps = None; effect = Err (Malformed Aps) })
+    (unread_is bytes c.in-Err.field-0 fault)
+    (payload_refused c.args.network.now c.args.tables.now c.args.draw (nwk_frame_shown c.args.frame.now)
+    c.args.nwk.now c.requires.nwk))
 
 pub decide_part-requires-clause-in_clear : goal.decide_part-requires-clause-in_clear
 decide_part-requires-clause-in_clear c =
@@ -27,4 +33,7 @@ pub returns-in-Ok : goal.returns-in-Ok
 returns-in-Ok c =
     let bytes = payload_of (nwk_frame_shown c.args.frame.now) (option_map model_term c.args.nwk.now) in
     let found : frame_of bytes ≡ Ok c.in-Ok.part = sym (rw c.payload_of.ensures at c.in-Ok.ensures.exact) in
-    payload_read c.args.network.now c.args.tables.now c.args.draw (nwk_frame_shown c.args.frame.now) c.args.nwk.now (Some (aps_frame_shown c.in-Ok.part)) (real.read_aps bytes) (record { nwk = c.args.nwk.now; aps = c.decide_part.new.aps; effect = c.decide_part.result }) (read_is bytes c.in-Ok.part found) c.decide_part.ensures
+    payload_read c.args.network.now c.args.tables.now c.args.draw (nwk_frame_shown c.args.frame.now) c.args.nwk.now
+    (Some (aps_frame_shown c.in-Ok.part)) (real.read_aps bytes)
+    (record { nwk = c.args.nwk.now; aps = c.decide_part.new.aps; effect = c.decide_part.result })
+    (read_is bytes c.in-Ok.part found) c.decide_part.ensures

@@ -4,4 +4,5 @@ use Rattle.zb_device.specs.Tasks.{own_task}
 use Rattle.zb_device.proofs.member.plan_by_rule.Goals as goal
 
 pub returns : goal.returns
-returns c = c.plan_own.ensures (own_at_member real c.args.network.now c.args.tables.now (own_task c.args.event.now)) c.decide.ensures.rule
+returns c = c.plan_own.ensures (own_at_member real c.args.network.now c.args.tables.now (own_task c.args.event.now))
+    c.decide.ensures.rule

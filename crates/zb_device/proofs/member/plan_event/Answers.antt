@@ -8,8 +8,10 @@ use Rattle.zb_device.proofs.member.plan_event.Goals as goal
 pub returns-in-Deliver : goal.returns-in-Deliver
 returns-in-Deliver c = λ task is.
     let of = rw c.in-Deliver.is at is in
-    subst (λ t. IsAnswer c.plan_received.new.plan (answer real c.args.network.now c.args.tables.now t)) (sym of.1) (rw c.as_slice.ensures.value at (c.plan_received.ensures.any_draw c.requires of.0))
+    subst (λ t. IsAnswer c.plan_received.new.plan (answer real c.args.network.now c.args.tables.now t)) (sym of.1)
+    (rw c.as_slice.ensures.value at (c.plan_received.ensures.any_draw c.requires of.0))
 
 pub returns-in_default : goal.returns-in_default
 returns-in_default c = λ task is.
-    event_answer c.args.network.now c.args.tables.now c.args.event.now task c.plan_by_rule.new.plan c.requires c.in_default.not-Deliver is c.plan_by_rule.ensures
+    event_answer c.args.network.now c.args.tables.now c.args.event.now task c.plan_by_rule.new.plan c.requires
+    c.in_default.not-Deliver is c.plan_by_rule.ensures

@@ -8,12 +8,14 @@ use Rattle.zb_disk.proofs.flags.add.Goals as goal
 
 -- how long the window is once flags were set in it
 mark_long : (old new : List Bool) (base start end : ℕ) → base ≤ start → start ≤ end
-    → new ≡ patch (spread old (end - base) false) (start - base) (replicate (end - base - (start - base)) true) → length new ≡ max (length old) (end - base)
+    → new ≡ patch (spread old (end - base) false) (start - base) (replicate (end - base - (start - base)) true)
+    → length new ≡ max (length old) (end - base)
 mark_long old new base start end from order is =
     let n = end - base - (start - base) in
     let flags = replicate n true in
     let all = spread old (end - base) false in
-    let fits : start - base + length flags ≤ length all = omega (arith, length-spread old (end - base) false, length-replicate n true) in
+    let fits : start - base + length flags ≤ length all =
+    omega (arith, length-spread old (end - base) false, length-replicate n true) in
     ap length is ∙ length-patch all flags (start - base) fits ∙ length-spread old (end - base) false
 
 pub returns-then-start-end-clause-ends : goal.returns-then-start-end-clause-ends
@@ -21,8 +23,10 @@ returns-then-start-end-clause-ends c =
     let opened = c.open-begin.ensures in
     let n = max (c.args.base + length c.args.written.now.items) c.args.end in
     let order : c.args.start ≤ c.args.end = c.requires.order in
-    let long = mark_long c.open-begin.new.written.items c.mark.new.written.items c.open-begin.result c.args.start c.args.end opened.begins order c.mark.ensures.after in
-    let window : c.open-begin.result + length c.open-begin.new.written.items ≤ n = opened.ends n (omega arith) (omega arith) in
+    let long = mark_long c.open-begin.new.written.items c.mark.new.written.items c.open-begin.result c.args.start
+    c.args.end opened.begins order c.mark.ensures.after in
+    let window : c.open-begin.result + length c.open-begin.new.written.items
+    ≤ n = opened.ends n (omega arith) (omega arith) in
     omega (arith, long, window, opened.begins)
 
 pub returns-then-start-end-clause-after : goal.returns-then-start-end-clause-after
@@ -36,7 +40,8 @@ returns-then-start-end-clause-after c n until within =
     let low : start ≤ n = omega (arith, c.requires.order) in
     let count : end - b - (start - b) ≡ end - start = omega (arith, opened.begins) in
     let ends : end ≡ start + length flags = omega (arith, length-replicate (end - start) true, c.requires.order) in
-    ap (λ (l : List Bool). flags_around b l n) (c.mark.ensures.after ∙ ap (λ (k : ℕ). patch (spread w (end - b) false) (start - b) (replicate k true)) count)
+    ap (λ (l : List Bool). flags_around b l n)
+    (c.mark.ensures.after ∙ ap (λ (k : ℕ). patch (spread w (end - b) false) (start - b) (replicate k true)) count)
     ∙ around_patch b w flags start end n (opened.ends n low within) opened.begins ends until
     ∙ ap (λ (l : List Bool). patch l start flags) (opened.after n low within)
 

@@ -8,9 +8,11 @@ use Rattle.zb_disk.proofs.flags.open.Goals as goal
 pub returns-then-is_empty-clause-after : goal.returns-then-is_empty-clause-after
 returns-then-is_empty-clause-after c n from within =
     let w = c.args.written.now.items in
-    let zero : vec_len c.args.written.now ≡ 0 = eqb-true (vec_len c.args.written.now) 0 (sym c.is_empty.ensures ∙ c.if-is_empty.true) in
+    let zero : vec_len c.args.written.now
+    ≡ 0 = eqb-true (vec_len c.args.written.now) 0 (sym c.is_empty.ensures ∙ c.if-is_empty.true) in
     let none : w ≡ [] = nil_from_length w (sym c.args.written.now.ok.0 ∙ zero) in
-    ap (λ (l : List Bool). flags_around c.args.start l n) none ∙ around_none c.args.start n from ∙ sym (around_none c.args.base n (omega arith)) ∙ ap (λ (l : List Bool). flags_around c.args.base l n) (sym none)
+    ap (λ (l : List Bool). flags_around c.args.start l n) none ∙ around_none c.args.start n from ∙ sym
+    (around_none c.args.base n (omega arith)) ∙ ap (λ (l : List Bool). flags_around c.args.base l n) (sym none)
 
 pub returns-then-start-base-clause-after : goal.returns-then-start-base-clause-after
 returns-then-start-base-clause-after c n from within =

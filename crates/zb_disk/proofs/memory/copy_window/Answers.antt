@@ -12,9 +12,12 @@ returns c =
     let count = c.min-count.result in
     let piece = take count (drop start bytes) in
     let n : start + count - start ≡ count = omega arith in
-    let long : length piece ≡ count = omega (arith, length-take count (drop start bytes), length-drop start bytes, c.min-count.ensures) in
+    let long : length piece ≡ count =
+    omega (arith, length-take count (drop start bytes), length-drop start bytes, c.min-count.ensures) in
     let over = c.overlay.ensures ∙ ap (λ (i : ℕ). patch buf 0 (take i (drop start bytes))) n in
-    let front : take count c.overlay.new.bytes ≡ piece = ap (λ (l : List ℕ). take count l) over ∙ take_at piece (drop (0 + length piece) buf) count long in
+    let front : take count c.overlay.new.bytes ≡ piece = ap (λ (l : List ℕ). take count l) over ∙ take_at piece
+    (drop (0 + length piece) buf) count long in
     let size : length c.overlay.new.bytes ≡ length buf = c.overlay.auto.bytes in
-    c.blank.ensures ∙ ap (λ (l : List ℕ). l ++ replicate (length c.overlay.new.bytes - count) 0) front ∙ ap (λ (i : ℕ). piece ++ replicate (i - count) 0) size
+    c.blank.ensures ∙ ap (λ (l : List ℕ). l ++ replicate (length c.overlay.new.bytes - count) 0) front ∙ ap
+    (λ (i : ℕ). piece ++ replicate (i - count) 0) size
     ∙ window_is bytes c.args.at start (length buf) count c.min-start.ensures c.min-count.ensures

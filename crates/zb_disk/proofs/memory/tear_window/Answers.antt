@@ -12,5 +12,8 @@ returns c =
     let new = c.tear_runs.new.bytes in
     let rest = drop base bytes in
     let n : base + length w - base ≡ length w = omega arith in
-    let torn : new ≡ tear p 0 (take (length w) rest) w = c.tear_runs.ensures ∙ ap (λ (i : ℕ). tear p 0 (take i rest) w) n in
-    ap (λ (i : ℕ). take base bytes ++ (new ++ drop i rest)) n ∙ ap (λ (l : List ℕ). take base bytes ++ (l ++ drop (length w) rest)) torn ∙ torn_window p bytes base w c.requires.within
+    let torn : new ≡ tear p 0 (take (length w) rest) w =
+    c.tear_runs.ensures ∙ ap (λ (i : ℕ). tear p 0 (take i rest) w) n in
+    ap (λ (i : ℕ). take base bytes ++ (new ++ drop i rest)) n ∙ ap
+    (λ (l : List ℕ). take base bytes ++ (l ++ drop (length w) rest)) torn ∙ torn_window p bytes base w
+    c.requires.within

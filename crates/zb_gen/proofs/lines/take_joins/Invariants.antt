@@ -6,6 +6,7 @@ use Rattle.zb_gen.proofs.lines.take_joins.Given as goal
 
 abbrev pub invariant-loop-i : goal.invariant-loop-i
 invariant-loop-i l = record {
-  lines : after_texts l.initial.maker (flat_map (λ (x : ℕ). join_lines l.install_codes.start x) (range_with_len 1 l.i)) ≡ Ok l.maker;
+  lines : after_texts l.initial.maker
+      (flat_map (λ (x : ℕ). join_lines l.install_codes.start x) (range_with_len 1 l.i)) ≡ Ok l.maker;
   count : l.maker.line ≤ l.initial.maker.line + 10 * l.i;
 }

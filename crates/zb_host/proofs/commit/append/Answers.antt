@@ -16,9 +16,11 @@ returns g c = λ content.
       stopped = c.append.ensures.stopped;
       faults = append_faults c.args.store bytes old new c.append.result short c.append.ensures.faults;
       worn = λ whole. no_whole whole;
-      untouched = λ worn. append_untouched c.args.store bytes old new c.append.result worn (append_faults c.args.store bytes old new c.append.result short c.append.ensures.faults);
+      untouched = λ worn. append_untouched c.args.store bytes old new c.append.result worn
+          (append_faults c.args.store bytes old new c.append.result short c.append.ensures.faults);
       count = c.append.ensures.count;
       unrisen = c.append.ensures.unrisen;
       asked = c.append.ensures.asked;
     } in
-    subst (λ (p : List ℕ). IsCommit g.D.Disk.tells false content p c.args.store old new c.append.result) c.change_bytes-len.ensures.bytes it
+    subst (λ (p : List ℕ). IsCommit g.D.Disk.tells false content p c.args.store old new c.append.result)
+    c.change_bytes-len.ensures.bytes it

@@ -8,7 +8,8 @@ returns g c = λ payload.
     let old = g.D.Disk.state c.args.disk.now in
     let new = g.D.Disk.state c.put.new.disk in
     let bytes = take c.record-len.result c.record-len.new.into in
-    let small : length bytes ≤ 49152 = omega (arith, ap length c.record-len.ensures.bytes, c.record-len.ensures.len, c.record-len.ensures.small) in
+    let small : length bytes ≤ 49152 =
+    omega (arith, ap length c.record-len.ensures.bytes, c.record-len.ensures.len, c.record-len.ensures.small) in
     let it : IsCommit g.D.Disk.tells true bytes payload c.args.store old new c.put.result = record {
       moments = c.put.ensures.moments;
       ready = c.put.ensures.ready;
@@ -21,4 +22,5 @@ returns g c = λ payload.
       unrisen = c.put.ensures.unrisen;
       asked = c.put.ensures.asked;
     } in
-    subst (λ (w : List ℕ). IsCommit g.D.Disk.tells true w payload c.args.store old new c.put.result) c.record-len.ensures.bytes it
+    subst (λ (w : List ℕ). IsCommit g.D.Disk.tells true w payload c.args.store old new c.put.result)
+    c.record-len.ensures.bytes it

@@ -11,18 +11,24 @@ returns c =
     let armed = c.armed_runs.ensures in
     record {
       stopped = λ whole s content payload old new calls stop is.
-          stands_then memory_tells whole (stop_commits calls old.torn) s content payload (powered new).bytes (memory_view old) (memory_view new)
+          stands_then memory_tells whole (stop_commits calls old.torn) s content payload (powered new).bytes
+          (memory_view old) (memory_view new)
           (λ a. laws.append s payload old new calls a is) (λ p. laws.put s content old new calls p is) stop;
       failed = λ whole s content payload old new call stop is.
-          stands_then memory_tells whole (failure_commits call) s content payload (powered new).bytes (memory_view old) (memory_view new)
-          (λ a. laws.append_failed s payload old new call a is) (λ p. laws.put_failed s content old new call p is) stop;
+          stands_then memory_tells whole (failure_commits call) s content payload (powered new).bytes
+          (memory_view old) (memory_view new)
+          (λ a. laws.append_failed s payload old new call a is) (λ p. laws.put_failed s content old new call p is)
+          stop;
       stop_falls = λ whole s content payload old new calls stop is.
           armed.stopped (commit_calls whole) old new calls
-          (within_then memory_tells whole s content payload (memory_view old) (memory_view new) (runs.append s payload old new) (runs.put s content old new) stop) is;
+          (within_then memory_tells whole s content payload (memory_view old) (memory_view new)
+          (runs.append s payload old new) (runs.put s content old new) stop) is;
       failure_falls = λ whole s content payload old new call stop is.
           armed.failed (commit_calls whole) old new call
-          (within_then memory_tells whole s content payload (memory_view old) (memory_view new) (runs.append s payload old new) (runs.put s content old new) stop) is;
+          (within_then memory_tells whole s content payload (memory_view old) (memory_view new)
+          (runs.append s payload old new) (runs.put s content old new) stop) is;
       none_falls = λ whole s content payload old new stop is.
           armed.unarmed (commit_calls whole) old new
-          (within_then memory_tells whole s content payload (memory_view old) (memory_view new) (runs.append s payload old new) (runs.put s content old new) stop) is;
+          (within_then memory_tells whole s content payload (memory_view old) (memory_view new)
+          (runs.append s payload old new) (runs.put s content old new) stop) is;
     }

@@ -12,5 +12,6 @@ returns g c =
     (sym c.in_ok-printed.printed.ok.0 ∙ c.in_ok-printed.ensures.len ∙ c.args.pieces.ok.0)
     (λ i d e within.
     let j = (c.in_ok-printed.ensures.each i d within).1 in
-    let P : Piece → Type 0 = λ piece. IfOk (get_or c.in_ok-printed.printed.items i d) (λ page. IsPagePrinted piece page) in
+    let P : Piece → Type 0 = λ piece. IfOk (get_or c.in_ok-printed.printed.items i d)
+    (λ page. IsPagePrinted piece page) in
     subst P (sym (j.job_is e)) j.call.met)))

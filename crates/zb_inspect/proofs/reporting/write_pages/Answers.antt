@@ -13,8 +13,10 @@ loop-page-preserved g c =
     let after = g.W.Sink.taken c.write.new.self in
     let P : List ℕ → Type 0 = λ lines. Appends so_far after lines in
     record {
-      so_far = whole_next text (g.W.Sink.taken c.args.out.now) so_far after c.args.pages.now c.loop-page.page-index c.page-item.result
-          c.loop-page-test.true c.loop-page.invariant.so_far (subst P (c.as_slice.ensures.value ∙ ap text c.page-item.is) c.in_ok-write.ensures.whole);
+      so_far = whole_next text (g.W.Sink.taken c.args.out.now) so_far after c.args.pages.now c.loop-page.page-index
+          c.page-item.result
+          c.loop-page-test.true c.loop-page.invariant.so_far
+          (subst P (c.as_slice.ensures.value ∙ ap text c.page-item.is) c.in_ok-write.ensures.whole);
       later = omega (arith, c.loop-page.invariant.later, c.in_ok-write.ensures.cause.later);
       unrisen = c.in_ok-write.ensures.cause.unrisen ∙ c.loop-page.invariant.unrisen;
     }
@@ -24,5 +26,8 @@ returns-in_err-write-clause-front g c =
     let so_far = g.W.Sink.taken c.loop-page.out in
     let after = g.W.Sink.taken c.write.new.self in
     let P : List ℕ → Type 0 = λ lines. AppendsFront so_far after lines in
-    on_err _ _ (front_at text (g.W.Sink.taken c.args.out.now) so_far after c.args.pages.now c.loop-page.page-index c.page-item.result
-    c.loop-page-test.true c.loop-page.invariant.so_far (subst P (c.as_slice.ensures.value ∙ ap text c.page-item.is) c.in_err-write.ensures.front))
+    on_err _ _
+    (front_at text (g.W.Sink.taken c.args.out.now) so_far after c.args.pages.now c.loop-page.page-index
+    c.page-item.result
+    c.loop-page-test.true c.loop-page.invariant.so_far
+    (subst P (c.as_slice.ensures.value ∙ ap text c.page-item.is) c.in_err-write.ensures.front))

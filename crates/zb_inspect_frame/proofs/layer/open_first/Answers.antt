@@ -13,11 +13,14 @@ returns-in-Ok c =
     let closed = c.loop-sealing_keys.closed in
     let place = c.loop-sealing_keys.place in
     let rest = drop (c.loop-sealing_keys.sealing_keys-index + 1) c.args.keys.now in
-    ap (Opened (place + 1)) (c.into_term.ensures ∙ ap (λ (k : Key). term_of c.unseal.new.self k c.args.source) c.base.ensures)
+    ap (Opened (place + 1))
+    (c.into_term.ensures ∙ ap (λ (k : Key). term_of c.unseal.new.self k c.args.source) c.base.ensures)
     ∙ sym (opens_here closed c.unseal.new.self c.args.source place c.sealing_keys-item.result rest
-    (ap (λ k. content_of closed k c.args.source) (sym c.of-cipher.ensures) ∙ c.in-Ok.ensures.opened) c.unseal.ensures.same)
+    (ap (λ k. content_of closed k c.args.source) (sym c.of-cipher.ensures) ∙ c.in-Ok.ensures.opened)
+    c.unseal.ensures.same)
     ∙ ap (opened_by closed c.args.source place)
-    (sym (first_left c.args.keys.now c.loop-sealing_keys.sealing_keys-index c.sealing_keys-item.result c.loop-sealing_keys-test.true c.sealing_keys-item.is))
+    (sym (first_left c.args.keys.now c.loop-sealing_keys.sealing_keys-index c.sealing_keys-item.result
+    c.loop-sealing_keys-test.true c.sealing_keys-item.is))
     ∙ c.loop-sealing_keys.invariant.0
 
 pub loop-sealing_keys-preserved : goal.loop-sealing_keys-preserved
@@ -29,7 +32,8 @@ loop-sealing_keys-preserved c =
           ∙ sym (opens_later closed c.args.source place c.sealing_keys-item.result rest
           (ap (λ k. content_of closed k c.args.source) (sym c.of-cipher.ensures) ∙ c.in-Err.ensures.refused))
           ∙ ap (opened_by closed c.args.source place)
-          (sym (first_left c.args.keys.now c.loop-sealing_keys.sealing_keys-index c.sealing_keys-item.result c.loop-sealing_keys-test.true c.sealing_keys-item.is))
+          (sym (first_left c.args.keys.now c.loop-sealing_keys.sealing_keys-index c.sealing_keys-item.result
+          c.loop-sealing_keys-test.true c.sealing_keys-item.is))
           ∙ c.loop-sealing_keys.invariant.0,
       omega (arith, c.loop-sealing_keys.invariant.1),
     )

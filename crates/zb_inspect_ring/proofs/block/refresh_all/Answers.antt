@@ -18,20 +18,28 @@ abbrev before : After-at-frame → ArrayVec ℕ → Shown
 before c frame = frame_shown c.args.addrs.now (take c.args.known c.args.keys.now) frame.items
 
 within : (c : After-at-frame) → c.loop-i.i < length (own c)
-within c = omega (arith, part_count c.args.frames.now c.args.from (length c.args.seen.now) c.requires.within, c.loop-i-test.true)
+within c =
+    omega (
+      arith,
+      part_count c.args.frames.now c.args.from (length c.args.seen.now) c.requires.within,
+      c.loop-i-test.true,
+    )
 
 frame_is : (c : After-at-frame) → c.at-frame.result ≡ get_or (own c) c.loop-i.i c.at-frame.result
 frame_is c =
-    first_of_run c.args.frames.now c.from.result c.args.from (length c.args.seen.now) c.loop-i.i c.at-frame.result c.loop-i-test.true
+    first_of_run c.args.frames.now c.from.result c.args.from (length c.args.seen.now) c.loop-i.i c.at-frame.result
+    c.loop-i-test.true
     c.requires.within c.from.ensures.some c.from.ensures.part (c.at-frame.ensures c.at-frame.result)
 
 pub refresh-requires-clause-before : goal.refresh-requires-clause-before
 refresh-requires-clause-before c =
     let d = (goal.at.refresh-requires-clause-before c).After-at-frame in
-    not_yet_mapped (under d) (before d) (own d) c.loop-i.seen c.loop-i.i c.index-seen-i.result c.at-frame.result (within d) (frame_is d) c.loop-i.invariant
+    not_yet_mapped (under d) (before d) (own d) c.loop-i.seen c.loop-i.i c.index-seen-i.result c.at-frame.result
+    (within d) (frame_is d) c.loop-i.invariant
 
 pub loop-i-preserved : goal.loop-i-preserved
 loop-i-preserved c =
     let d = (goal.at.loop-i-preserved c).After-at-frame in
-    half_mapped (under d) (before d) (own d) c.loop-i.seen c.loop-i.i c.at-frame.result c.refresh.new.seen (within d) (frame_is d)
+    half_mapped (under d) (before d) (own d) c.loop-i.seen c.loop-i.i c.at-frame.result c.refresh.new.seen (within d)
+    (frame_is d)
     c.refresh.ensures c.loop-i.invariant

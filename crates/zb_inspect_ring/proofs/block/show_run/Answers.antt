@@ -15,4 +15,5 @@ loop-i-preserved c =
     ∙ append_assoc c.args.seen.now.items (map f (take i run)) (c.show_at.result ∷ [])
     ∙ ap (λ zs. c.args.seen.now.items ++ zs)
     (ap (λ x. map f (take i run) ++ x ∷ []) (c.show_at.ensures none)
-    ∙ sym (one_mapped f run i none (omega (arith, c.loop-i-test.true, c.requires.within))) ∙ ap (λ k. map f (take k run)) (sym (add-one i)))
+    ∙ sym (one_mapped f run i none (omega (arith, c.loop-i-test.true, c.requires.within))) ∙ ap
+    (λ k. map f (take k run)) (sym (add-one i)))

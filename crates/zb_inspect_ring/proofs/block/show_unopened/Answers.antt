@@ -12,6 +12,7 @@ show_again-requires-clause-before c =
     let first = take c.args.known c.args.keys.now in
     let seen = c.in_ok-before.before in
     let count : vec_len seen ≡ c.args.count =
-    seen.ok.0 ∙ ap (length {A = Shown}) c.in_ok-before.ensures ∙ length-map own _ ∙ part_count c.args.frames.now c.args.from c.args.count c.requires.within in
+    seen.ok.0 ∙ ap (length {A = Shown}) c.in_ok-before.ensures ∙ length-map own _ ∙ part_count c.args.frames.now
+    c.args.from c.args.count c.requires.within in
     c.in_ok-before.ensures ∙ unopened_frames c.args.addrs.now first own c.requires.before
     ∙ ap (λ n. frames_shown c.args.addrs.now first (take n (drop c.args.from c.args.frames.now))) (sym count)

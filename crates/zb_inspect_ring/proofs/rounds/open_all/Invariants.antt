@@ -12,7 +12,8 @@ invariant-rounds g l = record {
   sized : AreSized (div_ceil (length l.capture.frames) l.jobs) 0 (length l.capture.frames) l.pieces.items;
   known : l.known ≤ length l.ring;
   seen : AllSee l.capture.frames l.capture.addrs (take l.known (keys_of l.ring)) (all_blocks l.pieces.items);
-  learnt : AllLearnt l.ring l.capture.frames l.capture.addrs (take l.known (keys_of l.ring)) (all_blocks l.pieces.items);
+  learnt : AllLearnt l.ring l.capture.frames l.capture.addrs (take l.known (keys_of l.ring))
+      (all_blocks l.pieces.items);
   few : length l.ring ≤ 300256;
   grew : l.rounds ≤ length l.ring;
   first : (n : ℕ) → 0 < n → n < l.rounds + 1 → ring_after l.capture n ≢ ring_after l.capture (n - 1);

@@ -9,7 +9,9 @@ use Rattle.zb_keys.proofs.reading.floor_of.Goals as goal
 
 pub returns-in-Some : goal.returns-in-Some
 returns-in-Some c =
-    let same = floor_found c.args.row.now c.args.sender.0 c.in-Some.floor.now (c.in-Some.ensures ∙ ap (find (λ (f : SenderFloor). nat_eq (heard_floor f).sender c.args.sender.0)) c.as_slice.ensures.value) in
+    let same = floor_found c.args.row.now c.args.sender.0 c.in-Some.floor.now
+    (c.in-Some.ensures ∙ ap (find (λ (f : SenderFloor). nat_eq (heard_floor f).sender c.args.sender.0))
+    c.as_slice.ensures.value) in
     ap (λ (f : model.SenderFloor). plain f) same
   where
     plain : model.SenderFloor → Floor

@@ -7,4 +7,5 @@ use Rattle.zb_record.specs.Rows.{link_seen}
 use Rattle.zb_keys.proofs.restore.link_rows.Given as goal
 
 abbrev pub invariant-loop-source : goal.invariant-loop-source
-invariant-loop-source l = (map link_key l.rows.items ≡ map link_seen (take l.source-index l.records)) × (most_links (model_role l.fn.role) ≤ vec_capacity l.rows)
+invariant-loop-source l = (map link_key l.rows.items ≡ map link_seen (take l.source-index l.records))
+    × (most_links (model_role l.fn.role) ≤ vec_capacity l.rows)

@@ -5,8 +5,11 @@ use Rattle.zb_live.proofs.session.happen.Goals as goal
 pub returns-in-Ok-clause-happened : goal.returns-in-Ok-clause-happened
 returns-in-Ok-clause-happened g c = λ told setting s up called centre.
     let place = c.args.place.now in
-    event_lines_stand g.D.Disk.tells told setting s (task_of c.args.event.now) place.log place.event place.frame place.me.bytes c.args.host.now c.handle.new.host (g.D.Disk.state c.args.disk.now) (g.D.Disk.state c.handle.new.disk) up
-    c.in-Ok.plan c.tell.result c.args.page.now.items c.tell.new.page.items (c.in-Ok.ensures.handled setting) c.tell.ensures.prints c.tell.ensures.sends called centre
+    event_lines_stand g.D.Disk.tells told setting s (task_of c.args.event.now) place.log place.event place.frame
+    place.me.bytes c.args.host.now c.handle.new.host (g.D.Disk.state c.args.disk.now)
+    (g.D.Disk.state c.handle.new.disk) up
+    c.in-Ok.plan c.tell.result c.args.page.now.items c.tell.new.page.items (c.in-Ok.ensures.handled setting)
+    c.tell.ensures.prints c.tell.ensures.sends called centre
 
 pub returns-in-Ok-clause-store : goal.returns-in-Ok-clause-store
 returns-in-Ok-clause-store g c = always c.tell.result (c.in-Ok.ensures.handled no_setting).store
@@ -15,13 +18,18 @@ pub returns-in-Ok-clause-unrisen : goal.returns-in-Ok-clause-unrisen
 returns-in-Ok-clause-unrisen g c = always c.tell.result c.in-Ok.ensures.unrisen
 
 pub returns-in-Ok-clause-faults : goal.returns-in-Ok-clause-faults
-returns-in-Ok-clause-faults g c = told_short g.D.Disk.tells (g.D.Disk.state c.args.disk.now) (g.D.Disk.state c.handle.new.disk) c.args.host.now c.tell.result c.tell.ensures.short c.in-Ok.ensures.unrisen
+returns-in-Ok-clause-faults g c = told_short g.D.Disk.tells (g.D.Disk.state c.args.disk.now)
+    (g.D.Disk.state c.handle.new.disk) c.args.host.now c.tell.result c.tell.ensures.short c.in-Ok.ensures.unrisen
 
 pub returns-in-Err-clause-happened : goal.returns-in-Err-clause-happened
 returns-in-Err-clause-happened g c = λ told setting s up called centre.
     let place = c.args.place.now in
-    event_lines_lack g.D.Disk.tells told setting s (task_of c.args.event.now) place.log place.event place.frame place.me.bytes c.args.host.now c.handle.new.host (g.D.Disk.state c.args.disk.now) (g.D.Disk.state c.handle.new.disk) up
+    event_lines_lack g.D.Disk.tells told setting s (task_of c.args.event.now) place.log place.event place.frame
+    place.me.bytes c.args.host.now c.handle.new.host (g.D.Disk.state c.args.disk.now)
+    (g.D.Disk.state c.handle.new.disk) up
     _ c.args.page.now.items _ c.in-Err.fault (c.in-Err.ensures.handled setting)
 
 pub returns-in-Err-clause-faults : goal.returns-in-Err-clause-faults
-returns-in-Err-clause-faults g c = handled_fault g.D.Disk.tells (g.D.Disk.state c.args.disk.now) (g.D.Disk.state c.handle.new.disk) c.args.host.now c.in-Err.fault (λ setting. (c.in-Err.ensures.handled setting).faults)
+returns-in-Err-clause-faults g c = handled_fault g.D.Disk.tells (g.D.Disk.state c.args.disk.now)
+    (g.D.Disk.state c.handle.new.disk) c.args.host.now c.in-Err.fault
+    (λ setting. (c.in-Err.ensures.handled setting).faults)

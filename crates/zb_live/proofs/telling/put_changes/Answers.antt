@@ -21,6 +21,9 @@ loop-change-preserved c =
     λ known n called all.
     subst (λ (lines : List Line). Prints place.log known lines c.args.page.now.items c.put_shown.new.page.items)
     (sym (change_more place.event n changes i (Reserve Nwk 0) c.loop-change-test.true))
-    (printed_in_turn place.log known _ (Changed place.event n (edit change) ∷ []) _ _ _ (c.loop-change.invariant known n called all)
+    (printed_in_turn place.log known _ (Changed place.event n (edit change) ∷ []) _ _ _
+    (c.loop-change.invariant known n called all)
     (c.in_ok-put_shown.ensures known (Changed place.event n (edit change))
-    (c.change_line.ensures.says known n called (all_at (λ (it : Change). IsOfCentre known n (edit it)) changes i (Reserve Nwk 0) c.loop-change-test.true all)) c.has_key.ensures))
+    (c.change_line.ensures.says known n called
+    (all_at (λ (it : Change). IsOfCentre known n (edit it)) changes i (Reserve Nwk 0) c.loop-change-test.true
+    all)) c.has_key.ensures))

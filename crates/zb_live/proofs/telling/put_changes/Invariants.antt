@@ -11,4 +11,5 @@ use Rattle.zb_live.proofs.telling.put_changes.Given as goal
 abbrev pub invariant-loop-change : goal.invariant-loop-change
 invariant-loop-change l =
     (known : List Station) (n : ℕ) → IsCalled known n l.place.me.bytes → AreOfCentre known n l.changes
-    → Prints l.place.log known (change_lines l.place.event n (edits (take l.change-index l.changes))) l.initial.page.items l.page.items
+    → Prints l.place.log known (change_lines l.place.event n (edits (take l.change-index l.changes)))
+    l.initial.page.items l.page.items

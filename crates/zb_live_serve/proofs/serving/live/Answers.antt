@@ -16,7 +16,8 @@ loop-init g c =
     let x = outside g.D.Disk.tells g.D.Disk.state g.W.Sink.taken g.W.Sink.faults in
     let input = input_of (g.R.Source.rest c.args.input.now) (g.R.Source.faults c.args.input.now) in
     let session = c.new-session.result in (
-      begins x input c.args.disk.now c.args.output.now session c.new-feed.result.held.items c.new-session.ensures.is c.new-session.ensures.closed c.new-feed.ensures,
+      begins x input c.args.disk.now c.args.output.now session c.new-feed.result.held.items c.new-session.ensures.is
+          c.new-session.ensures.closed c.new-feed.ensures,
       subst (λ (o : Option (Hosted CoreValue)). CanServe session.network o) (sym c.new-session.ensures.closed) tt,
       c.new-page.ensures.items,
     )
@@ -29,7 +30,9 @@ returns-in_err-line g c =
     let rest2 = input_of (g.R.Source.rest c.next.new.input) (g.R.Source.faults c.next.new.input) in
     let same : c.from_residual.result ≡ Err c.in_err-line.field-0.0 = search rules in
     subst (λ (r : Ended). Lives x input c.args.disk.now c.args.output.now r rest2 c.loop.disk c.loop.output) (sym same)
-    (ends_unread x input c.args.disk.now c.args.output.now c.loop.session c.loop.feed.held.items rest c.loop.disk c.loop.output c.loop.invariant.0 c.next.new.self.held.items rest2 c.next.ensures.later c.in_err-line.field-0.0 c.in_err-line.ensures.fault)
+    (ends_unread x input c.args.disk.now c.args.output.now c.loop.session c.loop.feed.held.items rest c.loop.disk
+    c.loop.output c.loop.invariant.0 c.next.new.self.held.items rest2 c.next.ensures.later c.in_err-line.field-0.0
+    c.in_err-line.ensures.fault)
 
 pub returns-in_default : goal.returns-in_default
 returns-in_default g c =
@@ -37,8 +40,11 @@ returns-in_default g c =
     let input = input_of (g.R.Source.rest c.args.input.now) (g.R.Source.faults c.args.input.now) in
     let rest = input_of (g.R.Source.rest c.loop.input) (g.R.Source.faults c.loop.input) in
     let rest2 = input_of (g.R.Source.rest c.next.new.input) (g.R.Source.faults c.next.new.input) in
-    ends x input c.args.disk.now c.args.output.now c.loop.session c.loop.feed.held.items rest c.loop.disk c.loop.output c.loop.invariant.0 c.next.new.self.held.items rest2 c.next.ensures.later
-    (λ bytes known. subst (λ (o : Option (Vec ℕ Global)). IsNext (c.loop.feed.held.items ++ bytes) (Ok o) c.next.new.self.held.items rest2.rest) c.in_default.is (c.in_ok-line.ensures.next bytes known))
+    ends x input c.args.disk.now c.args.output.now c.loop.session c.loop.feed.held.items rest c.loop.disk
+    c.loop.output c.loop.invariant.0 c.next.new.self.held.items rest2 c.next.ensures.later
+    (λ bytes known. subst
+    (λ (o : Option (Vec ℕ Global)). IsNext (c.loop.feed.held.items ++ bytes) (Ok o) c.next.new.self.held.items
+    rest2.rest) c.in_default.is (c.in_ok-line.ensures.next bytes known))
 
 pub returns-in_err-serve_line : goal.returns-in_err-serve_line
 returns-in_err-serve_line g c =
@@ -47,11 +53,16 @@ returns-in_err-serve_line g c =
     let rest = input_of (g.R.Source.rest c.loop.input) (g.R.Source.faults c.loop.input) in
     let rest2 = input_of (g.R.Source.rest c.next.new.input) (g.R.Source.faults c.next.new.input) in
     let same : c.from_residual-in_err-serve_line.result ≡ Err c.in_err-serve_line.field-0.0 = search rules in
-    subst (λ (r : Ended). Lives x input c.args.disk.now c.args.output.now r rest2 c.serve_line.new.disk c.serve_line.new.output) (sym same)
-    (ends_at x input c.args.disk.now c.args.output.now c.loop.session c.loop.feed.held.items rest c.loop.disk c.loop.output c.loop.invariant.0 c.next.new.self.held.items rest2 c.next.ensures.later
-    c.in-Some.line c.without_carriage_return.result.now c.serve_line.new.session c.serve_line.new.disk c.serve_line.new.output c.in_err-serve_line.field-0.0
+    subst (λ (r : Ended). Lives x input c.args.disk.now c.args.output.now r rest2 c.serve_line.new.disk
+    c.serve_line.new.output) (sym same)
+    (ends_at x input c.args.disk.now c.args.output.now c.loop.session c.loop.feed.held.items rest c.loop.disk
+    c.loop.output c.loop.invariant.0 c.next.new.self.held.items rest2 c.next.ensures.later
+    c.in-Some.line c.without_carriage_return.result.now c.serve_line.new.session c.serve_line.new.disk
+    c.serve_line.new.output c.in_err-serve_line.field-0.0
     (c.without_carriage_return.ensures ∙ ap strip_carriage_return c.as_slice.ensures.value)
-    (λ bytes known. subst (λ (o : Option (Vec ℕ Global)). IsNext (c.loop.feed.held.items ++ bytes) (Ok o) c.next.new.self.held.items rest2.rest) c.in-Some.is (c.in_ok-line.ensures.next bytes known))
+    (λ bytes known. subst
+    (λ (o : Option (Vec ℕ Global)). IsNext (c.loop.feed.held.items ++ bytes) (Ok o) c.next.new.self.held.items
+    rest2.rest) c.in-Some.is (c.in_ok-line.ensures.next bytes known))
     c.in_err-serve_line.ensures.served c.in_err-serve_line.ensures.faults)
 
 pub loop-preserved : goal.loop-preserved
@@ -60,11 +71,16 @@ loop-preserved g c =
     let input = input_of (g.R.Source.rest c.args.input.now) (g.R.Source.faults c.args.input.now) in
     let rest = input_of (g.R.Source.rest c.loop.input) (g.R.Source.faults c.loop.input) in
     let rest2 = input_of (g.R.Source.rest c.next.new.input) (g.R.Source.faults c.next.new.input) in (
-      goes_on x input c.args.disk.now c.args.output.now c.loop.session c.loop.feed.held.items rest c.loop.disk c.loop.output c.loop.invariant.0 c.next.new.self.held.items rest2 c.next.ensures.later
-          c.in-Some.line c.without_carriage_return.result.now c.serve_line.new.session c.serve_line.new.disk c.serve_line.new.output
+      goes_on x input c.args.disk.now c.args.output.now c.loop.session c.loop.feed.held.items rest c.loop.disk
+          c.loop.output c.loop.invariant.0 c.next.new.self.held.items rest2 c.next.ensures.later
+          c.in-Some.line c.without_carriage_return.result.now c.serve_line.new.session c.serve_line.new.disk
+          c.serve_line.new.output
           (c.without_carriage_return.ensures ∙ ap strip_carriage_return c.as_slice.ensures.value)
-          (λ bytes known. subst (λ (o : Option (Vec ℕ Global)). IsNext (c.loop.feed.held.items ++ bytes) (Ok o) c.next.new.self.held.items rest2.rest) c.in-Some.is (c.in_ok-line.ensures.next bytes known))
-          c.in_ok-serve_line.ensures.served c.in_ok-serve_line.ensures.waits c.in_ok-serve_line.ensures.unrisen c.in_ok-serve_line.ensures.later,
+          (λ bytes known. subst
+          (λ (o : Option (Vec ℕ Global)). IsNext (c.loop.feed.held.items ++ bytes) (Ok o)
+          c.next.new.self.held.items rest2.rest) c.in-Some.is (c.in_ok-line.ensures.next bytes known))
+          c.in_ok-serve_line.ensures.served c.in_ok-serve_line.ensures.waits c.in_ok-serve_line.ensures.unrisen
+          c.in_ok-serve_line.ensures.later,
       c.in_ok-serve_line.ensures.store,
       c.in_ok-serve_line.ensures.empty,
     )
@@ -74,4 +90,5 @@ returns g c =
     let x = outside g.D.Disk.tells g.D.Disk.state g.W.Sink.taken g.W.Sink.faults in
     let input = input_of (g.R.Source.rest c.args.input.now) (g.R.Source.faults c.args.input.now) in
     let rest = input_of (g.R.Source.rest c.loop.input) (g.R.Source.faults c.loop.input) in
-    ends_unread x input c.args.disk.now c.args.output.now c.loop.session c.loop.feed.held.items rest c.loop.disk c.loop.output c.loop.invariant.0 c.loop.feed.held.items rest (omega arith) NoMemory tt
+    ends_unread x input c.args.disk.now c.args.output.now c.loop.session c.loop.feed.held.items rest c.loop.disk
+    c.loop.output c.loop.invariant.0 c.loop.feed.held.items rest (omega arith) NoMemory tt

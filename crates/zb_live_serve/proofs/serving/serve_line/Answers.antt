@@ -6,9 +6,12 @@ use Rattle.zb_live_serve.proofs.serving.serve_line.Goals as goal
 
 pub returns-in-Ok-clause-served : goal.returns-in-Ok-clause-served
 returns-in-Ok-clause-served g c = λ told found alive.
-    line_written (outside g.D.Disk.tells g.D.Disk.state g.W.Sink.taken g.W.Sink.faults) found c.args.session.now c.take.new.self (done found c.args.line.now (living_of c.args.session.now))
-    c.args.disk.now c.take.new.disk c.args.output.now c.write_page.new.output c.args.page.now.items c.take.new.page.items c.write_page.result
-    (c.in-Ok.ensures.taken told found alive) c.in-Ok.ensures.waits c.requires.empty c.write_page.ensures.whole c.write_page.ensures.front
+    line_written (outside g.D.Disk.tells g.D.Disk.state g.W.Sink.taken g.W.Sink.faults) found c.args.session.now
+    c.take.new.self (done found c.args.line.now (living_of c.args.session.now))
+    c.args.disk.now c.take.new.disk c.args.output.now c.write_page.new.output c.args.page.now.items
+    c.take.new.page.items c.write_page.result
+    (c.in-Ok.ensures.taken told found alive) c.in-Ok.ensures.waits c.requires.empty c.write_page.ensures.whole
+    c.write_page.ensures.front
 
 pub returns-in-Ok-clause-store : goal.returns-in-Ok-clause-store
 returns-in-Ok-clause-store g c = always c.write_page.result c.in-Ok.ensures.store
@@ -21,14 +24,20 @@ returns-in-Ok-clause-unrisen g c = always c.write_page.result c.in-Ok.ensures.un
 
 pub returns-in-Ok-clause-faults : goal.returns-in-Ok-clause-faults
 returns-in-Ok-clause-faults g c =
-    write_fault (outside g.D.Disk.tells g.D.Disk.state g.W.Sink.taken g.W.Sink.faults) c.args.session.now c.args.disk.now c.take.new.disk c.args.output.now c.write_page.new.output c.write_page.result c.write_page.ensures.fault
+    write_fault (outside g.D.Disk.tells g.D.Disk.state g.W.Sink.taken g.W.Sink.faults) c.args.session.now
+    c.args.disk.now c.take.new.disk c.args.output.now c.write_page.new.output c.write_page.result
+    c.write_page.ensures.fault
 
 pub returns-in-Err-clause-served : goal.returns-in-Err-clause-served
 returns-in-Err-clause-served g c = λ told found alive.
-    line_cut (outside g.D.Disk.tells g.D.Disk.state g.W.Sink.taken g.W.Sink.faults) found c.args.session.now c.take.new.self (done found c.args.line.now (living_of c.args.session.now))
-    c.args.disk.now c.take.new.disk c.args.output.now c.args.output.now c.args.page.now.items c.take.new.page.items c.in-Err.fault _
+    line_cut (outside g.D.Disk.tells g.D.Disk.state g.W.Sink.taken g.W.Sink.faults) found c.args.session.now
+    c.take.new.self (done found c.args.line.now (living_of c.args.session.now))
+    c.args.disk.now c.take.new.disk c.args.output.now c.args.output.now c.args.page.now.items c.take.new.page.items
+    c.in-Err.fault _
     (c.in-Err.ensures.taken told found alive)
 
 pub returns-in-Err-clause-faults : goal.returns-in-Err-clause-faults
 returns-in-Err-clause-faults g c =
-    line_fault (outside g.D.Disk.tells g.D.Disk.state g.W.Sink.taken g.W.Sink.faults) c.args.session.now c.args.disk.now c.take.new.disk c.args.output.now c.args.output.now c.in-Err.fault _ c.from.ensures c.in-Err.ensures.faults
+    line_fault (outside g.D.Disk.tells g.D.Disk.state g.W.Sink.taken g.W.Sink.faults) c.args.session.now
+    c.args.disk.now c.take.new.disk c.args.output.now c.args.output.now c.in-Err.fault _ c.from.ensures
+    c.in-Err.ensures.faults

@@ -17,5 +17,6 @@ loop-i-preserved c =
 
 pub returns : goal.returns
 returns c =
-    finished_end c.args.value c.args.bytes.now _ _ c.args.before c.loop-i.i (length c.args.bytes.now / 16) c.requires.whole
+    finished_end c.args.value c.args.bytes.now _ _ c.args.before c.loop-i.i (length c.args.bytes.now / 16)
+    c.requires.whole
     refl (omega arith) c.loop-i.invariant c.padded_end.ensures

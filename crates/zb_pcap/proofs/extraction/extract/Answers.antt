@@ -9,12 +9,16 @@ use Rattle.zb_pcap.proofs.extraction.extract.Goals as goal
 pub returns-in_err-packets-clause-exact : goal.returns-in_err-packets-clause-exact
 returns-in_err-packets-clause-exact c =
     let p = err_from_is_err_and c.from_residual.result c.from_residual.ensures.1 in
-    let A : List ℕ → Type 0 = λ rest. Answers {T = Vec Packet Global} (λ v. map record_in v.items) (Err c.in_err-packets.field-0.0) (records 100000 1 c.in-Ok.form.order rest) in
-    extracted_err {T = Vec Packet Global} c.args.keys.now c.args.bytes.now c.in-Ok.form (λ v. map record_in v.items) c.in_err-packets.field-0.0 p.0 c.from_residual.result
+    let A : List ℕ → Type 0 = λ rest. Answers {T = Vec Packet Global} (λ v. map record_in v.items)
+    (Err c.in_err-packets.field-0.0) (records 100000 1 c.in-Ok.form.order rest) in
+    extracted_err {T = Vec Packet Global} c.args.keys.now c.args.bytes.now c.in-Ok.form (λ v. map record_in v.items)
+    c.in_err-packets.field-0.0 p.0 c.from_residual.result
     (sym c.in-Ok.ensures.value) (subst A c.split_at.ensures.back c.in_err-packets.ensures.exact) p.1 p.2
 
 pub returns-clause-exact : goal.returns-clause-exact
 returns-clause-exact c =
-    extracted_ok c.args.keys.now c.args.bytes.now c.in-Ok.form (map record_in c.in_ok-packets.packets.items) c.in_ok-found.found (sym c.in-Ok.ensures.value)
+    extracted_ok c.args.keys.now c.args.bytes.now c.in-Ok.form (map record_in c.in_ok-packets.packets.items)
+    c.in_ok-found.found (sym c.in-Ok.ensures.value)
     (ap (records 100000 1 c.in-Ok.form.order) (sym c.split_at.ensures.back) ∙ c.in_ok-packets.ensures.exact)
-    (c.in_ok-found.ensures.value ∙ ap (λ ps. extract_of c.args.keys.now c.in-Ok.form.check (map record_in ps)) c.as_slice.ensures.value)
+    (c.in_ok-found.ensures.value ∙ ap (λ ps. extract_of c.args.keys.now c.in-Ok.form.check (map record_in ps))
+    c.as_slice.ensures.value)

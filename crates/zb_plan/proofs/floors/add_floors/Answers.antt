@@ -9,5 +9,7 @@ use Rattle.zb_plan.proofs.floors.add_floors.Goals as goal
 pub returns-clause-made : goal.returns-clause-made
 returns-clause-made c =
     c.add_floors_of-2.ensures.made
-    ∙ ap (λ l. l ++ flat_map (floor_edits c.args.network.now c.args.tables.now) (option_to_list (option_map model_term c.args.aps.now))) c.add_floors_of.ensures.made
-    ∙ floors_then (floor_edits c.args.network.now c.args.tables.now) (edits c.args.changes.now.items) c.args.nwk.now c.args.aps.now
+    ∙ ap (λ l. l ++ flat_map (floor_edits c.args.network.now c.args.tables.now)
+    (option_to_list (option_map model_term c.args.aps.now))) c.add_floors_of.ensures.made
+    ∙ floors_then (floor_edits c.args.network.now c.args.tables.now) (edits c.args.changes.now.items) c.args.nwk.now
+    c.args.aps.now

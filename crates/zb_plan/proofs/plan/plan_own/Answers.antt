@@ -8,4 +8,6 @@ pub plan_of-requires : goal.plan_of-requires
 plan_of-requires c = record { small = keeps_small Event c.args.effect.now c.requires; nwk = tt; aps = tt }
 
 pub returns : goal.returns
-returns c = λ o d. c.plan_of.ensures (own_plan o) (record { accepts = refl; outcome = d; place = keeps_place Event c.args.effect.now c.requires })
+returns c =
+    λ o d. c.plan_of.ensures (own_plan o)
+    (record { accepts = refl; outcome = d; place = keeps_place Event c.args.effect.now c.requires })

@@ -5,5 +5,6 @@ use Rattle.zb_plan.proofs.settling.add_all_settled.Given as goal
 
 abbrev pub invariant-loop-change : goal.invariant-loop-change
 invariant-loop-change l =
-    (edits l.changes.items ++ settled l.tables l.start (edits (drop l.change-index l.made)) ≡ edits l.initial.changes.items ++ settled l.tables l.start (edits l.made))
+    (edits l.changes.items ++ settled l.tables l.start (edits (drop l.change-index l.made))
+    ≡ edits l.initial.changes.items ++ settled l.tables l.start (edits l.made))
     × (length l.changes.items ≤ length l.initial.changes.items + 2 * l.change-index)

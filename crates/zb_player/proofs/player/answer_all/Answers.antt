@@ -12,7 +12,8 @@ loop-index-init g c = record {
   clear = c.requires.clear;
   room = c.requires.room;
   still = λ s. s;
-  answers = λ s. no_answers c.args.events.now c.args.run.now c.args.disks.now (g.W.Sink.taken c.args.out.now) c.requires.fit;
+  answers = λ s. no_answers c.args.events.now c.args.run.now c.args.disks.now (g.W.Sink.taken c.args.out.now)
+      c.requires.fit;
   calls = λ s. none_made c.args.events.now c.args.run.now c.args.disks.now;
   later = omega arith;
   unrisen = refl;
@@ -20,15 +21,21 @@ loop-index-init g c = record {
 
 pub returns-in_err-answer-clause-front : goal.returns-in_err-answer-clause-front
 returns-in_err-answer-clause-front g c =
-    let front : g.B.Bench.still c.args.bench.now ≡ true → PrintsAll c.args.run.now c.args.disks.now (map event_of c.args.events.now) (g.W.Sink.taken c.args.out.now) (g.W.Sink.taken c.loop-index.out) = λ s.
-    stopped_answers c.args.events.now c.loop-index.index c.args.run.now c.loop-index.run c.args.disks.now c.loop-index.disks
+    let front : g.B.Bench.still c.args.bench.now ≡ true
+    → PrintsAll c.args.run.now c.args.disks.now (map event_of c.args.events.now) (g.W.Sink.taken c.args.out.now)
+    (g.W.Sink.taken c.loop-index.out) = λ s.
+    stopped_answers c.args.events.now c.loop-index.index c.args.run.now c.loop-index.run c.args.disks.now
+    c.loop-index.disks
     (g.W.Sink.taken c.args.out.now) (g.W.Sink.taken c.loop-index.out) (c.loop-index.invariant.answers s) in
     on_err _ _ front
 
 pub returns-in_err-hand_out-clause-front : goal.returns-in_err-hand_out-clause-front
 returns-in_err-hand_out-clause-front g c =
-    let front : g.B.Bench.still c.args.bench.now ≡ true → PrintsAll c.args.run.now c.args.disks.now (map event_of c.args.events.now) (g.W.Sink.taken c.args.out.now) (g.W.Sink.taken c.hand_out.new.out) = λ s.
-    cut_answers c.args.events.now c.loop-index.index c.index-events-index.result c.args.run.now c.loop-index.run c.answer.new.self c.args.disks.now c.loop-index.disks c.answer.new.disks
+    let front : g.B.Bench.still c.args.bench.now ≡ true
+    → PrintsAll c.args.run.now c.args.disks.now (map event_of c.args.events.now) (g.W.Sink.taken c.args.out.now)
+    (g.W.Sink.taken c.hand_out.new.out) = λ s.
+    cut_answers c.args.events.now c.loop-index.index c.index-events-index.result c.args.run.now c.loop-index.run
+    c.answer.new.self c.args.disks.now c.loop-index.disks c.answer.new.disks
     (g.W.Sink.taken c.args.out.now) (g.W.Sink.taken c.loop-index.out) (g.W.Sink.taken c.hand_out.new.out)
     (omega arith) c.index-events-index.is c.loop-index.invariant.clear (c.loop-index.invariant.answers s)
     (c.in_ok-answer.ensures.goes (c.loop-index.invariant.still s)) c.in_err-hand_out.ensures.front.0 in
@@ -39,14 +46,17 @@ loop-index-preserved g c = record {
   clear = clear_of c.answer.new.self.ledger.page _ c.in_ok-hand_out.ensures.whole.1;
   room = omega (arith, c.loop-index.invariant.room, c.in_ok-answer.ensures.few);
   still = λ s. c.in_ok-answer.ensures.still (c.loop-index.invariant.still s);
-  answers = λ s. more_answers c.args.events.now c.loop-index.index c.index-events-index.result c.args.run.now c.loop-index.run c.answer.new.self _
+  answers = λ s. more_answers c.args.events.now c.loop-index.index c.index-events-index.result c.args.run.now
+      c.loop-index.run c.answer.new.self _
       c.args.disks.now c.loop-index.disks c.answer.new.disks
       (g.W.Sink.taken c.args.out.now) (g.W.Sink.taken c.loop-index.out) (g.W.Sink.taken c.hand_out.new.out)
       (omega arith) c.index-events-index.is c.loop-index.invariant.clear (c.loop-index.invariant.answers s)
       (c.in_ok-answer.ensures.goes (c.loop-index.invariant.still s)) c.in_ok-hand_out.ensures.whole.0
       (record { nodes = refl; seats = refl; draws = refl; scribe = refl }) c.in_ok-hand_out.ensures.whole.1;
-  calls = λ s. more_made c.args.events.now c.loop-index.index c.index-events-index.result c.args.run.now c.loop-index.run
-      c.args.disks.now c.loop-index.disks c.answer.new.disks (g.W.Sink.taken c.args.out.now) (g.W.Sink.taken c.loop-index.out)
+  calls = λ s. more_made c.args.events.now c.loop-index.index c.index-events-index.result c.args.run.now
+      c.loop-index.run
+      c.args.disks.now c.loop-index.disks c.answer.new.disks (g.W.Sink.taken c.args.out.now)
+      (g.W.Sink.taken c.loop-index.out)
       (omega arith) c.index-events-index.is (c.loop-index.invariant.answers s) (c.loop-index.invariant.calls s)
       (c.in_ok-answer.ensures.calls (c.loop-index.invariant.still s));
   later = omega (arith, c.loop-index.invariant.later, c.in_ok-hand_out.ensures.cause.later);

@@ -11,8 +11,10 @@ invariant-loop-index g l = record {
   clear : IsClear l.run.ledger.page;
   room : lines_told l.run.ledger ≤ 400 + 24 * l.index;
   still : g.B.Bench.still l.initial.bench ≡ true → g.B.Bench.still l.bench ≡ true;
-  answers : g.B.Bench.still l.initial.bench ≡ true → Answers l.initial.run l.initial.disks (map event_of l.events) l.index l.run l.disks (g.W.Sink.taken l.initial.out) (g.W.Sink.taken l.out);
-  calls : g.B.Bench.still l.initial.bench ≡ true → AreMade l.initial.disks l.initial.run (map event_of l.events) l.index l.disks;
+  answers : g.B.Bench.still l.initial.bench ≡ true → Answers l.initial.run l.initial.disks (map event_of l.events)
+      l.index l.run l.disks (g.W.Sink.taken l.initial.out) (g.W.Sink.taken l.out);
+  calls : g.B.Bench.still l.initial.bench ≡ true → AreMade l.initial.disks l.initial.run (map event_of l.events)
+      l.index l.disks;
   later : g.W.Sink.faults l.initial.out ≤ g.W.Sink.faults l.out;
   unrisen : Unrisen (g.W.Sink.faults l.initial.out) (g.W.Sink.faults l.out);
 }

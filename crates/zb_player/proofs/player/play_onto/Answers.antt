@@ -24,14 +24,16 @@ answer_all-requires-clause-clear g c = clear_of c.in_ok-run.run'.ledger.page _ c
 pub answer_all-requires-clause-fit : goal.answer_all-requires-clause-fit
 answer_all-requires-clause-fit g c =
     let p = sched.schedule_of c.args.schedule.now in
-    still_for c.args.page c.in_ok-run.run'.ledger.page c.hand_out.new.self (text_in p (begin p)) (g.W.Sink.taken c.args.out.now) (g.W.Sink.taken c.hand_out.new.out) c.in_ok-run.ensures.page
+    still_for c.args.page c.in_ok-run.run'.ledger.page c.hand_out.new.self (text_in p (begin p))
+    (g.W.Sink.taken c.args.out.now) (g.W.Sink.taken c.hand_out.new.out) c.in_ok-run.ensures.page
     c.in_ok-hand_out.ensures.whole.1 c.requires.fit c.in_ok-hand_out.ensures.whole.0
 
 pub returns-in_err-hand_out-clause-front : goal.returns-in_err-hand_out-clause-front
 returns-in_err-hand_out-clause-front g c = λ s.
     let p = sched.schedule_of c.args.schedule.now in
     on_err _ _ (front_start p (g.W.Sink.taken c.args.out.now) (g.W.Sink.taken c.hand_out.new.out)
-    (handed_front c.args.page c.in_ok-run.run'.ledger.page (text_in p (begin p)) (g.W.Sink.taken c.args.out.now) (g.W.Sink.taken c.hand_out.new.out) c.in_ok-run.ensures.page c.requires.clear
+    (handed_front c.args.page c.in_ok-run.run'.ledger.page (text_in p (begin p)) (g.W.Sink.taken c.args.out.now)
+    (g.W.Sink.taken c.hand_out.new.out) c.in_ok-run.ensures.page c.requires.clear
     c.in_err-hand_out.ensures.front.0))
 
 pub returns-in_err-answer_all-clause-front : goal.returns-in_err-answer_all-clause-front
@@ -44,15 +46,25 @@ returns-in_err-answer_all-clause-front g c = λ s.
       nodes = c.in_ok-run.run'.nodes;
       seats = c.in_ok-run.run'.seats;
       draws = c.in_ok-run.run'.draws;
-      ledger = record { alloc = c.in_ok-run.run'.ledger.alloc; scribe = c.in_ok-run.run'.ledger.scribe; page = c.hand_out.new.self; plan = c.in_ok-run.run'.ledger.plan };
+      ledger =
+          record {
+            alloc = c.in_ok-run.run'.ledger.alloc;
+            scribe = c.in_ok-run.run'.ledger.scribe;
+            page = c.hand_out.new.self;
+            plan = c.in_ok-run.run'.ledger.plan;
+          };
     } in
     let stands1 : RunStands p (begin p) [] 1 run1 c.deref_mut.result.now =
     subst (RunStands p (begin p) [] 1 run1) (sym c.deref_mut.ensures.value)
-    (paged p (begin p) [] 1 c.in_ok-run.run' run1 c.start.new.disks.items (record { nodes = refl; seats = refl; draws = refl; scribe = refl }) c.in_ok-run.ensures.stands) in
+    (paged p (begin p) [] 1 c.in_ok-run.run' run1 c.start.new.disks.items
+    (record { nodes = refl; seats = refl; draws = refl; scribe = refl }) c.in_ok-run.ensures.stands) in
     let out : Appends before (g.W.Sink.taken c.hand_out.new.out) (text_in p (begin p)) =
-    handed c.args.page c.in_ok-run.run'.ledger.page (text_in p (begin p)) before (g.W.Sink.taken c.hand_out.new.out) c.in_ok-run.ensures.page c.requires.clear c.requires.fit
+    handed c.args.page c.in_ok-run.run'.ledger.page (text_in p (begin p)) before (g.W.Sink.taken c.hand_out.new.out)
+    c.in_ok-run.ensures.page c.requires.clear c.requires.fit
     c.in_ok-hand_out.ensures.whole.0 in
-    on_err _ _ (front_middle p run1 c.deref_mut.result.now (map event_of events) before (g.W.Sink.taken c.hand_out.new.out) (g.W.Sink.taken c.answer_all.new.out)
+    on_err _ _
+    (front_middle p run1 c.deref_mut.result.now (map event_of events) before (g.W.Sink.taken c.hand_out.new.out)
+    (g.W.Sink.taken c.answer_all.new.out)
     played stands1 out (c.in_err-answer_all.ensures.front s))
 
 pub returns-in_err-print-clause-front : goal.returns-in_err-print-clause-front
@@ -65,19 +77,29 @@ returns-in_err-print-clause-front g c = λ s.
       nodes = c.in_ok-run.run'.nodes;
       seats = c.in_ok-run.run'.seats;
       draws = c.in_ok-run.run'.draws;
-      ledger = record { alloc = c.in_ok-run.run'.ledger.alloc; scribe = c.in_ok-run.run'.ledger.scribe; page = c.hand_out.new.self; plan = c.in_ok-run.run'.ledger.plan };
+      ledger =
+          record {
+            alloc = c.in_ok-run.run'.ledger.alloc;
+            scribe = c.in_ok-run.run'.ledger.scribe;
+            page = c.hand_out.new.self;
+            plan = c.in_ok-run.run'.ledger.plan;
+          };
     } in
     let stands1 : RunStands p (begin p) [] 1 run1 c.deref_mut.result.now =
     subst (RunStands p (begin p) [] 1 run1) (sym c.deref_mut.ensures.value)
-    (paged p (begin p) [] 1 c.in_ok-run.run' run1 c.start.new.disks.items (record { nodes = refl; seats = refl; draws = refl; scribe = refl }) c.in_ok-run.ensures.stands) in
+    (paged p (begin p) [] 1 c.in_ok-run.run' run1 c.start.new.disks.items
+    (record { nodes = refl; seats = refl; draws = refl; scribe = refl }) c.in_ok-run.ensures.stands) in
     let out : Appends before (g.W.Sink.taken c.hand_out.new.out) (text_in p (begin p)) =
-    handed c.args.page c.in_ok-run.run'.ledger.page (text_in p (begin p)) before (g.W.Sink.taken c.hand_out.new.out) c.in_ok-run.ensures.page c.requires.clear c.requires.fit
+    handed c.args.page c.in_ok-run.run'.ledger.page (text_in p (begin p)) before (g.W.Sink.taken c.hand_out.new.out)
+    c.in_ok-run.ensures.page c.requires.clear c.requires.fit
     c.in_ok-hand_out.ensures.whole.0 in
     let ended : Ended p c.answer_all.new.run c.answer_all.new.disks before (g.W.Sink.taken c.answer_all.new.out) =
-    all_answered p run1 c.answer_all.new.run c.deref_mut.result.now c.answer_all.new.disks (map event_of events) (length events) before
+    all_answered p run1 c.answer_all.new.run c.deref_mut.result.now c.answer_all.new.disks (map event_of events)
+    (length events) before
     (g.W.Sink.taken c.hand_out.new.out) (g.W.Sink.taken c.answer_all.new.out)
     played (sym (length-map events event_of)) stands1 out (c.in_ok-answer_all.ensures.whole s) in
-    on_err _ _ (front_last p c.answer_all.new.run c.answer_all.new.disks before (g.W.Sink.taken c.answer_all.new.out) ended)
+    on_err _ _
+    (front_last p c.answer_all.new.run c.answer_all.new.disks before (g.W.Sink.taken c.answer_all.new.out) ended)
 
 pub returns-in_err-hand_out-2-clause-front : goal.returns-in_err-hand_out-2-clause-front
 returns-in_err-hand_out-2-clause-front g c = λ s.
@@ -89,26 +111,40 @@ returns-in_err-hand_out-2-clause-front g c = λ s.
       nodes = c.in_ok-run.run'.nodes;
       seats = c.in_ok-run.run'.seats;
       draws = c.in_ok-run.run'.draws;
-      ledger = record { alloc = c.in_ok-run.run'.ledger.alloc; scribe = c.in_ok-run.run'.ledger.scribe; page = c.hand_out.new.self; plan = c.in_ok-run.run'.ledger.plan };
+      ledger =
+          record {
+            alloc = c.in_ok-run.run'.ledger.alloc;
+            scribe = c.in_ok-run.run'.ledger.scribe;
+            page = c.hand_out.new.self;
+            plan = c.in_ok-run.run'.ledger.plan;
+          };
     } in
     let stands1 : RunStands p (begin p) [] 1 run1 c.deref_mut.result.now =
     subst (RunStands p (begin p) [] 1 run1) (sym c.deref_mut.ensures.value)
-    (paged p (begin p) [] 1 c.in_ok-run.run' run1 c.start.new.disks.items (record { nodes = refl; seats = refl; draws = refl; scribe = refl }) c.in_ok-run.ensures.stands) in
+    (paged p (begin p) [] 1 c.in_ok-run.run' run1 c.start.new.disks.items
+    (record { nodes = refl; seats = refl; draws = refl; scribe = refl }) c.in_ok-run.ensures.stands) in
     let out : Appends before (g.W.Sink.taken c.hand_out.new.out) (text_in p (begin p)) =
-    handed c.args.page c.in_ok-run.run'.ledger.page (text_in p (begin p)) before (g.W.Sink.taken c.hand_out.new.out) c.in_ok-run.ensures.page c.requires.clear c.requires.fit
+    handed c.args.page c.in_ok-run.run'.ledger.page (text_in p (begin p)) before (g.W.Sink.taken c.hand_out.new.out)
+    c.in_ok-run.ensures.page c.requires.clear c.requires.fit
     c.in_ok-hand_out.ensures.whole.0 in
     let ended : Ended p c.answer_all.new.run c.answer_all.new.disks before (g.W.Sink.taken c.answer_all.new.out) =
-    all_answered p run1 c.answer_all.new.run c.deref_mut.result.now c.answer_all.new.disks (map event_of events) (length events) before
+    all_answered p run1 c.answer_all.new.run c.deref_mut.result.now c.answer_all.new.disks (map event_of events)
+    (length events) before
     (g.W.Sink.taken c.hand_out.new.out) (g.W.Sink.taken c.answer_all.new.out)
     played (sym (length-map events event_of)) stands1 out (c.in_ok-answer_all.ensures.whole s) in
     let summed_up : last_line c.of-summary.result ≡ last p =
-    sums_up p c.answer_all.new.run c.answer_all.new.disks before (g.W.Sink.taken c.answer_all.new.out) c.of-summary.result (length events) ended
+    sums_up p c.answer_all.new.run c.answer_all.new.disks before (g.W.Sink.taken c.answer_all.new.out)
+    c.of-summary.result (length events) ended
     (sym (length-map events event_of) ∙ ap (λ (es : List Event). length es) played.events_are) c.of-summary.ensures in
     let known = stations (schedule_of p) in
     let shown : c.print.new.self ≡ append_known c.answer_all.new.run.ledger.page (text_in p (last p ∷ [])) =
-    c.in_ok-print.ensures ∙ ap (append_known c.answer_all.new.run.ledger.page) (last_text known c.line.result (last_line c.of-summary.result) (last p) (c.line.ensures known) summed_up) in
-    on_err _ _ (front_end p c.answer_all.new.run c.answer_all.new.disks before (g.W.Sink.taken c.answer_all.new.out) (g.W.Sink.taken c.hand_out-2.new.out)
-    ended (handed_front c.answer_all.new.run.ledger.page c.print.new.self (text_in p (last p ∷ [])) (g.W.Sink.taken c.answer_all.new.out) (g.W.Sink.taken c.hand_out-2.new.out) shown
+    c.in_ok-print.ensures ∙ ap (append_known c.answer_all.new.run.ledger.page)
+    (last_text known c.line.result (last_line c.of-summary.result) (last p) (c.line.ensures known) summed_up) in
+    on_err _ _
+    (front_end p c.answer_all.new.run c.answer_all.new.disks before (g.W.Sink.taken c.answer_all.new.out)
+    (g.W.Sink.taken c.hand_out-2.new.out)
+    ended (handed_front c.answer_all.new.run.ledger.page c.print.new.self (text_in p (last p ∷ []))
+    (g.W.Sink.taken c.answer_all.new.out) (g.W.Sink.taken c.hand_out-2.new.out) shown
     c.in_ok-answer_all.ensures.clear c.in_err-hand_out-2.ensures.front.0))
 
 pub returns-clause-whole : goal.returns-clause-whole
@@ -121,26 +157,39 @@ returns-clause-whole g c = λ s.
       nodes = c.in_ok-run.run'.nodes;
       seats = c.in_ok-run.run'.seats;
       draws = c.in_ok-run.run'.draws;
-      ledger = record { alloc = c.in_ok-run.run'.ledger.alloc; scribe = c.in_ok-run.run'.ledger.scribe; page = c.hand_out.new.self; plan = c.in_ok-run.run'.ledger.plan };
+      ledger =
+          record {
+            alloc = c.in_ok-run.run'.ledger.alloc;
+            scribe = c.in_ok-run.run'.ledger.scribe;
+            page = c.hand_out.new.self;
+            plan = c.in_ok-run.run'.ledger.plan;
+          };
     } in
     let stands1 : RunStands p (begin p) [] 1 run1 c.deref_mut.result.now =
     subst (RunStands p (begin p) [] 1 run1) (sym c.deref_mut.ensures.value)
-    (paged p (begin p) [] 1 c.in_ok-run.run' run1 c.start.new.disks.items (record { nodes = refl; seats = refl; draws = refl; scribe = refl }) c.in_ok-run.ensures.stands) in
+    (paged p (begin p) [] 1 c.in_ok-run.run' run1 c.start.new.disks.items
+    (record { nodes = refl; seats = refl; draws = refl; scribe = refl }) c.in_ok-run.ensures.stands) in
     let out : Appends before (g.W.Sink.taken c.hand_out.new.out) (text_in p (begin p)) =
-    handed c.args.page c.in_ok-run.run'.ledger.page (text_in p (begin p)) before (g.W.Sink.taken c.hand_out.new.out) c.in_ok-run.ensures.page c.requires.clear c.requires.fit
+    handed c.args.page c.in_ok-run.run'.ledger.page (text_in p (begin p)) before (g.W.Sink.taken c.hand_out.new.out)
+    c.in_ok-run.ensures.page c.requires.clear c.requires.fit
     c.in_ok-hand_out.ensures.whole.0 in
     let ended : Ended p c.answer_all.new.run c.answer_all.new.disks before (g.W.Sink.taken c.answer_all.new.out) =
-    all_answered p run1 c.answer_all.new.run c.deref_mut.result.now c.answer_all.new.disks (map event_of events) (length events) before
+    all_answered p run1 c.answer_all.new.run c.deref_mut.result.now c.answer_all.new.disks (map event_of events)
+    (length events) before
     (g.W.Sink.taken c.hand_out.new.out) (g.W.Sink.taken c.answer_all.new.out)
     played (sym (length-map events event_of)) stands1 out (c.in_ok-answer_all.ensures.whole s) in
     let summed_up : last_line c.of-summary.result ≡ last p =
-    sums_up p c.answer_all.new.run c.answer_all.new.disks before (g.W.Sink.taken c.answer_all.new.out) c.of-summary.result (length events) ended
+    sums_up p c.answer_all.new.run c.answer_all.new.disks before (g.W.Sink.taken c.answer_all.new.out)
+    c.of-summary.result (length events) ended
     (sym (length-map events event_of) ∙ ap (λ (es : List Event). length es) played.events_are) c.of-summary.ensures in
     let known = stations (schedule_of p) in
     let shown : c.print.new.self ≡ append_known c.answer_all.new.run.ledger.page (text_in p (last p ∷ [])) =
-    c.in_ok-print.ensures ∙ ap (append_known c.answer_all.new.run.ledger.page) (last_text known c.line.result (last_line c.of-summary.result) (last p) (c.line.ensures known) summed_up) in
-    whole_run p c.answer_all.new.run c.answer_all.new.disks before (g.W.Sink.taken c.answer_all.new.out) (g.W.Sink.taken c.hand_out-2.new.out)
-    ended (handed c.answer_all.new.run.ledger.page c.print.new.self (text_in p (last p ∷ [])) (g.W.Sink.taken c.answer_all.new.out) (g.W.Sink.taken c.hand_out-2.new.out) shown
+    c.in_ok-print.ensures ∙ ap (append_known c.answer_all.new.run.ledger.page)
+    (last_text known c.line.result (last_line c.of-summary.result) (last p) (c.line.ensures known) summed_up) in
+    whole_run p c.answer_all.new.run c.answer_all.new.disks before (g.W.Sink.taken c.answer_all.new.out)
+    (g.W.Sink.taken c.hand_out-2.new.out)
+    ended (handed c.answer_all.new.run.ledger.page c.print.new.self (text_in p (last p ∷ []))
+    (g.W.Sink.taken c.answer_all.new.out) (g.W.Sink.taken c.hand_out-2.new.out) shown
     c.in_ok-answer_all.ensures.clear ended.page c.in_ok-hand_out-2.ensures.whole.0)
 
 pub returns-clause-summary : goal.returns-clause-summary
@@ -153,20 +202,30 @@ returns-clause-summary g c = λ s.
       nodes = c.in_ok-run.run'.nodes;
       seats = c.in_ok-run.run'.seats;
       draws = c.in_ok-run.run'.draws;
-      ledger = record { alloc = c.in_ok-run.run'.ledger.alloc; scribe = c.in_ok-run.run'.ledger.scribe; page = c.hand_out.new.self; plan = c.in_ok-run.run'.ledger.plan };
+      ledger =
+          record {
+            alloc = c.in_ok-run.run'.ledger.alloc;
+            scribe = c.in_ok-run.run'.ledger.scribe;
+            page = c.hand_out.new.self;
+            plan = c.in_ok-run.run'.ledger.plan;
+          };
     } in
     let stands1 : RunStands p (begin p) [] 1 run1 c.deref_mut.result.now =
     subst (RunStands p (begin p) [] 1 run1) (sym c.deref_mut.ensures.value)
-    (paged p (begin p) [] 1 c.in_ok-run.run' run1 c.start.new.disks.items (record { nodes = refl; seats = refl; draws = refl; scribe = refl }) c.in_ok-run.ensures.stands) in
+    (paged p (begin p) [] 1 c.in_ok-run.run' run1 c.start.new.disks.items
+    (record { nodes = refl; seats = refl; draws = refl; scribe = refl }) c.in_ok-run.ensures.stands) in
     let out : Appends before (g.W.Sink.taken c.hand_out.new.out) (text_in p (begin p)) =
-    handed c.args.page c.in_ok-run.run'.ledger.page (text_in p (begin p)) before (g.W.Sink.taken c.hand_out.new.out) c.in_ok-run.ensures.page c.requires.clear c.requires.fit
+    handed c.args.page c.in_ok-run.run'.ledger.page (text_in p (begin p)) before (g.W.Sink.taken c.hand_out.new.out)
+    c.in_ok-run.ensures.page c.requires.clear c.requires.fit
     c.in_ok-hand_out.ensures.whole.0 in
     let ended : Ended p c.answer_all.new.run c.answer_all.new.disks before (g.W.Sink.taken c.answer_all.new.out) =
-    all_answered p run1 c.answer_all.new.run c.deref_mut.result.now c.answer_all.new.disks (map event_of events) (length events) before
+    all_answered p run1 c.answer_all.new.run c.deref_mut.result.now c.answer_all.new.disks (map event_of events)
+    (length events) before
     (g.W.Sink.taken c.hand_out.new.out) (g.W.Sink.taken c.answer_all.new.out)
     played (sym (length-map events event_of)) stands1 out (c.in_ok-answer_all.ensures.whole s) in
     let summed_up : last_line c.of-summary.result ≡ last p =
-    sums_up p c.answer_all.new.run c.answer_all.new.disks before (g.W.Sink.taken c.answer_all.new.out) c.of-summary.result (length events) ended
+    sums_up p c.answer_all.new.run c.answer_all.new.disks before (g.W.Sink.taken c.answer_all.new.out)
+    c.of-summary.result (length events) ended
     (sym (length-map events event_of) ∙ ap (λ (es : List Event). length es) played.events_are) c.of-summary.ensures in
     summed p c.of-summary.result summed_up
 
@@ -180,19 +239,32 @@ returns-clause-disks g c = λ s.
       nodes = c.in_ok-run.run'.nodes;
       seats = c.in_ok-run.run'.seats;
       draws = c.in_ok-run.run'.draws;
-      ledger = record { alloc = c.in_ok-run.run'.ledger.alloc; scribe = c.in_ok-run.run'.ledger.scribe; page = c.hand_out.new.self; plan = c.in_ok-run.run'.ledger.plan };
+      ledger =
+          record {
+            alloc = c.in_ok-run.run'.ledger.alloc;
+            scribe = c.in_ok-run.run'.ledger.scribe;
+            page = c.hand_out.new.self;
+            plan = c.in_ok-run.run'.ledger.plan;
+          };
     } in
     let stands1 : RunStands p (begin p) [] 1 run1 c.deref_mut.result.now =
     subst (RunStands p (begin p) [] 1 run1) (sym c.deref_mut.ensures.value)
-    (paged p (begin p) [] 1 c.in_ok-run.run' run1 c.start.new.disks.items (record { nodes = refl; seats = refl; draws = refl; scribe = refl }) c.in_ok-run.ensures.stands) in
+    (paged p (begin p) [] 1 c.in_ok-run.run' run1 c.start.new.disks.items
+    (record { nodes = refl; seats = refl; draws = refl; scribe = refl }) c.in_ok-run.ensures.stands) in
     let out : Appends before (g.W.Sink.taken c.hand_out.new.out) (text_in p (begin p)) =
-    handed c.args.page c.in_ok-run.run'.ledger.page (text_in p (begin p)) before (g.W.Sink.taken c.hand_out.new.out) c.in_ok-run.ensures.page c.requires.clear c.requires.fit
+    handed c.args.page c.in_ok-run.run'.ledger.page (text_in p (begin p)) before (g.W.Sink.taken c.hand_out.new.out)
+    c.in_ok-run.ensures.page c.requires.clear c.requires.fit
     c.in_ok-hand_out.ensures.whole.0 in
     let ended : Ended p c.answer_all.new.run c.answer_all.new.disks before (g.W.Sink.taken c.answer_all.new.out) =
-    all_answered p run1 c.answer_all.new.run c.deref_mut.result.now c.answer_all.new.disks (map event_of events) (length events) before
+    all_answered p run1 c.answer_all.new.run c.deref_mut.result.now c.answer_all.new.disks (map event_of events)
+    (length events) before
     (g.W.Sink.taken c.hand_out.new.out) (g.W.Sink.taken c.answer_all.new.out)
     played (sym (length-map events event_of)) stands1 out (c.in_ok-answer_all.ensures.whole s) in
-    subst (Played p) (sym (disks_kept c.start.new.disks.len c.answer_all.new.disks c.start.new.disks.items (c.answer_all.auto.disks ∙ c.deref_mut.ensures.len)))
+    subst (Played p)
+    (sym (disks_kept c.start.new.disks.len c.answer_all.new.disks c.start.new.disks.items
+    (c.answer_all.auto.disks ∙ c.deref_mut.ensures.len)))
     (played_disks p c.answer_all.new.run c.answer_all.new.disks before (g.W.Sink.taken c.answer_all.new.out) ended
-    (all_made p run1 c.deref_mut.result.now c.answer_all.new.disks (map event_of events) (length events) played (sym (length-map events event_of)) stands1
-    (subst (AllByRecursion (λ (m : Medium). m.calls ≡ 6)) (sym c.deref_mut.ensures.value) c.in_ok-run.ensures.calls) (c.in_ok-answer_all.ensures.calls s)))
+    (all_made p run1 c.deref_mut.result.now c.answer_all.new.disks (map event_of events) (length events) played
+    (sym (length-map events event_of)) stands1
+    (subst (AllByRecursion (λ (m : Medium). m.calls ≡ 6)) (sym c.deref_mut.ensures.value) c.in_ok-run.ensures.calls)
+    (c.in_ok-answer_all.ensures.calls s)))

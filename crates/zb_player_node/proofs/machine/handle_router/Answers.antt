@@ -7,5 +7,7 @@ use Rattle.zb_player_node.proofs.machine.handle_router.Goals as goal
 
 pub returns-in-Some-clause-given : goal.returns-in-Some-clause-given
 returns-in-Some-clause-given c = λ suits.
-    given_by _ model.Router IsTaskOf (model_task c.args.task) (armed_of c.args.arms.now) c.args.host.now c.run.new.host c.args.disk.now c.run.new.disk c.in-Some.event c.run.new.plan c.run.result
-    c.in-Some.ensures.is c.run.ensures.planned c.run.ensures.after c.run.ensures.withheld c.run.ensures.handled c.run.ensures.fallen
+    given_by _ model.Router IsTaskOf (model_task c.args.task) (armed_of c.args.arms.now) c.args.host.now
+    c.run.new.host c.args.disk.now c.run.new.disk c.in-Some.event c.run.new.plan c.run.result
+    c.in-Some.ensures.is c.run.ensures.planned c.run.ensures.after c.run.ensures.withheld c.run.ensures.handled
+    c.run.ensures.fallen

@@ -5,4 +5,9 @@ use Rattle.zb_player_start.proofs.Settings.{peer_of}
 use Rattle.zb_player_start.proofs.config.peers_of.Given as goal
 
 abbrev pub invariant-loop-node : goal.invariant-loop-node
-invariant-loop-node l = record { items : l.peers.items ≡ map peer_of (take l.node-index l.declared); len : array_vec_len l.peers ≡ l.node-index }
+invariant-loop-node l =
+    record {
+      items : l.peers.items ≡ map peer_of (take l.node-index l.declared);
+      len : array_vec_len l.peers
+          ≡ l.node-index;
+    }

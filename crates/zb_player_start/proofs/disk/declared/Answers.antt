@@ -5,4 +5,5 @@ use Rattle.zb_player_start.proofs.Records.{fits}
 use Rattle.zb_player_start.proofs.disk.declared.Goals as goal
 
 pub returns-clause-fits : goal.returns-clause-fits
-returns-clause-fits c = fits (model_role c.args.role) c.args.network c.args.code c.args.nwk c.args.aps (omega arith) (omega arith) c.requires.network c.requires.code
+returns-clause-fits c = fits (model_role c.args.role) c.args.network c.args.code c.args.nwk c.args.aps (omega arith)
+    (omega arith) c.requires.network c.requires.code

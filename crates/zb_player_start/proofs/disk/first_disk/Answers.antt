@@ -11,5 +11,7 @@ pub returns : goal.returns
 returns c =
     let u : NodeState = begins_with c.args.centre.0 (model_node c.args.node.now) in
     let widths : FitsBytes u = subst FitsBytes c.declaration_of.ensures.state c.declaration_of.ensures.fits in
-    all_first (model_role c.args.node.now.peer.role) c.in_ok-tables.tables u _ c.disk_with.result (c.in_ok-tables.ensures.state ∙ c.declaration_of.ensures.state) (role_of _ _ _ _ _)
-    c.keep_rules.ensures.rules c.keep_rules.ensures.forgets widths c.in_ok-tables.ensures.booted c.record_bytes-len.ensures.bytes c.disk_with.ensures.held c.disk_with.ensures.unarmed c.disk_with.ensures.calls
+    all_first (model_role c.args.node.now.peer.role) c.in_ok-tables.tables u _ c.disk_with.result
+    (c.in_ok-tables.ensures.state ∙ c.declaration_of.ensures.state) (role_of _ _ _ _ _)
+    c.keep_rules.ensures.rules c.keep_rules.ensures.forgets widths c.in_ok-tables.ensures.booted
+    c.record_bytes-len.ensures.bytes c.disk_with.ensures.held c.disk_with.ensures.unarmed c.disk_with.ensures.calls

@@ -9,5 +9,8 @@ pub returns-clause-tells : goal.returns-clause-tells
 returns-clause-tells c =
     let d = c.args.node.now in
     ok_map c.tell_limit-2.result (λ second known called.
-    told_in_turn known (limit_line d.peer.eui.0 Nwk d.start_nwk) (limit_line d.peer.eui.0 Aps d.start_aps) c.args.scribe.now c.tell_limit.new.scribe c.tell_limit-2.new.scribe
-    c.args.page.now c.tell_limit.new.page c.tell_limit-2.new.page (c.in_ok-tell_limit.ensures.tells known d.peer.eui.0 called) (second known d.peer.eui.0 called)) c.tell_limit-2.ensures.tells
+    told_in_turn known (limit_line d.peer.eui.0 Nwk d.start_nwk) (limit_line d.peer.eui.0 Aps d.start_aps)
+    c.args.scribe.now c.tell_limit.new.scribe c.tell_limit-2.new.scribe
+    c.args.page.now c.tell_limit.new.page c.tell_limit-2.new.page
+    (c.in_ok-tell_limit.ensures.tells known d.peer.eui.0 called) (second known d.peer.eui.0 called))
+    c.tell_limit-2.ensures.tells

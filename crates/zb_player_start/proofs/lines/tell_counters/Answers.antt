@@ -11,11 +11,14 @@ loop-node-init c = record { tells = λ known all. none_told known c.args.scribe.
 pub loop-node-preserved : goal.loop-node-preserved
 loop-node-preserved c = record {
   tells = λ known all.
-      turn counter_lines c.args.declared.now c.loop-node.node-index c.node-item.result c.loop-node-test.true c.node-item.is known all c.args.scribe.now c.loop-node.scribe c.tell_limits.new.scribe
-      c.args.page.now c.loop-node.page c.tell_limits.new.page (c.loop-node.invariant.tells known all) (λ it. c.in_ok-tell_limits.ensures.tells known it);
+      turn counter_lines c.args.declared.now c.loop-node.node-index c.node-item.result c.loop-node-test.true
+      c.node-item.is known all c.args.scribe.now c.loop-node.scribe c.tell_limits.new.scribe
+      c.args.page.now c.loop-node.page c.tell_limits.new.page (c.loop-node.invariant.tells known all)
+      (λ it. c.in_ok-tell_limits.ensures.tells known it);
   few = omega (arith, c.loop-node.invariant.few, c.in_ok-tell_limits.ensures.told);
 }
 
 pub returns-clause-tells : goal.returns-clause-tells
 returns-clause-tells c = λ known all.
-    all_told counter_lines c.args.declared.now c.loop-node.node-index c.loop-node-test.false known c.args.scribe.now c.loop-node.scribe c.args.page.now c.loop-node.page (c.loop-node.invariant.tells known all)
+    all_told counter_lines c.args.declared.now c.loop-node.node-index c.loop-node-test.false known c.args.scribe.now
+    c.loop-node.scribe c.args.page.now c.loop-node.page (c.loop-node.invariant.tells known all)

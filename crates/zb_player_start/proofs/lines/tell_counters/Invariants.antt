@@ -8,6 +8,8 @@ use Rattle.zb_player_start.proofs.lines.tell_counters.Given as goal
 
 abbrev pub invariant-loop-node : goal.invariant-loop-node
 invariant-loop-node l = record {
-  tells : (known : List Station) → AreKnown known l.declared → Tells known (flat_map counter_lines (take l.node-index l.declared)) l.initial.scribe l.initial.page l.scribe l.page;
+  tells : (known : List Station) → AreKnown known l.declared
+      → Tells known (flat_map counter_lines (take l.node-index l.declared)) l.initial.scribe l.initial.page l.scribe
+      l.page;
   few : told l.scribe ≤ told l.initial.scribe + 2 * l.node-index;
 }

@@ -9,7 +9,8 @@ use Rattle.zb_player_start.proofs.lines.tell_nodes.Given as goal
 
 abbrev pub invariant-loop-node : goal.invariant-loop-node
 invariant-loop-node l = record {
-  page : (known : List Station) → l.page ≡ append_known l.initial.page (text_of known (declared_lines (take l.node-index l.declared)));
+  page : (known : List Station) → l.page
+      ≡ append_known l.initial.page (text_of known (declared_lines (take l.node-index l.declared)));
   kept : Kept [] l.initial.scribe → Kept (declared_lines (take l.node-index l.declared)) l.scribe;
   few : told l.scribe ≤ told l.initial.scribe + l.node-index;
 }

@@ -11,7 +11,8 @@ start-requires-clause-role c =
     let p = c.requires.schedule.0 in
     let is = c.requires.schedule.1 in
     let at : slice_get ds c.args.me ≡ Some d = node_at ds c.args.me d c.requires.place c.index-declared-me.is in
-    ap (λ s. s.me.role) (c.config_at-config.ensures.setting p (station d) is (station_at p ds is c.args.me d at)) ∙ role_in p ds is c.args.me d at
+    ap (λ s. s.me.role) (c.config_at-config.ensures.setting p (station d) is (station_at p ds is c.args.me d at)) ∙
+    role_in p ds is c.args.me d at
 
 pub returns : goal.returns
 returns c = λ p s is same found.
@@ -19,7 +20,10 @@ returns c = λ p s is same found.
     let d = c.index-declared-me.result in
     let at : slice_get ds c.args.me ≡ Some d = node_at ds c.args.me d c.requires.place c.index-declared-me.is in
     started_at p ds is c.args.me d at s found c.in_ok-started.started c.start.new.disk
-    (started p ds is c.args.me d at c.args.centre.0 same c.config_at-config.result c.in_ok-started.started c.in_ok-disk.disk c.start.new.disk
-    (c.config_at-config.ensures.setting p (station d) is (station_at p ds is c.args.me d at)) c.in_ok-started.ensures.names.0 c.in_ok-disk.ensures
+    (started p ds is c.args.me d at c.args.centre.0 same c.config_at-config.result c.in_ok-started.started
+    c.in_ok-disk.disk c.start.new.disk
+    (c.config_at-config.ensures.setting p (station d) is (station_at p ds is c.args.me d at))
+    c.in_ok-started.ensures.names.0 c.in_ok-disk.ensures
     (λ setting state t may. c.in_ok-started.ensures.starts setting state t may)
-    c.start_lines_say_what_is_declared.ensures.states c.start_lines_say_what_is_declared.ensures.powered c.start_lines_say_what_is_declared.ensures.uncommitted)
+    c.start_lines_say_what_is_declared.ensures.states c.start_lines_say_what_is_declared.ensures.powered
+    c.start_lines_say_what_is_declared.ensures.uncommitted)

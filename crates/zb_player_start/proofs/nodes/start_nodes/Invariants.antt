@@ -12,7 +12,8 @@ use Rattle.zb_player_start.proofs.nodes.start_nodes.Given as goal
 
 abbrev pub invariant-loop-me : goal.invariant-loop-me
 invariant-loop-me l = record {
-  stand : (p : Schedule) → AreNodesOf p l.declared → AllStand (schedule_of p) (start (schedule_of p)) [] 1 (take l.me (stations (schedule_of p))) l.nodes.items l.disks.items;
+  stand : (p : Schedule) → AreNodesOf p l.declared → AllStand (schedule_of p) (start (schedule_of p)) [] 1
+      (take l.me (stations (schedule_of p))) l.nodes.items l.disks.items;
   nodes : length l.nodes.items ≡ l.me;
   disks : length l.disks.items ≡ l.me;
   calls : AllByRecursion (λ (m : Medium). m.calls ≡ 6) l.disks.items;

@@ -4,7 +4,8 @@ use Rattle.zb_player_start.proofs.DeclaredLines.{node_found, nodes_apart, powere
 use Rattle.zb_player_start.proofs.starting.start_lines_say_what_is_declared.Goals as goal
 
 pub returns-clause-states : goal.returns-clause-states
-returns-clause-states c = λ p me m is at. c.start_lines_give_the_first_state.ensures (schedule_of p) m (nodes_apart p is) (node_found p is me m at)
+returns-clause-states c = λ p me m is at. c.start_lines_give_the_first_state.ensures (schedule_of p) m
+    (nodes_apart p is) (node_found p is me m at)
 
 pub returns-clause-powered : goal.returns-clause-powered
 returns-clause-powered c = powered

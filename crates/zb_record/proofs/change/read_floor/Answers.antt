@@ -5,4 +5,9 @@ use Rattle.zb_record.proofs.change.read_floor.Goals as goal
 pub returns-clause-spelled : goal.returns-clause-spelled
 unfolding edit_bytes
 returns-clause-spelled c =
-    rw (c.in_ok-layer.ensures.spelled, c.in_ok-key.ensures.spelled, c.in_ok-sender.ensures.spelled, c.in_ok-value.ensures.spelled) (simp append_assoc)
+    rw (
+      c.in_ok-layer.ensures.spelled,
+      c.in_ok-key.ensures.spelled,
+      c.in_ok-sender.ensures.spelled,
+      c.in_ok-value.ensures.spelled,
+    ) (simp append_assoc)

@@ -7,14 +7,21 @@ use Rattle.zb_record.proofs.link.read_rows.Goals as goal
 
 pub returns-in-Err : goal.returns-in-Err
 returns-in-Err c =
-    row_refused (link_at (model_role c.args.role)) c.args.count c.loop.counter c.loop.reader.rest.now c.loop.rows (rows_at (link_at (model_role c.args.role)) c.args.count [] c.args.reader.now.rest.now) c.in-Err.left c.loop-test.true c.in-Err.ensures c.loop.invariant
+    row_refused (link_at (model_role c.args.role)) c.args.count c.loop.counter c.loop.reader.rest.now c.loop.rows
+    (rows_at (link_at (model_role c.args.role)) c.args.count [] c.args.reader.now.rest.now) c.in-Err.left
+    c.loop-test.true c.in-Err.ensures c.loop.invariant
 
 pub loop-preserved : goal.loop-preserved
 loop-preserved c =
-    ap (λ l. rows_at (link_at (model_role c.args.role)) (c.args.count - (c.loop.counter + 1)) l c.read_link.new.reader.rest.now) c.in_ok-rows-in-Ok.ensures
-    ∙ row_read (link_at (model_role c.args.role)) c.args.count c.loop.counter c.loop.reader.rest.now c.loop.rows (rows_at (link_at (model_role c.args.role)) c.args.count [] c.args.reader.now.rest.now) c.read_link.new.reader.rest.now (link_seen c.in-Ok.row) c.loop-test.true c.in-Ok.ensures c.loop.invariant
+    ap (λ l. rows_at (link_at (model_role c.args.role)) (c.args.count - (c.loop.counter + 1)) l
+    c.read_link.new.reader.rest.now) c.in_ok-rows-in-Ok.ensures
+    ∙ row_read (link_at (model_role c.args.role)) c.args.count c.loop.counter c.loop.reader.rest.now c.loop.rows
+    (rows_at (link_at (model_role c.args.role)) c.args.count [] c.args.reader.now.rest.now)
+    c.read_link.new.reader.rest.now (link_seen c.in-Ok.row) c.loop-test.true c.in-Ok.ensures c.loop.invariant
 
 pub returns : goal.returns
 returns c =
-    rows_read (link_at (model_role c.args.role)) c.args.count c.loop.counter c.loop.reader.rest.now c.loop.rows (rows_at (link_at (model_role c.args.role)) c.args.count [] c.args.reader.now.rest.now) c.loop-test.false c.loop.invariant
+    rows_read (link_at (model_role c.args.role)) c.args.count c.loop.counter c.loop.reader.rest.now c.loop.rows
+    (rows_at (link_at (model_role c.args.role)) c.args.count [] c.args.reader.now.rest.now) c.loop-test.false
+    c.loop.invariant
     ∙ ap (λ l. Ok (l, c.loop.reader.rest.now)) (sym c.into_rows.ensures)

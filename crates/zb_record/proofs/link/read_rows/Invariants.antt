@@ -5,4 +5,5 @@ use Rattle.zb_record.specs.Placed.{rows_at}
 use Rattle.zb_record.proofs.link.read_rows.Given as goal
 
 abbrev pub invariant-loop : goal.invariant-loop
-invariant-loop l = rows_at (link_at (model_role l.role)) (l.count - l.counter) l.rows l.reader.rest.now ≡ rows_at (link_at (model_role l.role)) l.count [] l.initial.reader.rest.now
+invariant-loop l = rows_at (link_at (model_role l.role)) (l.count - l.counter) l.rows l.reader.rest.now
+    ≡ rows_at (link_at (model_role l.role)) l.count [] l.initial.reader.rest.now

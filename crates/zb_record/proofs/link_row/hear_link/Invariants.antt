@@ -5,4 +5,5 @@ use Rattle.zb_record.proofs.Mapping.{Mapped}
 use Rattle.zb_record.proofs.link_row.hear_link.Given as goal
 
 abbrev pub invariant-loop-row : goal.invariant-loop-row
-invariant-loop-row l = Mapped link_key (λ (r : LinkKey). if is_link l.partner.0 l.key.0 r then link_kept l.kept r else r) l.row-index l.initial.rows l.rows
+invariant-loop-row l = Mapped link_key (λ (r : LinkKey). if is_link l.partner.0 l.key.0 r then link_kept l.kept r
+    else r) l.row-index l.initial.rows l.rows

@@ -5,4 +5,5 @@ use Rattle.zb_record.proofs.Mapping.{Mapped}
 use Rattle.zb_record.proofs.link_row.tell_links.Given as goal
 
 abbrev pub invariant-loop-row : goal.invariant-loop-row
-invariant-loop-row l = Mapped link_key (λ (r : LinkKey). if is_live_of l.partner.0 r then told_as l.told r else r) l.row-index l.initial.rows l.rows
+invariant-loop-row l = Mapped link_key (λ (r : LinkKey). if is_live_of l.partner.0 r then told_as l.told r
+    else r) l.row-index l.initial.rows l.rows

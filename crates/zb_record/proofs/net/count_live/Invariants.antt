@@ -4,4 +4,5 @@ use Rattle.zb_record.specs.declared.net.NetRecord.{NetRecord}
 use Rattle.zb_record.proofs.net.count_live.Given as goal
 
 abbrev pub invariant-loop-row : goal.invariant-loop-row
-invariant-loop-row l = (l.count ≡ length (filter (λ (r : NetRecord). r.live) (take l.row-index l.rows))) × (l.count ≤ l.row-index)
+invariant-loop-row l = (l.count ≡ length (filter (λ (r : NetRecord). r.live) (take l.row-index l.rows)))
+    × (l.count ≤ l.row-index)

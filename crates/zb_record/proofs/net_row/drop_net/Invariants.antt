@@ -5,4 +5,5 @@ use Rattle.zb_record.proofs.Mapping.{Mapped}
 use Rattle.zb_record.proofs.net_row.drop_net.Given as goal
 
 abbrev pub invariant-loop-row : goal.invariant-loop-row
-invariant-loop-row l = Mapped net_key (λ (r : NetKey). if same_key r.key l.key.0 then shown_net (dropped_net r) else r) l.row-index l.initial.rows l.rows
+invariant-loop-row l = Mapped net_key (λ (r : NetKey). if same_key r.key l.key.0 then shown_net (dropped_net r)
+    else r) l.row-index l.initial.rows l.rows

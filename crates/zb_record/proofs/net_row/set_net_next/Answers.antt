@@ -2,4 +2,5 @@ use Rattle.zb_record.proofs.Mapping.{next_read}
 use Rattle.zb_record.proofs.net_row.set_net_next.Goals as goal
 
 pub loop-row-preserved : goal.loop-row-preserved
-loop-row-preserved c = next_read c.loop-row.row-index c.args.rows.now c.loop-row.rows _ c.go_on_at.new.self c.loop-row-test.true c.go_on_at.ensures c.loop-row.invariant
+loop-row-preserved c = next_read c.loop-row.row-index c.args.rows.now c.loop-row.rows _ c.go_on_at.new.self
+    c.loop-row-test.true c.go_on_at.ensures c.loop-row.invariant

@@ -5,4 +5,5 @@ use Rattle.zb_record.proofs.Mapping.{Mapped}
 use Rattle.zb_record.proofs.net_row.set_net_next.Given as goal
 
 abbrev pub invariant-loop-row : goal.invariant-loop-row
-invariant-loop-row l = Mapped net_key (λ (r : NetKey). if same_key r.key l.key.0 then next_at l.next r else r) l.row-index l.initial.rows l.rows
+invariant-loop-row l = Mapped net_key (λ (r : NetKey). if same_key r.key l.key.0 then next_at l.next r
+    else r) l.row-index l.initial.rows l.rows

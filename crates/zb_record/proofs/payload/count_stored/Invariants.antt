@@ -5,4 +5,5 @@ use Rattle.zb_model.specs.Record.{is_stored}
 use Rattle.zb_record.proofs.payload.count_stored.Given as goal
 
 abbrev pub invariant-loop-change : goal.invariant-loop-change
-invariant-loop-change l = (l.count ≡ length (filter is_stored (edits (take l.change-index l.changes)))) × (l.count ≤ l.change-index)
+invariant-loop-change l = (l.count ≡ length (filter is_stored (edits (take l.change-index l.changes))))
+    × (l.count ≤ l.change-index)

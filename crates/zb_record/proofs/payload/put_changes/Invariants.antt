@@ -5,4 +5,5 @@ use Rattle.zb_record.proofs.WritingLemmas.{Written}
 use Rattle.zb_record.proofs.payload.put_changes.Given as goal
 
 abbrev pub invariant-loop-change : goal.invariant-loop-change
-invariant-loop-change l = Written (λ (x : Change). edit_bytes (edit x)) l.fn.into l.into l.fn.at l.end l.change-index l.changes
+invariant-loop-change l = Written (λ (x : Change). edit_bytes (edit x)) l.fn.into l.into l.fn.at l.end l.change-index
+    l.changes

@@ -5,5 +5,6 @@ use Rattle.zb_record.proofs.sender.read_senders.Given as goal
 
 abbrev pub invariant-loop : goal.invariant-loop
 invariant-loop l =
-    (rows_at sender_at (l.count - l.counter) (map sender_seen l.floors.items) l.reader.rest.now ≡ rows_at sender_at l.count [] l.initial.reader.rest.now)
+    (rows_at sender_at (l.count - l.counter) (map sender_seen l.floors.items) l.reader.rest.now
+    ≡ rows_at sender_at l.count [] l.initial.reader.rest.now)
     × (length l.floors.items ≡ l.counter)

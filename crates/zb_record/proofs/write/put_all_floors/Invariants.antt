@@ -7,4 +7,6 @@ use Rattle.zb_record.proofs.WritingLemmas.{Written}
 use Rattle.zb_record.proofs.write.put_all_floors.Given as goal
 
 abbrev pub invariant-loop-row : goal.invariant-loop-row
-invariant-loop-row l = Written (λ (x : NetRow). if (net_key x).live then floors_bytes (net_key x) else []) l.fn.into l.into l.fn.at l.end l.row-index l.rows × (l.end ≤ l.fn.at + 769 * length (filter (λ (x : NetRow). (net_key x).live) (take l.row-index l.rows)))
+invariant-loop-row l = Written (λ (x : NetRow). if (net_key x).live then floors_bytes (net_key x) else []) l.fn.into
+    l.into l.fn.at l.end l.row-index l.rows
+    × (l.end ≤ l.fn.at + 769 * length (filter (λ (x : NetRow). (net_key x).live) (take l.row-index l.rows)))

@@ -9,7 +9,14 @@ pub loop-row-init : goal.loop-row-init
 loop-row-init c = (written_none _ c.args.into.now c.args.at c.args.rows.now, omega arith)
 
 pub loop-row-preserved : goal.loop-row-preserved
-loop-row-preserved c = (written_more c.args.into.now c.loop-row.into c.put_link-end.new.into c.args.at c.loop-row.end c.put_link-end.result c.loop-row.row-index c.args.rows.now _ c.loop-row-test.true c.loop-row.invariant.0 c.put_link-end.ensures.writes, omega (arith, c.loop-row.invariant.1, c.put_link-end.ensures.short))
+loop-row-preserved c = (
+  written_more c.args.into.now c.loop-row.into c.put_link-end.new.into c.args.at c.loop-row.end
+      c.put_link-end.result c.loop-row.row-index c.args.rows.now _ c.loop-row-test.true c.loop-row.invariant.0
+      c.put_link-end.ensures.writes,
+  omega (arith, c.loop-row.invariant.1, c.put_link-end.ensures.short),
+)
 
 pub returns-clause-writes : goal.returns-clause-writes
-returns-clause-writes c = writes_as _ _ _ _ _ _ (sym (flat_map-map link_bytes link_key c.args.rows.now)) (written_all c.args.into.now c.loop-row.into c.args.at c.loop-row.end c.loop-row.row-index c.args.rows.now c.loop-row-test.false c.loop-row.invariant.0)
+returns-clause-writes c = writes_as _ _ _ _ _ _ (sym (flat_map-map link_bytes link_key c.args.rows.now))
+    (written_all c.args.into.now c.loop-row.into c.args.at c.loop-row.end c.loop-row.row-index c.args.rows.now
+    c.loop-row-test.false c.loop-row.invariant.0)

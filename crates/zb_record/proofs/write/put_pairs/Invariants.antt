@@ -6,4 +6,5 @@ use Rattle.zb_record.proofs.WritingLemmas.{Written}
 use Rattle.zb_record.proofs.write.put_pairs.Given as goal
 
 abbrev pub invariant-loop-pair : goal.invariant-loop-pair
-invariant-loop-pair l = Written (λ (x : Pair). pair_bytes (pair_key x)) l.fn.into l.into l.fn.at l.end l.pair-index l.pairs × (l.end ≤ l.fn.at + 33 * l.pair-index)
+invariant-loop-pair l = Written (λ (x : Pair). pair_bytes (pair_key x)) l.fn.into l.into l.fn.at l.end l.pair-index
+    l.pairs × (l.end ≤ l.fn.at + 33 * l.pair-index)

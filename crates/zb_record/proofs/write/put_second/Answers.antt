@@ -4,4 +4,6 @@ use Rattle.zb_record.proofs.WritingLemmas.{writes_then}
 use Rattle.zb_record.proofs.write.put_second.Goals as goal
 
 pub returns-clause-writes : goal.returns-clause-writes
-returns-clause-writes c = writes_then c.args.into.now c.put_number64-at.new.into c.put_key_live.new.into c.args.at c.put_number64-at.result c.put_key_live.result (eight_bytes c.args.pair.now.second.0) (c.args.pair.now.key.0 ++ 1 ∷ []) c.put_number64-at.ensures c.put_key_live.ensures.writes
+returns-clause-writes c = writes_then c.args.into.now c.put_number64-at.new.into c.put_key_live.new.into c.args.at
+    c.put_number64-at.result c.put_key_live.result (eight_bytes c.args.pair.now.second.0)
+    (c.args.pair.now.key.0 ++ 1 ∷ []) c.put_number64-at.ensures c.put_key_live.ensures.writes

@@ -8,4 +8,5 @@ pub returns : goal.returns
 returns c =
     let known = HasChild c.args.child.0 c.args.rejoin in
     let o = child_of_router c.args.network.now c.args.tables.now c.args.child.0 c.args.rejoin in
-    member_answer c.args.network.now c.args.tables.now known known o c.plan_own.new.plan c.requires refl refl refl (c.plan_own.ensures o c.child_of_router.ensures.rule)
+    member_answer c.args.network.now c.args.tables.now known known o c.plan_own.new.plan c.requires refl refl refl
+    (c.plan_own.ensures o c.child_of_router.ensures.rule)

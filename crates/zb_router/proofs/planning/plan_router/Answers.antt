@@ -14,5 +14,6 @@ returns-in-Own c = λ task is. c.plan_member.ensures task (rw c.in-Own.is at is)
 pub returns-in-Child : goal.returns-in-Child
 returns-in-Child c = λ task is.
     let same : task ≡ HasChild c.in-Child.device.0 c.in-Child.rejoin = (rw c.in-Child.is at is) in
-    subst (λ (t : Task). IsAnswer c.plan_child.new.plan (answer real c.args.node.now.setting c.args.node.now.tables t)) (sym same)
+    subst (λ (t : Task). IsAnswer c.plan_child.new.plan
+    (answer real c.args.node.now.setting c.args.node.now.tables t)) (sym same)
     (rw (c.network.ensures, c.tables.ensures) at c.plan_child.ensures)

@@ -7,4 +7,5 @@ use Rattle.zb_rows.proofs.links.code_row.Goals as goal
 
 pub returns : goal.returns
 unfolding code_row
-returns c = found_in (λ (r : LinkKey). nat_eq r.partner c.args.centre.0 && r.code) link_key _ _ _ c.links.ensures c.row_with_code.ensures
+returns c = found_in (λ (r : LinkKey). nat_eq r.partner c.args.centre.0 && r.code) link_key _ _ _ c.links.ensures
+    c.row_with_code.ensures

@@ -6,4 +6,6 @@ use Rattle.zb_rows.proofs.Looking.{any_in}
 use Rattle.zb_rows.proofs.links.has_row_as.Goals as goal
 
 pub returns : goal.returns
-returns c = ap not (any_in (is_row_as c.args.partner.0 c.args.key.now.0 (model_attribute c.args.attribute)) link_key _ _ _ c.links.ensures c.has_that_row.ensures)
+returns c =
+    ap not (any_in (is_row_as c.args.partner.0 c.args.key.now.0 (model_attribute c.args.attribute)) link_key _ _ _
+    c.links.ensures c.has_that_row.ensures)

@@ -6,4 +6,5 @@ use Rattle.zb_rows.proofs.links.is_known.Goals as goal
 
 pub returns : goal.returns
 unfolding is_known
-returns c = any_in (λ (r : LinkKey). nat_eq r.partner c.args.partner.0) link_key _ _ _ c.links.ensures c.has_row_of.ensures
+returns c = any_in (λ (r : LinkKey). nat_eq r.partner c.args.partner.0) link_key _ _ _ c.links.ensures
+    c.has_row_of.ensures

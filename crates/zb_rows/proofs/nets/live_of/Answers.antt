@@ -7,4 +7,5 @@ use Rattle.zb_rows.proofs.nets.live_of.Goals as goal
 
 pub returns : goal.returns
 unfolding live_of
-returns c = last_in (λ (r : NetKey). r.live && nat_eq r.sequence c.args.sequence) net_key _ _ _ c.nets.ensures c.live_row.ensures
+returns c = last_in (λ (r : NetKey). r.live && nat_eq r.sequence c.args.sequence) net_key _ _ _ c.nets.ensures
+    c.live_row.ensures

@@ -9,19 +9,24 @@ use Rattle.zb_sched.proofs.entry.set_code.Goals as goal
 
 pub returns-in-Some-clause-seats : goal.returns-in-Some-clause-seats
 returns-in-Some-clause-seats c =
-    entries_changed c.args.name.now.bytes (λ (seat : Seat). coded c.args.code seat) c.args.entries.now.items c.in-Some.at c.index_mut.result.now c.set_code.new.self
-    (ap (λ (es : List Entry). position (λ x. has_name c.args.name.now.bytes (seat_of x)) es) (sym c.as_slice.ensures.value) ∙ sym c.in-Some.ensures)
+    entries_changed c.args.name.now.bytes (λ (seat : Seat). coded c.args.code seat) c.args.entries.now.items
+    c.in-Some.at c.index_mut.result.now c.set_code.new.self
+    (ap (λ (es : List Entry). position (λ x. has_name c.args.name.now.bytes (seat_of x)) es)
+    (sym c.as_slice.ensures.value) ∙ sym c.in-Some.ensures)
     (c.set_code.ensures.seat ∙ ap (λ (x : Entry). coded c.args.code (seat_of x)) c.index_mut.ensures.value)
 
 pub returns-in-None-clause-seats : goal.returns-in-None-clause-seats
 returns-in-None-clause-seats c =
     entries_same c.args.name.now.bytes (λ (seat : Seat). coded c.args.code seat) c.args.entries.now.items
-    (ap (λ (es : List Entry). position (λ x. has_name c.args.name.now.bytes (seat_of x)) es) (sym c.as_slice.ensures.value) ∙ sym c.in-None.ensures)
+    (ap (λ (es : List Entry). position (λ x. has_name c.args.name.now.bytes (seat_of x)) es)
+    (sym c.as_slice.ensures.value) ∙ sym c.in-None.ensures)
 
 pub returns-in-Some-clause-named : goal.returns-in-Some-clause-named
 returns-in-Some-clause-named c =
-    changed_apart c.args.name.now.bytes (λ (seat : Seat). coded c.args.code seat) (λ seat. refl) _ _ (returns-in-Some-clause-seats c)
+    changed_apart c.args.name.now.bytes (λ (seat : Seat). coded c.args.code seat) (λ seat. refl) _ _
+    (returns-in-Some-clause-seats c)
 
 pub returns-in-None-clause-named : goal.returns-in-None-clause-named
 returns-in-None-clause-named c =
-    changed_apart c.args.name.now.bytes (λ (seat : Seat). coded c.args.code seat) (λ seat. refl) _ _ (returns-in-None-clause-seats c)
+    changed_apart c.args.name.now.bytes (λ (seat : Seat). coded c.args.code seat) (λ seat. refl) _ _
+    (returns-in-None-clause-seats c)

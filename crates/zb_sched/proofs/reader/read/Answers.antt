@@ -19,7 +19,8 @@ loop-line-init c = record {
 pub loop-line-preserved : goal.loop-line-preserved
 loop-line-preserved c = record {
   reads =
-      sym (go_on c.loop-line.number c.loop-line.draft c.take.new.self c.in-Some.line.now (lines c.loop-line.rest.now) (lines c.in-Some.after.now) c.in-Some.ensures.value c.in-Ok.ensures.exact)
+      sym (go_on c.loop-line.number c.loop-line.draft c.take.new.self c.in-Some.line.now (lines c.loop-line.rest.now)
+      (lines c.in-Some.after.now) c.in-Some.ensures.value c.in-Ok.ensures.exact)
       ∙ c.loop-line.invariant.reads;
   short = omega (arith, c.in-Some.ensures.shorter);
   valid = c.in-Ok.ensures.kept c.loop-line.invariant.valid;
@@ -27,4 +28,5 @@ loop-line-preserved c = record {
 
 pub returns-in-Ok-finish-clause-again : goal.returns-in-Ok-finish-clause-again
 returns-in-Ok-finish-clause-again c =
-    let valid : IsSchedule (schedule_of c.in-Ok-finish.schedule) = search rules in printed_again (schedule_of c.in-Ok-finish.schedule) valid
+    let valid : IsSchedule (schedule_of c.in-Ok-finish.schedule) =
+    search rules in printed_again (schedule_of c.in-Ok-finish.schedule) valid

@@ -7,4 +7,5 @@ use Rattle.zb_sched.specs.declared.schedule.Node.{Node}
 use Rattle.zb_sched.proofs.writer.put_codes.Given as goal
 
 abbrev pub invariant-loop-node : goal.invariant-loop-node
-invariant-loop-node l = l.out.items ≡ l.initial.out.items ++ page (flat_map (λ (x : Node). code_lines (node_of x)) (take l.node-index l.nodes))
+invariant-loop-node l = l.out.items ≡ l.initial.out.items
+    ++ page (flat_map (λ (x : Node). code_lines (node_of x)) (take l.node-index l.nodes))

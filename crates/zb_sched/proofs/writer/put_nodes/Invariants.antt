@@ -6,4 +6,5 @@ use Rattle.zb_sched.specs.declared.schedule.Node.{Node}
 use Rattle.zb_sched.proofs.writer.put_nodes.Given as goal
 
 abbrev pub invariant-loop-node : goal.invariant-loop-node
-invariant-loop-node l = l.out.items ≡ l.initial.out.items ++ page (map (λ (x : Node). node_line (node_of x)) (take l.node-index l.nodes))
+invariant-loop-node l = l.out.items ≡ l.initial.out.items
+    ++ page (map (λ (x : Node). node_line (node_of x)) (take l.node-index l.nodes))

@@ -3,4 +3,5 @@ use Rattle.zb_seal.proofs.Fronts.{nwk_front}
 use Rattle.zb_seal.proofs.opening.nwk_header.Goals as goal
 
 pub returns : goal.returns
-returns c = c.authenticated.ensures ∙ rw c.len.ensures.value (nwk_front c.args.bytes.now c.args.frame.now c.args.aux.now c.requires.spells c.requires.secured)
+returns c = c.authenticated.ensures ∙ rw c.len.ensures.value
+    (nwk_front c.args.bytes.now c.args.frame.now c.args.aux.now c.requires.spells c.requires.secured)

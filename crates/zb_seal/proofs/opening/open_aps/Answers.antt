@@ -7,7 +7,9 @@ use Rattle.zb_seal.proofs.opening.open_aps.Goals as goal
 pub returns-clause-found : goal.returns-clause-found
 returns-clause-found c =
     let fits : IsBytes c.args.bytes.now = λ i. omega (arith, c.type_inv.bytes i) in
-    aps_answer c.args.bytes.now c.args.base.now c.args.source c.open_aps_once.result fits c.known_key.ensures c.open_aps_once.ensures
+    aps_answer c.args.bytes.now c.args.base.now c.args.source c.open_aps_once.result fits c.known_key.ensures
+    c.open_aps_once.ensures
 
 pub returns-clause-only : goal.returns-clause-only
-returns-clause-only c = λ t opens. c.open_aps_once.ensures ∙ only_aps c.args.bytes.now c.args.base.now c.args.source t c.known_key.ensures opens
+returns-clause-only c = λ t opens. c.open_aps_once.ensures ∙ only_aps c.args.bytes.now c.args.base.now c.args.source t
+    c.known_key.ensures opens

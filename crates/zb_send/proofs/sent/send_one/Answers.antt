@@ -5,4 +5,5 @@ use Rattle.zb_send.proofs.sent.send_one.Goals as goal
 
 pub returns : goal.returns
 returns c =
-    sent_with c.args.network.now c.args.tables.now (sending_of c.args.sending.now) _ _ _ _ _ c.eui.ensures c.next_counter-nwk.ensures c.next_counter-aps.ensures c.part_of-part.ensures.part c.put_framed.ensures
+    sent_with c.args.network.now c.args.tables.now (sending_of c.args.sending.now) _ _ _ _ _ c.eui.ensures
+    c.next_counter-nwk.ensures c.next_counter-aps.ensures c.part_of-part.ensures.part c.put_framed.ensures

@@ -8,5 +8,6 @@ use Rattle.zb_setting.proofs.peers.centre_among.Goals as goal
 
 pub returns-in-None : goal.returns-in-None
 returns-in-None c =
-    let none : find (λ (p : Peer). is_centre (known p).role) c.args.peers.now ≡ None = sym (rw c.in-None.is at c.first_centre.ensures) in
+    let none : find (λ (p : Peer). is_centre (known p).role) c.args.peers.now ≡ None =
+    sym (rw c.in-None.is at c.first_centre.ensures) in
     absurd (omega (arith, c.requires, no_centre c.args.peers.now none))

@@ -10,5 +10,6 @@ use Rattle.zb_setting.proofs.peers.nobody_among.Goals as goal
 pub returns-in-Some : goal.returns-in-Some
 returns-in-Some c =
     let passes : nat_eq (known c.in-Some.peer.now).eui nobody ≡ true =
-    found_passes (λ (p : Peer). nat_eq (known p).eui nobody) c.args.peers.now c.in-Some.peer.now (sym (rw c.in-Some.is at c.first_nobody.ensures)) in
+    found_passes (λ (p : Peer). nat_eq (known p).eui nobody) c.args.peers.now c.in-Some.peer.now
+    (sym (rw c.in-Some.is at c.first_nobody.ensures)) in
     absurd (cc)

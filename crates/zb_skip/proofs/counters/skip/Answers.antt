@@ -9,7 +9,9 @@ use Rattle.zb_skip.proofs.counters.skip.Goals as goal
 pub loop-place-preserved : goal.loop-place-preserved
 loop-place-preserved c =
     half_more c.args.by _ c.loop-place.place _ c.args.tables.now _ _
-    (subst (λ n. c.loop-place.place < n) (rows_counted net_key c.nets-count.result.now c.args.tables.now _ _ c.nets-count.ensures c.skip_aps.ensures) c.loop-place-test.true)
+    (subst (λ n. c.loop-place.place < n)
+    (rows_counted net_key c.nets-count.result.now c.args.tables.now _ _ c.nets-count.ensures c.skip_aps.ensures)
+    c.loop-place-test.true)
     c.loop-place.invariant c.skip_net.ensures
 
 pub returns : goal.returns
@@ -17,7 +19,9 @@ returns c =
     let is : c.boot.new.self ≡ skipped c.args.by c.args.tables.now =
     c.boot.ensures
     ∙ all_skipped c.args.by _ c.loop-place.place c.args.tables.now _ c.limit_of-active.ensures.value
-    (subst (λ n. n ≤ c.loop-place.place) (rows_counted net_key c.nets-count.result.now c.args.tables.now _ _ c.nets-count.ensures c.skip_aps.ensures) c.loop-place-test.false)
+    (subst (λ n. n ≤ c.loop-place.place)
+    (rows_counted net_key c.nets-count.result.now c.args.tables.now _ _ c.nets-count.ensures c.skip_aps.ensures)
+    c.loop-place-test.false)
     c.loop-place.invariant in
     record {
       is = is;

@@ -11,15 +11,20 @@ returns-in_err-sync g c =
     let p = err_from_is_err_and c.from_residual.result c.from_residual.ensures.1 in
     let v0 = g.D.Disk.state c.args.disk.now in
     let v1 = g.D.Disk.state c.sync.new.self in
-    subst (λ (r : Result (Unit {0}) Failed). IsSettled {T = Unit {0}} {E = Failed} g.D.Disk.tells c.args.second c.args.other_open v0 v1 r) (sym p.1)
-    (settle_stopped g.D.Disk.tells c.args.second c.args.other_open v0 v1 v1 (g.met.D.Disk.only_now c.args.disk.now) (g.met.D.Disk.reads_image c.args.disk.now) (g.met.D.Disk.reads_image c.sync.new.self) p.0 c.in_err-sync.ensures)
+    subst (λ (r : Result (Unit {0}) Failed). IsSettled {T = Unit {0}} {E = Failed} g.D.Disk.tells c.args.second
+    c.args.other_open v0 v1 r) (sym p.1)
+    (settle_stopped g.D.Disk.tells c.args.second c.args.other_open v0 v1 v1 (g.met.D.Disk.only_now c.args.disk.now)
+    (g.met.D.Disk.reads_image c.args.disk.now) (g.met.D.Disk.reads_image c.sync.new.self) p.0
+    c.in_err-sync.ensures)
 
 pub returns-then-not-other_open : goal.returns-then-not-other_open
 returns-then-not-other_open g c =
     let v0 = g.D.Disk.state c.args.disk.now in
     let v1 = g.D.Disk.state c.sync.new.self in
     let shut : c.args.other_open ≡ false = search rules in
-    settle_closed g.D.Disk.tells c.args.second c.args.other_open v0 v1 v1 (g.met.D.Disk.only_now c.args.disk.now) (g.met.D.Disk.reads_image c.args.disk.now) (g.met.D.Disk.reads_image c.sync.new.self) c.in_ok-sync.field-0 shut c.in_ok-sync.ensures
+    settle_closed g.D.Disk.tells c.args.second c.args.other_open v0 v1 v1 (g.met.D.Disk.only_now c.args.disk.now)
+    (g.met.D.Disk.reads_image c.args.disk.now) (g.met.D.Disk.reads_image c.sync.new.self) c.in_ok-sync.field-0
+    shut c.in_ok-sync.ensures
 
 pub returns : goal.returns
 returns g c =
@@ -27,5 +32,9 @@ returns g c =
     let v1 = g.D.Disk.state c.sync.new.self in
     let v2 = g.D.Disk.state c.write_synced.new.disk in
     let wide : c.args.other_open ≡ true = search rules in
-    let last = subst (λ (n : ℕ). IsPlaced {T = Unit {0}} {E = Failed} g.D.Disk.tells n (0 ∷ []) v1 v2 c.write_synced.result) c.base.ensures c.write_synced.ensures in
-    settle_done g.D.Disk.tells c.args.second c.args.other_open v0 v1 v2 (g.met.D.Disk.only_now c.args.disk.now) (g.met.D.Disk.reads_image c.args.disk.now) (g.met.D.Disk.reads_image c.sync.new.self) c.in_ok-sync.field-0 c.write_synced.result wide c.in_ok-sync.ensures last
+    let last =
+    subst (λ (n : ℕ). IsPlaced {T = Unit {0}} {E = Failed} g.D.Disk.tells n (0 ∷ []) v1 v2 c.write_synced.result)
+    c.base.ensures c.write_synced.ensures in
+    settle_done g.D.Disk.tells c.args.second c.args.other_open v0 v1 v2 (g.met.D.Disk.only_now c.args.disk.now)
+    (g.met.D.Disk.reads_image c.args.disk.now) (g.met.D.Disk.reads_image c.sync.new.self) c.in_ok-sync.field-0
+    c.write_synced.result wide c.in_ok-sync.ensures last

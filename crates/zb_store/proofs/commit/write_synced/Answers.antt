@@ -10,10 +10,13 @@ returns-in_err-write g c =
     let p = err_from_is_err_and c.from_residual.result c.from_residual.ensures.1 in
     let v0 = g.D.Disk.state c.args.disk.now in
     let v1 = g.D.Disk.state c.write.new.self in
-    subst (λ (r : Result (Unit {0}) Failed). IsPlaced {T = Unit {0}} {E = Failed} g.D.Disk.tells c.args.at c.args.bytes.now v0 v1 r) (sym p.1)
-    (placed_stopped g.D.Disk.tells c.args.at c.args.bytes.now v0 v1 v1 (g.met.D.Disk.only_now c.args.disk.now) p.0 c.in_err-write.ensures)
+    subst (λ (r : Result (Unit {0}) Failed). IsPlaced {T = Unit {0}} {E = Failed} g.D.Disk.tells c.args.at
+    c.args.bytes.now v0 v1 r) (sym p.1)
+    (placed_stopped g.D.Disk.tells c.args.at c.args.bytes.now v0 v1 v1 (g.met.D.Disk.only_now c.args.disk.now) p.0
+    c.in_err-write.ensures)
 
 pub returns : goal.returns
 returns g c =
-    placed g.D.Disk.tells c.args.at c.args.bytes.now (g.D.Disk.state c.args.disk.now) (g.D.Disk.state c.write.new.self) (g.D.Disk.state c.sync.new.self)
+    placed g.D.Disk.tells c.args.at c.args.bytes.now (g.D.Disk.state c.args.disk.now)
+    (g.D.Disk.state c.write.new.self) (g.D.Disk.state c.sync.new.self)
     (g.met.D.Disk.only_now c.args.disk.now) c.in_ok-write.field-0 c.sync.result c.in_ok-write.ensures c.sync.ensures

@@ -23,11 +23,17 @@ returns-in-Ok-None-clause-entries g c told b is =
     let so_far = inv.entries told b is in
     let seen = inv.still.same.seen in
     let room = c.saturating_sub.ensures in
-    let front = subst (λ (r : ℕ). IsBehind (drop taken b) (c.args.start + taken) r 3 (g.D.Disk.state c.loop-count.disk).seen) (sym room)
-    (subst (λ (l : List ℕ). IsBehind (drop taken b) (c.args.start + taken) (c.args.room - taken) 3 l) (sym seen) (behind_more b c.args.start c.args.room taken (g.D.Disk.state c.args.disk.now).seen is (omega (arith, inv.short, c.loop-count-test.true)))) in
+    let front =
+    subst (λ (r : ℕ). IsBehind (drop taken b) (c.args.start + taken) r 3 (g.D.Disk.state c.loop-count.disk).seen)
+    (sym room)
+    (subst (λ (l : List ℕ). IsBehind (drop taken b) (c.args.start + taken) (c.args.room - taken) 3 l) (sym seen)
+    (behind_more b c.args.start c.args.room taken (g.D.Disk.state c.args.disk.now).seen is
+    (omega (arith, inv.short, c.loop-count-test.true)))) in
     let entry = rw c.in-Ok-None.field-0-is at c.in-Ok-None.ensures in
-    let none : entry_of (drop taken b) ≡ None = size_none (drop taken b) (sym (entry.entry told (drop taken b) front)) in
-    let there : entry_of (drop (extent (payloads_of n b)) b) ≡ None = ap (λ (k : ℕ). entry_of (drop k b)) (sym so_far.1) ∙ none in
+    let none : entry_of (drop taken b) ≡ None = size_none (drop taken b) (sym (entry.entry told (drop taken b) front))
+    in
+    let there : entry_of (drop (extent (payloads_of n b)) b) ≡ None =
+    ap (λ (k : ℕ). entry_of (drop k b)) (sym so_far.1) ∙ none in
     let all = payloads_end n 32 b (omega arith) so_far.0 there in
     (sym so_far.0 ∙ ap length (sym all), so_far.1 ∙ ap extent (sym all))
 
@@ -39,18 +45,26 @@ loop-count-preserved g c =
     let size = c.in-Ok-Some.size in
     let entry = rw c.in-Ok-Some.field-0-is at c.in-Ok-Some.ensures in
     record {
-      still = still_trans (g.D.Disk.state c.args.disk.now) (g.D.Disk.state c.loop-count.disk) (g.D.Disk.state c.entry_size.new.disk) inv.still c.entry_size.ensures.read.still;
+      still = still_trans (g.D.Disk.state c.args.disk.now) (g.D.Disk.state c.loop-count.disk)
+          (g.D.Disk.state c.entry_size.new.disk) inv.still c.entry_size.ensures.read.still;
       later = omega (arith, inv.later, c.entry_size.ensures.read.cause.later);
       unrisen = entry.read.cause.unrisen ∙ inv.unrisen;
       short = omega (arith, inv.short, entry.small, c.from.ensures);
       entries = λ told b is.
           let so_far = inv.entries told b is in
-          let front = subst (λ (r : ℕ). IsBehind (drop taken b) (c.args.start + taken) r 3 (g.D.Disk.state c.loop-count.disk).seen) (sym c.saturating_sub.ensures)
-          (subst (λ (l : List ℕ). IsBehind (drop taken b) (c.args.start + taken) (c.args.room - taken) 3 l) (sym inv.still.same.seen) (behind_more b c.args.start c.args.room taken (g.D.Disk.state c.args.disk.now).seen is (omega (arith, inv.short, c.loop-count-test.true)))) in
+          let front =
+          subst (λ (r : ℕ). IsBehind (drop taken b) (c.args.start + taken) r 3
+          (g.D.Disk.state c.loop-count.disk).seen) (sym c.saturating_sub.ensures)
+          (subst (λ (l : List ℕ). IsBehind (drop taken b) (c.args.start + taken) (c.args.room - taken) 3 l)
+          (sym inv.still.same.seen)
+          (behind_more b c.args.start c.args.room taken (g.D.Disk.state c.args.disk.now).seen is
+          (omega (arith, inv.short, c.loop-count-test.true)))) in
           let found = size_some (drop taken b) size (sym (entry.entry told (drop taken b) front)) in
-          let there : entry_of (drop (extent (payloads_of n b)) b) ≡ Some found.0 = ap (λ (k : ℕ). entry_of (drop k b)) (sym so_far.1) ∙ found.1 in
+          let there : entry_of (drop (extent (payloads_of n b)) b) ≡ Some found.0 =
+          ap (λ (k : ℕ). entry_of (drop k b)) (sym so_far.1) ∙ found.1 in
           let next : n + 1 ≡ suc n = omega arith in
-          let more : payloads_of (n + 1) b ≡ payloads_of n b ++ found.0 ∷ [] = ap (λ (k : ℕ). payloads_of k b) next ∙ payloads_more n b found.0 so_far.0 there in (
+          let more : payloads_of (n + 1) b ≡ payloads_of n b ++ found.0
+          ∷ [] = ap (λ (k : ℕ). payloads_of k b) next ∙ payloads_more n b found.0 so_far.0 there in (
             omega (arith, ap length more, length-append (payloads_of n b) (found.0 ∷ []), so_far.0),
             omega (arith, ap extent more, extent-append (payloads_of n b) found.0, so_far.1, found.2, c.from.ensures),
           );

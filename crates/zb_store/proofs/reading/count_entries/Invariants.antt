@@ -11,5 +11,7 @@ invariant-loop-count g l = record {
   later : (g.D.Disk.state l.fn.disk).faults ≤ (g.D.Disk.state l.disk).faults;
   unrisen : Unrisen (g.D.Disk.state l.fn.disk).faults (g.D.Disk.state l.disk).faults;
   short : l.taken ≤ 484 * l.count;
-  entries : IsTrue g.D.Disk.tells.content → (b : List ℕ) → IsBehind b l.fn.start l.fn.room 15616 (g.D.Disk.state l.fn.disk).seen → (length (payloads_of l.count b) ≡ l.count) × (l.taken ≡ extent (payloads_of l.count b));
+  entries : IsTrue g.D.Disk.tells.content → (b : List ℕ)
+      → IsBehind b l.fn.start l.fn.room 15616 (g.D.Disk.state l.fn.disk).seen
+      → (length (payloads_of l.count b) ≡ l.count) × (l.taken ≡ extent (payloads_of l.count b));
 }

@@ -10,6 +10,8 @@ returns-in-Ok-clause-answer g c told is =
     let y = slot f.second seen in
     let start = c.base.result + 13 + c.from.result in
     let start_is : start ≡ base_of f.second + 13 + f.size = omega (arith, c.base.ensures, c.from.ensures) in
-    let room_is : c.saturating_sub-room.result ≡ f.room - (13 + f.size) = omega (arith, c.saturating_sub-room.ensures, c.from-2.ensures) in
-    let count = c.in-Ok.ensures.entries told (drop (13 + size_of y) y) (behind_is f seen is start c.saturating_sub-room.result start_is room_is) in
+    let room_is : c.saturating_sub-room.result ≡ f.room - (13 + f.size) =
+    omega (arith, c.saturating_sub-room.ensures, c.from-2.ensures) in
+    let count = c.in-Ok.ensures.entries told (drop (13 + size_of y) y)
+    (behind_is f seen is start c.saturating_sub-room.result start_is room_is) in
     (standing_in f.second (fields_of y), is.stands, is.generation, count.0)

@@ -10,4 +10,6 @@ as_choice false n = refl
 pub returns-clause-entry : goal.returns-clause-entry
 returns-clause-entry g c told b is =
     c.then_some.ensures ∙ as_choice c.is_entry.result c.le16-size.result
-    ∙ entry_size_is b c.args.at c.args.room (g.D.Disk.state c.args.disk.now).seen c.read.new.buf (get_or c.read.new.buf 0 0) c.le16-size.result c.is_entry.result is (c.in_ok-read.ensures.bytes told) refl c.le16-size.ensures c.is_entry.ensures
+    ∙ entry_size_is b c.args.at c.args.room (g.D.Disk.state c.args.disk.now).seen c.read.new.buf
+    (get_or c.read.new.buf 0 0) c.le16-size.result c.is_entry.result is (c.in_ok-read.ensures.bytes told) refl
+    c.le16-size.ensures c.is_entry.ensures

@@ -10,7 +10,8 @@ returns-in_default-pair_value g c =
 pub loop-rest-preserved : goal.loop-rest-preserved
 loop-rest-preserved g c = record {
   pairs = pairs_more c.loop-rest.found.items c.push.new.self.items c.loop-rest.rest.now c.args.word.now c.in-Some.byte
-      c.in-len2-up.len_at_least (sym c.in-Some.is ∙ c.pair_value.ensures) c.push.ensures.items c.loop-rest.invariant.pairs;
+      c.in-len2-up.len_at_least (sym c.in-Some.is ∙ c.pair_value.ensures) c.push.ensures.items
+      c.loop-rest.invariant.pairs;
   room = pairs_room c.loop-rest.found.items c.push.new.self.items c.loop-rest.rest.now c.in-Some.byte g.row.N
       c.in-len2-up.len_at_least c.push.ensures.items c.loop-rest.invariant.room;
 }

@@ -8,12 +8,15 @@ pub returns-in-None-clause-accepts : goal.returns-in-None-clause-accepts
 returns-in-None-clause-accepts c =
     λ ls proper e.
     let some : length c.loop-rest.rest.now ≡ 0 → ⊥ = search rules in
-    absurd (no_bad c.loop-rest.lines.items ls c.args.bytes.now c.loop-rest.rest.now c.loop-rest.invariant.0 proper c.loop-rest.invariant.1
-    (not_empty c.loop-rest.rest.now some) (match_none c.in_ok-line.field-0 _ _ c.in_ok-line.ensures.none c.in-None.is) e)
+    absurd (no_bad c.loop-rest.lines.items ls c.args.bytes.now c.loop-rest.rest.now c.loop-rest.invariant.0 proper
+    c.loop-rest.invariant.1
+    (not_empty c.loop-rest.rest.now some) (match_none c.in_ok-line.field-0 _ _ c.in_ok-line.ensures.none c.in-None.is)
+    e)
 
 pub returns-clause-only : goal.returns-clause-only
 returns-clause-only c =
     λ ls proper e.
     let empty : length c.loop-rest.rest.now ≡ 0 = search rules in
     one_text c.loop-rest.lines.items ls c.loop-rest.invariant.0 proper
-    (sym (nothing_left c.args.bytes.now (texts c.loop-rest.lines.items) c.loop-rest.rest.now c.loop-rest.invariant.1 empty) ∙ e)
+    (sym (nothing_left c.args.bytes.now (texts c.loop-rest.lines.items) c.loop-rest.rest.now c.loop-rest.invariant.1
+    empty) ∙ e)

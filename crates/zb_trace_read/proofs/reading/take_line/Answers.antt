@@ -4,7 +4,8 @@ use Rattle.zb_trace_read.proofs.Taking.{no_line, begins_with, shows_none, shows_
 use Rattle.zb_trace_read.proofs.reading.take_line.Goals as goal
 
 pub returns-in_default-clause-none : goal.returns-in_default-clause-none
-returns-in_default-clause-none c = λ l more proper e. no_line c.args.text.now l more proper e c.in_default.ensures.value
+returns-in_default-clause-none c = λ l more proper e. no_line c.args.text.now l more proper e
+    c.in_default.ensures.value
 
 pub returns-in_default-2-clause-none : goal.returns-in_default-2-clause-none
 returns-in_default-2-clause-none c =
@@ -16,12 +17,14 @@ returns-in_default-2-clause-none c =
 pub returns-in-Some-without_front-clause-none : goal.returns-in-Some-without_front-clause-none
 returns-in-Some-without_front-clause-none c =
     rest_is_shorter c.args.text.now c.as_slice.result.now c.in-Some-without_front.rest.now c.in-Some-2.line
-    (page_is _ _ _ _ c.as_slice.ensures.value c.in_ok-put_line.ensures c.clear.ensures.items) c.in-Some-without_front.ensures
+    (page_is _ _ _ _ c.as_slice.ensures.value c.in_ok-put_line.ensures c.clear.ensures.items)
+    c.in-Some-without_front.ensures
 
 pub returns-clause-none : goal.returns-clause-none
 returns-clause-none c =
     λ l more proper e.
     c.in-None.ensures more
-    (is_front c.args.text.now c.in-Some.front.now c.as_slice.result.now _ c.in-Some-2.line l more proper e c.in-Some.ensures.value
+    (is_front c.args.text.now c.in-Some.front.now c.as_slice.result.now _ c.in-Some-2.line l more proper e
+    c.in-Some.ensures.value
     (shows_some c.in_ok-line.field-0 _ c.in-Some-2.line c.in_ok-line.ensures.value c.in-Some-2.is)
     (page_is _ _ _ _ c.as_slice.ensures.value c.in_ok-put_line.ensures c.clear.ensures.items))

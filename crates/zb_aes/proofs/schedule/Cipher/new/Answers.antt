@@ -10,7 +10,8 @@ loop-i-init c = (keys_one _, c.read-last.ensures, refl, refl)
 pub loop-i-preserved : goal.loop-i-preserved
 loop-i-preserved c =
     let more = keys_more c.loop-i.i c.loop-i.keys c.next_key-last.result c.loop-i-test.true c.loop-i.invariant.2
-    c.loop-i.invariant.0 (c.next_key-last.ensures ∙ ap (next_key (get_or CONSTANTS c.loop-i.i 0)) c.loop-i.invariant.3) in
+    c.loop-i.invariant.0
+    (c.next_key-last.ensures ∙ ap (next_key (get_or CONSTANTS c.loop-i.i 0)) c.loop-i.invariant.3) in
     (more.0, more.1 ∙ c.loop-i.invariant.1, simp length-set c.loop-i.invariant.2, more.2)
 
 pub invariant_of-result : goal.invariant_of-result

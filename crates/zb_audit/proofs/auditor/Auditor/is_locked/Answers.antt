@@ -6,7 +6,10 @@ use Rattle.zb_audit.proofs.auditor.Auditor.is_locked.Goals as goal
 pub returns-then-ideal : goal.returns-then-ideal
 returns-then-ideal c =
     λ tools h stands.
-    and_then c.ideal.result _ c.private.result _ c.if-ideal.true (c.ideal.ensures tools (names_in (h ++ [])) h (stands.at []).words) (c.private.ensures tools (names_in (h ++ [])) h (stands.at []).words)
+    and_then c.ideal.result _ c.private.result _ c.if-ideal.true
+    (c.ideal.ensures tools (names_in (h ++ [])) h (stands.at []).words)
+    (c.private.ensures tools (names_in (h ++ [])) h (stands.at []).words)
 
 pub returns-else-ideal : goal.returns-else-ideal
-returns-else-ideal c = λ tools h stands. and_else c.ideal.result _ _ c.if-ideal.false (c.ideal.ensures tools (names_in (h ++ [])) h (stands.at []).words)
+returns-else-ideal c = λ tools h stands. and_else c.ideal.result _ _ c.if-ideal.false
+    (c.ideal.ensures tools (names_in (h ++ [])) h (stands.at []).words)

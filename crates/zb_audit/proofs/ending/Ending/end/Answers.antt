@@ -8,4 +8,5 @@ pub returns : goal.returns
 returns c =
     λ tools h ends.
     c.first_bad.ensures
-    ∙ (ap (λ (n : ℕ). option_or c.args.self.now.first (if c.args.self.now.sums_up then None else Some n)) c.max.ensures ∙ end_is tools c.args.self.now h ends)
+    ∙ (ap (λ (n : ℕ). option_or c.args.self.now.first (if c.args.self.now.sums_up then None else Some n))
+    c.max.ensures ∙ end_is tools c.args.self.now h ends)

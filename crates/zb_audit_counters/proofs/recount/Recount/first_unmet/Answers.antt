@@ -8,11 +8,14 @@ loop-wait-init c = ap (first_unmet_by c.args.self.now) c.as_slice-waits.ensures.
 
 pub loop-wait-preserved : goal.loop-wait-preserved
 loop-wait-preserved c =
-    wait_met c.args.self.now c.as_slice-waits.result.now c.loop-wait.wait-index _ _ c.loop-wait-test.true (sym c.is_met.ensures ∙ c.if-not-is_met.false) c.loop-wait.invariant
+    wait_met c.args.self.now c.as_slice-waits.result.now c.loop-wait.wait-index _ _ c.loop-wait-test.true
+    (sym c.is_met.ensures ∙ c.if-not-is_met.false) c.loop-wait.invariant
 
 pub returns-then-not-is_met : goal.returns-then-not-is_met
 returns-then-not-is_met c =
-    wait_unmet c.args.self.now c.as_slice-waits.result.now c.loop-wait.wait-index _ _ c.loop-wait-test.true (sym c.is_met.ensures ∙ c.if-not-is_met.true) c.loop-wait.invariant
+    wait_unmet c.args.self.now c.as_slice-waits.result.now c.loop-wait.wait-index _ _ c.loop-wait-test.true
+    (sym c.is_met.ensures ∙ c.if-not-is_met.true) c.loop-wait.invariant
 
 pub returns : goal.returns
-returns c = wait_end c.args.self.now c.as_slice-waits.result.now c.loop-wait.wait-index _ c.loop-wait-test.false c.loop-wait.invariant
+returns c = wait_end c.args.self.now c.as_slice-waits.result.now c.loop-wait.wait-index _ c.loop-wait-test.false
+    c.loop-wait.invariant

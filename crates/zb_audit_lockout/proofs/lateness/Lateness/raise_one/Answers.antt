@@ -7,6 +7,7 @@ use Rattle.zb_audit_lockout.proofs.lateness.Lateness.raise_one.Goals as goal
 pub returns-in_ok-insert-clause-numbers : goal.returns-in_ok-insert-clause-numbers
 returns-in_ok-insert-clause-numbers c =
     let is : c.of.result ≡ late_of c.args.self.now c.args.key.0 = c.of.ensures in
-    let low : late_of c.args.self.now c.args.key.0 < c.args.number = (let it : c.of.result < c.args.number = c.if-of-number.true in omega arith) in
+    let low : late_of c.args.self.now c.args.key.0 < c.args.number =
+    (let it : c.of.result < c.args.number = c.if-of-number.true in omega arith) in
     let below = lt-ltb (late_of c.args.self.now c.args.key.0) c.args.number low in
     raised_number c.args.self.now c.insert.new.self c.args.key c.args.number below c.in_ok-insert.ensures.updates.0

@@ -7,4 +7,5 @@ pub returns : goal.returns
 returns c =
     λ tools names.
     let it = c.in_ok-new.ensures in
-    past_nothing tools names _ refl c.new-2.ensures.items (recalls_nothing tools names c.in_ok-new.field-0 _ refl it.settled it.ever it.carried it.removed it.live)
+    past_nothing tools names _ refl c.new-2.ensures.items
+    (recalls_nothing tools names c.in_ok-new.field-0 _ refl it.settled it.ever it.carried it.removed it.live)

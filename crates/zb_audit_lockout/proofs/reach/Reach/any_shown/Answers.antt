@@ -6,10 +6,12 @@ use Rattle.zb_audit_lockout.proofs.reach.Reach.any_shown.Goals as goal
 
 pub returns-then-is_shown : goal.returns-then-is_shown
 returns-then-is_shown c =
-    sym (any_here (λ (key : Key). is_shown c.args.self.now.windows c.args.self.now.holders c.args.number key.0) c.args.keys.now c.loop-key.key-index _ c.loop-key-test.true (sym c.is_shown.ensures ∙ c.if-is_shown.true))
+    sym (any_here (λ (key : Key). is_shown c.args.self.now.windows c.args.self.now.holders c.args.number key.0)
+    c.args.keys.now c.loop-key.key-index _ c.loop-key-test.true (sym c.is_shown.ensures ∙ c.if-is_shown.true))
     ∙ c.loop-key.invariant
 
 pub loop-key-preserved : goal.loop-key-preserved
 loop-key-preserved c =
-    any_next (λ (key : Key). is_shown c.args.self.now.windows c.args.self.now.holders c.args.number key.0) c.args.keys.now c.loop-key.key-index _ c.loop-key-test.true (sym c.is_shown.ensures ∙ c.if-is_shown.false)
+    any_next (λ (key : Key). is_shown c.args.self.now.windows c.args.self.now.holders c.args.number key.0)
+    c.args.keys.now c.loop-key.key-index _ c.loop-key-test.true (sym c.is_shown.ensures ∙ c.if-is_shown.false)
     ∙ c.loop-key.invariant

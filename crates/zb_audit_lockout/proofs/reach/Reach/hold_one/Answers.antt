@@ -14,4 +14,5 @@ returns-clause-holds c = record {
 pub returns-clause-tells : goal.returns-clause-tells
 returns-clause-tells c =
     one_tells c.args.self.now _ c.args.device.0 c.args.key (returns-clause-holds c) _
-    (ap not (c.is_open.ensures ∙ ap (λ (n : ℕ). opened_by (open_at c.args.self.now.windows c.args.device.0) n) c.of-number.ensures))
+    (ap not (c.is_open.ensures ∙ ap (λ (n : ℕ). opened_by (open_at c.args.self.now.windows c.args.device.0) n)
+    c.of-number.ensures))

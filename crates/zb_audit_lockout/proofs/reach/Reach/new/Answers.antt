@@ -8,4 +8,5 @@ pub returns-clause-carriers : goal.returns-clause-carriers
 returns-clause-carriers c = λ k b. let o : Key = record { 0 = k } in c.new-2.ensures o b
 
 pub returns-clause-holders : goal.returns-clause-holders
-returns-clause-holders c = λ k d. let o : Key = record { 0 = k } in ap (list_any (λ (device : Eui). nat_eq d device.0)) (c.new-3.ensures o)
+returns-clause-holders c = λ k d. let o : Key =
+    record { 0 = k } in ap (list_any (λ (device : Eui). nat_eq d device.0)) (c.new-3.ensures o)

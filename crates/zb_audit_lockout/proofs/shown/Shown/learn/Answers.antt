@@ -7,9 +7,13 @@ use Rattle.zb_audit_lockout.proofs.shown.Shown.learn.Goals as goal
 
 pub loop-key-smaller-in-Continue-branch-3 : goal.loop-key-smaller-in-Continue-branch-3
 loop-key-smaller-in-Continue-branch-3 c =
-    let once = opened_once c.loop-key.self.learnt c.add.new.self c.in-Some.key (known_more _ _ c.in-Some.key c.in_ok-add.ensures.adds)
-    (not_true (has c.loop-key.self.learnt c.in-Some.key.0) (sym c.in_ok-add.ensures.new ∙ c.if-branch.true)) (known_now _ _ c.in-Some.key c.in_ok-add.ensures.adds)
+    let once = opened_once c.loop-key.self.learnt c.add.new.self c.in-Some.key
+    (known_more _ _ c.in-Some.key c.in_ok-add.ensures.adds)
+    (not_true (has c.loop-key.self.learnt c.in-Some.key.0) (sym c.in_ok-add.ensures.new ∙ c.if-branch.true))
+    (known_now _ _ c.in-Some.key c.in_ok-add.ensures.adds)
     c.args.exposure.now.carried.sets.entries in
-    let more = ap (λ (l : List Key). length l) c.in_ok-append_to.ensures ∙ length-append c.pop.new.self.items (keys_at key_cmp c.args.exposure.now.carried c.in-Some.key) in
-    let less = ap (λ (l : List Key). length l) c.in-Some.ensures.items ∙ length-append c.pop.new.self.items (c.in-Some.key ∷ []) in
+    let more = ap (λ (l : List Key). length l) c.in_ok-append_to.ensures ∙ length-append c.pop.new.self.items
+    (keys_at key_cmp c.args.exposure.now.carried c.in-Some.key) in
+    let less = ap (λ (l : List Key). length l) c.in-Some.ensures.items ∙ length-append c.pop.new.self.items
+    (c.in-Some.key ∷ []) in
     omega arith

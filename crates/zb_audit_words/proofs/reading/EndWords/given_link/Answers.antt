@@ -13,6 +13,9 @@ returns c =
       carried = c.in_ok-hold.ensures.carried;
       based = c.in_ok-hold.ensures.based;
     } in
-    given_link_follows tools names c.args.self.now h stands c.args.who node told c.args.key partner c.address.result c.network_key.new.self c.code.new.self c.hold.new.self
-    c.in_ok-network_key.ensures.network c.in_ok-network_key.ensures.forged c.in_ok-network_key.ensures.passed c.in_ok-code.ensures.codes c.in_ok-code.ensures.bases
-    c.in_ok-code.ensures.terms c.in_ok-code.ensures.carriers c.in_ok-code.ensures.traced c.in_ok-code.ensures.ideal c.address.ensures holds
+    given_link_follows tools names c.args.self.now h stands c.args.who node told c.args.key partner c.address.result
+    c.network_key.new.self c.code.new.self c.hold.new.self
+    c.in_ok-network_key.ensures.network c.in_ok-network_key.ensures.forged c.in_ok-network_key.ensures.passed
+    c.in_ok-code.ensures.codes c.in_ok-code.ensures.bases
+    c.in_ok-code.ensures.terms c.in_ok-code.ensures.carriers c.in_ok-code.ensures.traced c.in_ok-code.ensures.ideal
+    c.address.ensures holds

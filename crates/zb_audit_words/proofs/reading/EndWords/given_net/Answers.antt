@@ -13,5 +13,7 @@ returns c =
       carried = c.in_ok-hold.ensures.carried;
       based = c.in_ok-hold.ensures.based;
     } in
-    given_net_follows tools names c.args.self.now h stands c.args.who node told c.args.key sequence c.address.result c.network_key.new.self c.hold.new.self
-    c.in_ok-network_key.ensures.network c.in_ok-network_key.ensures.forged c.in_ok-network_key.ensures.passed c.address.ensures holds
+    given_net_follows tools names c.args.self.now h stands c.args.who node told c.args.key sequence c.address.result
+    c.network_key.new.self c.hold.new.self
+    c.in_ok-network_key.ensures.network c.in_ok-network_key.ensures.forged c.in_ok-network_key.ensures.passed
+    c.address.ensures holds

@@ -15,5 +15,7 @@ returns c =
       carried = c.in_ok-hold.ensures.carried;
       based = c.in_ok-hold.ensures.based;
     } in
-    install_follows tools names c.args.self.now h stands c.args.who node told c.args.key event sequence c.address.result c.take_in.new.self c.hold.new.self
-    (subst (λ (b : Bool). TakesIn c.args.self.now.origins c.take_in.new.self c.args.who.place b c.args.key.0) c.joins.ensures c.in_ok-take_in.ensures.takes) c.address.ensures holds
+    install_follows tools names c.args.self.now h stands c.args.who node told c.args.key event sequence
+    c.address.result c.take_in.new.self c.hold.new.self
+    (subst (λ (b : Bool). TakesIn c.args.self.now.origins c.take_in.new.self c.args.who.place b c.args.key.0)
+    c.joins.ensures c.in_ok-take_in.ensures.takes) c.address.ensures holds

@@ -6,5 +6,6 @@ returns c =
     λ tools names.
     let from = c.new.ensures in
     let it = c.in_ok-new.ensures in
-    new_stands tools names c.new.result c.new-2.result c.in_ok-new.field-0 from.terms from.codes from.bases from.carriers from.traced from.ideal c.new-2.ensures.network c.new-2.ensures.forged c.new-2.ensures.passed
+    new_stands tools names c.new.result c.new-2.result c.in_ok-new.field-0 from.terms from.codes from.bases
+    from.carriers from.traced from.ideal c.new-2.ensures.network c.new-2.ensures.forged c.new-2.ensures.passed
     it.settled it.ever it.removed it.carried it.based

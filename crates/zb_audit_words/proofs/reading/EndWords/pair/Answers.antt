@@ -20,4 +20,5 @@ returns c =
       carried = c.in_ok-hold-2.ensures.carried;
       based = c.in_ok-hold-2.ensures.based;
     } in
-    pair_follows tools names c.args.self.now h stands node c.args.first c.args.second c.args.key event c.hold.new.self c.hold-2.new.self first second
+    pair_follows tools names c.args.self.now h stands node c.args.first c.args.second c.args.key event c.hold.new.self
+    c.hold-2.new.self first second

@@ -23,8 +23,14 @@ returns c =
       carried = c.in_ok-hold-2.ensures.carried;
       based = c.in_ok-hold-2.ensures.based;
     } in
-    row_follows tools names c.args.self.now h stands c.args.who node told c.args.partner c.args.key c.args.attribute event c.address.result c.row_key.new.self c.take_in.new.self c.row.new.self
-    c.hold.new.self c.hold-2.new.self c.in_ok-row_key.ensures.network c.in_ok-row_key.ensures.forged c.in_ok-row_key.ensures.passed
-    (subst (λ (b : Bool). TakesIn c.args.self.now.origins c.take_in.new.self c.args.who.place b c.args.key.0) c.joins.ensures c.in_ok-take_in.ensures.takes)
-    c.in_ok-row.ensures.bases c.in_ok-row.ensures.codes c.in_ok-row.ensures.terms c.in_ok-row.ensures.carriers c.in_ok-row.ensures.traced c.in_ok-row.ensures.ideal
-    c.address.ensures (subst (λ (n : Option Eui). Holds c.args.self.now.exposure c.hold.new.self n c.args.key) c.centres_partner.ensures first) second
+    row_follows tools names c.args.self.now h stands c.args.who node told c.args.partner c.args.key c.args.attribute
+    event c.address.result c.row_key.new.self c.take_in.new.self c.row.new.self
+    c.hold.new.self c.hold-2.new.self c.in_ok-row_key.ensures.network c.in_ok-row_key.ensures.forged
+    c.in_ok-row_key.ensures.passed
+    (subst (λ (b : Bool). TakesIn c.args.self.now.origins c.take_in.new.self c.args.who.place b c.args.key.0)
+    c.joins.ensures c.in_ok-take_in.ensures.takes)
+    c.in_ok-row.ensures.bases c.in_ok-row.ensures.codes c.in_ok-row.ensures.terms c.in_ok-row.ensures.carriers
+    c.in_ok-row.ensures.traced c.in_ok-row.ensures.ideal
+    c.address.ensures
+    (subst (λ (n : Option Eui). Holds c.args.self.now.exposure c.hold.new.self n c.args.key)
+    c.centres_partner.ensures first) second

@@ -13,8 +13,14 @@ returns-clause-exact c =
     let more = c.args.more in
     let F : Reading → Type 0 = λ r. Fit r.capture (capture_of c.more.inside.draft) in
     let G : Reading → Type 0 = λ r. Fit old.capture r.capture in
-    lead_behind old (record { lines = c.self.inside.lines + c.more.inside.lines; capture = capture_of c.in_ok-self-inside.field-0 }) more
-    (lines c.args.text.now) c.requires.alone.lead (subst G c.more.view_is (subst F c.self.view_is c.if-not-fits.ensures))
-    (ap (λ (r : Reading). r.lines + c.more.inside.lines) c.self.view_is ∙ ap (λ (r : Reading). old.lines + r.lines) c.more.view_is)
-    (c.in_ok-self-inside.ensures ∙ ap (λ (d : Draft). both (capture_of d) (capture_of c.more.inside.draft)) c.replace-draft.ensures.value
-    ∙ ap (λ (r : Reading). both r.capture (capture_of c.more.inside.draft)) c.self.view_is ∙ ap (λ (r : Reading). both old.capture r.capture) c.more.view_is)
+    lead_behind old
+    (record
+    { lines = c.self.inside.lines + c.more.inside.lines; capture = capture_of c.in_ok-self-inside.field-0 }) more
+    (lines c.args.text.now) c.requires.alone.lead
+    (subst G c.more.view_is (subst F c.self.view_is c.if-not-fits.ensures))
+    (ap (λ (r : Reading). r.lines + c.more.inside.lines) c.self.view_is ∙ ap (λ (r : Reading). old.lines + r.lines)
+    c.more.view_is)
+    (c.in_ok-self-inside.ensures ∙ ap (λ (d : Draft). both (capture_of d) (capture_of c.more.inside.draft))
+    c.replace-draft.ensures.value
+    ∙ ap (λ (r : Reading). both r.capture (capture_of c.more.inside.draft)) c.self.view_is ∙ ap
+    (λ (r : Reading). both old.capture r.capture) c.more.view_is)

@@ -21,7 +21,8 @@ invariant_of-self c =
       room_flags = omega (arith, kept.room_flags, cleared.capacity);
     }
 
-lowered_is : (m : Medium) (w : List Bool) → w ≡ replicate (length m.written) false → ◌≡◌ {A = Medium} (record m { written = w; grown = 0 }) (synced m)
+lowered_is : (m : Medium) (w : List Bool) → w ≡ replicate (length m.written) false
+    → ◌≡◌ {A = Medium} (record m { written = w; grown = 0 }) (synced m)
 unfolding synced
 lowered_is m w is = ap (λ (x : List Bool). let n : Medium = record m { written = x; grown = 0 } in n) is
 

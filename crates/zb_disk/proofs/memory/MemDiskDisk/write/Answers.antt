@@ -11,7 +11,9 @@ returns-then-refuses_call-clause-write c =
     let after = c.refuses_call.ensures.after in
     let refused : refuses m.arming 0 ≡ true = sym c.refuses_call.ensures.refused ∙ c.if-refuses_call.true in
     let later = subst (λ (n : Medium). m.faults ≤ n.faults) after c.refuses_call.ensures.later in
-    subst (λ (n : Medium). IsWrite {T = Unit {0}} {E = Failed} memory_tells c.args.at c.args.bytes.now (memory_view m) (memory_view n) (Err (record {}))) (sym after) (write_err m c.args.at c.args.bytes.now (record {}) refused later)
+    subst (λ (n : Medium). IsWrite {T = Unit {0}} {E = Failed} memory_tells c.args.at c.args.bytes.now (memory_view m)
+    (memory_view n) (Err (record {}))) (sym after)
+    (write_err m c.args.at c.args.bytes.now (record {}) refused later)
 
 pub returns-clause-write : goal.returns-clause-write
 returns-clause-write c =
@@ -20,4 +22,5 @@ returns-clause-write c =
     let goes : refuses m.arming 0 ≡ false = sym c.refuses_call.ensures.refused ∙ c.if-refuses_call.false in
     let later = subst (λ (n : Medium). m.faults ≤ n.faults) after c.refuses_call.ensures.later in
     let is = c.store.ensures ∙ ap (λ (n : Medium). stored n c.args.at c.args.bytes.now) after in
-    subst (λ (n : Medium). IsWrite {T = Unit {0}} {E = Failed} memory_tells c.args.at c.args.bytes.now (memory_view m) (memory_view n) (Ok tt)) (sym is) (write_ok m c.args.at c.args.bytes.now goes later)
+    subst (λ (n : Medium). IsWrite {T = Unit {0}} {E = Failed} memory_tells c.args.at c.args.bytes.now (memory_view m)
+    (memory_view n) (Ok tt)) (sym is) (write_ok m c.args.at c.args.bytes.now goes later)

@@ -10,7 +10,8 @@ pub push_reserved-requires : goal.push_reserved-requires
 push_reserved-requires c =
     let d = c.self.inside in
     let same = c.self.view_is in
-    let steps : length c.args.self.now.steps ≡ length d.log.items = ap (λ (t : Trail). length t.steps) (sym same) ∙ length-steps d.log.items d.pool.items in
+    let steps : length c.args.self.now.steps ≡ length d.log.items = ap (λ (t : Trail). length t.steps) (sym same) ∙
+    length-steps d.log.items d.pool.items in
     omega (arith, c.requires, steps, ap (λ (t : Trail). t.calls_room) same, d.log.ok.0, c.self.invariant.log_room)
 
 pub invariant_of-self : goal.invariant_of-self
@@ -18,7 +19,8 @@ invariant_of-self c =
     let d = c.self.inside in
     let kept = c.self.invariant in
     let items = c.push_reserved.ensures.items in
-    let newest = ap (λ (l : List Logged). reverse (steps_of l d.pool.items)) items ∙ newest_sync d.log.items d.pool.items in
+    let newest = ap (λ (l : List Logged). reverse (steps_of l d.pool.items)) items ∙ newest_sync d.log.items
+    d.pool.items in
     record {
       now = kept.now ∙ sym (ap (replayed d.start.items) newest);
       whole = ap total items ∙ total_sync d.log.items ∙ kept.whole;
@@ -32,6 +34,8 @@ unfolding kept_sync
 returns c =
     let d = c.self.inside in
     let t = trail_of d in
-    let newest = ap (λ (l : List Logged). reverse (steps_of l d.pool.items)) c.push_reserved.ensures.items ∙ newest_sync d.log.items d.pool.items in
+    let newest = ap (λ (l : List Logged). reverse (steps_of l d.pool.items)) c.push_reserved.ensures.items ∙
+    newest_sync d.log.items d.pool.items in
     let calls : c.saturating_add-self-inside.result ≡ risen t.calls 1 = c.saturating_add-self-inside.ensures in
-    same_trail t (reverse (steps_of c.push_reserved.new.self.items d.pool.items)) (syncs ∷ t.steps) t.taken t.taken c.saturating_add-self-inside.result (risen t.calls 1) newest refl calls ∙ ap kept_sync c.self.view_is
+    same_trail t (reverse (steps_of c.push_reserved.new.self.items d.pool.items)) (syncs ∷ t.steps) t.taken t.taken
+    c.saturating_add-self-inside.result (risen t.calls 1) newest refl calls ∙ ap kept_sync c.self.view_is

@@ -10,9 +10,11 @@ returns-then-not-has_room-clause-sync c =
     let t = c.args.self.now in
     let after = c.refuse.ensures.after in
     let later = subst (λ (n : Trail). t.faults ≤ n.faults) after c.refuse.ensures.later in
-    subst (λ (n : Trail). IsSync {T = Unit {0}} {E = Failed} trail_tells (trail_view t) (trail_view n) (Err (record {}))) (sym after) (trail_sync_err t (record {}) later)
+    subst (λ (n : Trail). IsSync {T = Unit {0}} {E = Failed} trail_tells (trail_view t) (trail_view n)
+    (Err (record {}))) (sym after) (trail_sync_err t (record {}) later)
 
 pub returns-clause-sync : goal.returns-clause-sync
 returns-clause-sync c =
     let t = c.args.self.now in
-    subst (λ (n : Trail). IsSync {T = Unit {0}} {E = Failed} trail_tells (trail_view t) (trail_view n) (Ok tt)) (sym c.keep_sync.ensures) (trail_sync_ok t)
+    subst (λ (n : Trail). IsSync {T = Unit {0}} {E = Failed} trail_tells (trail_view t) (trail_view n) (Ok tt))
+    (sym c.keep_sync.ensures) (trail_sync_ok t)

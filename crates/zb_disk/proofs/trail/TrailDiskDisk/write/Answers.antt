@@ -10,9 +10,11 @@ returns-then-not-has_room-clause-write c =
     let t = c.args.self.now in
     let after = c.refuse.ensures.after in
     let later = subst (λ (n : Trail). t.faults ≤ n.faults) after c.refuse.ensures.later in
-    subst (λ (n : Trail). IsWrite {T = Unit {0}} {E = Failed} trail_tells c.args.at c.args.bytes.now (trail_view t) (trail_view n) (Err (record {}))) (sym after) (trail_write_err t c.args.at c.args.bytes.now (record {}) later)
+    subst (λ (n : Trail). IsWrite {T = Unit {0}} {E = Failed} trail_tells c.args.at c.args.bytes.now (trail_view t)
+    (trail_view n) (Err (record {}))) (sym after) (trail_write_err t c.args.at c.args.bytes.now (record {}) later)
 
 pub returns-clause-write : goal.returns-clause-write
 returns-clause-write c =
     let t = c.args.self.now in
-    subst (λ (n : Trail). IsWrite {T = Unit {0}} {E = Failed} trail_tells c.args.at c.args.bytes.now (trail_view t) (trail_view n) (Ok tt)) (sym c.keep_write.ensures) (trail_write_ok t c.args.at c.args.bytes.now)
+    subst (λ (n : Trail). IsWrite {T = Unit {0}} {E = Failed} trail_tells c.args.at c.args.bytes.now (trail_view t)
+    (trail_view n) (Ok tt)) (sym c.keep_write.ensures) (trail_write_ok t c.args.at c.args.bytes.now)

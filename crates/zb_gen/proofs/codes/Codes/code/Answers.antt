@@ -9,6 +9,7 @@ use Rattle.zb_gen.proofs.codes.Codes.code.Goals as goal
 pub returns : goal.returns
 returns c =
     let key : c.index.result.now.0 ≡ key_at c.args.self.now.start (4 * (c.args.i - 1)) =
-    ap (λ (k : Key). k.0) c.index.ensures ∙ c.self.invariant (c.args.i - 1) c.index.result.now (omega (arith, c.requires.0, c.requires.1, ap (λ (x : CodesOf). x.count) c.self.view_is))
+    ap (λ (k : Key). k.0) c.index.ensures ∙ c.self.invariant (c.args.i - 1) c.index.result.now
+    (omega (arith, c.requires.0, c.requires.1, ap (λ (x : CodesOf). x.count) c.self.view_is))
     ∙ ap (λ (x : CodesOf). key_at x.start (4 * (c.args.i - 1))) c.self.view_is in
     c.install_code.ensures ∙ ap (λ (k : List ℕ). k ++ to_le_bytes w16 (crc k)) key

@@ -7,5 +7,11 @@ use Rattle.zb_host.proofs.host.Host.handle.Goals as goal
 
 pub returns-in-Err-clause-planned : goal.returns-in-Err-clause-planned
 returns-in-Err-clause-planned g c =
-    let (p, is, after, same, out) = c.in-Err.ensures.withheld in
-    (p, is, after, tt, subst (λ (h : HostFault). (h ≡ Disk p.changes) ⊎ (h ≡ Worn)) (sym (c.told.ensures ∙ ap (told_fault c.in-Err.fault) same)) (named c.in-Err.fault p.changes))
+    let (p, is, after, same, out) = c.in-Err.ensures.withheld in (
+      p,
+      is,
+      after,
+      tt,
+      subst (λ (h : HostFault). (h ≡ Disk p.changes) ⊎ (h ≡ Worn))
+          (sym (c.told.ensures ∙ ap (told_fault c.in-Err.fault) same)) (named c.in-Err.fault p.changes),
+    )

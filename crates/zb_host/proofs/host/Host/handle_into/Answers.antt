@@ -28,11 +28,17 @@ returns-in-Ok-clause-step g c =
     } in
     let inside = sym c.take.ensures.value ∙ c.unwrap-store.ensures in
     let is = sym (ap (λ (h : Hosted g.row.C.Denot). h.store) c.self.view_is) ∙ inside in
-    let whole : writes_whole host ≡ (c.self.inside.whole || c.unwrap-store.result.entries == 32) = sym (ap (λ (h : Hosted g.row.C.Denot). writes_whole h) c.self.view_is) ∙ ap (λ (o : Option Place). c.self.inside.whole || is_full o) inside in
-    let commit = subst (λ (b : Bool). IsCommit g.D.Disk.tells b (g.C.Core.recorded after) payload c.unwrap-store.result old new (Ok c.in-Ok.store)) (sym whole) c.in-Ok.ensures.commits in
+    let whole : writes_whole host ≡ (c.self.inside.whole || c.unwrap-store.result.entries == 32) =
+    sym (ap (λ (h : Hosted g.row.C.Denot). writes_whole h) c.self.view_is) ∙ ap
+    (λ (o : Option Place). c.self.inside.whole || is_full o) inside in
+    let commit =
+    subst (λ (b : Bool). IsCommit g.D.Disk.tells b (g.C.Core.recorded after) payload c.unwrap-store.result old new
+    (Ok c.in-Ok.store)) (sym whole) c.in-Ok.ensures.commits in
     record {
-      moments = λ s current told. host_moments g.C.Core.restored g.C.Core.recorded g.D.Disk.tells s host after c.unwrap-store.result payload old new (Ok c.in-Ok.store) is laws commit current told;
-      kept = λ some s current told. host_kept g.C.Core.restored g.C.Core.recorded g.D.Disk.tells s host after c.unwrap-store.result c.in-Ok.store payload old new is laws commit current told;
+      moments = λ s current told. host_moments g.C.Core.restored g.C.Core.recorded g.D.Disk.tells s host after
+          c.unwrap-store.result payload old new (Ok c.in-Ok.store) is laws commit current told;
+      kept = λ some s current told. host_kept g.C.Core.restored g.C.Core.recorded g.D.Disk.tells s host after
+          c.unwrap-store.result c.in-Ok.store payload old new is laws commit current told;
       idle_kept = search rules;
       down = tt;
     }
@@ -46,9 +52,14 @@ returns-in-Ok-clause-not_worn g c = λ some worn.
     let new = g.D.Disk.state c.commit.new.disk in
     let inside = sym c.take.ensures.value ∙ c.unwrap-store.ensures in
     let is = sym (ap (λ (h : Hosted g.row.C.Denot). h.store) c.self.view_is) ∙ inside in
-    let whole : writes_whole host ≡ (c.self.inside.whole || c.unwrap-store.result.entries == 32) = sym (ap (λ (h : Hosted g.row.C.Denot). writes_whole h) c.self.view_is) ∙ ap (λ (o : Option Place). c.self.inside.whole || is_full o) inside in
-    let commit = subst (λ (b : Bool). IsCommit g.D.Disk.tells b (g.C.Core.recorded after) payload c.unwrap-store.result old new (Ok c.in-Ok.store)) (sym whole) c.in-Ok.ensures.commits in
-    went_not_worn g.D.Disk.tells host c.unwrap-store.result c.in-Ok.store (g.C.Core.recorded after) payload old new is commit worn
+    let whole : writes_whole host ≡ (c.self.inside.whole || c.unwrap-store.result.entries == 32) =
+    sym (ap (λ (h : Hosted g.row.C.Denot). writes_whole h) c.self.view_is) ∙ ap
+    (λ (o : Option Place). c.self.inside.whole || is_full o) inside in
+    let commit =
+    subst (λ (b : Bool). IsCommit g.D.Disk.tells b (g.C.Core.recorded after) payload c.unwrap-store.result old new
+    (Ok c.in-Ok.store)) (sym whole) c.in-Ok.ensures.commits in
+    went_not_worn g.D.Disk.tells host c.unwrap-store.result c.in-Ok.store (g.C.Core.recorded after) payload old new is
+    commit worn
 
 pub returns-in-Err : goal.returns-in-Err
 returns-in-Err g c =
@@ -70,16 +81,25 @@ returns-in-Err g c =
     } in
     let inside = sym c.take.ensures.value ∙ c.unwrap-store.ensures in
     let is = sym (ap (λ (h : Hosted g.row.C.Denot). h.store) c.self.view_is) ∙ inside in
-    let whole : writes_whole host ≡ (c.self.inside.whole || c.unwrap-store.result.entries == 32) = sym (ap (λ (h : Hosted g.row.C.Denot). writes_whole h) c.self.view_is) ∙ ap (λ (o : Option Place). c.self.inside.whole || is_full o) inside in
-    let ended = subst (λ (r : Result Place StoreFault). IsCommit g.D.Disk.tells (c.self.inside.whole || c.unwrap-store.result.entries == 32) (g.C.Core.recorded after) payload c.unwrap-store.result old new r) c.in-Err.is c.commit.ensures.commits in
-    let it = subst (λ (b : Bool). IsCommit g.D.Disk.tells b (g.C.Core.recorded after) payload c.unwrap-store.result old new (Err f)) (sym whole) ended in
-    let kept : c.withhold.new.self.changes.items ≡ p.changes.items = ap (λ (v : ArrayVec Change 16 (Unit {0})). v.items) c.withhold.ensures.changes in
+    let whole : writes_whole host ≡ (c.self.inside.whole || c.unwrap-store.result.entries == 32) =
+    sym (ap (λ (h : Hosted g.row.C.Denot). writes_whole h) c.self.view_is) ∙ ap
+    (λ (o : Option Place). c.self.inside.whole || is_full o) inside in
+    let ended =
+    subst (λ (r : Result Place StoreFault). IsCommit g.D.Disk.tells
+    (c.self.inside.whole || c.unwrap-store.result.entries == 32) (g.C.Core.recorded after) payload
+    c.unwrap-store.result old new r) c.in-Err.is c.commit.ensures.commits in
+    let it =
+    subst (λ (b : Bool). IsCommit g.D.Disk.tells b (g.C.Core.recorded after) payload c.unwrap-store.result old new
+    (Err f)) (sym whole) ended in
+    let kept : c.withhold.new.self.changes.items ≡ p.changes.items =
+    ap (λ (v : ArrayVec Change 16 (Unit {0})). v.items) c.withhold.ensures.changes in
     record {
       planned = tt;
       after = tt;
       withheld = (p, plan, done, c.withhold.ensures.changes, c.withhold.ensures.out);
       step = record {
-        moments = λ s current told. host_moments g.C.Core.restored g.C.Core.recorded g.D.Disk.tells s host after c.unwrap-store.result payload old new (Err f) is laws it current told;
+        moments = λ s current told. host_moments g.C.Core.restored g.C.Core.recorded g.D.Disk.tells s host after
+            c.unwrap-store.result payload old new (Err f) is laws it current told;
         kept = tt;
         idle_kept = tt;
         down = c.take.ensures.after;
@@ -89,18 +109,27 @@ returns-in-Err g c =
       idle_store = tt;
       idle_whole = tt;
       stopped = λ fault s current told steady.
-          let disk = of_disk f (sym c.fault_of.ensures ∙ same_fault c.fault_of.result commit.Disk _ _ refl refl fault) in
-          subst (λ (l : List Change). HasStopped g.D.Disk.tells g.C.Core.restored (writes_whole host) s (g.C.Core.recorded after) (g.C.Core.payload l) old new) (sym kept) (
-            host_stopped g.C.Core.restored g.C.Core.recorded g.D.Disk.tells s host after c.unwrap-store.result payload old new f is disk it current told steady,
+          let disk = of_disk f (sym c.fault_of.ensures ∙ same_fault c.fault_of.result commit.Disk _ _ refl refl fault)
+          in
+          subst (λ (l : List Change). HasStopped g.D.Disk.tells g.C.Core.restored (writes_whole host) s
+          (g.C.Core.recorded after) (g.C.Core.payload l) old new) (sym kept) (
+            host_stopped g.C.Core.restored g.C.Core.recorded g.D.Disk.tells s host after c.unwrap-store.result payload
+                old new f is disk it current told steady,
             host_leads g.C.Core.restored g.C.Core.recorded s host after payload old laws current,
           );
       changed = subst (λ (l : List Change). l ≢ []) (sym kept) (search rules);
       entry_next = tt;
       not_worn = tt;
-      worn = λ fault. it.untouched (ap (λ (x : StoreFault). Err x) (of_worn (writes_whole host) c.unwrap-store.result old new f (sym c.fault_of.ensures ∙ same_fault c.fault_of.result commit.Worn _ _ refl refl fault) it.faults));
-      not_worn_disk = λ fault worn. disk_not_worn g.D.Disk.tells host c.unwrap-store.result (g.C.Core.recorded after) payload old new f is (of_disk f (sym c.fault_of.ensures ∙ same_fault c.fault_of.result commit.Disk _ _ refl refl fault)) it worn;
+      worn = λ fault. it.untouched
+          (ap (λ (x : StoreFault). Err x)
+          (of_worn (writes_whole host) c.unwrap-store.result old new f
+          (sym c.fault_of.ensures ∙ same_fault c.fault_of.result commit.Worn _ _ refl refl fault) it.faults));
+      not_worn_disk = λ fault worn. disk_not_worn g.D.Disk.tells host c.unwrap-store.result (g.C.Core.recorded after)
+          payload old new f is
+          (of_disk f (sym c.fault_of.ensures ∙ same_fault c.fault_of.result commit.Disk _ _ refl refl fault)) it worn;
       up = tt;
-      faults = subst (IsUnstored (writes_whole host) host.store old new) (sym c.fault_of.ensures) (unstored (writes_whole host) c.unwrap-store.result host.store old new f is it.faults);
+      faults = subst (IsUnstored (writes_whole host) host.store old new) (sym c.fault_of.ensures)
+          (unstored (writes_whole host) c.unwrap-store.result host.store old new f is it.faults);
       count = it.count;
       unrisen = tt;
       asked = it.asked;

@@ -6,7 +6,8 @@ use Rattle.zb_keys.proofs.contents.Contents.boot.Goals as goal
 
 pub returns-clause-state : goal.returns-clause-state
 unfolding after_boot
-returns-clause-state c = ap (λ (s : NodeState). record s { aps_next = s.aps_limit }) (c.set_links_back.ensures.state ∙ ap links_booted c.set_nets_back.ensures.state)
+returns-clause-state c = ap (λ (s : NodeState). record s { aps_next = s.aps_limit })
+    (c.set_links_back.ensures.state ∙ ap links_booted c.set_nets_back.ensures.state)
 
 pub returns-clause-sound : goal.returns-clause-sound
 returns-clause-sound c = aps_sound c.set_links_back.new.self _ c.set_links_back.ensures.sound

@@ -8,4 +8,5 @@ use Rattle.zb_keys.proofs.contents.Contents.drop_net.Goals as goal
 pub returns : goal.returns
 returns c = becomes_nets _ c.args.self.now c.drop_net.new.rows (c.drop_net.auto.rows ∙ c.deref_mut.ensures.len)
     (dropped_state (state_of c.args.self.now) c.args.key.now.0 (map net_key c.drop_net.new.rows) c.requires
-    (c.drop_net.ensures ∙ ap (λ l. at_net c.args.key.now.0 (λ r. shown_net (dropped_net r)) (map net_key l)) c.deref_mut.ensures.value))
+    (c.drop_net.ensures ∙ ap (λ l. at_net c.args.key.now.0 (λ r. shown_net (dropped_net r)) (map net_key l))
+    c.deref_mut.ensures.value))

@@ -15,4 +15,5 @@ unfolding first_fits
 returns-in-Pair c = ap (λ (x : Change). first_fits (edit x) (state_of c.args.self.now)) (sym c.in-Pair.is)
 
 pub returns-in_default : goal.returns-in_default
-returns-in_default c = c.fits.ensures ∙ fits_as_ever c.args.change.now (state_of c.args.self.now) c.in_default.not-Reserve c.in_default.not-Start c.in_default.not-Pair
+returns-in_default c = c.fits.ensures ∙ fits_as_ever c.args.change.now (state_of c.args.self.now)
+    c.in_default.not-Reserve c.in_default.not-Start c.in_default.not-Pair

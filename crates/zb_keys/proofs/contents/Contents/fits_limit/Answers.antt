@@ -9,4 +9,6 @@ use Rattle.zb_keys.proofs.contents.Contents.fits_limit.Goals as goal
 
 pub returns-in-Aps : goal.returns-in-Aps
 unfolding first_fits
-returns-in-Aps c = sym (ap (λ (l : Layer). first_fits (Reserve (model_layer l) c.args.limit) (state_of c.args.self.now)) c.in-Aps.is ∙ aps_fits c.args.limit (state_of c.args.self.now) c.requires.rules)
+returns-in-Aps c =
+    sym (ap (λ (l : Layer). first_fits (Reserve (model_layer l) c.args.limit) (state_of c.args.self.now)) c.in-Aps.is
+    ∙ aps_fits c.args.limit (state_of c.args.self.now) c.requires.rules)

@@ -6,6 +6,7 @@ use Rattle.zb_keys.proofs.StateLemmas.{becomes_limited, limited_state}
 use Rattle.zb_keys.proofs.contents.Contents.limit_all.Goals as goal
 
 pub returns : goal.returns
-returns c = becomes_limited _ c.args.self.now c.args.limit c.limit_nets.new.rows (c.limit_nets.auto.rows ∙ c.deref_mut.ensures.len)
+returns c = becomes_limited _ c.args.self.now c.args.limit c.limit_nets.new.rows
+    (c.limit_nets.auto.rows ∙ c.deref_mut.ensures.len)
     (limited_state (state_of c.args.self.now) c.args.limit (map net_key c.limit_nets.new.rows) c.requires
     (c.limit_nets.ensures ∙ ap (λ l. map (limited c.args.limit) (map net_key l)) c.deref_mut.ensures.value))

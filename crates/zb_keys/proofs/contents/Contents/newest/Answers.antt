@@ -6,4 +6,6 @@ use Rattle.zb_keys.proofs.ReadLemmas.{newest_is}
 use Rattle.zb_keys.proofs.contents.Contents.newest.Goals as goal
 
 pub returns : goal.returns
-returns c = newest_is c.args.self.now _ (c.newest_live.ensures ∙ ap (last_where (λ (r : NetRow). (net_key r).live)) c.as_slice.ensures.value)
+returns c =
+    newest_is c.args.self.now _
+    (c.newest_live.ensures ∙ ap (last_where (λ (r : NetRow). (net_key r).live)) c.as_slice.ensures.value)

@@ -9,7 +9,9 @@ use Rattle.zb_keys.proofs.contents.Contents.remove_pairs.Goals as goal
 
 pub returns : goal.returns
 returns c = record {
-  state = removed_state (state_of c.args.self.now) c.args.device.0 _ c.requires (ap (map pair_key) c.drop_pairs.ensures.kept ∙ sym (filter-map (λ (p : PairKey). not (names c.args.device.0 p)) pair_key c.args.self.now.pairs.items));
+  state = removed_state (state_of c.args.self.now) c.args.device.0 _ c.requires
+      (ap (map pair_key) c.drop_pairs.ensures.kept ∙ sym
+      (filter-map (λ (p : PairKey). not (names c.args.device.0 p)) pair_key c.args.self.now.pairs.items));
   role = refl;
   nets_room = search rules;
   links_room = search rules;

@@ -5,7 +5,8 @@ use Rattle.zb_keys.proofs.HeardLemmas.{sealed_aps, sealed_none}
 use Rattle.zb_keys.proofs.contents.Contents.seal_aps.Goals as goal
 
 pub returns-in-Some-clause-state : goal.returns-in-Some-clause-state
-returns-in-Some-clause-state c = λ key t so. sealed_aps key (state_of c.args.self.now) t c.in-Some.next so c.in-Some.ensures
+returns-in-Some-clause-state c = λ key t so. sealed_aps key (state_of c.args.self.now) t c.in-Some.next so
+    c.in-Some.ensures
 
 pub returns-in-Some-clause-sound : goal.returns-in-Some-clause-sound
 returns-in-Some-clause-sound c = aps_sound c.args.self.now _ c.requires.sound

@@ -13,4 +13,5 @@ returns-clause-state c =
 pub returns-clause-sound : goal.returns-clause-sound
 returns-clause-sound c =
     let links = c.boot_links.ensures ∙ ap (λ l. map booted_link (map link_key l)) c.deref_mut.ensures.value in
-    links_sound c.args.self.now c.boot_links.new.rows (c.boot_links.auto.rows ∙ c.deref_mut.ensures.len) links c.requires.sound
+    links_sound c.args.self.now c.boot_links.new.rows (c.boot_links.auto.rows ∙ c.deref_mut.ensures.len) links
+    c.requires.sound

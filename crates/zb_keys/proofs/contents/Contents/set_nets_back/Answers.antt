@@ -13,4 +13,5 @@ returns-clause-state c =
 pub returns-clause-sound : goal.returns-clause-sound
 returns-clause-sound c =
     let nets = c.boot_nets.ensures ∙ ap (λ l. map booted_net (map net_key l)) c.deref_mut.ensures.value in
-    nets_sound c.args.self.now c.boot_nets.new.rows (c.boot_nets.auto.rows ∙ c.deref_mut.ensures.len) nets c.requires.sound
+    nets_sound c.args.self.now c.boot_nets.new.rows (c.boot_nets.auto.rows ∙ c.deref_mut.ensures.len) nets
+    c.requires.sound

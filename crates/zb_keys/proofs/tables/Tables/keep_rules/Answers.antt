@@ -5,4 +5,5 @@ use Rattle.zb_keys.proofs.ApplyLemmas.{shown_is}
 use Rattle.zb_keys.proofs.tables.Tables.keep_rules.Goals as goal
 
 pub returns-clause-forgets : goal.returns-clause-forgets
-returns-clause-forgets c = subst (λ s. shown s ≡ s) c.self.view_is (shown_is (state_of c.self.inside.contents) c.self.invariant.forgets)
+returns-clause-forgets c =
+    subst (λ s. shown s ≡ s) c.self.view_is (shown_is (state_of c.self.inside.contents) c.self.invariant.forgets)

@@ -13,9 +13,16 @@ use Rattle.zb_live.proofs.session.Session.list.Goals as goal
 pub returns-in-Some-clause-said : goal.returns-in-Some-clause-said
 returns-in-Some-clause-said c =
     let s = c.in-Some.host.core.tables in
-    on_ok c.show.result (λ t. said_up c.args.number _ c.args.self.now c.args.page.now.items _ c.in-Some.host (record { text = page (listed s) ++ ok_text c.args.number; after = living_of c.args.self.now }) c.in-Some.is (λ found. refl)
-    (t ∙ ap (λ (s : NodeState). c.args.page.now.items ++ (page (listed s) ++ ok_text c.args.number)) c.centre_tables.ensures) refl) c.show.ensures.text
+    on_ok c.show.result
+    (λ t. said_up c.args.number _ c.args.self.now c.args.page.now.items _ c.in-Some.host
+    (record { text = page (listed s) ++ ok_text c.args.number; after = living_of c.args.self.now }) c.in-Some.is
+    (λ found. refl)
+    (t ∙ ap (λ (s : NodeState). c.args.page.now.items ++ (page (listed s) ++ ok_text c.args.number))
+    c.centre_tables.ensures) refl) c.show.ensures.text
 
 pub returns-in-None-clause-said : goal.returns-in-None-clause-said
 returns-in-None-clause-said c =
-    on_ok c.refuse.result (λ t. said_closed c.args.number _ c.args.self.now c.args.self.now c.args.page.now.items _ (refused c.args.number cause.Closed (living_of c.args.self.now)) (ap is_some c.in-None.is) (λ found. refl) t refl refl) c.refuse.ensures.text
+    on_ok c.refuse.result
+    (λ t. said_closed c.args.number _ c.args.self.now c.args.self.now c.args.page.now.items _
+    (refused c.args.number cause.Closed (living_of c.args.self.now)) (ap is_some c.in-None.is) (λ found. refl) t
+    refl refl) c.refuse.ensures.text

@@ -9,37 +9,53 @@ use Rattle.zb_live.proofs.session.Session.open.Goals as goal
 
 pub returns-then-is_open-clause-taken : goal.returns-then-is_open-clause-taken
 returns-then-is_open-clause-taken g c = λ told found alive.
-    said c.args.number _ found c.args.self.now c.args.self.now (g.D.Disk.state c.args.disk.now) c.args.page.now.items _ c.refuse.result
-    (on_ok c.refuse.result (λ t. said_open c.args.number _ c.args.self.now c.args.page.now.items _ cause.Opened (sym c.is_open.ensures ∙ c.if-is_open.true) (λ found s. refl) t) c.refuse.ensures.text)
+    said c.args.number _ found c.args.self.now c.args.self.now (g.D.Disk.state c.args.disk.now) c.args.page.now.items
+    _ c.refuse.result
+    (on_ok c.refuse.result
+    (λ t. said_open c.args.number _ c.args.self.now c.args.page.now.items _ cause.Opened
+    (sym c.is_open.ensures ∙ c.if-is_open.true) (λ found s. refl) t) c.refuse.ensures.text)
     alive (g.met.D.Disk.only_now c.args.disk.now)
 
 pub returns-then-is_open-clause-store : goal.returns-then-is_open-clause-store
 returns-then-is_open-clause-store g c = always c.refuse.result c.requires
 
 pub returns-then-is_open-clause-waits : goal.returns-then-is_open-clause-waits
-returns-then-is_open-clause-waits g c = always c.refuse.result (λ none. (none, still_refl (g.D.Disk.state c.args.disk.now)))
+returns-then-is_open-clause-waits g c =
+    always c.refuse.result (λ none. (none, still_refl (g.D.Disk.state c.args.disk.now)))
 
 pub returns-then-is_open-clause-faults : goal.returns-then-is_open-clause-faults
-returns-then-is_open-clause-faults g c = short_fault g.D.Disk.tells c.args.self.now (g.D.Disk.state c.args.disk.now) c.refuse.result c.refuse.ensures.short
+returns-then-is_open-clause-faults g c = short_fault g.D.Disk.tells c.args.self.now (g.D.Disk.state c.args.disk.now)
+    c.refuse.result c.refuse.ensures.short
 
 pub returns-then-not-has_centre-clause-taken : goal.returns-then-not-has_centre-clause-taken
 returns-then-not-has_centre-clause-taken g c = λ told found alive.
-    said c.args.number _ found c.args.self.now c.args.self.now (g.D.Disk.state c.args.disk.now) c.args.page.now.items _ c.refuse-then-not-has_centre.result
-    (on_ok c.refuse-then-not-has_centre.result (λ t. said_closed c.args.number _ c.args.self.now c.args.self.now c.args.page.now.items _ (refused c.args.number cause.NoCentre (living_of c.args.self.now)) (sym c.is_open.ensures ∙ c.if-is_open.false) (λ found. rw (sym c.has_centre.ensures ∙ c.if-not-has_centre.true) refl) t refl refl) c.refuse-then-not-has_centre.ensures.text)
+    said c.args.number _ found c.args.self.now c.args.self.now (g.D.Disk.state c.args.disk.now) c.args.page.now.items
+    _ c.refuse-then-not-has_centre.result
+    (on_ok c.refuse-then-not-has_centre.result
+    (λ t. said_closed c.args.number _ c.args.self.now c.args.self.now c.args.page.now.items _
+    (refused c.args.number cause.NoCentre (living_of c.args.self.now))
+    (sym c.is_open.ensures ∙ c.if-is_open.false)
+    (λ found. rw (sym c.has_centre.ensures ∙ c.if-not-has_centre.true) refl) t refl refl)
+    c.refuse-then-not-has_centre.ensures.text)
     alive (g.met.D.Disk.only_now c.args.disk.now)
 
 pub returns-then-not-has_centre-clause-store : goal.returns-then-not-has_centre-clause-store
 returns-then-not-has_centre-clause-store g c = always c.refuse-then-not-has_centre.result c.requires
 
 pub returns-then-not-has_centre-clause-waits : goal.returns-then-not-has_centre-clause-waits
-returns-then-not-has_centre-clause-waits g c = always c.refuse-then-not-has_centre.result (λ none. (none, still_refl (g.D.Disk.state c.args.disk.now)))
+returns-then-not-has_centre-clause-waits g c = always c.refuse-then-not-has_centre.result
+    (λ none. (none, still_refl (g.D.Disk.state c.args.disk.now)))
 
 pub returns-then-not-has_centre-clause-faults : goal.returns-then-not-has_centre-clause-faults
-returns-then-not-has_centre-clause-faults g c = short_fault g.D.Disk.tells c.args.self.now (g.D.Disk.state c.args.disk.now) c.refuse-then-not-has_centre.result c.refuse-then-not-has_centre.ensures.short
+returns-then-not-has_centre-clause-faults g c = short_fault g.D.Disk.tells c.args.self.now
+    (g.D.Disk.state c.args.disk.now) c.refuse-then-not-has_centre.result c.refuse-then-not-has_centre.ensures.short
 
 pub returns-in-Ok-Some-clause-taken : goal.returns-in-Ok-Some-clause-taken
 returns-in-Ok-Some-clause-taken g c = λ told found alive.
     let judged = rw c.in-Ok-Some.field-0-is at c.in-Ok-Some.ensures.judged in
-    opened_some c.args.number found c.args.self.now _ g.D.Disk.tells told (setting_for c.config.result.now) (sym c.is_open.ensures ∙ c.if-is_open.false) (sym c.has_centre.ensures ∙ c.if-not-has_centre.false)
-    (g.D.Disk.state c.args.disk.now) (g.D.Disk.state c.judge.new.disk) alive c.args.page.now.items _ c.in-Ok-Some.host c.confirm.result
-    (setting_is c.config.result.now c.args.self.now.network _ c.config.ensures.network c.config.ensures.me) judged refl c.confirm.ensures.text
+    opened_some c.args.number found c.args.self.now _ g.D.Disk.tells told (setting_for c.config.result.now)
+    (sym c.is_open.ensures ∙ c.if-is_open.false) (sym c.has_centre.ensures ∙ c.if-not-has_centre.false)
+    (g.D.Disk.state c.args.disk.now) (g.D.Disk.state c.judge.new.disk) alive c.args.page.now.items _ c.in-Ok-Some.host
+    c.confirm.result
+    (setting_is c.config.result.now c.args.self.now.network _ c.config.ensures.network c.config.ensures.me) judged
+    refl c.confirm.ensures.text

@@ -10,7 +10,9 @@ use Rattle.zb_live.proofs.session.Session.take_event.Goals as goal
 
 pub returns-in_err-sends-in-Ok-clause-faults : goal.returns-in_err-sends-in-Ok-clause-faults
 returns-in_err-sends-in-Ok-clause-faults g c =
-    let fault = happening_fault g.D.Disk.tells c.args.self.now (g.D.Disk.state c.args.disk.now) (g.D.Disk.state c.happen.new.disk) c.in-Some.host c.in_err-sends-in-Ok.field-0.0 c.in-Some.is c.in_err-sends-in-Ok.ensures.faults in
+    let fault = happening_fault g.D.Disk.tells c.args.self.now (g.D.Disk.state c.args.disk.now)
+    (g.D.Disk.state c.happen.new.disk) c.in-Some.host c.in_err-sends-in-Ok.field-0.0 c.in-Some.is
+    c.in_err-sends-in-Ok.ensures.faults in
     search (rules, fault)
 
 pub returns-after-sends-clause-taken : goal.returns-after-sends-clause-taken
@@ -20,10 +22,26 @@ returns-after-sends-clause-taken g c = λ told found alive.
     let host2 = c.happen.new.host in
     let before = g.D.Disk.state c.args.disk.now in
     let after = g.D.Disk.state c.happen.new.disk in
-    let next : Bool → Session = λ b. record { lines = old.lines; log = old.log; network = old.network; centre = Some host2; events = c.next_number.result; frames = if b then c.next_number-in-Ok.result else old.frames } in
-    let up = up_here c.args.number found old (event_of c.args.event) (task_of c.in-Ok.event) host host2 c.in-Some.is c.in-Ok.ensures before after alive in
-    let h = c.in_ok-sends-in-Ok.ensures.happened told (setting_of old.network) host.core.tables up c.centre_name.ensures.called c.centre_name.ensures.centre in
-    event_done c.args.number found old (event_of c.args.event) (task_of c.in-Ok.event) host host2 c.in-Some.is c.in-Ok.ensures before after alive
-    c.next_number.result c.next_number-in-Ok.result c.if-sends.self c.args.page.now.items c.happen.new.page.items _ c.in_ok-sends-in-Ok.sends c.confirm.result c.next_number.ensures c.next_number-in-Ok.ensures h
-    (elim c.if-sends.branch [ then-sends w ↦ w.self-is ∙ ap next (sym w.if-sends.true) | else-sends w ↦ w.self-is ∙ ap next (sym w.if-sends.false) ])
+    let next : Bool → Session =
+    λ b. record {
+      lines = old.lines;
+      log = old.log;
+      network = old.network;
+      centre = Some host2;
+      events = c.next_number.result;
+      frames = if b then c.next_number-in-Ok.result else old.frames;
+    } in
+    let up = up_here c.args.number found old (event_of c.args.event) (task_of c.in-Ok.event) host host2 c.in-Some.is
+    c.in-Ok.ensures before after alive in
+    let h = c.in_ok-sends-in-Ok.ensures.happened told (setting_of old.network) host.core.tables up
+    c.centre_name.ensures.called c.centre_name.ensures.centre in
+    event_done c.args.number found old (event_of c.args.event) (task_of c.in-Ok.event) host host2 c.in-Some.is
+    c.in-Ok.ensures before after alive
+    c.next_number.result c.next_number-in-Ok.result c.if-sends.self c.args.page.now.items c.happen.new.page.items _
+    c.in_ok-sends-in-Ok.sends c.confirm.result c.next_number.ensures c.next_number-in-Ok.ensures h
+    (elim c.if-sends.branch [
+      | then-sends w ↦ w.self-is ∙ ap next (sym w.if-sends.true)
+      | else-sends w ↦ w.self-is ∙ ap next
+          (sym w.if-sends.false)
+    ])
     c.confirm.ensures.text

@@ -9,97 +9,128 @@ pub returns-in-Blank-clause-taken : goal.returns-in-Blank-clause-taken
 returns-in-Blank-clause-taken g c = λ told found alive.
     let v = g.D.Disk.state c.args.disk.now in
     let old = c.args.self.now in
-    subst (λ (l : Line). HasTaken found old (done_by c.args.number found (sentence_of l) old) v c.args.page.now.items (Ok tt) old v c.args.page.now.items) (sym c.in-Blank.is)
-    (said_taken c.args.number _ found old old v c.args.page.now.items _ (blank_said c.args.number old c.args.page.now.items) alive (g.met.D.Disk.only_now c.args.disk.now))
+    subst (λ (l : Line). HasTaken found old (done_by c.args.number found (sentence_of l) old) v c.args.page.now.items
+    (Ok tt) old v c.args.page.now.items) (sym c.in-Blank.is)
+    (said_taken c.args.number _ found old old v c.args.page.now.items _
+    (blank_said c.args.number old c.args.page.now.items) alive (g.met.D.Disk.only_now c.args.disk.now))
 
 pub returns-in-Centre-clause-taken : goal.returns-in-Centre-clause-taken
 returns-in-Centre-clause-taken g c = λ told found alive.
     let v = g.D.Disk.state c.args.disk.now in
     let old = c.args.self.now in
-    subst (λ (l : Line). HasTaken found old (done_by c.args.number found (sentence_of l) old) v c.args.page.now.items c.take_centre.result c.take_centre.new.self v c.take_centre.new.page.items) (sym c.in-Centre.is)
-    (said c.args.number _ found old c.take_centre.new.self v c.args.page.now.items _ c.take_centre.result c.take_centre.ensures.said alive (g.met.D.Disk.only_now c.args.disk.now))
+    subst (λ (l : Line). HasTaken found old (done_by c.args.number found (sentence_of l) old) v c.args.page.now.items
+    c.take_centre.result c.take_centre.new.self v c.take_centre.new.page.items) (sym c.in-Centre.is)
+    (said c.args.number _ found old c.take_centre.new.self v c.args.page.now.items _ c.take_centre.result
+    c.take_centre.ensures.said alive (g.met.D.Disk.only_now c.args.disk.now))
 
 pub returns-in-Centre-clause-store : goal.returns-in-Centre-clause-store
-returns-in-Centre-clause-store g c = said_can c.args.number _ c.args.self.now c.take_centre.new.self c.args.page.now.items _ c.take_centre.result c.take_centre.ensures.said c.requires.store
+returns-in-Centre-clause-store g c = said_can c.args.number _ c.args.self.now c.take_centre.new.self
+    c.args.page.now.items _ c.take_centre.result c.take_centre.ensures.said c.requires.store
 
 pub returns-in-Centre-clause-waits : goal.returns-in-Centre-clause-waits
-returns-in-Centre-clause-waits g c = said_waits c.args.number _ c.args.self.now c.take_centre.new.self c.args.page.now.items _ (g.D.Disk.state c.args.disk.now) c.take_centre.result c.take_centre.ensures.said
+returns-in-Centre-clause-waits g c = said_waits c.args.number _ c.args.self.now c.take_centre.new.self
+    c.args.page.now.items _ (g.D.Disk.state c.args.disk.now) c.take_centre.result c.take_centre.ensures.said
 
 pub returns-in-Centre-clause-faults : goal.returns-in-Centre-clause-faults
-returns-in-Centre-clause-faults g c = short_fault g.D.Disk.tells c.args.self.now (g.D.Disk.state c.args.disk.now) c.take_centre.result c.take_centre.ensures.short
+returns-in-Centre-clause-faults g c = short_fault g.D.Disk.tells c.args.self.now (g.D.Disk.state c.args.disk.now)
+    c.take_centre.result c.take_centre.ensures.short
 
 pub returns-in-Peer-clause-taken : goal.returns-in-Peer-clause-taken
 returns-in-Peer-clause-taken g c = λ told found alive.
     let v = g.D.Disk.state c.args.disk.now in
     let old = c.args.self.now in
-    subst (λ (l : Line). HasTaken found old (done_by c.args.number found (sentence_of l) old) v c.args.page.now.items c.take_peer.result c.take_peer.new.self v c.take_peer.new.page.items) (sym c.in-Peer.is)
-    (said c.args.number _ found old c.take_peer.new.self v c.args.page.now.items _ c.take_peer.result c.take_peer.ensures.said alive (g.met.D.Disk.only_now c.args.disk.now))
+    subst (λ (l : Line). HasTaken found old (done_by c.args.number found (sentence_of l) old) v c.args.page.now.items
+    c.take_peer.result c.take_peer.new.self v c.take_peer.new.page.items) (sym c.in-Peer.is)
+    (said c.args.number _ found old c.take_peer.new.self v c.args.page.now.items _ c.take_peer.result
+    c.take_peer.ensures.said alive (g.met.D.Disk.only_now c.args.disk.now))
 
 pub returns-in-Peer-clause-store : goal.returns-in-Peer-clause-store
-returns-in-Peer-clause-store g c = said_can c.args.number _ c.args.self.now c.take_peer.new.self c.args.page.now.items _ c.take_peer.result c.take_peer.ensures.said c.requires.store
+returns-in-Peer-clause-store g c = said_can c.args.number _ c.args.self.now c.take_peer.new.self c.args.page.now.items
+    _ c.take_peer.result c.take_peer.ensures.said c.requires.store
 
 pub returns-in-Peer-clause-waits : goal.returns-in-Peer-clause-waits
-returns-in-Peer-clause-waits g c = said_waits c.args.number _ c.args.self.now c.take_peer.new.self c.args.page.now.items _ (g.D.Disk.state c.args.disk.now) c.take_peer.result c.take_peer.ensures.said
+returns-in-Peer-clause-waits g c = said_waits c.args.number _ c.args.self.now c.take_peer.new.self
+    c.args.page.now.items _ (g.D.Disk.state c.args.disk.now) c.take_peer.result c.take_peer.ensures.said
 
 pub returns-in-Peer-clause-faults : goal.returns-in-Peer-clause-faults
-returns-in-Peer-clause-faults g c = short_fault g.D.Disk.tells c.args.self.now (g.D.Disk.state c.args.disk.now) c.take_peer.result c.take_peer.ensures.short
+returns-in-Peer-clause-faults g c = short_fault g.D.Disk.tells c.args.self.now (g.D.Disk.state c.args.disk.now)
+    c.take_peer.result c.take_peer.ensures.short
 
 pub returns-in-Log-clause-taken : goal.returns-in-Log-clause-taken
 returns-in-Log-clause-taken g c = λ told found alive.
     let v = g.D.Disk.state c.args.disk.now in
     let old = c.args.self.now in
-    subst (λ (l : Line). HasTaken found old (done_by c.args.number found (sentence_of l) old) v c.args.page.now.items c.choose_log.result c.choose_log.new.self v c.choose_log.new.page.items) (sym c.in-Log.is)
-    (said c.args.number _ found old c.choose_log.new.self v c.args.page.now.items _ c.choose_log.result c.choose_log.ensures.said alive (g.met.D.Disk.only_now c.args.disk.now))
+    subst (λ (l : Line). HasTaken found old (done_by c.args.number found (sentence_of l) old) v c.args.page.now.items
+    c.choose_log.result c.choose_log.new.self v c.choose_log.new.page.items) (sym c.in-Log.is)
+    (said c.args.number _ found old c.choose_log.new.self v c.args.page.now.items _ c.choose_log.result
+    c.choose_log.ensures.said alive (g.met.D.Disk.only_now c.args.disk.now))
 
 pub returns-in-Log-clause-store : goal.returns-in-Log-clause-store
-returns-in-Log-clause-store g c = said_can c.args.number _ c.args.self.now c.choose_log.new.self c.args.page.now.items _ c.choose_log.result c.choose_log.ensures.said c.requires.store
+returns-in-Log-clause-store g c = said_can c.args.number _ c.args.self.now c.choose_log.new.self c.args.page.now.items
+    _ c.choose_log.result c.choose_log.ensures.said c.requires.store
 
 pub returns-in-Log-clause-waits : goal.returns-in-Log-clause-waits
-returns-in-Log-clause-waits g c = said_waits c.args.number _ c.args.self.now c.choose_log.new.self c.args.page.now.items _ (g.D.Disk.state c.args.disk.now) c.choose_log.result c.choose_log.ensures.said
+returns-in-Log-clause-waits g c = said_waits c.args.number _ c.args.self.now c.choose_log.new.self
+    c.args.page.now.items _ (g.D.Disk.state c.args.disk.now) c.choose_log.result c.choose_log.ensures.said
 
 pub returns-in-Log-clause-faults : goal.returns-in-Log-clause-faults
-returns-in-Log-clause-faults g c = short_fault g.D.Disk.tells c.args.self.now (g.D.Disk.state c.args.disk.now) c.choose_log.result c.choose_log.ensures.short
+returns-in-Log-clause-faults g c = short_fault g.D.Disk.tells c.args.self.now (g.D.Disk.state c.args.disk.now)
+    c.choose_log.result c.choose_log.ensures.short
 
 pub returns-in-List-clause-taken : goal.returns-in-List-clause-taken
 returns-in-List-clause-taken g c = λ told found alive.
     let v = g.D.Disk.state c.args.disk.now in
     let old = c.args.self.now in
-    subst (λ (l : Line). HasTaken found old (done_by c.args.number found (sentence_of l) old) v c.args.page.now.items c.list.result c.args.self.now v c.list.new.page.items) (sym c.in-List.is)
-    (said c.args.number _ found old c.args.self.now v c.args.page.now.items _ c.list.result c.list.ensures.said alive (g.met.D.Disk.only_now c.args.disk.now))
+    subst (λ (l : Line). HasTaken found old (done_by c.args.number found (sentence_of l) old) v c.args.page.now.items
+    c.list.result c.args.self.now v c.list.new.page.items) (sym c.in-List.is)
+    (said c.args.number _ found old c.args.self.now v c.args.page.now.items _ c.list.result c.list.ensures.said alive
+    (g.met.D.Disk.only_now c.args.disk.now))
 
 pub returns-in-List-clause-store : goal.returns-in-List-clause-store
-returns-in-List-clause-store g c = said_can c.args.number _ c.args.self.now c.args.self.now c.args.page.now.items _ c.list.result c.list.ensures.said c.requires.store
+returns-in-List-clause-store g c = said_can c.args.number _ c.args.self.now c.args.self.now c.args.page.now.items _
+    c.list.result c.list.ensures.said c.requires.store
 
 pub returns-in-List-clause-waits : goal.returns-in-List-clause-waits
-returns-in-List-clause-waits g c = said_waits c.args.number _ c.args.self.now c.args.self.now c.args.page.now.items _ (g.D.Disk.state c.args.disk.now) c.list.result c.list.ensures.said
+returns-in-List-clause-waits g c = said_waits c.args.number _ c.args.self.now c.args.self.now c.args.page.now.items _
+    (g.D.Disk.state c.args.disk.now) c.list.result c.list.ensures.said
 
 pub returns-in-List-clause-faults : goal.returns-in-List-clause-faults
-returns-in-List-clause-faults g c = short_fault g.D.Disk.tells c.args.self.now (g.D.Disk.state c.args.disk.now) c.list.result c.list.ensures.short
+returns-in-List-clause-faults g c = short_fault g.D.Disk.tells c.args.self.now (g.D.Disk.state c.args.disk.now)
+    c.list.result c.list.ensures.short
 
 pub returns-in-Backup-clause-taken : goal.returns-in-Backup-clause-taken
 returns-in-Backup-clause-taken g c = λ told found alive.
     let v = g.D.Disk.state c.args.disk.now in
     let old = c.args.self.now in
-    subst (λ (l : Line). HasTaken found old (done_by c.args.number found (sentence_of l) old) v c.args.page.now.items c.back_up.result c.args.self.now v c.back_up.new.page.items) (sym c.in-Backup.is)
-    (said c.args.number _ found old c.args.self.now v c.args.page.now.items _ c.back_up.result c.back_up.ensures.said alive (g.met.D.Disk.only_now c.args.disk.now))
+    subst (λ (l : Line). HasTaken found old (done_by c.args.number found (sentence_of l) old) v c.args.page.now.items
+    c.back_up.result c.args.self.now v c.back_up.new.page.items) (sym c.in-Backup.is)
+    (said c.args.number _ found old c.args.self.now v c.args.page.now.items _ c.back_up.result c.back_up.ensures.said
+    alive (g.met.D.Disk.only_now c.args.disk.now))
 
 pub returns-in-Backup-clause-store : goal.returns-in-Backup-clause-store
-returns-in-Backup-clause-store g c = said_can c.args.number _ c.args.self.now c.args.self.now c.args.page.now.items _ c.back_up.result c.back_up.ensures.said c.requires.store
+returns-in-Backup-clause-store g c = said_can c.args.number _ c.args.self.now c.args.self.now c.args.page.now.items _
+    c.back_up.result c.back_up.ensures.said c.requires.store
 
 pub returns-in-Backup-clause-waits : goal.returns-in-Backup-clause-waits
-returns-in-Backup-clause-waits g c = said_waits c.args.number _ c.args.self.now c.args.self.now c.args.page.now.items _ (g.D.Disk.state c.args.disk.now) c.back_up.result c.back_up.ensures.said
+returns-in-Backup-clause-waits g c = said_waits c.args.number _ c.args.self.now c.args.self.now c.args.page.now.items
+    _ (g.D.Disk.state c.args.disk.now) c.back_up.result c.back_up.ensures.said
 
 pub returns-in-Backup-clause-faults : goal.returns-in-Backup-clause-faults
-returns-in-Backup-clause-faults g c = short_fault g.D.Disk.tells c.args.self.now (g.D.Disk.state c.args.disk.now) c.back_up.result c.back_up.ensures.short
+returns-in-Backup-clause-faults g c = short_fault g.D.Disk.tells c.args.self.now (g.D.Disk.state c.args.disk.now)
+    c.back_up.result c.back_up.ensures.short
 
 pub returns-in-Open-clause-taken : goal.returns-in-Open-clause-taken
 returns-in-Open-clause-taken g c = λ told found alive.
     let old = c.args.self.now in
-    subst (λ (l : Line). HasTaken found old (done_by c.args.number found (sentence_of l) old) (g.D.Disk.state c.args.disk.now) c.args.page.now.items c.open.result c.open.new.self (g.D.Disk.state c.open.new.disk) c.open.new.page.items) (sym c.in-Open.is)
+    subst (λ (l : Line). HasTaken found old (done_by c.args.number found (sentence_of l) old)
+    (g.D.Disk.state c.args.disk.now) c.args.page.now.items c.open.result c.open.new.self
+    (g.D.Disk.state c.open.new.disk) c.open.new.page.items) (sym c.in-Open.is)
     (c.open.ensures.taken told found alive)
 
 pub returns-in-Event-clause-taken : goal.returns-in-Event-clause-taken
 returns-in-Event-clause-taken g c = λ told found alive.
     let old = c.args.self.now in
-    subst (λ (l : Line). HasTaken found old (done_by c.args.number found (sentence_of l) old) (g.D.Disk.state c.args.disk.now) c.args.page.now.items c.take_event.result c.take_event.new.self (g.D.Disk.state c.take_event.new.disk) c.take_event.new.page.items) (sym c.in-Event.is)
+    subst (λ (l : Line). HasTaken found old (done_by c.args.number found (sentence_of l) old)
+    (g.D.Disk.state c.args.disk.now) c.args.page.now.items c.take_event.result c.take_event.new.self
+    (g.D.Disk.state c.take_event.new.disk) c.take_event.new.page.items) (sym c.in-Event.is)
     (c.take_event.ensures.taken told found alive)

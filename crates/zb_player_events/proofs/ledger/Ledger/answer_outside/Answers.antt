@@ -18,8 +18,10 @@ unfolding event_for
 returns-in-Inject-clause-sent c =
     on_ok c.inject.result _ _
     (λ adds w h ds known before outside.
-    subst (λ (e : Event). IsSent w h ds (step real w h ds c.args.event (event_for known (event_of e))) c.args.self.now c.inject.new.self) (sym c.in-Inject.is)
-    (is_sent w h ds _ (log.Inject c.args.event (length (air h) + 1) c.in-Inject.bytes.items ∷ []) c.args.self.now c.inject.new.self
+    subst (λ (e : Event). IsSent w h ds (step real w h ds c.args.event (event_for known (event_of e))) c.args.self.now
+    c.inject.new.self) (sym c.in-Inject.is)
+    (is_sent w h ds _ (log.Inject c.args.event (length (air h) + 1) c.in-Inject.bytes.items ∷ []) c.args.self.now
+    c.inject.new.self
     (injected real w h ds c.args.event c.in-Inject.bytes.items) (adds w h before)))
     c.inject.ensures.adds
 
@@ -28,12 +30,17 @@ unfolding event_for forged_net
 returns-in-ForgeNet-clause-sent c =
     on_ok c.forge_net.result _ _
     (λ adds w h ds known before outside.
-    subst (λ (e : Event). IsSent w h ds (step real w h ds c.args.event (event_for known (event_of e))) c.args.self.now c.forge_net.new.self) (sym c.in-ForgeNet.is)
-    (is_sent w h ds _ (forged_net real h c.args.event (model_term c.nwk_frame-term.result)) c.args.self.now c.forge_net.new.self
-    (net-forged real w h ds c.args.event c.in-ForgeNet.to.0 c.in-ForgeNet.from.0 c.in-ForgeNet.source.0 c.in-ForgeNet.sequence c.in-ForgeNet.counter c.in-ForgeNet.key.0 c.in-ForgeNet.content.items
+    subst (λ (e : Event). IsSent w h ds (step real w h ds c.args.event (event_for known (event_of e))) c.args.self.now
+    c.forge_net.new.self) (sym c.in-ForgeNet.is)
+    (is_sent w h ds _ (forged_net real h c.args.event (model_term c.nwk_frame-term.result)) c.args.self.now
+    c.forge_net.new.self
+    (net-forged real w h ds c.args.event c.in-ForgeNet.to.0 c.in-ForgeNet.from.0 c.in-ForgeNet.source.0
+    c.in-ForgeNet.sequence c.in-ForgeNet.counter c.in-ForgeNet.key.0 c.in-ForgeNet.content.items
     (model_term c.nwk_frame-term.result)
-    (net_term c.forged_control-control.result c.in-ForgeNet.to.0 c.in-ForgeNet.from.0 c.in-ForgeNet.source.0 c.in-ForgeNet.sequence c.in-ForgeNet.counter c.in-ForgeNet.key.0
-    c.in-ForgeNet.content.items c.as_slice.result.now c.as_slice-bytes.result.now (model_term c.nwk_frame-term.result) c.nwk_frame-term.ensures.term c.forged_control-control.ensures
+    (net_term c.forged_control-control.result c.in-ForgeNet.to.0 c.in-ForgeNet.from.0 c.in-ForgeNet.source.0
+    c.in-ForgeNet.sequence c.in-ForgeNet.counter c.in-ForgeNet.key.0
+    c.in-ForgeNet.content.items c.as_slice.result.now c.as_slice-bytes.result.now (model_term c.nwk_frame-term.result)
+    c.nwk_frame-term.ensures.term c.forged_control-control.ensures
     c.as_slice.ensures.value c.as_slice-bytes.ensures.value))
     (adds w h before)))
     c.forge_net.ensures.adds

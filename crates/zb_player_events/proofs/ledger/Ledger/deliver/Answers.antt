@@ -17,28 +17,36 @@ pub returns-in-None-clause-goes : goal.returns-in-None-clause-goes
 returns-in-None-clause-goes c =
     on_ok c.miss.result _ _
     (λ goes w h ds n before draws.
-    subst (λ (found : Option Bytes). Goes w (deliver_step real counting_of w h ds c.args.event n found) h c.args.event n c.args.self.now c.miss.new.self c.miss.new.node c.args.disk.now)
-    (sym (frame_is w h c.args.self.now c.args.frame (items_of c.frame.result) before.told c.frame.ensures ∙ ap items_of c.in-None.is)) (goes w h ds n c.args.disk.now before))
+    subst (λ (found : Option Bytes). Goes w (deliver_step real counting_of w h ds c.args.event n found) h c.args.event
+    n c.args.self.now c.miss.new.self c.miss.new.node c.args.disk.now)
+    (sym (frame_is w h c.args.self.now c.args.frame (items_of c.frame.result) before.told c.frame.ensures ∙ ap
+    items_of c.in-None.is)) (goes w h ds n c.args.disk.now before))
     c.miss.ensures.goes
 
 pub returns-in-None-clause-calls : goal.returns-in-None-clause-calls
 returns-in-None-clause-calls c =
     ok_so c.miss.result _ (λ w h ds n before draws.
-    subst (λ (found : Option Bytes). Calls (frame_calls real (condition_of w h ds n) (supply w h) found) c.args.disk.now c.args.disk.now)
-    (sym (frame_is w h c.args.self.now c.args.frame (items_of c.frame.result) before.told c.frame.ensures ∙ ap items_of c.in-None.is)) refl)
+    subst (λ (found : Option Bytes). Calls (frame_calls real (condition_of w h ds n) (supply w h) found)
+    c.args.disk.now c.args.disk.now)
+    (sym (frame_is w h c.args.self.now c.args.frame (items_of c.frame.result) before.told c.frame.ensures ∙ ap
+    items_of c.in-None.is)) refl)
 
 pub returns-in-Some-clause-calls : goal.returns-in-Some-clause-calls
 returns-in-Some-clause-calls c =
     on_ok c.receive.result _ _
     (λ calls w h ds n before draws.
-    subst (λ (found : Option Bytes). Calls (frame_calls real (condition_of w h ds n) (supply w h) found) c.args.disk.now c.receive.new.disk)
-    (sym (frame_is w h c.args.self.now c.args.frame (items_of c.frame.result) before.told c.frame.ensures ∙ ap items_of c.in-Some.is)) (calls w h ds n before draws))
+    subst (λ (found : Option Bytes). Calls (frame_calls real (condition_of w h ds n) (supply w h) found)
+    c.args.disk.now c.receive.new.disk)
+    (sym (frame_is w h c.args.self.now c.args.frame (items_of c.frame.result) before.told c.frame.ensures ∙ ap
+    items_of c.in-Some.is)) (calls w h ds n before draws))
     c.receive.ensures.calls
 
 pub returns-in-Some-clause-goes : goal.returns-in-Some-clause-goes
 returns-in-Some-clause-goes c =
     on_ok c.receive.result _ _
     (λ goes w h ds n before draws.
-    subst (λ (found : Option Bytes). Goes w (deliver_step real counting_of w h ds c.args.event n found) h c.args.event n c.args.self.now c.receive.new.self c.receive.new.node c.receive.new.disk)
-    (sym (frame_is w h c.args.self.now c.args.frame (items_of c.frame.result) before.told c.frame.ensures ∙ ap items_of c.in-Some.is)) (goes w h ds n before draws))
+    subst (λ (found : Option Bytes). Goes w (deliver_step real counting_of w h ds c.args.event n found) h c.args.event
+    n c.args.self.now c.receive.new.self c.receive.new.node c.receive.new.disk)
+    (sym (frame_is w h c.args.self.now c.args.frame (items_of c.frame.result) before.told c.frame.ensures ∙ ap
+    items_of c.in-Some.is)) (goes w h ds n before draws))
     c.receive.ensures.goes

@@ -8,5 +8,6 @@ pub returns-clause-adds : goal.returns-clause-adds
 returns-clause-adds c =
     on_ok c.tell.result _ _
     (λ adds w h n told called.
-    adds w h (fall_line c.args.fall c.args.event n) told (c.fallen_line.ensures w n called) (fall_declares c.args.fall c.args.event n))
+    adds w h (fall_line c.args.fall c.args.event n) told (c.fallen_line.ensures w n called)
+    (fall_declares c.args.fall c.args.event n))
     c.tell.ensures.adds

@@ -9,7 +9,9 @@ pub returns-clause-adds : goal.returns-clause-adds
 returns-clause-adds c =
     on_ok c.tell.result _ _
     (λ adds w h before.
-    inject_adds w h c.args.event c.next_frame-frame.result c.args.bytes.now.items c.frame_from.result.items c.args.self.now c.tell.new.self before c.next_frame-frame.ensures
+    inject_adds w h c.args.event c.next_frame-frame.result c.args.bytes.now.items c.frame_from.result.items
+    c.args.self.now c.tell.new.self before c.next_frame-frame.ensures
     (c.frame_from.ensures ∙ c.as_slice.ensures.value)
-    (adds w h (log.Inject c.args.event c.next_frame-frame.result c.frame_from.result.items) before (c.inject_line.ensures (stations w)) refl))
+    (adds w h (log.Inject c.args.event c.next_frame-frame.result c.frame_from.result.items) before
+    (c.inject_line.ensures (stations w)) refl))
     c.tell.ensures.adds

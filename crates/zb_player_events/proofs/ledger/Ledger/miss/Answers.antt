@@ -10,7 +10,9 @@ pub returns-clause-goes : goal.returns-clause-goes
 returns-clause-goes c =
     on_ok c.refuse.result _ _
     (λ adds w h ds n m before.
-    missed_goes w h ds c.args.event n c.is_up.result c.args.self.now c.refuse.new.self c.args.node.now m before c.is_up.ensures
-    (refused_as w h c.args.event n (if c.is_up.result then NoFrame else Down) c.missed-refusal.result c.args.self.now c.refuse.new.self c.missed-refusal.ensures
+    missed_goes w h ds c.args.event n c.is_up.result c.args.self.now c.refuse.new.self c.args.node.now m before
+    c.is_up.ensures
+    (refused_as w h c.args.event n (if c.is_up.result then NoFrame else Down) c.missed-refusal.result c.args.self.now
+    c.refuse.new.self c.missed-refusal.ensures
     (adds w h n before.told (named_as w n _ _ c.name.ensures before.seat.called))))
     c.refuse.ensures.adds

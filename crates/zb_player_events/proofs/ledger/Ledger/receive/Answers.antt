@@ -15,14 +15,19 @@ pub returns-clause-goes : goal.returns-clause-goes
 returns-clause-goes c =
     on_ok c.handle.result _ _
     (λ goes w h ds n before draws.
-    subst (λ (draw : Option Bytes). Goes w (task_step real counting_of w h ds c.args.event n (Received c.args.bytes.items draw)) h c.args.event n c.args.self.now c.handle.new.self c.handle.new.node c.handle.new.disk)
-    (draw_is w h c.args.self.now c.args.draws.now c.draw-draw.result before.told draws c.draw-draw.ensures) (goes w h ds n before refl))
+    subst (λ (draw : Option Bytes). Goes w
+    (task_step real counting_of w h ds c.args.event n (Received c.args.bytes.items draw)) h c.args.event n
+    c.args.self.now c.handle.new.self c.handle.new.node c.handle.new.disk)
+    (draw_is w h c.args.self.now c.args.draws.now c.draw-draw.result before.told draws c.draw-draw.ensures)
+    (goes w h ds n before refl))
     c.handle.ensures.goes
 
 pub returns-clause-calls : goal.returns-clause-calls
 returns-clause-calls c =
     on_ok c.handle.result _ _
     (λ calls w h ds n before draws.
-    subst (λ (draw : Option Bytes). Calls (task_calls real (condition_of w h ds n) (Received c.args.bytes.items draw)) c.args.disk.now c.handle.new.disk)
-    (draw_is w h c.args.self.now c.args.draws.now c.draw-draw.result before.told draws c.draw-draw.ensures) (calls w h ds n before refl))
+    subst (λ (draw : Option Bytes). Calls (task_calls real (condition_of w h ds n) (Received c.args.bytes.items draw))
+    c.args.disk.now c.handle.new.disk)
+    (draw_is w h c.args.self.now c.args.draws.now c.draw-draw.result before.told draws c.draw-draw.ensures)
+    (calls w h ds n before refl))
     c.handle.ensures.calls

@@ -9,5 +9,6 @@ pub returns-clause-adds : goal.returns-clause-adds
 returns-clause-adds c =
     on_ok c.tell.result _ _
     (λ adds w h n before called.
-    adds w h (log.Refuse c.args.event n (model_place (place_of c.args.refusal)) (reason c.args.refusal)) before (c.refuse_line.ensures (stations w) n called) refl)
+    adds w h (log.Refuse c.args.event n (model_place (place_of c.args.refusal)) (reason c.args.refusal)) before
+    (c.refuse_line.ensures (stations w) n called) refl)
     c.tell.ensures.adds

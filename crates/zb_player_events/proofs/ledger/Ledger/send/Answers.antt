@@ -9,6 +9,8 @@ pub returns-clause-adds : goal.returns-clause-adds
 returns-clause-adds c =
     on_ok c.tell.result _ _
     (λ adds w h before.
-    send_adds w h c.args.event c.next_frame-frame.result c.args.bytes.items c.args.self.now c.tell.new.self before c.next_frame-frame.ensures
-    (adds w h (log.Send c.args.event None c.next_frame-frame.result c.args.bytes.items) before (c.send_line.ensures.outsider (stations w) c.nobody.ensures) refl))
+    send_adds w h c.args.event c.next_frame-frame.result c.args.bytes.items c.args.self.now c.tell.new.self before
+    c.next_frame-frame.ensures
+    (adds w h (log.Send c.args.event None c.next_frame-frame.result c.args.bytes.items) before
+    (c.send_line.ensures.outsider (stations w) c.nobody.ensures) refl))
     c.tell.ensures.adds

@@ -8,5 +8,11 @@ pub returns-clause-adds : goal.returns-clause-adds
 returns-clause-adds c =
     on_ok c.tell.result _ _
     (λ tells w h m before is none.
-    told_adds w h (m ∷ []) c.args.self.now (record { alloc = c.args.self.now.alloc; scribe = c.tell.new.self; page = c.tell.new.page; plan = c.args.self.now.plan }) (tells (stations w) m is none) before)
+    told_adds w h (m ∷ []) c.args.self.now
+    (record {
+      alloc = c.args.self.now.alloc;
+      scribe = c.tell.new.self;
+      page = c.tell.new.page;
+      plan = c.args.self.now.plan;
+    }) (tells (stations w) m is none) before)
     c.tell.ensures.tells

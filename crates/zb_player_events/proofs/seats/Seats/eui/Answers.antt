@@ -7,4 +7,5 @@ use Rattle.zb_player_events.proofs.seats.Seats.eui.Goals as goal
 
 pub returns-in-Some : goal.returns-in-Some
 returns-in-Some c = λ known seats there.
-    seat_eui (has_name c.args.name.now.bytes) 0 nobody known c.in-Some.seat (sym (c.named.ensures known seats) ∙ c.in-Some.is)
+    seat_eui (has_name c.args.name.now.bytes) 0 nobody known c.in-Some.seat
+    (sym (c.named.ensures known seats) ∙ c.in-Some.is)

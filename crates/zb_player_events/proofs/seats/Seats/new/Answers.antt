@@ -15,8 +15,12 @@ pub loop-place-preserved : goal.loop-place-preserved
 loop-place-preserved c =
     let before = map station_for (map node_of (take c.loop-place.place c.args.nodes.now)) in
     let station = station_for (node_of c.index-nodes-place.result) in
-    declared_more c.args.nodes.now c.loop-place.place c.index-nodes-place.result c.add.new.self c.loop-place-test.true c.index-nodes-place.is
-    (c.in_ok-add.ensures before station refl refl refl (declared_count c.args.nodes.now c.loop-place.place (omega (arith, c.loop-place-test.true))) c.loop-place.invariant)
+    declared_more c.args.nodes.now c.loop-place.place c.index-nodes-place.result c.add.new.self c.loop-place-test.true
+    c.index-nodes-place.is
+    (c.in_ok-add.ensures before station refl refl refl
+    (declared_count c.args.nodes.now c.loop-place.place (omega (arith, c.loop-place-test.true)))
+    c.loop-place.invariant)
 
 pub returns : goal.returns
-returns c = subst (λ (xs : List Declared). AreSeats c.loop-place.seats (map station_for (map node_of xs))) (take_all c.loop-place.place c.args.nodes.now c.loop-place-test.false) c.loop-place.invariant
+returns c = subst (λ (xs : List Declared). AreSeats c.loop-place.seats (map station_for (map node_of xs)))
+    (take_all c.loop-place.place c.args.nodes.now c.loop-place-test.false) c.loop-place.invariant

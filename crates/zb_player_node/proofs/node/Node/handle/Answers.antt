@@ -17,27 +17,50 @@ use Rattle.zb_player_node.proofs.node.Node.handle.Goals as goal
 pub returns-in-Ok-clause-event : goal.returns-in-Ok-clause-event
 returns-in-Ok-clause-event c = λ x number is can.
     let in_it = c.self.inside in
-    let seen : Option Machine → NodeValue = λ o. record { peer = in_it.peer; config = in_it.config.value; machine = option_map running o; arms = in_it.arms } in
+    let seen : Option Machine → NodeValue =
+    λ o. record {
+      peer = in_it.peer;
+      config = in_it.config.value;
+      machine = option_map running o;
+      arms = in_it.arms;
+    } in
     let here = sym c.self.view_is ∙ ap seen c.in-Some.is in
-    was_answered (model_task c.args.task) (seen in_it.machine) (running c.in-Some.machine) (running c.handle.new.self) c.handle.new.plan c.args.disk.now c.handle.new.disk
-    c.in-Ok.ensures.role c.in-Ok.ensures.given x number (subst (λ (n : NodeValue). IsIn x number n c.args.disk.now) here is) can
+    was_answered (model_task c.args.task) (seen in_it.machine) (running c.in-Some.machine) (running c.handle.new.self)
+    c.handle.new.plan c.args.disk.now c.handle.new.disk
+    c.in-Ok.ensures.role c.in-Ok.ensures.given x number
+    (subst (λ (n : NodeValue). IsIn x number n c.args.disk.now) here is) can
 
 pub returns-in-Err-clause-event : goal.returns-in-Err-clause-event
 returns-in-Err-clause-event c = λ x number is can.
     let in_it = c.self.inside in
-    let seen : Option Machine → NodeValue = λ o. record { peer = in_it.peer; config = in_it.config.value; machine = option_map running o; arms = in_it.arms } in
+    let seen : Option Machine → NodeValue =
+    λ o. record {
+      peer = in_it.peer;
+      config = in_it.config.value;
+      machine = option_map running o;
+      arms = in_it.arms;
+    } in
     let here = sym c.self.view_is ∙ ap seen c.in-Some.is in
-    subst (λ (a : Arms). WasCut (answer real x.setting x.state (model_task c.args.task)) x number c.keep_stored.new.changes.items c.in-Err.cut.fallen.fall c.args.disk.now (record { peer = in_it.peer; config = in_it.config.value; machine = None; arms = a }) c.handle.new.disk) (sym c.spend.ensures)
-    (was_cut (model_task c.args.task) (seen in_it.machine) (running c.in-Some.machine) (running c.handle.new.self).host c.handle.new.plan c.in-Err.cut c.keep_stored.new.changes.items c.args.disk.now c.handle.new.disk
-    c.in-Err.ensures.given (c.keep_stored.ensures ∙ ap (λ (b : Bool). if b then c.handle.new.plan.changes.items else []) c.in-Err.ensures.stored) x number (subst (λ (n : NodeValue). IsIn x number n c.args.disk.now) here is) can)
+    subst (λ (a : Arms). WasCut (answer real x.setting x.state (model_task c.args.task)) x number
+    c.keep_stored.new.changes.items c.in-Err.cut.fallen.fall c.args.disk.now
+    (record { peer = in_it.peer; config = in_it.config.value; machine = None; arms = a }) c.handle.new.disk)
+    (sym c.spend.ensures)
+    (was_cut (model_task c.args.task) (seen in_it.machine) (running c.in-Some.machine)
+    (running c.handle.new.self).host c.handle.new.plan c.in-Err.cut c.keep_stored.new.changes.items
+    c.args.disk.now c.handle.new.disk
+    c.in-Err.ensures.given
+    (c.keep_stored.ensures ∙ ap (λ (b : Bool). if b then c.handle.new.plan.changes.items else [])
+    c.in-Err.ensures.stored) x number (subst (λ (n : NodeValue). IsIn x number n c.args.disk.now) here is) can)
 
 pub returns-in-Err-clause-any : goal.returns-in-Err-clause-any
 returns-in-Err-clause-any c =
     let in_it = c.self.inside in
-    let seen : Option Machine → Arms → NodeValue = λ o a. record { peer = in_it.peer; config = in_it.config.value; machine = option_map running o; arms = a } in
+    let seen : Option Machine → Arms → NodeValue =
+    λ o a. record { peer = in_it.peer; config = in_it.config.value; machine = option_map running o; arms = a } in
     let cut = c.in-Err.cut in
     let items = c.handle.new.plan.changes.items in
-    subst (λ (n : NodeValue). HasHandledOn n c.args.disk.now (Some (Cut cut.fallen.fall)) c.keep_stored.new.changes.items (seen None c.spend.new.arms) c.handle.new.disk) c.self.view_is (record {
+    subst (λ (n : NodeValue). HasHandledOn n c.args.disk.now (Some (Cut cut.fallen.fall))
+    c.keep_stored.new.changes.items (seen None c.spend.new.arms) c.handle.new.disk) c.self.view_is (record {
       fallen = cut.fallen;
       ended = c.in-Err.ensures.ended;
       fall_is = refl;

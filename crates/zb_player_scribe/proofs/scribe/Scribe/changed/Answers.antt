@@ -19,10 +19,14 @@ loop-change-preserved c =
     let i = c.loop-change.change-index in
     let change : Change = get_or changes i (Reserve Nwk 0) in (
       λ known n called all.
-          subst (λ (lines : List Line). Tells known lines c.args.self.now c.args.page.now c.tell.new.self c.tell.new.page)
+          subst (λ (lines : List Line). Tells known lines c.args.self.now c.args.page.now c.tell.new.self
+          c.tell.new.page)
           (sym (change_more c.args.event n changes i (Reserve Nwk 0) c.loop-change-test.true))
-          (told_in_turn known _ (Changed c.args.event n (edit change) ∷ []) _ _ _ _ _ _ (c.loop-change.invariant.0 known n called all)
+          (told_in_turn known _ (Changed c.args.event n (edit change) ∷ []) _ _ _ _ _ _
+          (c.loop-change.invariant.0 known n called all)
           (c.in_ok-tell.ensures.tells known (Changed c.args.event n (edit change))
-          (c.change_line.ensures.says known n called (all_at (λ (it : Change). IsOfCentre known n (edit it)) changes i (Reserve Nwk 0) c.loop-change-test.true all)) refl)),
+          (c.change_line.ensures.says known n called
+          (all_at (λ (it : Change). IsOfCentre known n (edit it)) changes i (Reserve Nwk 0)
+          c.loop-change-test.true all)) refl)),
       omega (arith, c.in_ok-tell.ensures.told, c.loop-change.invariant.1),
     )

@@ -11,5 +11,6 @@ use Rattle.zb_player_scribe.proofs.scribe.Scribe.changed.Given as goal
 abbrev pub invariant-loop-change : goal.invariant-loop-change
 invariant-loop-change l =
     ((known : List Station) (n : ℕ) → IsCalled known n l.node.bytes → AreOfCentre known n l.changes
-    → Tells known (change_lines l.event n (edits (take l.change-index l.changes))) l.initial.self l.initial.page l.self l.page)
+    → Tells known (change_lines l.event n (edits (take l.change-index l.changes))) l.initial.self l.initial.page
+    l.self l.page)
     × (told l.self ≤ told l.initial.self + l.change-index)

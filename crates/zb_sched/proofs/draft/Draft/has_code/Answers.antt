@@ -5,4 +5,5 @@ use Rattle.zb_sched.specs.Judge.{has_name}
 use Rattle.zb_sched.proofs.draft.Draft.has_code.Goals as goal
 
 pub returns : goal.returns
-returns c = let asked = any_seats (λ s. has_name c.args.name.now.bytes s && is_some s.node.code) c.self.inside.entries.items in cc
+returns c = let asked = any_seats (λ s. has_name c.args.name.now.bytes s && is_some s.node.code)
+    c.self.inside.entries.items in cc

@@ -7,6 +7,8 @@ use Rattle.zb_sched.proofs.draft.Draft.role.Goals as goal
 
 pub returns : goal.returns
 returns c =
-    c.role_near.ensures (subst (λ (es : List Entry). AreNamedApart (map seat_of es)) (sym c.as_slice.ensures.value) c.self.invariant.1)
+    c.role_near.ensures
+    (subst (λ (es : List Entry). AreNamedApart (map seat_of es)) (sym c.as_slice.ensures.value) c.self.invariant.1)
     ∙ ap (λ (es : List Entry). role_among c.args.name.now.bytes es) c.as_slice.ensures.value
-    ∙ role_seats c.args.name.now.bytes c.self.inside.entries.items ∙ ap (λ (s : Seen). role_named c.args.name.now.bytes s.seats) c.self.view_is
+    ∙ role_seats c.args.name.now.bytes c.self.inside.entries.items ∙ ap
+    (λ (s : Seen). role_named c.args.name.now.bytes s.seats) c.self.view_is

@@ -13,5 +13,7 @@ pub returns : goal.returns
 returns c =
     let name = c.args.name.now.bytes in
     let asked : Station → Bool = λ s. bytes_eq s.name name && is_joiner s.role in
-    c.eui_of.ensures ∙ ap (option_map (λ (p : Peer). p.eui.0)) (c.find_device.ensures ∙ ap (λ (ps : List Peer). find (λ p. asked (station_of p)) ps) c.as_slice.ensures.value)
-    ∙ found_seen asked c.self.inside.config.peers.items ∙ ap (λ (s : Script). device_named name s.stations) c.self.view_is
+    c.eui_of.ensures ∙ ap (option_map (λ (p : Peer). p.eui.0))
+    (c.find_device.ensures ∙ ap (λ (ps : List Peer). find (λ p. asked (station_of p)) ps) c.as_slice.ensures.value)
+    ∙ found_seen asked c.self.inside.config.peers.items ∙ ap (λ (s : Script). device_named name s.stations)
+    c.self.view_is

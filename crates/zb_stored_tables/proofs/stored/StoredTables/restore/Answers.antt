@@ -12,8 +12,10 @@ returns-in_err-tables-clause-no_core c =
     let role = model_role c.args.role in
     let given = restored role c.args.content.now c.args.entries.now in
     let p = err_from_is_err_and c.from_residual.result c.from_residual.ensures.1 in
-    let bad = core_fault role c.args.content.now c.args.entries.now c.in_err-tables.field-0.0 c.in_err-tables.ensures.fault in
+    let bad = core_fault role c.args.content.now c.args.entries.now c.in_err-tables.field-0.0
+    c.in_err-tables.ensures.fault in
     subst (λ r. IfErr r (IsRestoreFault given)) (sym p.1) (subst (IsRestoreFault given) (sym p.2) bad)
 
 pub returns-clause-core : goal.returns-clause-core
-returns-clause-core c = core_given (model_role c.args.role) c.args.content.now c.args.entries.now c.in_ok-tables.tables c.in_ok-tables.ensures.given c.in_ok-tables.ensures.widths
+returns-clause-core c = core_given (model_role c.args.role) c.args.content.now c.args.entries.now
+    c.in_ok-tables.tables c.in_ok-tables.ensures.given c.in_ok-tables.ensures.widths

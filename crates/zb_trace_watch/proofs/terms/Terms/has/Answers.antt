@@ -10,5 +10,7 @@ use Rattle.zb_trace_watch.proofs.terms.Terms.has.Goals as goal
 pub returns : goal.returns
 returns c =
     c.contains.ensures
-    ∙ (ap (λ (bytes : List ℕ). list_any (λ (kept : Vec ℕ). is_eq (slice_cmp nat_cmp bytes kept.items)) c.args.self.now.terms.keys) (c.as_slice.ensures.value ∙ c.put_bytes.ensures)
-    ∙ list_any_alike _ _ (λ (kept : Vec ℕ). bytes_alike (term_bytes c.args.term.now) kept.items) c.args.self.now.terms.keys)
+    ∙ (ap (λ (bytes : List ℕ). list_any (λ (kept : Vec ℕ). is_eq (slice_cmp nat_cmp bytes kept.items))
+    c.args.self.now.terms.keys) (c.as_slice.ensures.value ∙ c.put_bytes.ensures)
+    ∙ list_any_alike _ _ (λ (kept : Vec ℕ). bytes_alike (term_bytes c.args.term.now) kept.items)
+    c.args.self.now.terms.keys)

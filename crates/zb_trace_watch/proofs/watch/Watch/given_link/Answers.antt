@@ -14,8 +14,13 @@ returns c =
       carried = c.in_ok-hold.ensures.carried;
       based = c.in_ok-hold.ensures.based;
     } in
-    given_link_follows tools c.args.self.now h stands c.args.node.now c.args.key partner c.network_key.new.self c.code.new.self c.hold.new.self c.in_ok-network_key.ensures.network
+    given_link_follows tools c.args.self.now h stands c.args.node.now c.args.key partner c.network_key.new.self
+    c.code.new.self c.hold.new.self c.in_ok-network_key.ensures.network
     c.in_ok-network_key.ensures.forged c.in_ok-network_key.ensures.passed
-    (subst (λ (n : Option Eui). node_has_more c.args.self.now.origins.codes c.code.new.self.codes n c.args.key) c.named-node.ensures c.in_ok-code.ensures.codes)
-    (subst (λ (n : Option Eui). node_has_more c.args.self.now.origins.bases c.code.new.self.bases n c.args.key) c.named-node.ensures c.in_ok-code.ensures.bases) c.in_ok-code.ensures.terms c.in_ok-code.ensures.carriers c.in_ok-code.ensures.traced c.in_ok-code.ensures.ideal
-    (subst (λ (n : Option Eui). Holds c.args.self.now.exposure c.hold.new.self n c.args.key) c.named-node.ensures holds)
+    (subst (λ (n : Option Eui). node_has_more c.args.self.now.origins.codes c.code.new.self.codes n c.args.key)
+    c.named-node.ensures c.in_ok-code.ensures.codes)
+    (subst (λ (n : Option Eui). node_has_more c.args.self.now.origins.bases c.code.new.self.bases n c.args.key)
+    c.named-node.ensures c.in_ok-code.ensures.bases) c.in_ok-code.ensures.terms c.in_ok-code.ensures.carriers
+    c.in_ok-code.ensures.traced c.in_ok-code.ensures.ideal
+    (subst (λ (n : Option Eui). Holds c.args.self.now.exposure c.hold.new.self n c.args.key) c.named-node.ensures
+    holds)

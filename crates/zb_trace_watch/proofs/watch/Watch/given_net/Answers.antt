@@ -13,5 +13,8 @@ returns c =
       carried = c.in_ok-hold.ensures.carried;
       based = c.in_ok-hold.ensures.based;
     } in
-    given_net_follows tools c.args.self.now h stands c.args.node.now c.args.key sequence c.network_key.new.self c.hold.new.self c.in_ok-network_key.ensures.network c.in_ok-network_key.ensures.forged
-    c.in_ok-network_key.ensures.passed (subst (λ (n : Option Eui). Holds c.args.self.now.exposure c.hold.new.self n c.args.key) c.named-node.ensures holds)
+    given_net_follows tools c.args.self.now h stands c.args.node.now c.args.key sequence c.network_key.new.self
+    c.hold.new.self c.in_ok-network_key.ensures.network c.in_ok-network_key.ensures.forged
+    c.in_ok-network_key.ensures.passed
+    (subst (λ (n : Option Eui). Holds c.args.self.now.exposure c.hold.new.self n c.args.key) c.named-node.ensures
+    holds)

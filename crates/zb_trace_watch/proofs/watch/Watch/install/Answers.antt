@@ -15,8 +15,11 @@ returns c =
       carried = c.in_ok-hold.ensures.carried;
       based = c.in_ok-hold.ensures.based;
     } in
-    let joiner : c.joiner-joiner.result ≡ (if is_joiner c.args.self.now.nodes (address_of c.args.self.now.nodes c.args.node.now) then address_of c.args.self.now.nodes c.args.node.now else None) =
-    c.joiner-joiner.ensures ∙ ap (λ (n : Option Eui). if is_joiner c.args.self.now.nodes n then n else None) c.named-node.ensures in
+    let joiner : c.joiner-joiner.result
+    ≡ (if is_joiner c.args.self.now.nodes (address_of c.args.self.now.nodes c.args.node.now)
+    then address_of c.args.self.now.nodes c.args.node.now else None) =
+    c.joiner-joiner.ensures ∙ ap (λ (n : Option Eui). if is_joiner c.args.self.now.nodes n then n else None)
+    c.named-node.ensures in
     let taken : TakesIn c.args.self.now.origins c.take_in.new.self c.joiner-joiner.result c.args.key.0 = record {
       ideal = c.in_ok-take_in.ensures.ideal;
       traced = c.in_ok-take_in.ensures.traced;
@@ -25,6 +28,8 @@ returns c =
       bases = c.in_ok-take_in.ensures.bases;
       carriers = c.in_ok-take_in.ensures.carriers;
     } in
-    install_follows tools c.args.self.now h stands c.args.node.now c.args.key event sequence c.take_in.new.self c.hold.new.self
+    install_follows tools c.args.self.now h stands c.args.node.now c.args.key event sequence c.take_in.new.self
+    c.hold.new.self
     (subst (λ (n : Option Eui). TakesIn c.args.self.now.origins c.take_in.new.self n c.args.key.0) joiner taken)
-    (subst (λ (n : Option Eui). Holds c.args.self.now.exposure c.hold.new.self n c.args.key) c.named-node.ensures holds)
+    (subst (λ (n : Option Eui). Holds c.args.self.now.exposure c.hold.new.self n c.args.key) c.named-node.ensures
+    holds)

@@ -6,5 +6,7 @@ returns c =
     λ tools.
     let from = c.new-2.ensures in
     let it = c.in_ok-new.ensures in
-    new_stands tools c.new.result c.new-2.result c.new-3.result c.in_ok-new.field-0 c.new.ensures from.terms from.codes from.bases from.carriers from.traced from.ideal c.new-3.ensures.network c.new-3.ensures.forged c.new-3.ensures.passed
+    new_stands tools c.new.result c.new-2.result c.new-3.result c.in_ok-new.field-0 c.new.ensures from.terms
+    from.codes from.bases from.carriers from.traced from.ideal c.new-3.ensures.network c.new-3.ensures.forged
+    c.new-3.ensures.passed
     it.settled it.ever it.removed it.carried it.based

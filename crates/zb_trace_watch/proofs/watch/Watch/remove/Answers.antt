@@ -5,4 +5,5 @@ pub returns : goal.returns
 returns c =
     λ tools h event centre find stands.
     let it = c.in_ok-remove.ensures in
-    remove_follows tools c.args.self.now h stands c.args.device event centre c.remove.new.self it.settled it.ever it.removed it.in_range it.carried it.based
+    remove_follows tools c.args.self.now h stands c.args.device event centre c.remove.new.self it.settled it.ever
+    it.removed it.in_range it.carried it.based

@@ -6,5 +6,7 @@ returns c =
     λ tools h event node find stands.
     let from = c.in_ok-term.ensures in
     let it = c.in_ok-carry.ensures in
-    seal_follows tools c.args.self.now h stands find c.args.term.now c.carried-key.result c.carried-key.ensures event node c.term.new.self c.carry.new.self from.terms from.codes from.bases from.carriers from.traced from.ideal it.settled
+    seal_follows tools c.args.self.now h stands find c.args.term.now c.carried-key.result c.carried-key.ensures event
+    node c.term.new.self c.carry.new.self from.terms from.codes from.bases from.carriers from.traced from.ideal
+    it.settled
     it.ever it.removed it.carried it.based
