@@ -1,6 +1,5 @@
 -- What a node's state has of counters, as counters and floors that are drawn from and judge; and what a node does
--- where
--- these answer so.
+-- where these answer so.
 use Rattle.std.specs.Prelude.{ℕ, ◌≡◌, Bool, true, false, Option, Some, None}
 use Rattle.zb_counter.specs.declared.receiving.Floor.{Floor}
 use Rattle.zb_counter.specs.declared.receiving.Judge as judged

@@ -1,6 +1,5 @@
 -- What lines say of a node's rows and of a rollover, with no tables and no counters: of each thing the last line of
--- the
--- node that speaks of it decides.
+-- the node that speaks of it decides.
 use Rattle.std.specs.Prelude.{ℕ, Bool, true, false, if◌then◌else◌, ◌&&◌, List, [], ◌∷◌, ◌++◌, fold, find, map, Option, Some, None, nat_eq, option_map}
 use Rattle.std.specs.List.{list_any}
 use Rattle.zb_model.specs.Data.{Attribute, Bytes, DropLink, DropNet, Install, Moved, Provisional, Roll, Row}

@@ -7,8 +7,7 @@ use Rattle.zb_model.specs.Secrets.{forged_in}
 use Rattle.zb_model.specs.Tools.{Tools}
 
 -- `h` are the lines up to the removal of the device, `after` all lines after it, `since` those of them before this
--- one.
--- A node none of whose live network keys is known outside accepts at NWK no term that the device seals after its
+-- one. A node none of whose live network keys is known outside accepts at NWK no term that the device seals after its
 -- removal, and none that was forged.
 abbrev pub TakesNoneOf : Tools → ℕ → List Line → List Line → List Line → Line → Type 0
 TakesNoneOf tools d h after since (Accept e n t) =

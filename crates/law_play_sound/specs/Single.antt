@@ -6,8 +6,7 @@ use Rattle.zb_trace_read.specs.Faults.{IsFirstBad}
 use Rattle.zb_command.specs.Auditing.{IsBrokenText, IsSoundText}
 
 -- A text is that of a sound transcript with one verdict, or it is broken at one line by one claim, or one line of it
--- is
--- the first that is no line of a transcript; and no two of these.
+-- is the first that is no line of a transcript; and no two of these.
 pub record HasOneAnswer (text : Bytes) : Type 0 where
   pub verdict : (v w : Verdict) → IsSoundText text v → IsSoundText text w → v ≡ w
   pub fault : (line clause other claim : ℕ) → IsBrokenText text line clause → IsBrokenText text other claim

@@ -1,6 +1,5 @@
 -- What changes, accepted terms and seals make of a node's state, of its active key and of its rollover: the last
--- change
--- of each decides.
+-- change of each decides.
 use Rattle.std.proofs.Common.{◌≡◌, ℕ, Bool, None, option_to_list, option_map, List, [], ◌∷◌, ◌++◌, fold, Option, Some, refl, ap, ◌∙◌}
 use Rattle.zb_model.specs.Data.{Bytes, Layer, Nwk, Aps, State, Term, Move, Active, Became, Roll, Edit, Reserve, Floor, Start, Moved}
 use Rattle.zb_model.specs.State.{NodeState, applied, applied_all, moved, sealed_at, after_sealing, after_hearing, after_accepting}

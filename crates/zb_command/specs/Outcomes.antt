@@ -80,9 +80,9 @@ WritesFront status.NoMemory answer before after = IsBegun answer before after
 WritesFront s answer before after = Unit {0}
 
 -- The input is a schedule, and the text of its transcript was written. Everything holds of that transcript that the
--- laws over runs say, and it is the only list of lines that the schedule gives. No rule's filler decides in it, and
--- what
--- a node sends may be sealed; what its lines say last of a thing is what the states of its nodes say.
+-- laws over runs say, and it is the only list of lines that the schedule gives. Each rule finds the row or key that it
+-- looks up, and what a node sends may be sealed; what its lines say last of a thing is what the states of its nodes
+-- say.
 pub record Played (input : Bytes) (before after : Option Bytes) : Type 0 where
   pub schedule : sched.Schedule
   pub reads : schedule_in input ≡ Ok schedule

@@ -88,8 +88,7 @@ two_forms one first other second words =
     (first_of words)
 
 -- The reasons of a refusal that have no detail: those of frames, and those of the policy. Their words are those that
--- are
--- printed.
+-- are printed.
 abbrev pub reason_or : (List ℕ → Option Word) → List (List ℕ) → List ℕ → Option Word
 reason_or other [] word = other word
 reason_or other (one ∷ more) word = if bytes_eq word one then Some (Fixed one) else reason_or other more word
