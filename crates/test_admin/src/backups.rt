@@ -1,7 +1,7 @@
 //! Backups: those of the worked runs, texts that are none, and each call with ample memory.
 
 use std::test::Fail;
-use zb_backup::{BackupError, read_backup, write_backup};
+use zb_admin::{BackupError, read_backup, write_backup};
 use zb_base::{RECORD_ROOM, Role};
 use zb_keys::Tables;
 

@@ -4,8 +4,8 @@ ghost use Rattle.zb_script.specs.Scripts.{IsScript};
 
 use std::process::Abort;
 use std::test::Fail;
+use zb_admin::{AdminCause, AdminError, Order, Script, Step, read};
 use zb_base::{Config, Eui, Key, OrMemory, Role, Short};
-use zb_script::{Order, Script, ScriptCause, ScriptError, Step, read};
 
 /// The centre and one device.
 const NODES: &str = "centre c 00124B0000000001 4 2\npeer d device 00124B0000000002 1A2B\n";
@@ -36,135 +36,115 @@ const EMPTY_RECORD: [u8; 20] = [
 ];
 
 /// Texts whose last line is the first bad one, its number, and its first cause.
-const HEADS: [(&str, u32, ScriptCause); 16] = [
-    ("", 1, ScriptCause::NoCentre),
-    ("# nothing\n\n", 3, ScriptCause::NoCentre),
+const HEADS: [(&str, u32, AdminCause); 16] = [
+    ("", 1, AdminCause::NoCentre),
+    ("# nothing\n\n", 3, AdminCause::NoCentre),
     // Lines out of order.
-    ("list\n", 1, ScriptCause::Syntax),
-    ("restore 0 {}\n", 1, ScriptCause::Syntax),
+    ("list\n", 1, AdminCause::Syntax),
+    ("restore 0 {}\n", 1, AdminCause::Syntax),
     (
         "peer d device 00124B0000000002 1A2B\n",
         1,
-        ScriptCause::Syntax,
+        AdminCause::Syntax,
     ),
     (
         "centre c 00124B0000000001 4 2\ncentre e 00124B0000000003 4 2",
         2,
-        ScriptCause::Syntax,
+        AdminCause::Syntax,
     ),
     // Words out of their ranges.
-    ("centre c 0000000000000000 4 2", 1, ScriptCause::Syntax),
-    ("centre c FFFFFFFFFFFFFFFF 4 2", 1, ScriptCause::Syntax),
-    ("centre c 00124B0000000001 04 2", 1, ScriptCause::Syntax),
+    ("centre c 0000000000000000 4 2", 1, AdminCause::Syntax),
+    ("centre c FFFFFFFFFFFFFFFF 4 2", 1, AdminCause::Syntax),
+    ("centre c 00124B0000000001 04 2", 1, AdminCause::Syntax),
     (
         "centre c 00124B0000000001 4294967296 2",
         1,
-        ScriptCause::Syntax,
+        AdminCause::Syntax,
     ),
-    ("centre C 00124B0000000001 4 2", 1, ScriptCause::Syntax),
-    ("centre c 00124B0000000001 4 2 ", 1, ScriptCause::Syntax),
-    ("centre c 00124B0000000001 0 2", 1, ScriptCause::Block),
-    ("centre c 00124B0000000001 65537 2", 1, ScriptCause::Block),
-    ("centre c 00124B0000000001 4 0", 1, ScriptCause::Block),
-    ("centre c 00124B0000000001 4 1025", 1, ScriptCause::Block),
+    ("centre C 00124B0000000001 4 2", 1, AdminCause::Syntax),
+    ("centre c 00124B0000000001 4 2 ", 1, AdminCause::Syntax),
+    ("centre c 00124B0000000001 0 2", 1, AdminCause::Block),
+    ("centre c 00124B0000000001 65537 2", 1, AdminCause::Block),
+    ("centre c 00124B0000000001 4 0", 1, AdminCause::Block),
+    ("centre c 00124B0000000001 4 1025", 1, AdminCause::Block),
 ];
 
 /// Lines after the centre and the device of which the last one is bad, its number, and its first cause.
-const TAILS: [(&str, u32, ScriptCause); 31] = [
-    (
-        "peer e centre 00124B0000000003 0000",
-        3,
-        ScriptCause::Syntax,
-    ),
-    (
-        "peer e router 00124B0000000003 0000",
-        3,
-        ScriptCause::Syntax,
-    ),
-    (
-        "peer e router 00124B0000000003 FFF8",
-        3,
-        ScriptCause::Syntax,
-    ),
+const TAILS: [(&str, u32, AdminCause); 31] = [
+    ("peer e centre 00124B0000000003 0000", 3, AdminCause::Syntax),
+    ("peer e router 00124B0000000003 0000", 3, AdminCause::Syntax),
+    ("peer e router 00124B0000000003 FFF8", 3, AdminCause::Syntax),
     (
         "peer d router 00124B0000000003 0001",
         3,
-        ScriptCause::DuplicateNode,
+        AdminCause::DuplicateNode,
     ),
     (
         "peer c router 00124B0000000003 0001",
         3,
-        ScriptCause::DuplicateNode,
+        AdminCause::DuplicateNode,
     ),
     (
         "peer e router 00124B0000000001 0001",
         3,
-        ScriptCause::DuplicateNode,
+        AdminCause::DuplicateNode,
     ),
     (
         "peer e router 00124B0000000003 1A2B",
         3,
-        ScriptCause::DuplicateNode,
+        AdminCause::DuplicateNode,
     ),
     (
         "list\npeer e router 00124B0000000003 0001",
         4,
-        ScriptCause::Syntax,
+        AdminCause::Syntax,
     ),
-    (
-        "list\ncentre e 00124B0000000003 4 2",
-        4,
-        ScriptCause::Syntax,
-    ),
+    ("list\ncentre e 00124B0000000003 4 2", 4, AdminCause::Syntax),
     (
         "peer e router 00124B0000000003 0001\nnope",
         4,
-        ScriptCause::Syntax,
+        AdminCause::Syntax,
     ),
-    (
-        "init 000102030405060708090A0B0C0D0E",
-        3,
-        ScriptCause::Syntax,
-    ),
+    ("init 000102030405060708090A0B0C0D0E", 3, AdminCause::Syntax),
     (
         "init 000102030405060708090A0B0C0D0E0F 0",
         3,
-        ScriptCause::Syntax,
+        AdminCause::Syntax,
     ),
-    ("list ", 3, ScriptCause::Syntax),
-    ("backup\r", 3, ScriptCause::Syntax),
-    ("provision d 0", 3, ScriptCause::Syntax),
-    ("provision d", 3, ScriptCause::Syntax),
-    ("remove d c", 3, ScriptCause::Syntax),
-    ("roll", 3, ScriptCause::Syntax),
-    ("restore 5", 3, ScriptCause::Syntax),
-    ("restore 4294967296 {}", 3, ScriptCause::Syntax),
-    ("restore 5 ", 3, ScriptCause::Backup),
-    ("restore 5 {}", 3, ScriptCause::Backup),
-    ("restore 5 \u{e9}", 3, ScriptCause::Backup),
-    ("provision e 00", 3, ScriptCause::UnknownNode),
+    ("list ", 3, AdminCause::Syntax),
+    ("backup\r", 3, AdminCause::Syntax),
+    ("provision d 0", 3, AdminCause::Syntax),
+    ("provision d", 3, AdminCause::Syntax),
+    ("remove d c", 3, AdminCause::Syntax),
+    ("roll", 3, AdminCause::Syntax),
+    ("restore 5", 3, AdminCause::Syntax),
+    ("restore 4294967296 {}", 3, AdminCause::Syntax),
+    ("restore 5 ", 3, AdminCause::Backup),
+    ("restore 5 {}", 3, AdminCause::Backup),
+    ("restore 5 \u{e9}", 3, AdminCause::Backup),
+    ("provision e 00", 3, AdminCause::UnknownNode),
     (
         "provision c 83FED3407A939723A5C639B26916D505C3B5",
         3,
-        ScriptCause::UnknownNode,
+        AdminCause::UnknownNode,
     ),
-    ("remove c via c", 3, ScriptCause::UnknownNode),
-    ("remove d via d", 3, ScriptCause::UnknownNode),
-    ("remove d via e", 3, ScriptCause::UnknownNode),
+    ("remove c via c", 3, AdminCause::UnknownNode),
+    ("remove d via d", 3, AdminCause::UnknownNode),
+    ("remove d via e", 3, AdminCause::UnknownNode),
     (
         "peer e device 00124B0000000003 0001\nremove d via e",
         4,
-        ScriptCause::UnknownNode,
+        AdminCause::UnknownNode,
     ),
-    ("provision d 00", 3, ScriptCause::BadCode),
-    ("provision d -", 3, ScriptCause::BadCode),
+    ("provision d 00", 3, AdminCause::BadCode),
+    ("provision d -", 3, AdminCause::BadCode),
 ];
 
 /// Reads a text that is no longer than an input may be.
 pub(crate) fn read_text(
     rt: &(impl AllocGlobal + Abort),
     text: &str,
-) -> Result<Script, OrMemory<ScriptError>>
+) -> Result<Script, OrMemory<AdminError>>
     ensures { IfOk result IsScript }
 {
     assert!(rt; text.len() < 1 << 24);
@@ -172,11 +152,7 @@ pub(crate) fn read_text(
 }
 
 /// Returns whether a text was refused at that line for that cause.
-fn is_refused(
-    answer: &Result<Script, OrMemory<ScriptError>>,
-    line: u32,
-    cause: ScriptCause,
-) -> bool {
+fn is_refused(answer: &Result<Script, OrMemory<AdminError>>, line: u32, cause: AdminCause) -> bool {
     match answer {
         Err(OrMemory::Fault(error)) => error.line == line && error.cause == cause,
         _ => false,
@@ -251,7 +227,7 @@ fn as_many_lines_as_may_stand(rt: HostRuntime) -> Result<(), Fail> {
     }
     assert!(rt; read_text(&rt, text.as_str()).is_ok());
     text.push_str("list\n")?;
-    assert!(rt; is_refused(&read_text(&rt, text.as_str()), 10_003, ScriptCause::TooMany));
+    assert!(rt; is_refused(&read_text(&rt, text.as_str()), 10_003, AdminCause::TooMany));
     Ok(())
 }
 
@@ -265,6 +241,6 @@ fn as_many_peers_as_may_stand(rt: HostRuntime) -> Result<(), Fail> {
     }
     assert!(rt; read_text(&rt, text.as_str()).is_ok());
     text.push_str("peer q router 00124B0000000999 0999\n")?;
-    assert!(rt; is_refused(&read_text(&rt, text.as_str()), 65, ScriptCause::TooMany));
+    assert!(rt; is_refused(&read_text(&rt, text.as_str()), 65, AdminCause::TooMany));
     Ok(())
 }

@@ -3,7 +3,7 @@
 use std::alloc::Global;
 use std::test::Fail;
 use zb_base::{NoMemory, OrMemory};
-use zb_pcap::{Counts, Mac, PcapCause, PcapError, classify, extract, fcs};
+use zb_pcap::{Counts, Mac, PcapCause, PcapError, classify, extract, fcs, read_pcap};
 
 /// A file of one packet, little end first with times in microseconds, and one of the same packet, big end first with
 /// times in nanoseconds and bits above the link type.
@@ -180,6 +180,37 @@ fn files_have_their_counts_or_their_first_fault(rt: HostRuntime) {
         let file = with_byte(&FILES[0], place, byte);
         assert_eq!(rt; counted(rt.alloc(), &file[..len.min(85)]), Some(answer));
     }
+}
+
+/// Returns whether a file holds one packet of these bytes, which was cut or not.
+fn holds_one(alloc: Global, file: &[u8], bytes: &[u8], cut: bool) -> bool {
+    match read_pcap(alloc, file) {
+        Ok(pcap) => match pcap.packets.as_slice().first() {
+            Some(packet) => {
+                let is_alone = pcap.packets.as_slice().len() == 1;
+                is_alone && packet.as_slice() == bytes && pcap.cut.as_slice() == [cut].as_slice()
+            }
+            None => false,
+        },
+        Err(_) => false,
+    }
+}
+
+#[test]
+fn files_hold_their_packets(rt: HostRuntime) {
+    for file in FILES {
+        assert!(rt; holds_one(rt.alloc(), &file, &PACKET, false));
+    }
+    let cut = with_byte(&FILES[0], 36, 0x2e);
+    assert!(rt; holds_one(rt.alloc(), &cut, &PACKET, true));
+    let empty = read_pcap(rt.alloc(), &FILES[0][..24]);
+    assert!(rt; empty.is_ok());
+    let short = read_pcap(rt.alloc(), &FILES[0][..84]).err();
+    let expected = PcapError {
+        place: 1,
+        cause: PcapCause::Cut,
+    };
+    assert!(rt; short == Some(OrMemory::Fault(expected)));
 }
 
 /// Writes a file with so many records of empty packets.

@@ -6,6 +6,8 @@ mod keys;
 #[cfg(test)]
 mod payloads;
 #[cfg(test)]
+mod places;
+#[cfg(test)]
 mod planning;
 #[cfg(test)]
 mod records;
