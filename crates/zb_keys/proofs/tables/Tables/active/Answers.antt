@@ -6,4 +6,6 @@ use Rattle.zb_keys.proofs.ReadLemmas.{few_nets}
 use Rattle.zb_keys.proofs.tables.Tables.active.Goals as goal
 
 pub net_place-requires : goal.net_place-requires
-net_place-requires c = omega (arith, few_nets c.args.self.now c.keep_rules.ensures.rules, length-map c.nets.result.now net_key, ap (length {A = NetKey}) c.nets.ensures)
+net_place-requires c =
+    let few = few_nets c.args.self.now c.keep_rules.ensures.rules in
+    omega (arith, few, length-map c.nets.result.now net_key, ap (length {A = NetKey}) c.nets.ensures)

@@ -11,7 +11,8 @@ returns-in-Some-clause-ascends c = ascends_at c.args.self.now c.args.place c.kee
 
 pub returns-in-None-clause-value : goal.returns-in-None-clause-value
 returns-in-None-clause-value c =
-    let row = seen_at net_key None c.nets.result.now c.args.self.now.nets c.args.place c.in-None.ensures c.nets.ensures in
+    let nets = c.args.self.now.nets in
+    let row = seen_at net_key None c.nets.result.now nets c.args.place c.in-None.ensures c.nets.ensures in
     ap (λ (o : Option NetKey). slice_get (map (λ (f : SenderFloor). f.sender) (live_floors o)) c.args.at) row
 
 pub returns-in-None-clause-ascends : goal.returns-in-None-clause-ascends
