@@ -11,4 +11,5 @@ returns-in-Some-clause-sound c =
     let set = c.set_net_next.ensures in
     let nets = set ∙ ap (λ l. at_net key (next_at c.args.next) (map net_key l)) c.deref_mut.ensures.value in
     let long = c.set_net_next.auto.rows ∙ c.deref_mut.ensures.len in
-    sound_nets c.args.self.now rows key (next_at c.args.next) (next_is_mild _) (next_shows _) long nets c.requires.sound
+    sound_nets c.args.self.now rows key (next_at c.args.next) (next_is_mild _) (next_shows _) long nets
+    c.requires.sound
