@@ -57,6 +57,11 @@ pub keeps : (tools : Tools) → DeliversCommands tools → (c m : Setting) (t : 
     → IsOffered (after_task tools m t (Received (offer_bytes tools c m k key) draw)) c.me.eui k.key k.sequence key
 keeps tools delivers c m t k key draw d st rn ra long rules j fresh none = offering.is_offered tools delivers c m t k key draw d st rn ra long rules j fresh (sym (not_kept t c.me.eui k key j) ∙ none)
 
+pub keeps_silently : (tools : Tools) → DeliversCommands tools → (c m : Setting) (t : NodeState) (k : Seals) (key : Bytes) (draw : Option Bytes) → AreDeclared c m → StationsInRange c m → NwkInRange k → ApsInRange k → length key ≡ 16 → keeps_rules t ≡ true
+    → IsJoined t c.me.eui k.key k.sequence k.link → has_link c.me.eui key t.links ≡ false → why_offer_not_kept t c.me.eui k key ≡ None
+    → frame_of tools m t (Received (offer_bytes tools c m k key) draw) ≡ None
+keeps_silently tools delivers c m t k key draw d st rn ra long rules j fresh none = offering.keeps_silently tools delivers c m t k key draw d st rn ra long rules j fresh (sym (not_kept t c.me.eui k key j) ∙ none)
+
 pub shows_again : (tools : Tools) (c m : Setting) (t : NodeState) (key : Bytes) (sequence : ℕ) (link : Bytes) → AreDeclared c m → IsOffered t c.me.eui key sequence link → IsOffered (after_task tools m t DoTimer) c.me.eui key sequence link
 shows_again tools c m t key sequence link d j = proving.still_offered t (after_task tools m t DoTimer) c.me.eui key sequence link j (proving.proof_bare tools c m t key sequence link d j)
 

@@ -10,8 +10,8 @@ use Rattle.zb_model.specs.Tools.{Tools}
 use Rattle.zb_model.specs.Rules.{Setting, Plan, Outcome, Stop, Does, unless, choose, centre_of, links_full}
 use Rattle.zb_model.specs.Commands.{Heard, take_link_key, take_row, take_command}
 use Rattle.zb_model.specs.Judging.{candidates}
-use Rattle.zb_model.specs.Answer.{Answer, comes_to, changes, reason_of, refusal_of, answer_by, counting_of, plan_of, answer, answered}
-use Rattle.law_recovery.specs.Answering.{after_task}
+use Rattle.zb_model.specs.Answer.{Answer, comes_to, changes, reason_of, refusal_of, Counting, may_seal, out_of, answer_by, counting_of, plan_of, answer, answered}
+use Rattle.law_recovery.specs.Answering.{after_task, frame_of}
 use Rattle.law_recovery.proofs.Candidates.{one_candidate}
 use Rattle.law_key_exchange.specs.CommandFrames.{NetFrame, LinkFrame, net_term, link_term, sealed_content, LinkFrameInRange, DeliversCommands}
 use Rattle.law_key_exchange.specs.Exchanging.{Seals, net_frame, offer, offer_bytes, StationsInRange, NwkInRange, ApsInRange}
@@ -138,25 +138,46 @@ kept_network t u centre drawn key sequence e h = keeps_network t u (moved_all (k
 kept_state : (t u : NodeState) (centre : ℕ) (key : Bytes) → bare u ≡ moved_all (kept_moves centre key) (bare t) → u.state ≡ Offered
 kept_state t u centre key e = state_of u (moved_all (kept_moves centre key) (bare t)) e
 
+abbrev kept_plan : Tools → Setting → Setting → Seals → Bytes → Plan
+kept_plan tools c m k key = end_plan tools c m k key (Does (kept_moves c.me.eui key) None)
+
+free_plan : (tools : Tools) → DeliversCommands tools → (c m : Setting) (t : NodeState) (k : Seals) (key : Bytes) (draw : Option Bytes) → AreDeclared c m → StationsInRange c m → NwkInRange k → ApsInRange k → length key ≡ 16 → keeps_rules t ≡ true
+    → (j : IsJoined t c.me.eui k.key k.sequence k.link) → has_link c.me.eui key t.links ≡ false → why_not_offer c t k key j.network.found j.keys.row ≡ None
+    → plan_of tools m t (Received (offer_bytes tools c m k key) draw) ≡ kept_plan tools c m k key
+free_plan tools delivers c m t k key draw d st rn ra long rules j fresh none =
+    let f = net_frame c m k in
+    let first = why_not_heard j.network.found c.me.eui k.nwk in
+    let second = why_not_opened j.keys.row k.aps in
+    let third = why_not_kept t c.me.eui key in
+    let more = or_second first (or_else second third) none in
+    let last = end_plan tools c m k key (keeps_now c t key) in
+    let terms = net_term f (sealed_content tools (offer c m k key)) ∷ [] in
+    keep_plan tools delivers c m t k key draw d st rn ra long rules j fresh
+    ∙ free_at f j.network.found (plan_opened (nat_lt k.aps j.keys.row.kept) terms j.keys.row.kept last) (or_first first (or_else second third) none)
+    ∙ free_opened terms j.keys.row k.aps last (or_first second third more)
+    ∙ ap (end_plan tools c m k key) (keeps_so c t key (or_second second third more))
+
+-- no frame answers the offer
+silent_plan : (tools : Tools) (c m : Setting) (t : NodeState) (k : Seals) (key : Bytes) (n : Counting) → (answer_by tools m t n (kept_plan tools c m k key)).frame ≡ None
+unfolding answer_by out_of may_seal
+silent_plan tools c m t k key n = refl
+
+pub keeps_silently : (tools : Tools) → DeliversCommands tools → (c m : Setting) (t : NodeState) (k : Seals) (key : Bytes) (draw : Option Bytes) → AreDeclared c m → StationsInRange c m → NwkInRange k → ApsInRange k → length key ≡ 16 → keeps_rules t ≡ true
+    → (j : IsJoined t c.me.eui k.key k.sequence k.link) → has_link c.me.eui key t.links ≡ false → why_not_offer c t k key j.network.found j.keys.row ≡ None
+    → frame_of tools m t (Received (offer_bytes tools c m k key) draw) ≡ None
+unfolding answer
+keeps_silently tools delivers c m t k key draw d st rn ra long rules j fresh none =
+    ap (λ q. (answer_by tools m t (counting_of m t q) q).frame) (free_plan tools delivers c m t k key draw d st rn ra long rules j fresh none)
+    ∙ silent_plan tools c m t k key (counting_of m t (kept_plan tools c m k key))
+
 pub is_offered : (tools : Tools) → DeliversCommands tools → (c m : Setting) (t : NodeState) (k : Seals) (key : Bytes) (draw : Option Bytes) → AreDeclared c m → StationsInRange c m → NwkInRange k → ApsInRange k → length key ≡ 16 → keeps_rules t ≡ true
     → (j : IsJoined t c.me.eui k.key k.sequence k.link) → has_link c.me.eui key t.links ≡ false → why_not_offer c t k key j.network.found j.keys.row ≡ None
     → IsOffered (after_task tools m t (Received (offer_bytes tools c m k key) draw)) c.me.eui k.key k.sequence key
 unfolding after_task answer
 is_offered tools delivers c m t k key draw d st rn ra long rules j fresh none =
-    let f = net_frame c m k in
     let centre = c.me.eui in
-    let first = why_not_heard j.network.found centre k.nwk in
-    let second = why_not_opened j.keys.row k.aps in
-    let third = why_not_kept t centre key in
-    let more = or_second first (or_else second third) none in
-    let p = end_plan tools c m k key (Does (kept_moves centre key) None) in
-    let last = end_plan tools c m k key (keeps_now c t key) in
-    let terms = net_term f (sealed_content tools (offer c m k key)) ∷ [] in
-    let plan : plan_of tools m t (Received (offer_bytes tools c m k key) draw) ≡ p =
-    keep_plan tools delivers c m t k key draw d st rn ra long rules j fresh
-    ∙ free_at f j.network.found (plan_opened (nat_lt k.aps j.keys.row.kept) terms j.keys.row.kept last) (or_first first (or_else second third) none)
-    ∙ free_opened terms j.keys.row k.aps last (or_first second third more)
-    ∙ ap (end_plan tools c m k key) (keeps_so c t key (or_second second third more)) in
+    let p = kept_plan tools c m k key in
+    let plan = free_plan tools delivers c m t k key draw d st rn ra long rules j fresh none in
     let u = answered (answer_by tools m t (counting_of m t p) p) t in
     let rows : bare u ≡ moved_all (kept_moves centre key) (bare t) = bare_after tools m t (counting_of m t p) p (kept_moves centre key) (gives t centre key j.joined fresh) (tt, (tt, tt)) in
     let came = kept_links t u centre key rows fresh in

@@ -52,7 +52,7 @@ pub fn the_centre_offers_a_link_key()
 
 /// States that a joined device keeps the key that is offered to it, and when it doesn't.
 ///
-/// The key is new to it: it has no row of the centre with that key.
+/// The key is new to it: it has no row of the centre with that key. No frame goes out.
 pub fn a_joined_device_keeps_an_offered_key()
     ensures refused { (tools : Tools) → DeliversCommands tools → (c m : Setting) (t : NodeState) (k : Seals)
         (key : Bytes) (draw : Option Bytes) → AreDeclared c m → StationsInRange c m → NwkInRange k → ApsInRange k
@@ -65,6 +65,11 @@ pub fn a_joined_device_keeps_an_offered_key()
         → length key ≡ 16 → keeps_rules t ≡ true → IsJoined t c.me.eui k.key k.sequence k.link
         → has_link c.me.eui key t.links ≡ false → why_offer_not_kept t c.me.eui k key ≡ None
         → IsOffered (after_task tools m t (Received (offer_bytes tools c m k key) draw)) c.me.eui k.key k.sequence key }
+    ensures silent { (tools : Tools) → DeliversCommands tools → (c m : Setting) (t : NodeState) (k : Seals)
+        (key : Bytes) (draw : Option Bytes) → AreDeclared c m → StationsInRange c m → NwkInRange k → ApsInRange k
+        → length key ≡ 16 → keeps_rules t ≡ true → IsJoined t c.me.eui k.key k.sequence k.link
+        → has_link c.me.eui key t.links ≡ false → why_offer_not_kept t c.me.eui k key ≡ None
+        → frame_of tools m t (Received (offer_bytes tools c m k key) draw) ≡ None }
 {}
 
 /// States that a device proves the key that was offered to it, and is as offered afterwards as before.
