@@ -3,3 +3,4 @@ pub mod Exchanged
 mod Booted
 mod Rolled
 mod Joined
+pub mod Confirmed

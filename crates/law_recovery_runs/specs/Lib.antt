@@ -1,3 +1,4 @@
 pub mod Fronts
 pub mod Rolled
 pub mod Joining
+pub mod KeyExchange

@@ -4,12 +4,16 @@
 
 ghost use Rattle.std.specs.Prelude.{◌≡◌, ℕ, false, length, true};
 ghost use Rattle.law_answer_storable.specs.Storing.{OpensAsJudged};
+ghost use Rattle.law_key_exchange.specs.CommandFrames.{DeliversCommands};
 ghost use Rattle.law_recovery.specs.KeyFrames.{DeliversKeys};
 ghost use Rattle.law_recovery_runs.specs.Fronts.{CanRejoin, EndsRejoined, Front, IsReady};
 ghost use Rattle.law_recovery_runs.specs.Fronts.{after_event, after_events, rejoin_events};
 ghost use Rattle.law_recovery.specs.Rollovers.{HasCounters, IsRolling, untold};
 ghost use Rattle.law_recovery_runs.specs.Joining.{CanJoin, EndsJoined, join_events};
+ghost use Rattle.law_recovery_runs.specs.KeyExchange.{AreMet, EndsConfirmed, HaveJoined, KeysInRange, NothingStops};
+ghost use Rattle.law_recovery_runs.specs.KeyExchange.{exchange_events};
 ghost use Rattle.law_recovery_runs.specs.Rolled.{EndsRolled, rollover_events};
+ghost use Rattle.zb_model.specs.Data.{Bytes};
 ghost use Rattle.zb_model.specs.Play.{NotArmed, PowerOn, Schedule, disk_of, setting_of};
 ghost use Rattle.zb_model.specs.Readings.{is_up, state_of};
 ghost use Rattle.zb_model.specs.State.{after_boot, is_centre};
@@ -47,4 +51,14 @@ pub fn a_rollover_ends_in_a_run()
 pub fn a_device_joins_in_a_run()
     ensures { (tools : Tools) → DeliversKeys tools → OpensAsJudged tools → (w : Schedule) (x : Front) (c d : ℕ)
         → CanJoin w x c d → EndsJoined (after_events tools w x (join_events x c d)) c d }
+{}
+
+/// States that after any lines a joined device is confirmed by six events, unless one of the named obstacles holds.
+///
+/// It asks for a link key, keeps the one that it is offered, proves it, and is told that it is confirmed.
+pub fn a_device_is_confirmed_in_a_run()
+    ensures { (tools : Tools) → DeliversCommands tools → OpensAsJudged tools → (w : Schedule) (x : Front) (c d : ℕ)
+        (key : Bytes) (sequence : ℕ) (link drawn : Bytes) → AreMet w x c d → HaveJoined w x c d key sequence link
+        → KeysInRange key sequence link → length drawn ≡ 16 → NothingStops tools w x c d key sequence link drawn
+        → EndsConfirmed w (after_events tools w x (exchange_events x c d)) c d key sequence drawn }
 {}

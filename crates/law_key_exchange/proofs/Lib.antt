@@ -1,0 +1,11 @@
+pub mod Baring
+pub mod Rows
+pub mod Sending
+pub mod Judged
+pub mod Keeping
+pub mod Requesting
+pub mod Offering
+pub mod Proving
+pub mod Confirming
+pub mod Steady
+pub mod Laws

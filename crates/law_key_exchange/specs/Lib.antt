@@ -1,0 +1,4 @@
+pub mod CommandFrames
+pub mod Meeting
+pub mod Exchanging
+pub mod Obstacles
