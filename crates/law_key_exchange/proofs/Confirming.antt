@@ -33,12 +33,16 @@ self n = eq-eqb n n refl
 abbrev confirmed_moves : LinkKey → LinkKey → List Move
 confirmed_moves row offer = DropLink row.partner row.key ∷ Row offer.partner offer.key Verified ∷ Became Confirmed ∷ []
 
-takes_by : (tools : Tools) (c m : Setting) (t : NodeState) (f : NetFrame) (k : Seals) (tried row offer : LinkKey) (draw : Option Bytes) → AreDeclared c m → t.state ≡ Offered
-    → current t (centre_of m.stations) ≡ Some row → offered t (centre_of m.stations) ≡ Some offer → same_key tried.key offer.key ≡ true
-    → take_command tools m t draw (heard_with tools f (confirmation c m k) tried) (ConfirmKey 0 4 m.me.eui) ≡ Does (confirmed_moves row offer) None
+takes_by : (tools : Tools) (c m : Setting) (t : NodeState) (f : NetFrame) (k : Seals) (tried row offer : LinkKey)
+    (draw : Option Bytes) → AreDeclared c m → t.state ≡ Offered
+    → current t (centre_of m.stations) ≡ Some row → offered t (centre_of m.stations) ≡ Some offer
+    → same_key tried.key offer.key ≡ true
+    → take_command tools m t draw (heard_with tools f (confirmation c m k) tried) (ConfirmKey 0 4 m.me.eui)
+    ≡ Does (confirmed_moves row offer) None
 unfolding take_command take_confirm unless found_or
 takes_by tools c m t f k tried row offer draw d state here there same =
-    let from : nat_eq c.me.eui (centre_of m.stations) ≡ true = eq-eqb c.me.eui (centre_of m.stations) (sym d.network.centre_known) in
+    let from : nat_eq c.me.eui (centre_of m.stations) ≡ true =
+    eq-eqb c.me.eui (centre_of m.stations) (sym d.network.centre_known) in
     rw (d.network.member_role, from, self m.me.eui, there, same, here, state) refl
 
 -- ---- the plan
@@ -46,35 +50,58 @@ takes_by tools c m t f k tried row offer draw d state here there same =
 abbrev end_plan : Tools → Setting → Setting → Seals → Outcome → Plan
 end_plan tools c m k o = comes_to (both_terms tools (net_frame c m k) (confirmation c m k)) AtAps o
 
-first_candidate : (t : NodeState) (p : ℕ) (row : LinkKey) → find (is_live_of p) (reverse t.links) ≡ Some row → (rest : List LinkKey) × (candidates t p ≡ row ∷ rest)
+first_candidate : (t : NodeState) (p : ℕ) (row : LinkKey) → find (is_live_of p) (reverse t.links) ≡ Some row
+    → (rest : List LinkKey) × (candidates t p ≡ row ∷ rest)
 unfolding candidates
 first_candidate t p row e = found_first (is_live_of p) (reverse t.links) row e
 
-confirm_plan : (tools : Tools) → DeliversCommands tools → (c m : Setting) (t : NodeState) (k : Seals) (draw : Option Bytes) → AreDeclared c m → StationsInRange c m → NwkInRange k → ApsInRange k
+confirm_plan : (tools : Tools) → DeliversCommands tools
+    → (c m : Setting) (t : NodeState) (k : Seals) (draw : Option Bytes) → AreDeclared c m → StationsInRange c m
+    → NwkInRange k → ApsInRange k
     → (j : IsOffered t c.me.eui k.key k.sequence k.link)
     → plan_of tools m t (Received (confirmation_bytes tools c m k) draw)
-    ≡ plan_at (net_frame c m k) j.network.found (plan_opened (nat_lt k.aps j.tried.kept) (net_term (net_frame c m k) (sealed_content tools (confirmation c m k)) ∷ []) j.tried.kept (end_plan tools c m k (Does (confirmed_moves j.keys.row j.keys.offer) None)))
+    ≡ plan_at (net_frame c m k) j.network.found
+    (plan_opened (nat_lt k.aps j.tried.kept)
+    (net_term (net_frame c m k) (sealed_content tools (confirmation c m k)) ∷ []) j.tried.kept
+    (end_plan tools c m k (Does (confirmed_moves j.keys.row j.keys.offer) None)))
 confirm_plan tools delivers c m t k draw d st rn ra j =
     let f = net_frame c m k in
     let l = confirmation c m k in
     let known = d.network.centre_known in
-    let sealed : LinkFrameInRange l = record { link = ra.link; source = st.centre; counter = ra.counter; command = (omega arith, omega arith, st.device) } in
+    let sealed : LinkFrameInRange l =
+    record {
+      link = ra.link;
+      source = st.centre;
+      counter = ra.counter;
+      command = (omega arith, omega arith, st.device);
+    } in
     let first = first_candidate t c.me.eui j.tried j.tried_first in
-    let open_ : IsOpened t l j.tried = record { rest = first.0; first = first.1; same = j.tried_key; small = ra.counter } in
-    delivered_sealed tools m t f l j.network.found j.tried draw (delivers.carried f l (net_range c m k st.centre_short st.device_short st.centre rn) sealed) (delivers.unsealed l sealed) (heard_down c m t k d j.network rn.counter) open_
-    ∙ ap (λ o. plan_at f j.network.found (plan_opened (nat_lt k.aps j.tried.kept) (net_term f (sealed_content tools l) ∷ []) j.tried.kept (end_plan tools c m k o)))
-    (takes_by tools c m t f k j.tried j.keys.row j.keys.offer draw d j.is_offered (ap (current t) known ∙ j.keys.is_current) (ap (offered t) known ∙ j.keys.is_offered) (same_key_of j.tried.key j.keys.offer.key (j.tried_key ∙ sym j.keys.offer_key)))
+    let open_ : IsOpened t l j.tried =
+    record { rest = first.0; first = first.1; same = j.tried_key; small = ra.counter } in
+    delivered_sealed tools m t f l j.network.found j.tried draw
+    (delivers.carried f l (net_range c m k st.centre_short st.device_short st.centre rn) sealed)
+    (delivers.unsealed l sealed) (heard_down c m t k d j.network rn.counter) open_
+    ∙ ap (λ o. plan_at f j.network.found
+    (plan_opened (nat_lt k.aps j.tried.kept) (net_term f (sealed_content tools l) ∷ []) j.tried.kept
+    (end_plan tools c m k o)))
+    (takes_by tools c m t f k j.tried j.keys.row j.keys.offer draw d j.is_offered
+    (ap (current t) known ∙ j.keys.is_current) (ap (offered t) known ∙ j.keys.is_offered)
+    (same_key_of j.tried.key j.keys.offer.key (j.tried_key ∙ sym j.keys.offer_key)))
 
-pub confirm_refused : (tools : Tools) → DeliversCommands tools → (c m : Setting) (t : NodeState) (k : Seals) (draw : Option Bytes) → AreDeclared c m → StationsInRange c m → NwkInRange k → ApsInRange k
+pub confirm_refused : (tools : Tools) → DeliversCommands tools
+    → (c m : Setting) (t : NodeState) (k : Seals) (draw : Option Bytes) → AreDeclared c m → StationsInRange c m
+    → NwkInRange k → ApsInRange k
     → (j : IsOffered t c.me.eui k.key k.sequence k.link)
-    → (answer tools m t (Received (confirmation_bytes tools c m k) draw)).refusal ≡ or_else (why_not_heard j.network.found c.me.eui k.nwk) (why_not_opened j.tried k.aps)
+    → (answer tools m t (Received (confirmation_bytes tools c m k) draw)).refusal
+    ≡ or_else (why_not_heard j.network.found c.me.eui k.nwk) (why_not_opened j.tried k.aps)
 unfolding answer answer_by
 confirm_refused tools delivers c m t k draw d st rn ra j =
     let last = end_plan tools c m k (Does (confirmed_moves j.keys.row j.keys.offer) None) in
     let terms = net_term (net_frame c m k) (sealed_content tools (confirmation c m k)) ∷ [] in
     ap refusal_of (confirm_plan tools delivers c m t k draw d st rn ra j)
     ∙ refused_at (net_frame c m k) j.network.found (plan_opened (nat_lt k.aps j.tried.kept) terms j.tried.kept last)
-    ∙ ap (or_else (why_not_heard j.network.found c.me.eui k.nwk)) (refused_opened terms j.tried k.aps last ∙ or_nothing (why_not_opened j.tried k.aps))
+    ∙ ap (or_else (why_not_heard j.network.found c.me.eui k.nwk))
+    (refused_opened terms j.tried k.aps last ∙ or_nothing (why_not_opened j.tried k.aps))
   where
     or_nothing : (o : Option Reason) → or_else o None ≡ o
     or_nothing None = refl
@@ -91,34 +118,53 @@ offer_partner t p row e =
     let live = (both (is_live_of p row) (is_unverified row.attribute) (found_test (is_offer p) t.links row e)).0 in
     eqb-true row.partner p (both row.live (nat_eq row.partner p) live).1
 
-same_moves : (t : NodeState) (centre : ℕ) (key : Bytes) (o : HasOffer t centre key) → confirmed_moves o.row o.offer ≡ new_moves centre o.row o.offer
+same_moves : (t : NodeState) (centre : ℕ) (key : Bytes) (o : HasOffer t centre key) → confirmed_moves o.row o.offer
+    ≡ new_moves centre o.row o.offer
 same_moves t centre key o =
-    ap (λ n. DropLink n o.row.key ∷ Row o.offer.partner o.offer.key Verified ∷ Became Confirmed ∷ []) (partner_is t centre o.row o.is_current)
-    ∙ ap (λ n. DropLink centre o.row.key ∷ Row n o.offer.key Verified ∷ Became Confirmed ∷ []) (offer_partner t centre o.offer o.is_offered)
+    ap (λ n. DropLink n o.row.key ∷ Row o.offer.partner o.offer.key Verified ∷ Became Confirmed ∷ [])
+    (partner_is t centre o.row o.is_current)
+    ∙ ap (λ n. DropLink centre o.row.key ∷ Row n o.offer.key Verified ∷ Became Confirmed ∷ [])
+    (offer_partner t centre o.offer o.is_offered)
 
 last_change : (t : NodeState) → t.state ≡ Offered → changes t (Became Confirmed) ≡ true
 last_change t state = rw state refl
 
-gives : (t : NodeState) (centre : ℕ) (key : Bytes) → keeps_rules t ≡ true → t.state ≡ Offered → (o : HasOffer t centre key) → filter (changes t) (new_moves centre o.row o.offer) ≡ new_moves centre o.row o.offer
+gives : (t : NodeState) (centre : ℕ) (key : Bytes) → keeps_rules t ≡ true → t.state ≡ Offered
+    → (o : HasOffer t centre key) → filter (changes t) (new_moves centre o.row o.offer)
+    ≡ new_moves centre o.row o.offer
 gives t centre key rules state o =
-    ap (λ b. DropLink centre o.row.key ∷ (if b then Row centre o.offer.key Verified ∷ (if changes t (Became Confirmed) then Became Confirmed ∷ [] else []) else (if changes t (Became Confirmed) then Became Confirmed ∷ [] else []))) (row_changes t centre key rules o)
-    ∙ ap (λ b. DropLink centre o.row.key ∷ Row centre o.offer.key Verified ∷ (if b then Became Confirmed ∷ [] else [])) (last_change t state)
+    ap (λ b. DropLink centre o.row.key
+    ∷ (if b then Row centre o.offer.key Verified ∷ (if changes t (Became Confirmed) then Became Confirmed ∷ []
+    else []) else (if changes t (Became Confirmed) then Became Confirmed ∷ [] else [])))
+    (row_changes t centre key rules o)
+    ∙ ap (λ b. DropLink centre o.row.key ∷ Row centre o.offer.key Verified
+    ∷ (if b then Became Confirmed ∷ [] else [])) (last_change t state)
 
-new_network : (t u : NodeState) (centre : ℕ) (row offer : LinkKey) (key : Bytes) (sequence : ℕ) → bare u ≡ moved_all (new_moves centre row offer) (bare t) → HasNetwork t key sequence → HasNetwork u key sequence
+new_network : (t u : NodeState) (centre : ℕ) (row offer : LinkKey) (key : Bytes) (sequence : ℕ) → bare u
+    ≡ moved_all (new_moves centre row offer) (bare t) → HasNetwork t key sequence → HasNetwork u key sequence
 unfolding bare
-new_network t u centre row offer key sequence e h = keeps_network t u (moved_all (new_moves centre row offer) (bare t)) key sequence h e refl refl refl
+new_network t u centre row offer key sequence e h =
+    keeps_network t u (moved_all (new_moves centre row offer) (bare t)) key sequence h e refl refl refl
 
-new_links : (t u : NodeState) (p : ℕ) (key : Bytes) (o : HasOffer t p key) → bare u ≡ moved_all (new_moves p o.row o.offer) (bare t)
-    → map bare_link u.links ≡ at_link p o.offer.key (revived Verified (is_told (dropped_first t p o.row) p)) (at_link p o.row.key dropped_link (map bare_link t.links))
+new_links : (t u : NodeState) (p : ℕ) (key : Bytes) (o : HasOffer t p key) → bare u
+    ≡ moved_all (new_moves p o.row o.offer) (bare t)
+    → map bare_link u.links ≡ at_link p o.offer.key (revived Verified (is_told (dropped_first t p o.row) p))
+    (at_link p o.row.key dropped_link (map bare_link t.links))
 unfolding bare
-new_links t u p key o e = links_of u (moved_all (new_moves p o.row o.offer) (bare t)) e ∙ place_taken t p key o (is_told (dropped_first t p o.row) p)
+new_links t u p key o e = links_of u (moved_all (new_moves p o.row o.offer) (bare t)) e ∙ place_taken t p key o
+    (is_told (dropped_first t p o.row) p)
 
-new_state : (t u : NodeState) (p : ℕ) (row offer : LinkKey) → bare u ≡ moved_all (new_moves p row offer) (bare t) → u.state ≡ Confirmed
+new_state : (t u : NodeState) (p : ℕ) (row offer : LinkKey) → bare u ≡ moved_all (new_moves p row offer) (bare t)
+    → u.state ≡ Confirmed
 new_state t u p row offer e = state_of u (moved_all (new_moves p row offer) (bare t)) e
 
-pub is_confirmed : (tools : Tools) → DeliversCommands tools → (c m : Setting) (t : NodeState) (k : Seals) (draw : Option Bytes) → AreDeclared c m → StationsInRange c m → NwkInRange k → ApsInRange k → keeps_rules t ≡ true
-    → (j : IsOffered t c.me.eui k.key k.sequence k.link) → or_else (why_not_heard j.network.found c.me.eui k.nwk) (why_not_opened j.tried k.aps) ≡ None
-    → IsConfirmed (after_task tools m t (Received (confirmation_bytes tools c m k) draw)) c.me.eui k.key k.sequence k.link
+pub is_confirmed : (tools : Tools) → DeliversCommands tools
+    → (c m : Setting) (t : NodeState) (k : Seals) (draw : Option Bytes) → AreDeclared c m → StationsInRange c m
+    → NwkInRange k → ApsInRange k → keeps_rules t ≡ true
+    → (j : IsOffered t c.me.eui k.key k.sequence k.link) → or_else (why_not_heard j.network.found c.me.eui k.nwk)
+    (why_not_opened j.tried k.aps) ≡ None
+    → IsConfirmed (after_task tools m t (Received (confirmation_bytes tools c m k) draw)) c.me.eui k.key k.sequence
+    k.link
 unfolding after_task answer
 is_confirmed tools delivers c m t k draw d st rn ra rules j none =
     let f = net_frame c m k in
@@ -130,14 +176,26 @@ is_confirmed tools delivers c m t k draw d st rn ra rules j none =
     let terms = net_term f (sealed_content tools (confirmation c m k)) ∷ [] in
     let plan : plan_of tools m t (Received (confirmation_bytes tools c m k) draw) ≡ p =
     confirm_plan tools delivers c m t k draw d st rn ra j
-    ∙ free_at f j.network.found (plan_opened (nat_lt k.aps j.tried.kept) terms j.tried.kept p) (or_first first second none)
+    ∙ free_at f j.network.found (plan_opened (nat_lt k.aps j.tried.kept) terms j.tried.kept p)
+    (or_first first second none)
     ∙ free_opened terms j.tried k.aps p (or_second first second none) in
     let u = answered (answer_by tools m t (counting_of m t p) p) t in
     let rows : bare u ≡ moved_all (new_moves centre o.row o.offer) (bare t) =
-    bare_after tools m t (counting_of m t p) p (new_moves centre o.row o.offer) (ap (filter (changes t)) (same_moves t centre k.link o) ∙ gives t centre k.link rules j.is_offered o) (tt, (tt, (tt, tt))) in
-    let same : HasOffer t centre o.offer.key = record { row = o.row; is_current = o.is_current; offer = o.offer; is_offered = o.is_offered; offer_key = refl } in
-    let proof = proof_comes t u centre o.offer.key (is_told (dropped_first t centre o.row) centre) rules same (new_links t u centre k.link o rows) in
-    subst (λ q. IsConfirmed (answered (answer_by tools m t (counting_of m t q) q) t) centre k.key k.sequence k.link) (sym plan)
+    bare_after tools m t (counting_of m t p) p (new_moves centre o.row o.offer)
+    (ap (filter (changes t)) (same_moves t centre k.link o) ∙ gives t centre k.link rules j.is_offered o)
+    (tt, (tt, (tt, tt))) in
+    let same : HasOffer t centre o.offer.key =
+    record {
+      row = o.row;
+      is_current = o.is_current;
+      offer = o.offer;
+      is_offered = o.is_offered;
+      offer_key = refl;
+    } in
+    let proof = proof_comes t u centre o.offer.key (is_told (dropped_first t centre o.row) centre) rules same
+    (new_links t u centre k.link o rows) in
+    subst (λ q. IsConfirmed (answered (answer_by tools m t (counting_of m t q) q) t) centre k.key k.sequence k.link)
+    (sym plan)
     (record {
       network = new_network t u centre o.row o.offer k.key k.sequence rows j.network;
       confirmed = new_state t u centre o.row o.offer rows;

@@ -24,7 +24,14 @@ pub record IsHeard (b : Setting) (y : NodeState) (f : NetFrame) (row : NetKey) :
   pub member : (is_centre b.me.role && (is_known y f.source && not (is_live y f.source))) ≡ false
 
 abbrev pub shown_of : NetFrame → Bytes → NwkShown
-shown_of f body = record { is_command = false; destination = f.to; source = f.from; auxiliary = Some (record { counter = f.counter; source = f.source; sequence = f.sequence }); body = body }
+shown_of f body =
+    record {
+      is_command = false;
+      destination = f.to;
+      source = f.from;
+      auxiliary = Some (record { counter = f.counter; source = f.source; sequence = f.sequence });
+      body = body;
+    }
 
 abbrev heard_by : NwkShown → Term → ℕ → Bool → Bool → Verdict Carrier
 heard_by f t floor stale full = carrier f (reject stale AtNwk (Stale floor) (reject full AtNwk RowsFull (Good t)))
@@ -32,11 +39,15 @@ heard_by f t floor stale full = carrier f (reject stale AtNwk (Stale floor) (rej
 below : (n : ℕ) → n < greatest_counter → nat_le greatest_counter n ≡ false
 below n lt = lt-leb greatest_counter n lt
 
-pub heard : (tools : Tools) (b : Setting) (y : NodeState) (f : NetFrame) (content : Bytes) (row : NetKey) → (a : IsCarried tools f content) → IsHeard b y f row
-    → judge_nwk tools b y (tools.wire (net_term f content)) ≡ heard_by (shown_of f a.body) (net_term f content) (sender_floor f.source row).kept (nat_lt f.counter (sender_floor f.source row).kept) (senders_full f.source f.counter row)
+pub heard : (tools : Tools) (b : Setting) (y : NodeState) (f : NetFrame) (content : Bytes) (row : NetKey)
+    → (a : IsCarried tools f content) → IsHeard b y f row
+    → judge_nwk tools b y (tools.wire (net_term f content)) ≡ heard_by (shown_of f a.body) (net_term f content)
+    (sender_floor f.source row).kept (nat_lt f.counter (sender_floor f.source row).kept)
+    (senders_full f.source f.counter row)
 unfolding judge_nwk judge_net need reject
 heard tools b y f content row a h =
-    let opens : tools.open_nwk (tools.wire (net_term f content)) row.key ≡ Some (net_term f content) = ap (tools.open_nwk (tools.wire (net_term f content))) h.same ∙ a.opens in
+    let opens : tools.open_nwk (tools.wire (net_term f content)) row.key ≡ Some (net_term f content) =
+    ap (tools.open_nwk (tools.wire (net_term f content))) h.same ∙ a.opens in
     let to : nat_eq f.to b.me.short ≡ true = eq-eqb f.to b.me.short h.to in
     rw (a.shown, h.apart, to, h.found, below f.counter h.small, opens, h.declared, h.member) refl
 
@@ -55,21 +66,28 @@ abbrev pub stale_at : NetFrame → NetKey → Bool
 stale_at f row = nat_lt f.counter (sender_floor f.source row).kept
 
 abbrev pub plan_at : NetFrame → NetKey → Plan → Plan
-plan_at f row rest = plan_heard (stale_at f row) (senders_full f.source f.counter row) (sender_floor f.source row).kept rest
+plan_at f row rest = plan_heard (stale_at f row) (senders_full f.source f.counter row)
+    (sender_floor f.source row).kept rest
 
-by_verdict : (tools : Tools) (b : Setting) (y : NodeState) (draw : Option Bytes) (f : NetFrame) (body : Bytes) (t : Term) (floor : ℕ) (stale full : Bool)
-    → received_as tools b y draw (heard_by (shown_of f body) t floor stale full) ≡ plan_heard stale full floor (aps_part tools b y draw (shown_of f body) (Some t) (tools.read_aps t.content))
+by_verdict : (tools : Tools) (b : Setting) (y : NodeState) (draw : Option Bytes) (f : NetFrame) (body : Bytes)
+    (t : Term) (floor : ℕ) (stale full : Bool)
+    → received_as tools b y draw (heard_by (shown_of f body) t floor stale full)
+    ≡ plan_heard stale full floor (aps_part tools b y draw (shown_of f body) (Some t) (tools.read_aps t.content))
 unfolding reject
 by_verdict tools b y draw f body t floor true full = refl
 by_verdict tools b y draw f body t floor false true = refl
 by_verdict tools b y draw f body t floor false false = refl
 
-pub delivered : (tools : Tools) (b : Setting) (y : NodeState) (f : NetFrame) (content : Bytes) (row : NetKey) (draw : Option Bytes) → (a : IsCarried tools f content) → IsHeard b y f row
-    → plan_of tools b y (Received (tools.wire (net_term f content)) draw) ≡ plan_at f row (aps_part tools b y draw (shown_of f a.body) (Some (net_term f content)) (tools.read_aps content))
+pub delivered : (tools : Tools) (b : Setting) (y : NodeState) (f : NetFrame) (content : Bytes) (row : NetKey)
+    (draw : Option Bytes) → (a : IsCarried tools f content) → IsHeard b y f row
+    → plan_of tools b y (Received (tools.wire (net_term f content)) draw)
+    ≡ plan_at f row
+    (aps_part tools b y draw (shown_of f a.body) (Some (net_term f content)) (tools.read_aps content))
 unfolding plan_of
 delivered tools b y f content row draw a h =
     ap (received_as tools b y draw) (heard tools b y f content row a h)
-    ∙ by_verdict tools b y draw f a.body (net_term f content) (sender_floor f.source row).kept (stale_at f row) (senders_full f.source f.counter row)
+    ∙ by_verdict tools b y draw f a.body (net_term f content) (sender_floor f.source row).kept (stale_at f row)
+    (senders_full f.source f.counter row)
 
 -- ---- a sealed command
 
@@ -89,33 +107,43 @@ pub record IsOpened (y : NodeState) (l : LinkFrame) (row : LinkKey) : Type 0 whe
   pub same : row.key ≡ l.link
   pub small : l.counter < greatest_counter
 
-opened : (tools : Tools) (b : Setting) (y : NodeState) (shown : NwkShown) (l : LinkFrame) (row : LinkKey) → IsUnsealed tools l → IsOpened y l row
-    → judge_aps tools b y shown (sealed_content tools l) (seal_of l) ≡ reject (nat_lt l.counter row.kept) AtAps (Stale row.kept) (Good (found_so tools l row))
+opened : (tools : Tools) (b : Setting) (y : NodeState) (shown : NwkShown) (l : LinkFrame) (row : LinkKey)
+    → IsUnsealed tools l → IsOpened y l row
+    → judge_aps tools b y shown (sealed_content tools l) (seal_of l)
+    ≡ reject (nat_lt l.counter row.kept) AtAps (Stale row.kept) (Good (found_so tools l row))
 unfolding judge_aps need reject candidates
 opened tools b y shown l row a o =
-    let opens : tools.open_aps (sealed_content tools l) row.key l.source ≡ Some (link_term tools l) = ap (λ k. tools.open_aps (sealed_content tools l) k l.source) o.same ∙ a.opens l.source in
+    let opens : tools.open_aps (sealed_content tools l) row.key l.source ≡ Some (link_term tools l) =
+    ap (λ k. tools.open_aps (sealed_content tools l) k l.source) o.same ∙ a.opens l.source in
     rw (o.first, opens, opens, below l.counter o.small) refl
 
 abbrev pub both_terms : Tools → NetFrame → LinkFrame → List Term
 both_terms tools f l = net_term f (sealed_content tools l) ∷ link_term tools l ∷ []
 
-by_floor : (tools : Tools) (b : Setting) (y : NodeState) (f : NetFrame) (l : LinkFrame) (row : LinkKey) (draw : Option Bytes) → (a : IsUnsealed tools l) → (stale : Bool)
-    → sealed_part tools b y draw (Some (net_term f (sealed_content tools l))) a.part (seal_of l) (reject stale AtAps (Stale row.kept) (Good (found_so tools l row)))
-    ≡ plan_opened stale (net_term f (sealed_content tools l) ∷ []) row.kept (comes_to (both_terms tools f l) AtAps (take_command tools b y draw (heard_with tools f l row) l.command))
+by_floor : (tools : Tools) (b : Setting) (y : NodeState) (f : NetFrame) (l : LinkFrame) (row : LinkKey)
+    (draw : Option Bytes) → (a : IsUnsealed tools l) → (stale : Bool)
+    → sealed_part tools b y draw (Some (net_term f (sealed_content tools l))) a.part (seal_of l)
+    (reject stale AtAps (Stale row.kept) (Good (found_so tools l row)))
+    ≡ plan_opened stale (net_term f (sealed_content tools l) ∷ []) row.kept
+    (comes_to (both_terms tools f l) AtAps (take_command tools b y draw (heard_with tools f l row) l.command))
 unfolding reject
 by_floor tools b y f l row draw a true = refl
 by_floor tools b y f l row draw a false = rw (a.is_command, a.means) refl
 
-pub delivered_sealed : (tools : Tools) (b : Setting) (y : NodeState) (f : NetFrame) (l : LinkFrame) (net : NetKey) (row : LinkKey) (draw : Option Bytes)
+pub delivered_sealed : (tools : Tools) (b : Setting) (y : NodeState) (f : NetFrame) (l : LinkFrame) (net : NetKey)
+    (row : LinkKey) (draw : Option Bytes)
     → IsCarried tools f (sealed_content tools l) → IsUnsealed tools l → IsHeard b y f net → IsOpened y l row
     → plan_of tools b y (Received (sealed_bytes tools f l) draw)
-    ≡ plan_at f net (plan_opened (nat_lt l.counter row.kept) (net_term f (sealed_content tools l) ∷ []) row.kept (comes_to (both_terms tools f l) AtAps (take_command tools b y draw (heard_with tools f l row) l.command)))
+    ≡ plan_at f net
+    (plan_opened (nat_lt l.counter row.kept) (net_term f (sealed_content tools l) ∷ []) row.kept
+    (comes_to (both_terms tools f l) AtAps (take_command tools b y draw (heard_with tools f l row) l.command)))
 delivered_sealed tools b y f l net row draw a u h o =
     delivered tools b y f (sealed_content tools l) net draw a h
     ∙ ap (plan_at f net)
     (ap (aps_part tools b y draw (shown_of f a.body) (Some (net_term f (sealed_content tools l)))) u.reads
     ∙ ap (by_security tools b y draw (shown_of f a.body) (Some (net_term f (sealed_content tools l))) u.part) u.sealed
-    ∙ ap (sealed_part tools b y draw (Some (net_term f (sealed_content tools l))) u.part (seal_of l)) (opened tools b y (shown_of f a.body) l row u o)
+    ∙ ap (sealed_part tools b y draw (Some (net_term f (sealed_content tools l))) u.part (seal_of l))
+    (opened tools b y (shown_of f a.body) l row u o)
     ∙ by_floor tools b y f l row draw u (nat_lt l.counter row.kept))
 
 -- ---- a command in clear
@@ -123,38 +151,51 @@ delivered_sealed tools b y f l net row draw a u h o =
 abbrev pub heard_open : Tools → NetFrame → Command → Heard
 heard_open tools f command = heard_clear (Some (net_term f (clear_content tools f.counter command)))
 
-in_clear : (tools : Tools) (b : Setting) (y : NodeState) (f : NetFrame) (command : Command) (draw : Option Bytes) (shown : NwkShown) → (u : IsRead tools f.counter command)
+in_clear : (tools : Tools) (b : Setting) (y : NodeState) (f : NetFrame) (command : Command) (draw : Option Bytes)
+    (shown : NwkShown) → (u : IsRead tools f.counter command)
     → by_security tools b y draw shown (Some (net_term f (clear_content tools f.counter command))) u.part None
-    ≡ comes_to (net_term f (clear_content tools f.counter command) ∷ []) AtAps (take_command tools b y draw (heard_open tools f command) command)
+    ≡ comes_to (net_term f (clear_content tools f.counter command) ∷ []) AtAps
+    (take_command tools b y draw (heard_open tools f command) command)
 in_clear tools b y f command draw shown u = rw (u.is_command, u.body, u.means) refl
 
-pub delivered_clear : (tools : Tools) (b : Setting) (y : NodeState) (f : NetFrame) (command : Command) (net : NetKey) (draw : Option Bytes)
+pub delivered_clear : (tools : Tools) (b : Setting) (y : NodeState) (f : NetFrame) (command : Command) (net : NetKey)
+    (draw : Option Bytes)
     → IsCarried tools f (clear_content tools f.counter command) → IsRead tools f.counter command → IsHeard b y f net
     → plan_of tools b y (Received (clear_bytes tools f command) draw)
-    ≡ plan_at f net (comes_to (net_term f (clear_content tools f.counter command) ∷ []) AtAps (take_command tools b y draw (heard_open tools f command) command))
+    ≡ plan_at f net
+    (comes_to (net_term f (clear_content tools f.counter command) ∷ []) AtAps
+    (take_command tools b y draw (heard_open tools f command) command))
 delivered_clear tools b y f command net draw a u h =
     delivered tools b y f (clear_content tools f.counter command) net draw a h
     ∙ ap (plan_at f net)
-    (ap (aps_part tools b y draw (shown_of f a.body) (Some (net_term f (clear_content tools f.counter command)))) u.reads
-    ∙ ap (by_security tools b y draw (shown_of f a.body) (Some (net_term f (clear_content tools f.counter command))) u.part) u.clear
+    (ap (aps_part tools b y draw (shown_of f a.body) (Some (net_term f (clear_content tools f.counter command))))
+    u.reads
+    ∙ ap (by_security tools b y draw (shown_of f a.body) (Some (net_term f (clear_content tools f.counter command)))
+    u.part) u.clear
     ∙ in_clear tools b y f command draw (shown_of f a.body) u)
 
 -- ---- what is refused, and where nothing is
 
-refused_heard : (floor : ℕ) (rest : Plan) (stale full : Bool) → refusal_of (plan_heard stale full floor rest) ≡ or_else (or_else (when stale (Stale floor)) (when full RowsFull)) (refusal_of rest)
+refused_heard : (floor : ℕ) (rest : Plan) (stale full : Bool) → refusal_of (plan_heard stale full floor rest)
+    ≡ or_else (or_else (when stale (Stale floor)) (when full RowsFull)) (refusal_of rest)
 refused_heard floor rest true full = refl
 refused_heard floor rest false true = refl
 refused_heard floor rest false false = refl
 
-pub refused_at : (f : NetFrame) (row : NetKey) (rest : Plan) → refusal_of (plan_at f row rest) ≡ or_else (why_not_heard row f.source f.counter) (refusal_of rest)
+pub refused_at : (f : NetFrame) (row : NetKey) (rest : Plan) → refusal_of (plan_at f row rest)
+    ≡ or_else (why_not_heard row f.source f.counter) (refusal_of rest)
 unfolding why_not_heard
-refused_at f row rest = refused_heard (sender_floor f.source row).kept rest (stale_at f row) (senders_full f.source f.counter row)
+refused_at f row rest = refused_heard (sender_floor f.source row).kept rest (stale_at f row)
+    (senders_full f.source f.counter row)
 
-refused_by_floor : (accepts : List Term) (floor : ℕ) (rest : Plan) (stale : Bool) → refusal_of (plan_opened stale accepts floor rest) ≡ or_else (when stale (Stale floor)) (refusal_of rest)
+refused_by_floor : (accepts : List Term) (floor : ℕ) (rest : Plan) (stale : Bool)
+    → refusal_of (plan_opened stale accepts floor rest) ≡ or_else (when stale (Stale floor)) (refusal_of rest)
 refused_by_floor accepts floor rest true = refl
 refused_by_floor accepts floor rest false = refl
 
-pub refused_opened : (accepts : List Term) (row : LinkKey) (counter : ℕ) (rest : Plan) → refusal_of (plan_opened (nat_lt counter row.kept) accepts row.kept rest) ≡ or_else (why_not_opened row counter) (refusal_of rest)
+pub refused_opened : (accepts : List Term) (row : LinkKey) (counter : ℕ) (rest : Plan)
+    → refusal_of (plan_opened (nat_lt counter row.kept) accepts row.kept rest)
+    ≡ or_else (why_not_opened row counter) (refusal_of rest)
 unfolding why_not_opened
 refused_opened accepts row counter rest = refused_by_floor accepts row.kept rest (nat_lt counter row.kept)
 
@@ -170,16 +211,20 @@ pub when_none : (b : Bool) (r : Reason) → when b r ≡ None → b ≡ false
 when_none true r e = absurd (false≢true (sym (ap is_some e)))
 when_none false r e = refl
 
-free_heard : (floor : ℕ) (rest : Plan) (stale full : Bool) → or_else (when stale (Stale floor)) (when full RowsFull) ≡ None → plan_heard stale full floor rest ≡ rest
+free_heard : (floor : ℕ) (rest : Plan) (stale full : Bool) → or_else (when stale (Stale floor)) (when full RowsFull)
+    ≡ None → plan_heard stale full floor rest ≡ rest
 free_heard floor rest true full e = absurd (false≢true (sym (ap is_some e)))
 free_heard floor rest false true e = absurd (false≢true (sym (ap is_some e)))
 free_heard floor rest false false e = refl
 
-pub free_at : (f : NetFrame) (row : NetKey) (rest : Plan) → why_not_heard row f.source f.counter ≡ None → plan_at f row rest ≡ rest
+pub free_at : (f : NetFrame) (row : NetKey) (rest : Plan) → why_not_heard row f.source f.counter ≡ None
+    → plan_at f row rest ≡ rest
 unfolding why_not_heard
-free_at f row rest e = free_heard (sender_floor f.source row).kept rest (stale_at f row) (senders_full f.source f.counter row) e
+free_at f row rest e = free_heard (sender_floor f.source row).kept rest (stale_at f row)
+    (senders_full f.source f.counter row) e
 
-pub free_opened : (accepts : List Term) (row : LinkKey) (counter : ℕ) (rest : Plan) → why_not_opened row counter ≡ None → plan_opened (nat_lt counter row.kept) accepts row.kept rest ≡ rest
+pub free_opened : (accepts : List Term) (row : LinkKey) (counter : ℕ) (rest : Plan) → why_not_opened row counter
+    ≡ None → plan_opened (nat_lt counter row.kept) accepts row.kept rest ≡ rest
 unfolding why_not_opened
 free_opened accepts row counter rest e = by_test (nat_lt counter row.kept) e
   where

@@ -30,8 +30,10 @@ use Rattle.law_key_exchange.proofs.Judged.{IsHeard, IsOpened, plan_at, plan_open
 use Rattle.law_key_exchange.proofs.Keeping.{keeps_network, network_left, link_left, state_left, links_of, offer_comes, no_row, is_member}
 
 -- four parts of a frame
-pub four : {Y : Type 0} (frame : ℕ → Bytes → ℕ → Bytes → Y) (a b : ℕ) (c d : Bytes) (e f : ℕ) (g h : Bytes) → a ≡ b → c ≡ d → e ≡ f → g ≡ h → frame a c e g ≡ frame b d f h
-four frame a b c d e f g h x y z w = ap (λ n. frame n c e g) x ∙ ap (λ n. frame b n e g) y ∙ ap (λ n. frame b d n g) z ∙ ap (frame b d f) w
+pub four : {Y : Type 0} (frame : ℕ → Bytes → ℕ → Bytes → Y) (a b : ℕ) (c d : Bytes) (e f : ℕ) (g h : Bytes) → a ≡ b
+    → c ≡ d → e ≡ f → g ≡ h → frame a c e g ≡ frame b d f h
+four frame a b c d e f g h x y z w = ap (λ n. frame n c e g) x ∙ ap (λ n. frame b n e g) y ∙ ap (λ n. frame b d n g) z
+    ∙ ap (frame b d f) w
 
 -- ---- the request
 
@@ -39,57 +41,82 @@ abbrev asks : Bool → Bytes → Outcome
 asks true link = Stop CounterSpent
 asks false link = Does [] (sends 0 true (Secret ForData link RequestLink))
 
-asks_by : (m : Setting) (t : NodeState) (row : LinkKey) (b : Bool) → current t (centre_of m.stations) ≡ Some row → both_spent t ≡ b → request_key m t ≡ asks b row.key
+asks_by : (m : Setting) (t : NodeState) (row : LinkKey) (b : Bool) → current t (centre_of m.stations) ≡ Some row
+    → both_spent t ≡ b → request_key m t ≡ asks b row.key
 unfolding request_key found_or unless
 asks_by m t row true e f = rw (e, f) refl
 asks_by m t row false e f = rw (e, f) refl
 
-pub joined_timer : (tools : Tools) (m : Setting) (t : NodeState) (net : NetKey) → may_use t ≡ true → active_row t ≡ Some net → t.state ≡ Joined → member_timer tools m t ≡ request_key m t
+pub joined_timer : (tools : Tools) (m : Setting) (t : NodeState) (net : NetKey) → may_use t ≡ true → active_row t
+    ≡ Some net → t.state ≡ Joined → member_timer tools m t ≡ request_key m t
 unfolding member_timer found_or usable_active
 joined_timer tools m t net may active state = rw (may, active, state) refl
 
-pub timer_answer : (tools : Tools) (m : Setting) (t : NodeState) (o : Outcome) → is_centre m.me.role ≡ false → member_timer tools m t ≡ o → answer tools m t DoTimer ≡ by_outcome tools m t o
+pub timer_answer : (tools : Tools) (m : Setting) (t : NodeState) (o : Outcome) → is_centre m.me.role ≡ false
+    → member_timer tools m t ≡ o → answer tools m t DoTimer ≡ by_outcome tools m t o
 unfolding answer plan_of own
 timer_answer tools m t o role e = rw role (ap (by_outcome tools m t) e)
 
-request_answer : (tools : Tools) (c m : Setting) (t : NodeState) (key : Bytes) (sequence : ℕ) (link : Bytes) → AreDeclared c m → (j : IsJoined t c.me.eui key sequence link) → (b : Bool) → both_spent t ≡ b
+request_answer : (tools : Tools) (c m : Setting) (t : NodeState) (key : Bytes) (sequence : ℕ) (link : Bytes)
+    → AreDeclared c m → (j : IsJoined t c.me.eui key sequence link) → (b : Bool) → both_spent t ≡ b
     → answer tools m t DoTimer ≡ by_outcome tools m t (asks b j.keys.row.key)
 request_answer tools c m t key sequence link d j b e =
     timer_answer tools m t (asks b j.keys.row.key) d.network.member_role
     (joined_timer tools m t j.network.active (may_use_of t key sequence j.network) j.network.is_active j.joined
     ∙ asks_by m t j.keys.row b (ap (current t) d.network.centre_known ∙ j.keys.is_current) e)
 
-request_reason : (tools : Tools) (m : Setting) (t : NodeState) (link : Bytes) (b : Bool) → (by_outcome tools m t (asks b link)).refusal ≡ when b CounterSpent
+request_reason : (tools : Tools) (m : Setting) (t : NodeState) (link : Bytes) (b : Bool)
+    → (by_outcome tools m t (asks b link)).refusal ≡ when b CounterSpent
 unfolding answer_by
 request_reason tools m t link true = refl
 request_reason tools m t link false = refl
 
-pub request_refused : (tools : Tools) (c m : Setting) (t : NodeState) (key : Bytes) (sequence : ℕ) (link : Bytes) → AreDeclared c m → IsJoined t c.me.eui key sequence link → (answer tools m t DoTimer).refusal ≡ why_not_sealed t
+pub request_refused : (tools : Tools) (c m : Setting) (t : NodeState) (key : Bytes) (sequence : ℕ) (link : Bytes)
+    → AreDeclared c m → IsJoined t c.me.eui key sequence link → (answer tools m t DoTimer).refusal ≡ why_not_sealed t
 request_refused tools c m t key sequence link d j =
-    ap (λ (a : Answer). a.refusal) (request_answer tools c m t key sequence link d j (both_spent t) refl) ∙ request_reason tools m t j.keys.row.key (both_spent t)
+    ap (λ (a : Answer). a.refusal) (request_answer tools c m t key sequence link d j (both_spent t) refl) ∙
+    request_reason tools m t j.keys.row.key (both_spent t)
 
-pub request_sent : (tools : Tools) (c m : Setting) (t : NodeState) (key : Bytes) (sequence : ℕ) (link : Bytes) → AreDeclared c m → IsJoined t c.me.eui key sequence link → why_not_sealed t ≡ None
+pub request_sent : (tools : Tools) (c m : Setting) (t : NodeState) (key : Bytes) (sequence : ℕ) (link : Bytes)
+    → AreDeclared c m → IsJoined t c.me.eui key sequence link → why_not_sealed t ≡ None
     → frame_of tools m t DoTimer ≡ Some (request_bytes tools c m (seals_now t key sequence link))
 unfolding counting_of
 request_sent tools c m t key sequence link d j none =
     let unspent = when_none (both_spent t) CounterSpent none in
     let h = j.network in
     ap (λ (a : Answer). a.frame) (request_answer tools c m t key sequence link d j false unspent)
-    ∙ sealed_out tools m t (counting_of m t (comes_to [] AtEvent (asks false j.keys.row.key))) [] AtEvent [] h.active 0 ForData j.keys.row.key RequestLink h.is_active unspent
-    ∙ four (λ to key sequence link. Some (sealed_bytes tools (record { to = to; from = m.me.short; source = m.me.eui; key = key; sequence = sequence; counter = next_counter Nwk t }) (record { label = ForData; link = link; source = m.me.eui; counter = next_counter Aps t; command = RequestLink })))
-    0 c.me.short h.active.key key h.active.sequence sequence j.keys.row.key link (sym d.centre_short) h.active_key h.active_sequence j.keys.row_key
+    ∙ sealed_out tools m t (counting_of m t (comes_to [] AtEvent (asks false j.keys.row.key))) [] AtEvent [] h.active
+    0 ForData j.keys.row.key RequestLink h.is_active unspent
+    ∙ four (λ to key sequence link. Some
+    (sealed_bytes tools
+    (record {
+      to = to;
+      from = m.me.short;
+      source = m.me.eui;
+      key = key;
+      sequence = sequence;
+      counter = next_counter Nwk t;
+    })
+    (record
+    { label = ForData; link = link; source = m.me.eui; counter = next_counter Aps t; command = RequestLink })))
+    0 c.me.short h.active.key key h.active.sequence sequence j.keys.row.key link (sym d.centre_short) h.active_key
+    h.active_sequence j.keys.row_key
 
 asks_no_moves : (b : Bool) (link : Bytes) → moves_of (asks b link) ≡ []
 asks_no_moves true link = refl
 asks_no_moves false link = refl
 
-pub request_bare : (tools : Tools) (c m : Setting) (t : NodeState) (key : Bytes) (sequence : ℕ) (link : Bytes) → AreDeclared c m → IsJoined t c.me.eui key sequence link → bare (after_task tools m t DoTimer) ≡ bare t
+pub request_bare : (tools : Tools) (c m : Setting) (t : NodeState) (key : Bytes) (sequence : ℕ) (link : Bytes)
+    → AreDeclared c m → IsJoined t c.me.eui key sequence link → bare (after_task tools m t DoTimer) ≡ bare t
 unfolding after_task
 request_bare tools c m t key sequence link d j =
     ap (λ a. bare (answered a t)) (request_answer tools c m t key sequence link d j (both_spent t) refl)
-    ∙ bare_after tools m t (counting_of m t (comes_to [] AtEvent (asks (both_spent t) j.keys.row.key))) (comes_to [] AtEvent (asks (both_spent t) j.keys.row.key)) [] (ap (filter (changes t)) (asks_no_moves (both_spent t) j.keys.row.key)) tt
+    ∙ bare_after tools m t (counting_of m t (comes_to [] AtEvent (asks (both_spent t) j.keys.row.key)))
+    (comes_to [] AtEvent (asks (both_spent t) j.keys.row.key)) []
+    (ap (filter (changes t)) (asks_no_moves (both_spent t) j.keys.row.key)) tt
 
-pub still_joined : (t u : NodeState) (centre : ℕ) (key : Bytes) (sequence : ℕ) (link : Bytes) → IsJoined t centre key sequence link → bare u ≡ bare t → IsJoined u centre key sequence link
+pub still_joined : (t u : NodeState) (centre : ℕ) (key : Bytes) (sequence : ℕ) (link : Bytes)
+    → IsJoined t centre key sequence link → bare u ≡ bare t → IsJoined u centre key sequence link
 still_joined t u centre key sequence link j e = record {
   network = network_left t u key sequence j.network e;
   joined = state_left t u e ∙ j.joined;
@@ -106,7 +133,9 @@ turned a b e = by_test (nat_eq b a) refl
     by_test false f = refl
 
 -- a frame of the device at the centre
-pub heard_up : (c m : Setting) (s : NodeState) (k : Seals) (row : LinkKey) → AreDeclared c m → (h : HasNetwork s k.key k.sequence) → current s m.me.eui ≡ Some row → k.nwk < greatest_counter → IsHeard c s (net_frame m c k) h.found
+pub heard_up : (c m : Setting) (s : NodeState) (k : Seals) (row : LinkKey) → AreDeclared c m
+    → (h : HasNetwork s k.key k.sequence) → current s m.me.eui ≡ Some row → k.nwk < greatest_counter
+    → IsHeard c s (net_frame m c k) h.found
 heard_up c m s k row d h here small = record {
   found = h.is_found;
   same = h.found_key;
@@ -126,55 +155,85 @@ abbrev offers : Setting → ℕ → LinkKey → Bool → Option Bytes → Bool �
 offers c device row true o b = Stop RowsFull
 offers c device row false None b = Stop NoDraw
 offers c device row false (Some key) true = Stop CounterSpent
-offers c device row false (Some key) false = Does (Draw key ∷ Row device key Unverified ∷ []) (sends (short_of c device) true (Secret ForLoad row.key (TransportLink key device c.me.eui)))
+offers c device row false (Some key) false = Does (Draw key ∷ Row device key Unverified ∷ [])
+    (sends (short_of c device) true (Secret ForLoad row.key (TransportLink key device c.me.eui)))
 
-offers_by : (tools : Tools) (c m : Setting) (s : NodeState) (f : NetFrame) (k : Seals) (row : LinkKey) (draw : Option Bytes) → is_centre c.me.role ≡ true → current s m.me.eui ≡ Some row → offered s m.me.eui ≡ None
+offers_by : (tools : Tools) (c m : Setting) (s : NodeState) (f : NetFrame) (k : Seals) (row : LinkKey)
+    (draw : Option Bytes) → is_centre c.me.role ≡ true → current s m.me.eui ≡ Some row → offered s m.me.eui ≡ None
     → (full : Bool) (o : Option Bytes) (b : Bool) → links_full s ≡ full → unless_held s draw ≡ o → both_spent s ≡ b
     → take_command tools c s draw (heard_with tools f (request m k) row) RequestLink ≡ offers c m.me.eui row full o b
 unfolding take_command take_request unless found_or
-offers_by tools c m s f k row draw role here none true o b x y z = rw (role, here, same_key_of row.key row.key refl, none, x) refl
-offers_by tools c m s f k row draw role here none false None b x y z = rw (role, here, same_key_of row.key row.key refl, none, x, y) refl
-offers_by tools c m s f k row draw role here none false (Some key) true x y z = rw (role, here, same_key_of row.key row.key refl, none, x, y, z) refl
-offers_by tools c m s f k row draw role here none false (Some key) false x y z = rw (role, here, same_key_of row.key row.key refl, none, x, y, z) refl
+offers_by tools c m s f k row draw role here none true o b x y z =
+    rw (role, here, same_key_of row.key row.key refl, none, x) refl
+offers_by tools c m s f k row draw role here none false None b x y z =
+    rw (role, here, same_key_of row.key row.key refl, none, x, y) refl
+offers_by tools c m s f k row draw role here none false (Some key) true x y z =
+    rw (role, here, same_key_of row.key row.key refl, none, x, y, z) refl
+offers_by tools c m s f k row draw role here none false (Some key) false x y z =
+    rw (role, here, same_key_of row.key row.key refl, none, x, y, z) refl
 
-pub opened_up : (c m : Setting) (s : NodeState) (k : Seals) (l : HasLink s m.me.eui k.link) → candidates s m.me.eui ≡ l.row ∷ [] → k.aps < greatest_counter → IsOpened s (request m k) l.row
+pub opened_up : (c m : Setting) (s : NodeState) (k : Seals) (l : HasLink s m.me.eui k.link) → candidates s m.me.eui
+    ≡ l.row ∷ [] → k.aps < greatest_counter → IsOpened s (request m k) l.row
 opened_up c m s k l one small = record { rest = []; first = one; same = l.row_key; small = small }
 
 abbrev offers_now : Setting → Setting → NodeState → LinkKey → Option Bytes → Outcome
 offers_now c m s row draw = offers c m.me.eui row (links_full s) (unless_held s draw) (both_spent s)
 
-pub net_range : (a b : Setting) (k : Seals) → a.me.short < 2 ^ 16 → b.me.short < 2 ^ 16 → a.me.eui < 2 ^ 64 → NwkInRange k → NetFrameInRange (net_frame a b k)
-net_range a b k from to source r = record { to = to; from = from; source = source; key = r.key; sequence = r.sequence; counter = r.counter }
+pub net_range : (a b : Setting) (k : Seals) → a.me.short < 2 ^ 16 → b.me.short < 2 ^ 16 → a.me.eui < 2 ^ 64
+    → NwkInRange k → NetFrameInRange (net_frame a b k)
+net_range a b k from to source r =
+    record { to = to; from = from; source = source; key = r.key; sequence = r.sequence; counter = r.counter }
 
-request_plan : (tools : Tools) → DeliversCommands tools → (c m : Setting) (s : NodeState) (k : Seals) (draw : Option Bytes) → AreDeclared c m → StationsInRange c m → NwkInRange k → ApsInRange k → (h : HasNetwork s k.key k.sequence) → (l : HasLink s m.me.eui k.link) → candidates s m.me.eui ≡ l.row ∷ []
+request_plan : (tools : Tools) → DeliversCommands tools
+    → (c m : Setting) (s : NodeState) (k : Seals) (draw : Option Bytes) → AreDeclared c m → StationsInRange c m
+    → NwkInRange k → ApsInRange k → (h : HasNetwork s k.key k.sequence) → (l : HasLink s m.me.eui k.link)
+    → candidates s m.me.eui ≡ l.row ∷ []
     → plan_of tools c s (Received (request_bytes tools c m k) draw)
-    ≡ plan_at (net_frame m c k) h.found (plan_opened (nat_lt k.aps l.row.kept) (net_term (net_frame m c k) (sealed_content tools (request m k)) ∷ []) l.row.kept (comes_to (both_terms tools (net_frame m c k) (request m k)) AtAps (offers_now c m s l.row draw)))
+    ≡ plan_at (net_frame m c k) h.found
+    (plan_opened (nat_lt k.aps l.row.kept) (net_term (net_frame m c k) (sealed_content tools (request m k)) ∷ [])
+    l.row.kept (comes_to (both_terms tools (net_frame m c k) (request m k)) AtAps (offers_now c m s l.row draw)))
 request_plan tools delivers c m s k draw d st rn ra h l one =
     let f = net_frame m c k in
     let net = net_range m c k st.device_short st.centre_short st.device rn in
-    let sealed : LinkFrameInRange (request m k) = record { link = ra.link; source = st.device; counter = ra.counter; command = tt } in
-    delivered_sealed tools c s f (request m k) h.found l.row draw (delivers.carried f (request m k) net sealed) (delivers.unsealed (request m k) sealed) (heard_up c m s k l.row d h l.is_current rn.counter) (opened_up c m s k l one ra.counter)
-    ∙ ap (λ o. plan_at f h.found (plan_opened (nat_lt k.aps l.row.kept) (net_term f (sealed_content tools (request m k)) ∷ []) l.row.kept (comes_to (both_terms tools f (request m k)) AtAps o)))
-    (offers_by tools c m s f k l.row draw d.network.centre_role l.is_current l.none_offered (links_full s) (unless_held s draw) (both_spent s) refl refl refl)
+    let sealed : LinkFrameInRange (request m k) =
+    record { link = ra.link; source = st.device; counter = ra.counter; command = tt } in
+    delivered_sealed tools c s f (request m k) h.found l.row draw (delivers.carried f (request m k) net sealed)
+    (delivers.unsealed (request m k) sealed) (heard_up c m s k l.row d h l.is_current rn.counter)
+    (opened_up c m s k l one ra.counter)
+    ∙ ap (λ o. plan_at f h.found
+    (plan_opened (nat_lt k.aps l.row.kept) (net_term f (sealed_content tools (request m k)) ∷ []) l.row.kept
+    (comes_to (both_terms tools f (request m k)) AtAps o)))
+    (offers_by tools c m s f k l.row draw d.network.centre_role l.is_current l.none_offered (links_full s)
+    (unless_held s draw) (both_spent s) refl refl refl)
 
-offer_reason : (c : Setting) (device : ℕ) (row : LinkKey) (full : Bool) (o : Option Bytes) (b : Bool) → reason_of (offers c device row full o b) ≡ or_else (when full RowsFull) (or_else (when (is_none o) NoDraw) (when b CounterSpent))
+offer_reason : (c : Setting) (device : ℕ) (row : LinkKey) (full : Bool) (o : Option Bytes) (b : Bool)
+    → reason_of (offers c device row full o b)
+    ≡ or_else (when full RowsFull) (or_else (when (is_none o) NoDraw) (when b CounterSpent))
 offer_reason c device row true o b = refl
 offer_reason c device row false None b = refl
 offer_reason c device row false (Some key) true = refl
 offer_reason c device row false (Some key) false = refl
 
-pub offer_refused : (tools : Tools) → DeliversCommands tools → (c m : Setting) (s : NodeState) (k : Seals) (draw : Option Bytes) → AreDeclared c m → StationsInRange c m → NwkInRange k → ApsInRange k → keeps_rules s ≡ true → (h : HasNetwork s k.key k.sequence) → (l : HasLink s m.me.eui k.link)
-    → (answer tools c s (Received (request_bytes tools c m k) draw)).refusal ≡ or_else (why_not_heard h.found m.me.eui k.nwk) (or_else (why_not_opened l.row k.aps) (why_not_offered s draw))
+pub offer_refused : (tools : Tools) → DeliversCommands tools
+    → (c m : Setting) (s : NodeState) (k : Seals) (draw : Option Bytes) → AreDeclared c m → StationsInRange c m
+    → NwkInRange k → ApsInRange k → keeps_rules s ≡ true → (h : HasNetwork s k.key k.sequence)
+    → (l : HasLink s m.me.eui k.link)
+    → (answer tools c s (Received (request_bytes tools c m k) draw)).refusal
+    ≡ or_else (why_not_heard h.found m.me.eui k.nwk)
+    (or_else (why_not_opened l.row k.aps) (why_not_offered s draw))
 unfolding answer answer_by
 offer_refused tools delivers c m s k draw d st rn ra rules h l =
     let f = net_frame m c k in
     let one = one_candidate s m.me.eui l.row rules l.is_current l.none_offered in
     let last = comes_to (both_terms tools f (request m k)) AtAps (offers_now c m s l.row draw) in
-    let inner = plan_opened (nat_lt k.aps l.row.kept) (net_term f (sealed_content tools (request m k)) ∷ []) l.row.kept last in
+    let inner = plan_opened (nat_lt k.aps l.row.kept) (net_term f (sealed_content tools (request m k)) ∷ [])
+    l.row.kept last in
     ap refusal_of (request_plan tools delivers c m s k draw d st rn ra h l one)
     ∙ refused_at f h.found inner
-    ∙ ap (or_else (why_not_heard h.found m.me.eui k.nwk)) (refused_opened (net_term f (sealed_content tools (request m k)) ∷ []) l.row k.aps last)
-    ∙ ap (λ o. or_else (why_not_heard h.found m.me.eui k.nwk) (or_else (why_not_opened l.row k.aps) o)) (offer_reason c m.me.eui l.row (links_full s) (unless_held s draw) (both_spent s))
+    ∙ ap (or_else (why_not_heard h.found m.me.eui k.nwk))
+    (refused_opened (net_term f (sealed_content tools (request m k)) ∷ []) l.row k.aps last)
+    ∙ ap (λ o. or_else (why_not_heard h.found m.me.eui k.nwk) (or_else (why_not_opened l.row k.aps) o))
+    (offer_reason c m.me.eui l.row (links_full s) (unless_held s draw) (both_spent s))
 
 -- ---- where nothing is in the way
 
@@ -187,33 +246,51 @@ pub record Draws (s : NodeState) (draw : Option Bytes) : Type 0 where
 
 draws_by : (s : NodeState) (draw : Option Bytes) → is_none (unless_held s draw) ≡ false → Draws s draw
 draws_by s None e = absurd (false≢true (sym e))
-draws_by s (Some key) e = by_tests (has_net key s.nets) (list_any (λ (r : LinkKey). same_key r.key key) s.links) refl refl
+draws_by s (Some key) e = by_tests (has_net key s.nets) (list_any (λ (r : LinkKey). same_key r.key key) s.links) refl
+    refl
   where
-    by_tests : (a b : Bool) → has_net key s.nets ≡ a → list_any (λ (r : LinkKey). same_key r.key key) s.links ≡ b → Draws s (Some key)
-    by_tests true b x y = absurd (false≢true (sym (ap (λ t. is_none (if t || list_any (λ (r : LinkKey). same_key r.key key) s.links then None else Some key)) (sym x) ∙ e)))
+    by_tests : (a b : Bool) → has_net key s.nets ≡ a → list_any (λ (r : LinkKey). same_key r.key key) s.links ≡ b
+        → Draws s (Some key)
+    by_tests true b x y =
+        absurd (false≢true
+        (sym (ap
+        (λ t. is_none (if t || list_any (λ (r : LinkKey). same_key r.key key) s.links then None else Some key))
+        (sym x) ∙ e)))
     by_tests false true x y = absurd (false≢true (sym (rw (x, y) refl ∙ e)))
     by_tests false false x y = record { key = key; held = rw (x, y) refl; drawn = refl; fresh = y }
 
-pub no_link : (p : ℕ) (key : Bytes) (rows : List LinkKey) → list_any (λ (r : LinkKey). same_key r.key key) rows ≡ false → has_link p key rows ≡ false
-no_link p key rows none = none_where (λ (r : LinkKey). same_key r.key key) (is_link p key) (λ r e. by_test (nat_eq r.partner p) e) rows none
+pub no_link : (p : ℕ) (key : Bytes) (rows : List LinkKey) → list_any (λ (r : LinkKey). same_key r.key key) rows
+    ≡ false → has_link p key rows ≡ false
+no_link p key rows none = none_where (λ (r : LinkKey). same_key r.key key) (is_link p key)
+    (λ r e. by_test (nat_eq r.partner p) e) rows none
   where
     by_test : {t : Bool} → (b : Bool) → t ≡ false → (b && t) ≡ false
     by_test true e = e
     by_test false e = refl
 
-pub no_such_row : (p : ℕ) (key : Bytes) (byte : ℕ) (rows : List LinkKey) → has_link p key rows ≡ false → list_any (λ (r : LinkKey). is_link p key r && (r.live && nat_eq (attribute_byte r.attribute) byte)) rows ≡ false
-no_such_row p key byte rows none = none_where (is_link p key) (λ (r : LinkKey). is_link p key r && (r.live && nat_eq (attribute_byte r.attribute) byte)) (λ r e. rw e refl) rows none
+pub no_such_row : (p : ℕ) (key : Bytes) (byte : ℕ) (rows : List LinkKey) → has_link p key rows ≡ false
+    → list_any (λ (r : LinkKey). is_link p key r && (r.live && nat_eq (attribute_byte r.attribute) byte)) rows ≡ false
+no_such_row p key byte rows none =
+    none_where (is_link p key)
+    (λ (r : LinkKey). is_link p key r && (r.live && nat_eq (attribute_byte r.attribute) byte)) (λ r e. rw e refl) rows
+    none
 
 abbrev given : Bytes → ℕ → List Move
 given key device = Draw key ∷ Row device key Unverified ∷ []
 
-gives : (s : NodeState) (device : ℕ) (key : Bytes) → has_link device key s.links ≡ false → filter (changes s) (given key device) ≡ given key device
+gives : (s : NodeState) (device : ℕ) (key : Bytes) → has_link device key s.links ≡ false
+    → filter (changes s) (given key device) ≡ given key device
 gives s device key none = rw (no_such_row device key (attribute_byte Unverified) s.links none) refl
 
 -- the free plan
-offer_plan : (tools : Tools) → DeliversCommands tools → (c m : Setting) (s : NodeState) (k : Seals) (draw : Option Bytes) → AreDeclared c m → StationsInRange c m → NwkInRange k → ApsInRange k → keeps_rules s ≡ true → (h : HasNetwork s k.key k.sequence) → (l : HasLink s m.me.eui k.link)
-    → or_else (why_not_heard h.found m.me.eui k.nwk) (or_else (why_not_opened l.row k.aps) (why_not_offered s draw)) ≡ None
-    → plan_of tools c s (Received (request_bytes tools c m k) draw) ≡ comes_to (both_terms tools (net_frame m c k) (request m k)) AtAps (offers_now c m s l.row draw)
+offer_plan : (tools : Tools) → DeliversCommands tools
+    → (c m : Setting) (s : NodeState) (k : Seals) (draw : Option Bytes) → AreDeclared c m → StationsInRange c m
+    → NwkInRange k → ApsInRange k → keeps_rules s ≡ true → (h : HasNetwork s k.key k.sequence)
+    → (l : HasLink s m.me.eui k.link)
+    → or_else (why_not_heard h.found m.me.eui k.nwk) (or_else (why_not_opened l.row k.aps) (why_not_offered s draw))
+    ≡ None
+    → plan_of tools c s (Received (request_bytes tools c m k) draw)
+    ≡ comes_to (both_terms tools (net_frame m c k) (request m k)) AtAps (offers_now c m s l.row draw)
 offer_plan tools delivers c m s k draw d st rn ra rules h l none =
     let f = net_frame m c k in
     let one = one_candidate s m.me.eui l.row rules l.is_current l.none_offered in
@@ -224,7 +301,9 @@ offer_plan tools delivers c m s k draw d st rn ra rules h l none =
     let free = or_first first (or_else second third) none in
     let more = or_second first (or_else second third) none in
     request_plan tools delivers c m s k draw d st rn ra h l one
-    ∙ free_at f h.found (plan_opened (nat_lt k.aps l.row.kept) (net_term f (sealed_content tools (request m k)) ∷ []) l.row.kept last) free
+    ∙ free_at f h.found
+    (plan_opened (nat_lt k.aps l.row.kept) (net_term f (sealed_content tools (request m k)) ∷ []) l.row.kept last)
+    free
     ∙ free_opened (net_term f (sealed_content tools (request m k)) ∷ []) l.row k.aps last (or_first second third more)
 
 -- what the centre does, and what it draws
@@ -245,24 +324,37 @@ offers_of s draw e =
       unspent = when_none (both_spent s) CounterSpent (or_second second third more);
     }
 
-offers_so : (c m : Setting) (s : NodeState) (row : LinkKey) (draw : Option Bytes) → (o : CanOffer s draw) → offers_now c m s row draw ≡ offers c m.me.eui row false (Some o.draws.key) false
-offers_so c m s row draw o = ap (λ b. offers c m.me.eui row b (unless_held s draw) (both_spent s)) o.room ∙ ap (λ x. offers c m.me.eui row false x (both_spent s)) o.draws.held ∙ ap (offers c m.me.eui row false (Some o.draws.key)) o.unspent
+offers_so : (c m : Setting) (s : NodeState) (row : LinkKey) (draw : Option Bytes) → (o : CanOffer s draw)
+    → offers_now c m s row draw ≡ offers c m.me.eui row false (Some o.draws.key) false
+offers_so c m s row draw o = ap (λ b. offers c m.me.eui row b (unless_held s draw) (both_spent s)) o.room ∙ ap
+    (λ x. offers c m.me.eui row false x (both_spent s)) o.draws.held ∙ ap
+    (offers c m.me.eui row false (Some o.draws.key)) o.unspent
 
 abbrev offer_end : Tools → Setting → Setting → Seals → LinkKey → Bytes → Plan
-offer_end tools c m k row key = comes_to (both_terms tools (net_frame m c k) (request m k)) AtAps (offers c m.me.eui row false (Some key) false)
+offer_end tools c m k row key = comes_to (both_terms tools (net_frame m c k) (request m k)) AtAps
+    (offers c m.me.eui row false (Some key) false)
 
-offered_bare_links : (s u : NodeState) (device : ℕ) (key : Bytes) → bare u ≡ moved_all (given key device) (bare s) → has_link device key s.links ≡ false
+offered_bare_links : (s u : NodeState) (device : ℕ) (key : Bytes) → bare u ≡ moved_all (given key device) (bare s)
+    → has_link device key s.links ≡ false
     → map bare_link u.links ≡ map bare_link s.links ++ new_link device key Unverified (is_told (bare s) device) ∷ []
 unfolding bare
-offered_bare_links s u device key e none = links_of u (moved_all (given key device) (bare s)) e ∙ no_row device key (is_told (bare s) device) s.links none
+offered_bare_links s u device key e none = links_of u (moved_all (given key device) (bare s)) e ∙ no_row device key
+    (is_told (bare s) device) s.links none
 
-pub offered_network : (s u : NodeState) (device : ℕ) (drawn : Bytes) (key : Bytes) (sequence : ℕ) → bare u ≡ moved_all (given drawn device) (bare s) → HasNetwork s key sequence → HasNetwork u key sequence
+pub offered_network : (s u : NodeState) (device : ℕ) (drawn : Bytes) (key : Bytes) (sequence : ℕ) → bare u
+    ≡ moved_all (given drawn device) (bare s) → HasNetwork s key sequence → HasNetwork u key sequence
 unfolding bare
-offered_network s u device drawn key sequence e h = keeps_network s u (moved_all (given drawn device) (bare s)) key sequence h e refl refl (may_use_of s key sequence h)
+offered_network s u device drawn key sequence e h = keeps_network s u (moved_all (given drawn device) (bare s)) key
+    sequence h e refl refl (may_use_of s key sequence h)
 
-pub is_offering : (tools : Tools) → DeliversCommands tools → (c m : Setting) (s : NodeState) (k : Seals) (draw : Option Bytes) → AreDeclared c m → StationsInRange c m → NwkInRange k → ApsInRange k → keeps_rules s ≡ true → (h : HasNetwork s k.key k.sequence) → (l : HasLink s m.me.eui k.link)
-    → or_else (why_not_heard h.found m.me.eui k.nwk) (or_else (why_not_opened l.row k.aps) (why_not_offered s draw)) ≡ None
-    → Offers tools c m s (after_task tools c s (Received (request_bytes tools c m k) draw)) k draw (frame_of tools c s (Received (request_bytes tools c m k) draw))
+pub is_offering : (tools : Tools) → DeliversCommands tools
+    → (c m : Setting) (s : NodeState) (k : Seals) (draw : Option Bytes) → AreDeclared c m → StationsInRange c m
+    → NwkInRange k → ApsInRange k → keeps_rules s ≡ true → (h : HasNetwork s k.key k.sequence)
+    → (l : HasLink s m.me.eui k.link)
+    → or_else (why_not_heard h.found m.me.eui k.nwk) (or_else (why_not_opened l.row k.aps) (why_not_offered s draw))
+    ≡ None
+    → Offers tools c m s (after_task tools c s (Received (request_bytes tools c m k) draw)) k draw
+    (frame_of tools c s (Received (request_bytes tools c m k) draw))
 unfolding after_task answer counting_of
 is_offering tools delivers c m s k draw d st rn ra rules h l none =
     let first = why_not_heard h.found m.me.eui k.nwk in
@@ -272,18 +364,42 @@ is_offering tools delivers c m s k draw d st rn ra rules h l none =
     let key = o.draws.key in
     let p = offer_end tools c m k l.row key in
     let device = m.me.eui in
-    let plan : plan_of tools c s (Received (request_bytes tools c m k) draw) ≡ p = offer_plan tools delivers c m s k draw d st rn ra rules h l none ∙ ap (comes_to (both_terms tools (net_frame m c k) (request m k)) AtAps) (offers_so c m s l.row draw o) in
+    let plan : plan_of tools c s (Received (request_bytes tools c m k) draw)
+    ≡ p = offer_plan tools delivers c m s k draw d st rn ra rules h l none ∙ ap
+    (comes_to (both_terms tools (net_frame m c k) (request m k)) AtAps) (offers_so c m s l.row draw o) in
     let u = answered (answer_by tools c s (counting_of c s p) p) s in
     let fresh = no_link device key s.links o.draws.fresh in
-    let rows : bare u ≡ moved_all (given key device) (bare s) = bare_after tools c s (counting_of c s p) p (given key device) (gives s device key fresh) (tt, (tt, tt)) in
-    subst (λ q. Offers tools c m s (answered (answer_by tools c s (counting_of c s q) q) s) k draw (answer_by tools c s (counting_of c s q) q).frame) (sym plan)
+    let rows : bare u ≡ moved_all (given key device) (bare s) = bare_after tools c s (counting_of c s p) p
+    (given key device) (gives s device key fresh) (tt, (tt, tt)) in
+    subst (λ q. Offers tools c m s (answered (answer_by tools c s (counting_of c s q) q) s) k draw
+    (answer_by tools c s (counting_of c s q) q).frame) (sym plan)
     (record {
       key = key;
       drawn = o.draws.drawn;
       sent =
-          sealed_out tools c s (counting_of c s p) (both_terms tools (net_frame m c k) (request m k)) AtAps (given key device) h.active (short_of c device) ForLoad l.row.key (TransportLink key device c.me.eui) h.is_active o.unspent
-          ∙ four (λ to net sequence link. Some (sealed_bytes tools (record { to = to; from = c.me.short; source = c.me.eui; key = net; sequence = sequence; counter = next_counter Nwk s }) (record { label = ForLoad; link = link; source = c.me.eui; counter = next_counter Aps s; command = TransportLink key device c.me.eui })))
-          (short_of c device) m.me.short h.active.key k.key h.active.sequence k.sequence l.row.key k.link d.network.short_known h.active_key h.active_sequence l.row_key;
+          sealed_out tools c s (counting_of c s p) (both_terms tools (net_frame m c k) (request m k)) AtAps
+          (given key device) h.active (short_of c device) ForLoad l.row.key (TransportLink key device c.me.eui)
+          h.is_active o.unspent
+          ∙ four (λ to net sequence link. Some
+          (sealed_bytes tools
+          (record {
+            to = to;
+            from = c.me.short;
+            source = c.me.eui;
+            key = net;
+            sequence = sequence;
+            counter = next_counter Nwk s;
+          })
+          (record {
+            label = ForLoad;
+            link = link;
+            source = c.me.eui;
+            counter = next_counter Aps s;
+            command = TransportLink key device c.me.eui;
+          })))
+          (short_of c device) m.me.short h.active.key k.key h.active.sequence k.sequence l.row.key k.link
+          d.network.short_known h.active_key h.active_sequence l.row_key;
       network = offered_network s u device key k.key k.sequence rows h;
-      keys = offer_comes s u device k.link key (is_told (bare s) device) l (offered_bare_links s u device key rows fresh);
+      keys = offer_comes s u device k.link key (is_told (bare s) device) l
+          (offered_bare_links s u device key rows fresh);
     })

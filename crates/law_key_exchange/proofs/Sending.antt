@@ -13,18 +13,24 @@ pub apart_spent : (s : NodeState) → both_spent s ≡ false → (spent Nwk s �
 unfolding both_spent
 apart_spent s e = neither (spent Nwk s) (spent Aps s) e
 
-pub sealed_out : (tools : Tools) (c : Setting) (s : NodeState) (k : Counting) (accepts : List Term) (place : Place) (moves : List Move) (net : NetKey) (to : ℕ) (label : Label) (link : Bytes) (command : Command)
+pub sealed_out : (tools : Tools) (c : Setting) (s : NodeState) (k : Counting) (accepts : List Term) (place : Place)
+    (moves : List Move) (net : NetKey) (to : ℕ) (label : Label) (link : Bytes) (command : Command)
     → active_row s ≡ Some net → both_spent s ≡ false
     → (answer_by tools c s k (comes_to accepts place (Does moves (sends to true (Secret label link command))))).frame
-    ≡ Some (tools.wire (nwk_term secured_frame to c.me.short c.me.eui net.key net.sequence (k.counter Nwk) (tools.wire (aps_term sealed_command label link c.me.eui (k.counter Aps) (tools.spelled command)))))
+    ≡ Some (tools.wire
+    (nwk_term secured_frame to c.me.short c.me.eui net.key net.sequence (k.counter Nwk)
+    (tools.wire (aps_term sealed_command label link c.me.eui (k.counter Aps) (tools.spelled command)))))
 unfolding answer_by out_of may_seal part_of
 sealed_out tools c s k accepts place moves net to label link command active unspent =
     let z = apart_spent s unspent in
     rw (z.0, z.1, active) refl
 
-pub clear_out : (tools : Tools) (c : Setting) (s : NodeState) (k : Counting) (accepts : List Term) (place : Place) (moves : List Move) (net : NetKey) (to : ℕ) (command : Command)
+pub clear_out : (tools : Tools) (c : Setting) (s : NodeState) (k : Counting) (accepts : List Term) (place : Place)
+    (moves : List Move) (net : NetKey) (to : ℕ) (command : Command)
     → active_row s ≡ Some net → spent Nwk s ≡ false
     → (answer_by tools c s k (comes_to accepts place (Does moves (sends to true (Clear clear_command command))))).frame
-    ≡ Some (tools.wire (nwk_term secured_frame to c.me.short c.me.eui net.key net.sequence (k.counter Nwk) (clear_command ∷ low_byte (k.counter Nwk) ∷ tools.spelled command)))
+    ≡ Some (tools.wire
+    (nwk_term secured_frame to c.me.short c.me.eui net.key net.sequence (k.counter Nwk)
+    (clear_command ∷ low_byte (k.counter Nwk) ∷ tools.spelled command)))
 unfolding answer_by out_of may_seal part_of
 clear_out tools c s k accepts place moves net to command active unspent = rw (unspent, active) refl

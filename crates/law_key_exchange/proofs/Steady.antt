@@ -29,7 +29,8 @@ unfolding applied_all
 by_edits [] s = refl
 by_edits (e ∷ es) s = by_edits es (applied e s) ∙ by_edit e s
 
-by_hearing : (layer : Layer) (t : Term) (s : NodeState) → (after_hearing layer t.base t.source t.counter s).role ≡ s.role
+by_hearing : (layer : Layer) (t : Term) (s : NodeState) → (after_hearing layer t.base t.source t.counter s).role
+    ≡ s.role
 unfolding after_hearing
 by_hearing Nwk t s = refl
 by_hearing Aps t s = refl
@@ -50,9 +51,11 @@ by_seals (t ∷ ts) s = by_seals ts (after_sealing t s) ∙ by_sealing t.layer t
 
 role_after : (a : Answer) (s : NodeState) → (answered a s).role ≡ s.role
 unfolding answered
-role_after a s = by_seals a.seals (accepted_all a.accepts (applied_all a.edits s)) ∙ by_accepts a.accepts (applied_all a.edits s) ∙ by_edits a.edits s
+role_after a s = by_seals a.seals (accepted_all a.accepts (applied_all a.edits s)) ∙ by_accepts a.accepts
+    (applied_all a.edits s) ∙ by_edits a.edits s
 
-pub steady_after : (tools : Tools) → OpensAsJudged tools → (c : Setting) (s : NodeState) (task : Task) → 1 ≤ c.me.in_block → IsSteady c s → IsSteady c (after_task tools c s task)
+pub steady_after : (tools : Tools) → OpensAsJudged tools → (c : Setting) (s : NodeState) (task : Task) → 1
+    ≤ c.me.in_block → IsSteady c s → IsSteady c (after_task tools c s task)
 unfolding after_task
 steady_after tools opens c s task block i = record {
   rules = kept_answered tools opens c s task i.rules i.role block;

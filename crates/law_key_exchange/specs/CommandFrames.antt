@@ -57,7 +57,8 @@ pub record NetFrameInRange (f : NetFrame) : Type 0 where
 abbrev pub SealedInRange : Label → Command → Type 0
 SealedInRange ForData RequestLink = Unit {0}
 SealedInRange ForData (ConfirmKey status kind destination) = (status < 2 ^ 8) × (kind < 2 ^ 8) × (destination < 2 ^ 64)
-SealedInRange ForLoad (TransportLink key destination source) = (length key ≡ 16) × (destination < 2 ^ 64) × (source < 2 ^ 64)
+SealedInRange ForLoad (TransportLink key destination source) = (length key ≡ 16) × (destination < 2 ^ 64)
+    × (source < 2 ^ 64)
 SealedInRange label command = ◌≡◌ {A = ℕ} 0 1
 
 pub record LinkFrameInRange (l : LinkFrame) : Type 0 where
@@ -105,8 +106,10 @@ pub record IsRead (tools : Tools) (counter : ℕ) (command : Command) : Type 0 w
 
 -- Frames of the exchange arrive as they were sent, and the proof of a key has 16 bytes.
 pub record DeliversCommands (tools : Tools) : Type 0 where
-  pub carried : (f : NetFrame) (l : LinkFrame) → NetFrameInRange f → LinkFrameInRange l → IsCarried tools f (sealed_content tools l)
+  pub carried : (f : NetFrame) (l : LinkFrame) → NetFrameInRange f → LinkFrameInRange l
+      → IsCarried tools f (sealed_content tools l)
   pub unsealed : (l : LinkFrame) → LinkFrameInRange l → IsUnsealed tools l
-  pub carried_clear : (f : NetFrame) (command : Command) → NetFrameInRange f → ClearInRange command → IsCarried tools f (clear_content tools f.counter command)
+  pub carried_clear : (f : NetFrame) (command : Command) → NetFrameInRange f → ClearInRange command
+      → IsCarried tools f (clear_content tools f.counter command)
   pub read : (counter : ℕ) (command : Command) → ClearInRange command → IsRead tools counter command
   pub proof : (key : Bytes) → length (verify_hash tools key) ≡ 16

@@ -17,18 +17,35 @@ pub record Seals : Type 0 where
 
 -- a NWK frame of a node to another
 abbrev pub net_frame : Setting → Setting → Seals → NetFrame
-net_frame a b k = record { to = b.me.short; from = a.me.short; source = a.me.eui; key = k.key; sequence = k.sequence; counter = k.nwk }
+net_frame a b k =
+    record {
+      to = b.me.short;
+      from = a.me.short;
+      source = a.me.eui;
+      key = k.key;
+      sequence = k.sequence;
+      counter = k.nwk;
+    }
 
 -- the request of a device, and the key that the centre offers
 abbrev pub request : Setting → Seals → LinkFrame
 request m k = record { label = ForData; link = k.link; source = m.me.eui; counter = k.aps; command = RequestLink }
 
 abbrev pub offer : Setting → Setting → Seals → Bytes → LinkFrame
-offer c m k key = record { label = ForLoad; link = k.link; source = c.me.eui; counter = k.aps; command = TransportLink key m.me.eui c.me.eui }
+offer c m k key =
+    record {
+      label = ForLoad;
+      link = k.link;
+      source = c.me.eui;
+      counter = k.aps;
+      command = TransportLink key m.me.eui
+          c.me.eui;
+    }
 
 -- the confirmation of the key under which it is sealed
 abbrev pub confirmation : Setting → Setting → Seals → LinkFrame
-confirmation c m k = record { label = ForData; link = k.link; source = c.me.eui; counter = k.aps; command = ConfirmKey 0 4 m.me.eui }
+confirmation c m k =
+    record { label = ForData; link = k.link; source = c.me.eui; counter = k.aps; command = ConfirmKey 0 4 m.me.eui }
 
 abbrev pub request_bytes : Tools → Setting → Setting → Seals → Bytes
 request_bytes tools c m k = sealed_bytes tools (net_frame m c k) (request m k)
@@ -45,17 +62,19 @@ confirmation_bytes tools c m k = sealed_bytes tools (net_frame c m k) (confirmat
 
 -- what is sealed in a frame that a node sends now
 abbrev pub seals_now : NodeState → Bytes → ℕ → Bytes → Seals
-seals_now s key sequence link = record { key = key; sequence = sequence; link = link; nwk = next_counter Nwk s; aps = next_counter Aps s }
+seals_now s key sequence link =
+    record { key = key; sequence = sequence; link = link; nwk = next_counter Nwk s; aps = next_counter Aps s }
 
 -- ---- what the centre does
 
 -- It was in state s, and is in state u. It offers the key that it drew, and its frame is for the device.
-pub record Offers (tools : Tools) (c m : Setting) (s u : NodeState) (k : Seals) (draw frame : Option Bytes) : Type 0 where
-  pub key : Bytes
-  pub drawn : draw ≡ Some key
-  pub sent : frame ≡ Some (offer_bytes tools c m (seals_now s k.key k.sequence k.link) key)
-  pub network : HasNetwork u k.key k.sequence
-  pub keys : HasOffer u m.me.eui key
+pub record Offers (tools : Tools) (c m : Setting) (s u : NodeState) (k : Seals) (draw frame : Option Bytes) : Type 0
+  where
+    pub key : Bytes
+    pub drawn : draw ≡ Some key
+    pub sent : frame ≡ Some (offer_bytes tools c m (seals_now s k.key k.sequence k.link) key)
+    pub network : HasNetwork u k.key k.sequence
+    pub keys : HasOffer u m.me.eui key
 
 -- It keeps the key that was proved, and its frame, which confirms it, is for the device.
 pub record Confirms (tools : Tools) (c m : Setting) (s u : NodeState) (k : Seals) (frame : Option Bytes) : Type 0 where

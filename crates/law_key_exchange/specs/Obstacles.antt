@@ -64,10 +64,14 @@ abbrev pub why_no_request : NodeState → Option Reason
 why_no_request t = why_not_sealed t
 
 unfoldable pub why_no_offer : NodeState → ℕ → Seals → Option Bytes → Option Reason
-why_no_offer s device k draw = or_else (why_unheard s device k) (or_else (in_row (current s device) (λ row. why_not_opened row k.aps)) (why_not_offered s draw))
+why_no_offer s device k draw =
+    or_else (why_unheard s device k)
+    (or_else (in_row (current s device) (λ row. why_not_opened row k.aps)) (why_not_offered s draw))
 
 unfoldable pub why_offer_not_kept : NodeState → ℕ → Seals → Bytes → Option Reason
-why_offer_not_kept t centre k key = or_else (why_unheard t centre k) (or_else (in_row (current t centre) (λ row. why_not_opened row k.aps)) (why_not_kept t centre key))
+why_offer_not_kept t centre k key =
+    or_else (why_unheard t centre k)
+    (or_else (in_row (current t centre) (λ row. why_not_opened row k.aps)) (why_not_kept t centre key))
 
 -- The device's proof; the centre's confirmation; that the device takes it. Its last row of the centre is tried first.
 abbrev pub why_no_proof : NodeState → Option Reason
@@ -77,4 +81,6 @@ unfoldable pub why_no_confirmation : NodeState → ℕ → Seals → Option Reas
 why_no_confirmation s device k = or_else (why_unheard s device k) (why_not_sealed s)
 
 unfoldable pub why_not_confirmed : NodeState → ℕ → Seals → Option Reason
-why_not_confirmed t centre k = or_else (why_unheard t centre k) (in_row (find (is_live_of centre) (reverse t.links)) (λ row. why_not_opened row k.aps))
+why_not_confirmed t centre k =
+    or_else (why_unheard t centre k)
+    (in_row (find (is_live_of centre) (reverse t.links)) (λ row. why_not_opened row k.aps))
