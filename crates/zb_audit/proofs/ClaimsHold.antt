@@ -1,9 +1,10 @@
 -- Where no line is bad, the claims hold.
 use Rattle.std.proofs.Common.{◌≡◌, ℕ, ◌+◌, ◌<◌, Bool, true, false, true≢false, not, ◌&&◌, ◌||◌, List, [], ◌∷◌, ◌++◌, length, append_assoc, Option, Some, None, refl, ap, sym, subst, ◌∙◌, bytes_eq, nat_eq, nat_le, eq-eqb, le-leb, leb-true, leb-false, if◌then◌else◌}
 use Rattle.std.specs.List.{list_any, AllByRecursion}
+use Rattle.std.proofs.lemmas.Bool.{and_from}
 use Rattle.std.proofs.lemmas.List.{append-nil}
 use Rattle.std.proofs.lemmas.List.Folds.{list_any-append}
-use Rattle.zb_audit.specs.Claims.{ConfirmLine, Confirms, ConfirmsFrom, Fresh, FreshFrom, Keeps, Once, OnceFrom, Rises, SealsApart}
+use Rattle.zb_audit.specs.Claims.{ConfirmLine, Confirms, Each, Fresh, FreshFrom, IsOfCentre, Keeps, Once, OnceFrom, Rises, SealsApart, StoredVerified}
 use Rattle.zb_audit.specs.Confirming.{Absent, Kept, Made, RowState, confirmed, is_confirmable, is_kept, row_in, stands_for}
 use Rattle.zb_audit.specs.Ending.{ill_ended}
 use Rattle.zb_audit.specs.Failing.{failing, failing_from, head}
@@ -15,6 +16,7 @@ use Rattle.zb_audit.specs.Taking.{bars, is_later, same_layer, same_sender}
 use Rattle.zb_audit.specs.declared.fault.BadLine.{BadLine}
 use Rattle.zb_audit.specs.declared.fault.Verdict.{Verdict}
 use Rattle.zb_audit.proofs.Failing.{any_more}
+use Rattle.zb_audit.proofs.StoredKeys.{stored_kept, stored_verified}
 use Rattle.zb_base.specs.declared.address.Eui.{Eui}
 use Rattle.zb_base.specs.declared.label.Layer.{Layer}
 use Rattle.zb_base.specs.declared.label.Layer.TheVariants.{Nwk, Aps}
@@ -249,7 +251,7 @@ kept_is Absent e = cc
 kept_is Made e = cc
 kept_is Kept e = refl
 
-confirm_one : (h : List Line) (l : Line) → is_confirmable h l ≡ true → ConfirmLine h l
+pub confirm_one : (h : List Line) (l : Line) → is_confirmable h l ≡ true → ConfirmLine h l
 unfolding is_confirmable
 confirm_one h (line.Node x0 x1 x2 x3 x4 x5) fine = tt
 confirm_one h (line.GivenNet x0 x1 x2) fine = tt
@@ -277,7 +279,7 @@ confirm_one h (line.Refuse x0 x1 x2) fine = tt
 confirm_one h (line.Seal x0 x1 t) fine =
     λ device is.
     let it : stands_for h x1.bytes t.base.0 (Some device) ≡ true = ap (stands_for h x1.bytes t.base.0) (sym is) ∙ fine in
-    (and_left (is_centres (declared_in h) x1.bytes) _ it, kept_is (row_in h device.0 t.base.0) (and_right (is_centres (declared_in h) x1.bytes) _ it))
+    (and_left (is_centres (declared_in h) x1.bytes) _ it, stored_verified h device.0 t.base.0 (kept_is (row_in h device.0 t.base.0) (and_right (is_centres (declared_in h) x1.bytes) _ it)))
 confirm_one h (line.Forge x0 x1) fine = tt
 confirm_one h (line.Send x0 x1 x2 x3) fine = tt
 confirm_one h (line.Inject x0 x1 x2) fine = tt
@@ -288,7 +290,51 @@ confirm_one h (line.Boot x0 x1) fine = tt
 confirm_one h (line.Dump x0 x1 x2) fine = tt
 confirm_one h (line.End x0 x1 x2 x3 x4 x5) fine = tt
 
-all_confirm : (g ls : List Line) → failing_from is_confirmable g ls ≡ [] → ConfirmsFrom g ls
+-- and back
+
+stands_by : (h : List Line) (name base : Bytes) (o : Option Eui) → ((device : Eui) → o ≡ Some device → IsOfCentre h name × StoredVerified h device.0 base) → stands_for h name base o ≡ true
+stands_by h name base None stored = refl
+stands_by h name base (Some device) stored =
+    let it = stored device refl in
+    and_from (is_centres (declared_in h) name) (is_kept (row_in h device.0 base)) it.0 (ap is_kept (stored_kept h device.0 base it.1))
+
+pub confirmable_one : (h : List Line) (l : Line) → ConfirmLine h l → is_confirmable h l ≡ true
+unfolding is_confirmable
+confirmable_one h (line.Node x0 x1 x2 x3 x4 x5) stored = refl
+confirmable_one h (line.GivenNet x0 x1 x2) stored = refl
+confirmable_one h (line.GivenLink x0 x1 x2) stored = refl
+confirmable_one h (line.Counter x0 x1 x2) stored = refl
+confirmable_one h (line.Reserve x0 x1 x2 x3) stored = refl
+confirmable_one h (line.Floor x0 x1 x2 x3 x4 x5) stored = refl
+confirmable_one h (line.Draw x0 x1) stored = refl
+confirmable_one h (line.DropNet x0 x1 x2) stored = refl
+confirmable_one h (line.DropLink x0 x1 x2 x3) stored = refl
+confirmable_one h (line.Install x0 x1 x2 x3) stored = refl
+confirmable_one h (line.Active x0 x1 x2) stored = refl
+confirmable_one h (line.Start x0 x1 x2 x3) stored = refl
+confirmable_one h (line.Row x0 x1 x2 x3 x4) stored = refl
+confirmable_one h (line.Pair x0 x1 x2 x3 x4) stored = refl
+confirmable_one h (line.State x0 x1 x2) stored = refl
+confirmable_one h (line.Live x0 x1) stored = refl
+confirmable_one h (line.Removed x0 x1) stored = refl
+confirmable_one h (line.Roll x0 x1 x2) stored = refl
+confirmable_one h (line.Told x0 x1) stored = refl
+confirmable_one h (line.Untold x0 x1) stored = refl
+confirmable_one h (line.Commit x0 x1) stored = refl
+confirmable_one h (line.Accept x0 x1 x2) stored = refl
+confirmable_one h (line.Refuse x0 x1 x2) stored = refl
+confirmable_one h (line.Seal x0 x1 t) stored = stands_by h x1.bytes t.base.0 (confirmed t) stored
+confirmable_one h (line.Forge x0 x1) stored = refl
+confirmable_one h (line.Send x0 x1 x2 x3) stored = refl
+confirmable_one h (line.Inject x0 x1 x2) stored = refl
+confirmable_one h (line.Stopped x0 x1) stored = refl
+confirmable_one h (line.DownReset x0 x1) stored = refl
+confirmable_one h (line.DownDisk x0 x1) stored = refl
+confirmable_one h (line.Boot x0 x1) stored = refl
+confirmable_one h (line.Dump x0 x1 x2) stored = refl
+confirmable_one h (line.End x0 x1 x2 x3 x4 x5) stored = refl
+
+all_confirm : (g ls : List Line) → failing_from is_confirmable g ls ≡ [] → Each ConfirmLine g ls
 all_confirm g [] none = tt
 all_confirm g (l ∷ ls) none = let it = passes is_confirmable g l ls none in (confirm_one g l it.0, all_confirm (g ++ l ∷ []) ls it.1)
 

@@ -77,7 +77,7 @@ unfolding row_from
 row_from_more p k known s [] l = refl
 row_from_more p k known s (m ∷ h) l = row_from_more p k (declares known m) (row_becomes p k known s m) h l
 
-row_more : (h : List Line) (l : Line) (p : ℕ) (k : Bytes) → row_in (h ++ l ∷ []) p k ≡ row_becomes p k (declared_in h) (row_in h p k) l
+pub row_more : (h : List Line) (l : Line) (p : ℕ) (k : Bytes) → row_in (h ++ l ∷ []) p k ≡ row_becomes p k (declared_in h) (row_in h p k) l
 unfolding row_in declared_in
 row_more h l p k = row_from_more p k [] Absent h l
 
