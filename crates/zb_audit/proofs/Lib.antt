@@ -2,6 +2,7 @@ pub mod Failing
 pub mod FreshNonces
 pub mod TakenCounters
 pub mod ConfirmedKeys
+mod StoredKeys
 pub mod EndLines
 pub mod Auditing
 pub mod ClaimsHold
