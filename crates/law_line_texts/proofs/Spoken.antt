@@ -16,7 +16,8 @@ use Rattle.law_line_texts.specs.Plain.{bare, plain, plains}
 
 -- the program's line for a line of the model, with this name of its node
 abbrev again : ArrayString → log.Line → Line
-again node (log.Declared p) = line.Node (name_in p.name) (role_for p.role) (eui_of p.eui) (record { 0 = p.short }) p.out_block p.in_block
+again node (log.Declared p) = line.Node (name_in p.name) (role_for p.role) (eui_of p.eui) (record { 0 = p.short })
+    p.out_block p.in_block
 again node (log.GivenNet n key sequence) = line.GivenNet node (key_of key) sequence
 again node (log.GivenLink n partner key) = line.GivenLink node (eui_of partner) (key_of key)
 again node (log.Counter n l limit) = line.Counter node (layer_of l) limit
@@ -48,12 +49,14 @@ unfoldable spoken : List Word → Line
 spoken ws = again (name_in (name_said ws)) (said [] ws)
 
 again_plain : (l : Line) → again (name_in (name_said (words l))) (logged [] l) ≡ plain l
-again_plain (line.Node name r eui short out_block in_block) = ap (λ x. line.Node (bare name) x eui short out_block in_block) (role_same r)
+again_plain (line.Node name r eui short out_block in_block) =
+    ap (λ x. line.Node (bare name) x eui short out_block in_block) (role_same r)
 again_plain (line.GivenNet node key sequence) = refl
 again_plain (line.GivenLink node partner key) = refl
 again_plain (line.Counter node l limit) = ap (λ x. line.Counter (bare node) x limit) (layer_same l)
 again_plain (line.Reserve event node l limit) = ap (λ x. line.Reserve event (bare node) x limit) (layer_same l)
-again_plain (line.Floor event node l key sender value) = ap (λ x. line.Floor event (bare node) x key sender value) (layer_same l)
+again_plain (line.Floor event node l key sender value) = ap (λ x. line.Floor event (bare node) x key sender value)
+    (layer_same l)
 again_plain (line.Draw event key) = refl
 again_plain (line.DropNet event node key) = refl
 again_plain (line.DropLink event node partner key) = refl
@@ -88,7 +91,8 @@ spoken_plain l = ap (again (name_in (name_said (words l)))) (words_read [] l) �
 
 spoken_plains : (lines : List Line) → map spoken (map words lines) ≡ plains lines
 spoken_plains [] = refl
-spoken_plains (l ∷ ls) = ap (λ x. x ∷ map spoken (map words ls)) (spoken_plain l) ∙ ap (λ xs. plain l ∷ xs) (spoken_plains ls)
+spoken_plains (l ∷ ls) = ap (λ x. x ∷ map spoken (map words ls)) (spoken_plain l) ∙ ap (λ xs. plain l ∷ xs)
+    (spoken_plains ls)
 
 pub same_plains : (lines others : List Line) → map words lines ≡ map words others → plains lines ≡ plains others
 same_plains lines others same = sym (spoken_plains lines) ∙ (ap (map spoken) same ∙ spoken_plains others)

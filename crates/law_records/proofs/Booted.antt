@@ -7,4 +7,5 @@ pub forgets_booted : (s : NodeState) → shown s ≡ s → shown (after_boot s) 
 unfolding shown after_boot
 forgets_booted s forgets =
     let nets : map shown_net s.nets ≡ s.nets = ap (λ (t : NodeState). t.nets) forgets in
-    ap (λ l. record s { aps_next = s.aps_limit; nets = l; links = map booted_link s.links }) (sym (booted_shown s.nets) ∙ ap (map booted_net) nets)
+    ap (λ l. record s { aps_next = s.aps_limit; nets = l; links = map booted_link s.links })
+    (sym (booted_shown s.nets) ∙ ap (map booted_net) nets)

@@ -13,7 +13,8 @@ one_read read s t is found = ok_of t s (sym found ∙ is)
     ok_of : (a b : NodeState) → ◌≡◌ {A = Result NodeState ℕ} (Ok a) (Ok b) → a ≡ b
     ok_of a b e = cc
 
-pub no_fault : (read : Result NodeState ℕ) (s : NodeState) (e : KeyError) (total : ℕ) → read ≡ Ok s → BadPlace (Fault e) total read → ⊥
+pub no_fault : (read : Result NodeState ℕ) (s : NodeState) (e : KeyError) (total : ℕ) → read ≡ Ok s
+    → BadPlace (Fault e) total read → ⊥
 no_fault read s (KeyOld place) total is bad = bad
 no_fault read s KeysFull total is bad = bad
 no_fault read s RowsFull total is bad = bad

@@ -39,7 +39,8 @@ no_number : (b : Bool) (n : ℕ) (ns : List ℕ) → (if b then [] else n ∷ []
 no_number true n ns e = (refl, e)
 no_number false n ns e = cc
 
-passes : (test : List Line → Line → Bool) (g : List Line) (l : Line) (ls : List Line) → failing_from test g (l ∷ ls) ≡ [] → (test g l ≡ true) × (failing_from test (g ++ l ∷ []) ls ≡ [])
+passes : (test : List Line → Line → Bool) (g : List Line) (l : Line) (ls : List Line) → failing_from test g (l ∷ ls)
+    ≡ [] → (test g l ≡ true) × (failing_from test (g ++ l ∷ []) ls ≡ [])
 unfolding failing_from
 passes test g l ls e = no_number (test g l) (length g + 1) (failing_from test (g ++ l ∷ []) ls) e
 
@@ -58,13 +59,17 @@ not_some p g m here none it = not_both (not (list_any p g)) none (ap not (here p
 
 -- Nonces
 
-same_seal : (t u : Term) → sealing_key t.label t.base.0 ≡ sealing_key u.label u.base.0 → t.source.0 ≡ u.source.0 → t.counter ≡ u.counter → t.control ≡ u.control → same_stamp u t ≡ true
+same_seal : (t u : Term) → sealing_key t.label t.base.0 ≡ sealing_key u.label u.base.0 → t.source.0 ≡ u.source.0
+    → t.counter ≡ u.counter → t.control ≡ u.control → same_stamp u t ≡ true
 unfolding same_stamp
 same_seal t u keys sources counters controls =
     both _ _ (ap (bytes_eq (sealing_key u.label u.base.0)) keys ∙ itself (sealing_key u.label u.base.0))
-    (both _ _ (ap (nat_eq u.source.0) sources ∙ itself_number u.source.0) (both _ _ (ap (nat_eq u.counter) counters ∙ itself_number u.counter) (ap (nat_eq u.control) controls ∙ itself_number u.control)))
+    (both _ _ (ap (nat_eq u.source.0) sources ∙ itself_number u.source.0)
+    (both _ _ (ap (nat_eq u.counter) counters ∙ itself_number u.counter)
+    (ap (nat_eq u.control) controls ∙ itself_number u.control)))
 
-apart_one : (event : ℕ) (node : _) (t : Term) (g : List Line) (l : Line) → IsIn (line.Seal event node t) g → is_fresh g l ≡ true → SealsApart t l
+apart_one : (event : ℕ) (node : _) (t : Term) (g : List Line) (l : Line) → IsIn (line.Seal event node t) g
+    → is_fresh g l ≡ true → SealsApart t l
 unfolding is_fresh
 apart_one event node t g (line.Node x0 x1 x2 x3 x4 x5) here fresh = tt
 apart_one event node t g (line.GivenNet x0 x1 x2) here fresh = tt
@@ -90,7 +95,8 @@ apart_one event node t g (line.Commit x0 x1) here fresh = tt
 apart_one event node t g (line.Accept x0 x1 x2) here fresh = tt
 apart_one event node t g (line.Refuse x0 x1 x2) here fresh = tt
 apart_one event node t g (line.Seal x0 x1 u) here fresh =
-    λ keys sources counters controls. not_some (seals_alike u) g (line.Seal event node t) here fresh (same_seal t u keys sources counters controls)
+    λ keys sources counters controls. not_some (seals_alike u) g (line.Seal event node t) here fresh
+    (same_seal t u keys sources counters controls)
 apart_one event node t g (line.Forge x0 x1) here fresh = tt
 apart_one event node t g (line.Send x0 x1 x2 x3) here fresh = tt
 apart_one event node t g (line.Inject x0 x1 x2) here fresh = tt
@@ -101,11 +107,15 @@ apart_one event node t g (line.Boot x0 x1) here fresh = tt
 apart_one event node t g (line.Dump x0 x1 x2) here fresh = tt
 apart_one event node t g (line.End x0 x1 x2 x3 x4 x5) here fresh = tt
 
-all_apart : (event : ℕ) (node : _) (t : Term) (g ls : List Line) → IsIn (line.Seal event node t) g → failing_from is_fresh g ls ≡ [] → AllByRecursion (SealsApart t) ls
+all_apart : (event : ℕ) (node : _) (t : Term) (g ls : List Line) → IsIn (line.Seal event node t) g
+    → failing_from is_fresh g ls ≡ [] → AllByRecursion (SealsApart t) ls
 all_apart event node t g [] here none = tt
 all_apart event node t g (l ∷ ls) here none =
-    let it = passes is_fresh g l ls none in
-    (apart_one event node t g l here it.0, all_apart event node t (g ++ l ∷ []) ls (in_more (line.Seal event node t) g l here) it.1)
+    let it = passes is_fresh g l ls none in (
+      apart_one event node t g l here it.0,
+      all_apart event node t (g ++ l ∷ []) ls
+          (in_more (line.Seal event node t) g l here) it.1,
+    )
 
 fresh_line : (g : List Line) (l : Line) (ls : List Line) → failing_from is_fresh (g ++ l ∷ []) ls ≡ [] → FreshFrom l ls
 fresh_line g (line.Node x0 x1 x2 x3 x4 x5) ls none = tt
@@ -131,7 +141,8 @@ fresh_line g (line.Untold x0 x1) ls none = tt
 fresh_line g (line.Commit x0 x1) ls none = tt
 fresh_line g (line.Accept x0 x1 x2) ls none = tt
 fresh_line g (line.Refuse x0 x1 x2) ls none = tt
-fresh_line g (line.Seal x0 x1 t) ls none = all_apart x0 x1 t (g ++ line.Seal x0 x1 t ∷ []) ls (in_end g (line.Seal x0 x1 t)) none
+fresh_line g (line.Seal x0 x1 t) ls none = all_apart x0 x1 t (g ++ line.Seal x0 x1 t ∷ []) ls
+    (in_end g (line.Seal x0 x1 t)) none
 fresh_line g (line.Forge x0 x1) ls none = tt
 fresh_line g (line.Send x0 x1 x2 x3) ls none = tt
 fresh_line g (line.Inject x0 x1 x2) ls none = tt
@@ -144,7 +155,8 @@ fresh_line g (line.End x0 x1 x2 x3 x4 x5) ls none = tt
 
 all_fresh : (g ls : List Line) → failing_from is_fresh g ls ≡ [] → Fresh ls
 all_fresh g [] none = tt
-all_fresh g (l ∷ ls) none = let it = passes is_fresh g l ls none in (fresh_line g l ls it.1, all_fresh (g ++ l ∷ []) ls it.1)
+all_fresh g (l ∷ ls) none = let it =
+    passes is_fresh g l ls none in (fresh_line g l ls it.1, all_fresh (g ++ l ∷ []) ls it.1)
 
 -- Accepted counters
 
@@ -152,16 +164,22 @@ layer_itself : (a : Layer) → same_layer a a ≡ true
 layer_itself Nwk = refl
 layer_itself Aps = refl
 
-rises_by : (t u : Term) (name node : Bytes) (g : List Line) (m : Line) → IsIn m g → (bars node u m ≡ (bytes_eq name node && (same_sender u t && nat_le u.counter t.counter)))
-    → not (list_any (bars node u) g) ≡ true → node ≡ name → t.layer ≡ u.layer → t.base.0 ≡ u.base.0 → t.source.0 ≡ u.source.0 → (b : Bool) → nat_le u.counter t.counter ≡ b → t.counter < u.counter
+rises_by : (t u : Term) (name node : Bytes) (g : List Line) (m : Line) → IsIn m g
+    → (bars node u m ≡ (bytes_eq name node && (same_sender u t && nat_le u.counter t.counter)))
+    → not (list_any (bars node u) g) ≡ true → node ≡ name → t.layer ≡ u.layer → t.base.0 ≡ u.base.0 → t.source.0
+    ≡ u.source.0 → (b : Bool) → nat_le u.counter t.counter ≡ b → t.counter < u.counter
 unfolding same_sender
 rises_by t u name node g m here is none nodes layers bases sources true e =
     absurd (not_some (bars node u) g m here none
     (is ∙ both _ _ (ap (bytes_eq name) nodes ∙ itself name)
-    (both _ _ (both _ _ (ap (same_layer u.layer) layers ∙ layer_itself u.layer) (both _ _ (ap (bytes_eq u.base.0) bases ∙ itself u.base.0) (ap (nat_eq u.source.0) sources ∙ itself_number u.source.0))) e)))
+    (both _ _
+    (both _ _ (ap (same_layer u.layer) layers ∙ layer_itself u.layer)
+    (both _ _ (ap (bytes_eq u.base.0) bases ∙ itself u.base.0)
+    (ap (nat_eq u.source.0) sources ∙ itself_number u.source.0))) e)))
 rises_by t u name node g m here is none nodes layers bases sources false e = leb-false u.counter t.counter e
 
-rises_one : (event : ℕ) (node : _) (t : Term) (g : List Line) (l : Line) → IsIn (line.Accept event node t) g → is_later g l ≡ true → Rises node.bytes t l
+rises_one : (event : ℕ) (node : _) (t : Term) (g : List Line) (l : Line) → IsIn (line.Accept event node t) g
+    → is_later g l ≡ true → Rises node.bytes t l
 unfolding is_later bars
 rises_one event node t g (line.Node x0 x1 x2 x3 x4 x5) here later = tt
 rises_one event node t g (line.GivenNet x0 x1 x2) here later = tt
@@ -186,7 +204,8 @@ rises_one event node t g (line.Untold x0 x1) here later = tt
 rises_one event node t g (line.Commit x0 x1) here later = tt
 rises_one event node t g (line.Accept x0 x1 u) here later =
     λ nodes layers bases sources.
-    rises_by t u node.bytes x1.bytes g (line.Accept event node t) here refl later nodes layers bases sources (nat_le u.counter t.counter) refl
+    rises_by t u node.bytes x1.bytes g (line.Accept event node t) here refl later nodes layers bases sources
+    (nat_le u.counter t.counter) refl
 rises_one event node t g (line.Refuse x0 x1 x2) here later = tt
 rises_one event node t g (line.Seal x0 x1 x2) here later = tt
 rises_one event node t g (line.Forge x0 x1) here later = tt
@@ -199,11 +218,15 @@ rises_one event node t g (line.Boot x0 x1) here later = tt
 rises_one event node t g (line.Dump x0 x1 x2) here later = tt
 rises_one event node t g (line.End x0 x1 x2 x3 x4 x5) here later = tt
 
-all_rise : (event : ℕ) (node : _) (t : Term) (g ls : List Line) → IsIn (line.Accept event node t) g → failing_from is_later g ls ≡ [] → AllByRecursion (Rises node.bytes t) ls
+all_rise : (event : ℕ) (node : _) (t : Term) (g ls : List Line) → IsIn (line.Accept event node t) g
+    → failing_from is_later g ls ≡ [] → AllByRecursion (Rises node.bytes t) ls
 all_rise event node t g [] here none = tt
 all_rise event node t g (l ∷ ls) here none =
-    let it = passes is_later g l ls none in
-    (rises_one event node t g l here it.0, all_rise event node t (g ++ l ∷ []) ls (in_more (line.Accept event node t) g l here) it.1)
+    let it = passes is_later g l ls none in (
+      rises_one event node t g l here it.0,
+      all_rise event node t (g ++ l ∷ []) ls
+          (in_more (line.Accept event node t) g l here) it.1,
+    )
 
 once_line : (g : List Line) (l : Line) (ls : List Line) → failing_from is_later (g ++ l ∷ []) ls ≡ [] → OnceFrom l ls
 once_line g (line.Node x0 x1 x2 x3 x4 x5) ls none = tt
@@ -227,7 +250,8 @@ once_line g (line.Roll x0 x1 x2) ls none = tt
 once_line g (line.Told x0 x1) ls none = tt
 once_line g (line.Untold x0 x1) ls none = tt
 once_line g (line.Commit x0 x1) ls none = tt
-once_line g (line.Accept x0 x1 t) ls none = all_rise x0 x1 t (g ++ line.Accept x0 x1 t ∷ []) ls (in_end g (line.Accept x0 x1 t)) none
+once_line g (line.Accept x0 x1 t) ls none = all_rise x0 x1 t (g ++ line.Accept x0 x1 t ∷ []) ls
+    (in_end g (line.Accept x0 x1 t)) none
 once_line g (line.Refuse x0 x1 x2) ls none = tt
 once_line g (line.Seal x0 x1 x2) ls none = tt
 once_line g (line.Forge x0 x1) ls none = tt
@@ -242,7 +266,8 @@ once_line g (line.End x0 x1 x2 x3 x4 x5) ls none = tt
 
 all_once : (g ls : List Line) → failing_from is_later g ls ≡ [] → Once ls
 all_once g [] none = tt
-all_once g (l ∷ ls) none = let it = passes is_later g l ls none in (once_line g l ls it.1, all_once (g ++ l ∷ []) ls it.1)
+all_once g (l ∷ ls) none = let it =
+    passes is_later g l ls none in (once_line g l ls it.1, all_once (g ++ l ∷ []) ls it.1)
 
 -- Confirmed keys
 
@@ -278,8 +303,12 @@ confirm_one h (line.Accept x0 x1 x2) fine = tt
 confirm_one h (line.Refuse x0 x1 x2) fine = tt
 confirm_one h (line.Seal x0 x1 t) fine =
     λ device is.
-    let it : stands_for h x1.bytes t.base.0 (Some device) ≡ true = ap (stands_for h x1.bytes t.base.0) (sym is) ∙ fine in
-    (and_left (is_centres (declared_in h) x1.bytes) _ it, stored_verified h device.0 t.base.0 (kept_is (row_in h device.0 t.base.0) (and_right (is_centres (declared_in h) x1.bytes) _ it)))
+    let it : stands_for h x1.bytes t.base.0 (Some device) ≡ true = ap (stands_for h x1.bytes t.base.0) (sym is) ∙ fine
+    in (
+      and_left (is_centres (declared_in h) x1.bytes) _ it,
+      stored_verified h device.0 t.base.0
+          (kept_is (row_in h device.0 t.base.0) (and_right (is_centres (declared_in h) x1.bytes) _ it)),
+    )
 confirm_one h (line.Forge x0 x1) fine = tt
 confirm_one h (line.Send x0 x1 x2 x3) fine = tt
 confirm_one h (line.Inject x0 x1 x2) fine = tt
@@ -292,11 +321,14 @@ confirm_one h (line.End x0 x1 x2 x3 x4 x5) fine = tt
 
 -- and back
 
-stands_by : (h : List Line) (name base : Bytes) (o : Option Eui) → ((device : Eui) → o ≡ Some device → IsOfCentre h name × StoredVerified h device.0 base) → stands_for h name base o ≡ true
+stands_by : (h : List Line) (name base : Bytes) (o : Option Eui)
+    → ((device : Eui) → o ≡ Some device → IsOfCentre h name × StoredVerified h device.0 base)
+    → stands_for h name base o ≡ true
 stands_by h name base None stored = refl
 stands_by h name base (Some device) stored =
     let it = stored device refl in
-    and_from (is_centres (declared_in h) name) (is_kept (row_in h device.0 base)) it.0 (ap is_kept (stored_kept h device.0 base it.1))
+    and_from (is_centres (declared_in h) name) (is_kept (row_in h device.0 base)) it.0
+    (ap is_kept (stored_kept h device.0 base it.1))
 
 pub confirmable_one : (h : List Line) (l : Line) → ConfirmLine h l → is_confirmable h l ≡ true
 unfolding is_confirmable
@@ -336,19 +368,24 @@ confirmable_one h (line.End x0 x1 x2 x3 x4 x5) stored = refl
 
 all_confirm : (g ls : List Line) → failing_from is_confirmable g ls ≡ [] → Each ConfirmLine g ls
 all_confirm g [] none = tt
-all_confirm g (l ∷ ls) none = let it = passes is_confirmable g l ls none in (confirm_one g l it.0, all_confirm (g ++ l ∷ []) ls it.1)
+all_confirm g (l ∷ ls) none = let it =
+    passes is_confirmable g l ls none in (confirm_one g l it.0, all_confirm (g ++ l ∷ []) ls it.1)
 
 -- Lockout
 
-goes_on : (tools : Tools) (g ls : List Line) (n : ℕ) (b : Bool) → locked tools g ≡ b → (if b then unlocked_from tools g ls else Some n) ≡ None
-    → (locked tools g ≡ true → unlocked_from tools g ls ≡ None → locked tools (g ++ ls) ≡ true) → locked tools (g ++ ls) ≡ true
+goes_on : (tools : Tools) (g ls : List Line) (n : ℕ) (b : Bool) → locked tools g ≡ b
+    → (if b then unlocked_from tools g ls else Some n) ≡ None
+    → (locked tools g ≡ true → unlocked_from tools g ls ≡ None → locked tools (g ++ ls) ≡ true)
+    → locked tools (g ++ ls) ≡ true
 goes_on tools g ls n true e none more = more e none
 goes_on tools g ls n false e none more = cc
 
-locked_on : (tools : Tools) (g ls : List Line) → locked tools g ≡ true → unlocked_from tools g ls ≡ None → locked tools (g ++ ls) ≡ true
+locked_on : (tools : Tools) (g ls : List Line) → locked tools g ≡ true → unlocked_from tools g ls ≡ None
+    → locked tools (g ++ ls) ≡ true
 locked_on tools g [] before none = ap (locked tools) (append-nil g) ∙ before
 locked_on tools g (l ∷ ls) before none =
-    ap (locked tools) (sym (append_assoc g (l ∷ []) ls)) ∙ goes_on tools (g ++ l ∷ []) ls (length g + 1) (locked tools (g ++ l ∷ [])) refl none (locked_on tools (g ++ l ∷ []) ls)
+    ap (locked tools) (sym (append_assoc g (l ∷ []) ls)) ∙ goes_on tools (g ++ l ∷ []) ls (length g + 1)
+    (locked tools (g ++ l ∷ [])) refl none (locked_on tools (g ++ l ∷ []) ls)
 
 -- All at once
 
@@ -373,10 +410,12 @@ none_locked : (tools : Tools) → locked tools [] ≡ true
 unfolding locked
 none_locked tools = refl
 
-locked_word : (tools : Tools) (lines : List Line) → (ideal tools lines && private tools lines) ≡ true → unlocked tools lines ≡ None → locked tools lines ≡ true
+locked_word : (tools : Tools) (lines : List Line) → (ideal tools lines && private tools lines) ≡ true
+    → unlocked tools lines ≡ None → locked tools lines ≡ true
 unfolding unlocked first_unlocked
 locked_word tools lines held none =
-    locked_on tools [] lines (none_locked tools) (ap (λ (b : Bool). if b then unlocked_from tools [] lines else None) (sym held) ∙ none)
+    locked_on tools [] lines (none_locked tools)
+    (ap (λ (b : Bool). if b then unlocked_from tools [] lines else None) (sym held) ∙ none)
 
 pub claims_hold : (tools : Tools) (v : Verdict) (lines : List Line) → IsSound tools v lines → Keeps tools v lines
 unfolding first_fault failing
@@ -393,6 +432,7 @@ claims_hold tools v lines sound =
       locked = λ word. locked_word tools lines (sym sound.locked ∙ word) (none_by 5 _ five.0);
     }
 
-pub keeps_if_sound : (tools : Tools) (lines : List Line) (result : Result Verdict AuditFault) → IsAnswer tools lines result → IfOk result (λ v. Keeps tools v lines)
+pub keeps_if_sound : (tools : Tools) (lines : List Line) (result : Result Verdict AuditFault)
+    → IsAnswer tools lines result → IfOk result (λ v. Keeps tools v lines)
 keeps_if_sound tools lines (Ok v) sound = claims_hold tools v lines sound
 keeps_if_sound tools lines (Err e) it = tt

@@ -19,7 +19,8 @@ use Rattle.zb_trace.specs.declared.line.Line.TheVariants as line
 -- a later seal is under another key, or of another source, counter or control byte
 abbrev pub SealsApart : Term → Line → Type 0
 SealsApart t (line.Seal event node u) =
-    sealing_key t.label t.base.0 ≡ sealing_key u.label u.base.0 → t.source.0 ≡ u.source.0 → t.counter ≡ u.counter → t.control ≡ u.control → ⊥
+    sealing_key t.label t.base.0 ≡ sealing_key u.label u.base.0 → t.source.0 ≡ u.source.0 → t.counter ≡ u.counter
+    → t.control ≡ u.control → ⊥
 SealsApart t _ = ⊤
 
 abbrev pub FreshFrom : Line → List Line → Type 0
@@ -35,7 +36,8 @@ Fresh (l ∷ ls) = FreshFrom l ls × Fresh ls
 
 -- the later of two accepted terms of one receiver, layer, base key and source has the greater counter
 abbrev pub Rises : Bytes → Term → Line → Type 0
-Rises name t (line.Accept event node u) = node.bytes ≡ name → t.layer ≡ u.layer → t.base.0 ≡ u.base.0 → t.source.0 ≡ u.source.0 → t.counter < u.counter
+Rises name t (line.Accept event node u) = node.bytes ≡ name → t.layer ≡ u.layer → t.base.0 ≡ u.base.0 → t.source.0
+    ≡ u.source.0 → t.counter < u.counter
 Rises name t _ = ⊤
 
 abbrev pub OnceFrom : Line → List Line → Type 0
@@ -55,13 +57,15 @@ IsOfCentre h name = is_centres (declared_in h) name ≡ true
 
 -- a row line of the centre makes the link row of a partner and a key verified
 abbrev pub Verifies : ℕ → Bytes → List Line → Line → Type 0
-Verifies d b h (line.Row event node partner key a) = IsOfCentre h node.bytes × (partner.0 ≡ d) × (key.0 ≡ b) × (a ≡ Verified)
+Verifies d b h (line.Row event node partner key a) = IsOfCentre h node.bytes × (partner.0 ≡ d) × (key.0 ≡ b)
+    × (a ≡ Verified)
 Verifies d b h _ = ⊥
 
 -- a line of the centre takes that away: it drops the row, or gives it another attribute
 abbrev pub Unsettles : ℕ → Bytes → List Line → Line → Type 0
 Unsettles d b h (line.DropLink event node partner key) = IsOfCentre h node.bytes × (partner.0 ≡ d) × (key.0 ≡ b)
-Unsettles d b h (line.Row event node partner key a) = IsOfCentre h node.bytes × (partner.0 ≡ d) × (key.0 ≡ b) × (a ≡ Verified → ⊥)
+Unsettles d b h (line.Row event node partner key a) = IsOfCentre h node.bytes × (partner.0 ≡ d) × (key.0 ≡ b)
+    × (a ≡ Verified → ⊥)
 Unsettles d b h _ = ⊥
 
 -- a commit of the centre
@@ -88,7 +92,8 @@ pub record StoredVerified (h : List Line) (d : ℕ) (b : Bytes) : Type 0 where
 
 -- A seal that confirms a device's key is the centre's, which has stored that key as verified.
 abbrev pub ConfirmLine : List Line → Line → Type 0
-ConfirmLine h (line.Seal event node t) = (device : Eui) → confirmed t ≡ Some device → IsOfCentre h node.bytes × StoredVerified h device.0 t.base.0
+ConfirmLine h (line.Seal event node t) = (device : Eui) → confirmed t ≡ Some device → IsOfCentre h node.bytes
+    × StoredVerified h device.0 t.base.0
 ConfirmLine h _ = ⊤
 
 -- Only stored keys are confirmed.

@@ -5,4 +5,5 @@ use Rattle.zb_record.specs.RowViews.{link_key}
 use Rattle.law_records.proofs.widths.hold_links.Given as goal
 
 abbrev pub invariant-loop-row : goal.invariant-loop-row
-invariant-loop-row l = list_all link_fits (map link_key (drop l.row-index l.rows)) ≡ list_all link_fits (map link_key l.rows)
+invariant-loop-row l = list_all link_fits (map link_key (drop l.row-index l.rows))
+    ≡ list_all link_fits (map link_key l.rows)

@@ -5,4 +5,5 @@ use Rattle.zb_record.specs.RowViews.{pair_key}
 use Rattle.law_records.proofs.widths.hold_pairs.Given as goal
 
 abbrev pub invariant-loop-pair : goal.invariant-loop-pair
-invariant-loop-pair l = list_all pair_fits (map pair_key (drop l.pair-index l.pairs)) ≡ list_all pair_fits (map pair_key l.pairs)
+invariant-loop-pair l = list_all pair_fits (map pair_key (drop l.pair-index l.pairs))
+    ≡ list_all pair_fits (map pair_key l.pairs)
