@@ -6,6 +6,7 @@ pub mod ApplyLemmas
 pub mod FindLemmas
 pub mod HeardLemmas
 pub mod ReadLemmas
+pub mod PlaceLemmas
 pub mod RecordLemmas
 pub mod FittingLemmas
 pub mod RestoreLemmas
