@@ -8,7 +8,9 @@ use Rattle.zb_pcap.specs.declared.fault.PcapError.{PcapError}
 use Rattle.zb_base.specs.declared.fault.OrMemory.{OrMemory}
 use Rattle.zb_base.specs.declared.fault.OrMemory.TheVariants as error
 use Rattle.zb_base.specs.declared.key.Key.{Key}
+use Rattle.zb_pcap.specs.Packets.{held, held_form, held_packets, pcap_in}
 use Rattle.zb_pcap.specs.declared.extraction.Extraction.{Extraction}
+use Rattle.zb_pcap.specs.declared.pcap.Pcap.{Pcap}
 use Rattle.zb_pcap.specs.declared.header.Form.{Form}
 use Rattle.zb_pcap.specs.declared.header.Order.{Order}
 use Rattle.zb_pcap.specs.declared.packets.Packet.{Packet}
@@ -125,4 +127,23 @@ extracted_err keys bytes form view (error.Fault e) y result h a is same =
 extracted_err keys bytes form view error.NoMemory y result h a is same =
     let P : Result Extraction (OrMemory PcapError) → Type 0 =
     λ x. Answers (λ (x : Extraction). x) x (extracted keys bytes) in
+    subst P (sym (is ∙ ap (λ z. Err z) same)) tt
+
+pub held_ok : (bytes : List ℕ) (form : Form) (packets : List Record) (found : Pcap) → header_of bytes ≡ Ok form
+    → records 100000 1 form.order (drop 24 bytes) ≡ Ok packets → found ≡ held form.check packets
+    → pcap_in bytes ≡ Ok found
+unfolding pcap_in
+held_ok bytes form packets found h r is =
+    ap (held_form bytes) h ∙ ap (held_packets form.check) r ∙ ap (λ x. Ok x) (sym is)
+
+pub held_err : {T : Type 0} (bytes : List ℕ) (form : Form) (view : T → List Record) (r y : OrMemory PcapError)
+    (result : Result Pcap (OrMemory PcapError))
+    → header_of bytes ≡ Ok form → Answers view (Err r) (records 100000 1 form.order (drop 24 bytes)) → result ≡ Err y
+    → y ≡ r → Answers (λ (p : Pcap). p) result (pcap_in bytes)
+unfolding pcap_in
+held_err bytes form view (error.Fault e) y result h a is same =
+    let P : Result Pcap (OrMemory PcapError) → Type 0 = λ x. Answers (λ (p : Pcap). p) x (pcap_in bytes) in
+    subst P (sym (is ∙ ap (λ z. Err z) same)) (ap (held_form bytes) h ∙ ap (held_packets form.check) a)
+held_err bytes form view error.NoMemory y result h a is same =
+    let P : Result Pcap (OrMemory PcapError) → Type 0 = λ x. Answers (λ (p : Pcap). p) x (pcap_in bytes) in
     subst P (sym (is ∙ ap (λ z. Err z) same)) tt

@@ -3,3 +3,4 @@ pub mod Mac
 pub mod Files
 pub mod Extracts
 pub mod Texts
+pub mod Packets

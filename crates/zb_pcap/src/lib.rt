@@ -11,8 +11,10 @@ mod fault;
 mod header;
 mod mac;
 mod packets;
+mod pcap;
 
 pub use check::fcs;
 pub use extraction::{Counts, Extraction, extract};
 pub use fault::{PcapCause, PcapError};
 pub use mac::{Mac, classify};
+pub use pcap::{Pcap, read_pcap};

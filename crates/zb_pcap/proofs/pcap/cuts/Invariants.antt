@@ -1,0 +1,7 @@
+use Rattle.std.proofs.Common.{◌≡◌, map, take}
+use Rattle.zb_pcap.specs.Extracts.{record_in}
+use Rattle.zb_pcap.specs.Packets.{cut_of}
+use Rattle.zb_pcap.proofs.pcap.cuts.Given as goal
+
+abbrev pub invariant-loop-packet : goal.invariant-loop-packet
+invariant-loop-packet l = l.cuts.items ≡ cut_of (map record_in (take l.packet-index l.packets))
