@@ -90,6 +90,9 @@ fn frames_are_counted_and_kept_by_place(rt: HostRuntime) -> Result<(), Fail> {
     assert!(rt; tables.floor(ACTIVE, Eui(2)) == Floor { kept: 7, stored: 8 });
     assert!(rt; !accept(&mut tables, ACTIVE, Eui(2), 6));
     assert!(rt; accept_link(&mut tables, 1, 7) && !accept_link(&mut tables, 1, 7));
-    assert!(rt; tables.links()[1].floor == Floor { kept: 8, stored: 9 });
+    match tables.links().get(1) {
+        Some(row) => assert!(rt; row.floor == Floor { kept: 8, stored: 9 }),
+        None => assert!(rt; false),
+    }
     Ok(())
 }
