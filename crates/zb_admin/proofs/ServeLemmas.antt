@@ -5,6 +5,7 @@ use Rattle.std.proofs.lemmas.List.{drop_all, drop_more}
 use Rattle.std.specs.Io.KnownBytes.{Appends}
 use Rattle.zb_centre_store.specs.Calls.{IsJudged, IsJudgeFault, WasThereOrEmpty, tables_in}
 use Rattle.zb_admin.specs.Commands.{IsCarriedOut, IsCommandFault, lays_out}
+use Rattle.zb_admin.specs.Following.{WritesAll, WritesFront, core_of}
 use Rattle.zb_admin.specs.Served.{done}
 use Rattle.zb_admin.specs.Moments.{IsRun}
 use Rattle.zb_centre_store.specs.Outside.{Outside}
@@ -13,6 +14,7 @@ use Rattle.zb_centre_store.specs.Standing.{CanBeServed, Stands, found_on}
 use Rattle.zb_centre_store.specs.declared.fault.AdminFault.{AdminFault}
 use Rattle.zb_centre_store.specs.declared.fault.AdminFault.TheVariants.{Disk, NoStore, BadStore, Worn, Write, NoMemory}
 use Rattle.zb_centre_store.proofs.StoreLemmas.{images_stand}
+use Rattle.zb_admin.proofs.FollowLemmas.{none_told}
 use Rattle.zb_admin.proofs.MomentLemmas.{all_of_run, script_goes}
 use Rattle.zb_admin.proofs.RunLemmas.{run_front, run_last, run_whole}
 use Rattle.zb_base.specs.Outside.{AppendsFront, Rose, Unrisen}
@@ -148,6 +150,8 @@ module _ {D W : Type 0} (x : Outside D W) (script : Script) (old : D) (before : 
     run = λ told can standing is. inl ((f, refl), h.moments can told, refl);
     moments = λ told can standing is. unopened_run new (h.moments can told) standing;
     all = λ told can s is. all_of_run x c script.steps s before old new before (unopened_run new (h.moments can told) (Some s));
+    told = tt;
+    told_front = none_told script.steps (x.taken before);
     faults = judge_fault new f h.faults;
   }
 
@@ -175,8 +179,9 @@ module _ {D W : Type 0} (x : Outside D W) (script : Script) (old : D) (before : 
 
   pub opened : (centre : Option (Hosted CoreValue)) (disk new : D) (after : W) (result : Ended) → IsJudged x.tells (setting_for script.config) (x.state old) (Ok centre) (x.state disk) → (x.state old).faults ≤ (x.state disk).faults
       → (IsTrue x.tells.content → (b : Option NodeState) → Stands (setting_for script.config) b centre (x.state disk) → Runs x (setting_for script.config) script.steps b disk before result new after)
-      → IfErr result (IsServiceFault x (setting_for script.config) centre disk before new after) → Serves x script old before result new after
-  opened centre disk new after (Ok tt) judged count runs faults = record {
+      → IfErr result (IsServiceFault x (setting_for script.config) centre disk before new after)
+      → OnOk result (WritesAll script.steps (core_of centre) (x.taken before) (x.taken after)) → OnErr result (WritesFront script.steps (core_of centre) (x.taken before) (x.taken after)) → Serves x script old before result new after
+  opened centre disk new after (Ok tt) judged count runs faults told_all told_front = record {
     found = λ told. (tables_in centre, judged.found told);
     whole = λ told can standing is. run_whole x c script.steps standing disk before (Ok tt) new after refl (runs told standing (begun centre disk judged told can standing is));
     last = λ told can standing is.
@@ -188,9 +193,11 @@ module _ {D W : Type 0} (x : Outside D W) (script : Script) (old : D) (before : 
         inr (disk, judged.moments can told, images_stand c standing centre (x.state disk) stood, runs told standing stood);
     moments = λ told can standing is. moments_of disk new after (Ok tt) standing (judged.moments can told) (runs told standing (begun centre disk judged told can standing is));
     all = λ told can s is. all_of_run x c script.steps s before old new after (moments_of disk new after (Ok tt) (Some s) (judged.moments can told) (runs told (Some s) (begun centre disk judged told can (Some s) is)));
+    told = (core_of centre, told_all);
+    told_front = tt;
     faults = tt;
   }
-  opened centre disk new after (Err f) judged count runs faults = record {
+  opened centre disk new after (Err f) judged count runs faults told_all told_front = record {
     found = tt;
     whole = tt;
     last = tt;
@@ -200,6 +207,8 @@ module _ {D W : Type 0} (x : Outside D W) (script : Script) (old : D) (before : 
         inr (disk, judged.moments can told, images_stand c standing centre (x.state disk) stood, runs told standing stood);
     moments = λ told can standing is. moments_of disk new after (Err f) standing (judged.moments can told) (runs told standing (begun centre disk judged told can standing is));
     all = λ told can s is. all_of_run x c script.steps s before old new after (moments_of disk new after (Err f) (Some s) (judged.moments can told) (runs told (Some s) (begun centre disk judged told can (Some s) is)));
+    told = tt;
+    told_front = (core_of centre, told_front);
     faults = service_fault centre disk new after f count judged faults;
   }
 
@@ -207,6 +216,9 @@ module _ {D W : Type 0} (x : Outside D W) (script : Script) (old : D) (before : 
   pub opened_over : (centre : Option (Hosted CoreValue)) (disk new : D) (after : W) (result : Ended) (steps : List Step) → steps ≡ script.steps → IsJudged x.tells (setting_for script.config) (x.state old) (Ok centre) (x.state disk)
       → (x.state old).faults ≤ (x.state disk).faults
       → (IsTrue x.tells.content → (b : Option NodeState) → Stands (setting_for script.config) b centre (x.state disk) → Runs x (setting_for script.config) steps b disk before result new after)
-      → IfErr result (IsServiceFault x (setting_for script.config) centre disk before new after) → Serves x script old before result new after
-  opened_over centre disk new after result steps same judged count runs faults =
+      → IfErr result (IsServiceFault x (setting_for script.config) centre disk before new after)
+      → OnOk result (WritesAll steps (core_of centre) (x.taken before) (x.taken after)) → OnErr result (WritesFront steps (core_of centre) (x.taken before) (x.taken after)) → Serves x script old before result new after
+  opened_over centre disk new after result steps same judged count runs faults told_all told_front =
       opened centre disk new after result judged count (λ told b stood. subst (λ (l : List Step). Runs x c l b disk before result new after) same (runs told b stood)) faults
+      (subst (λ (l : List Step). OnOk result (WritesAll l (core_of centre) (x.taken before) (x.taken after))) same told_all)
+      (subst (λ (l : List Step). OnErr result (WritesFront l (core_of centre) (x.taken before) (x.taken after))) same told_front)

@@ -356,8 +356,14 @@ module _ (c : Setting) (event : CentreEvent) (before after : Hosted CoreValue) (
       core_plan_leads Centre IsTaskOf before.core after.core event p plan leads task refl
       ∙ ap (λ (x : CoreValue). let y : CoreValue = record { setting = x.setting; tables = shown (answered (answer real x.setting x.tables task) x.tables) } in y) e
 
-  pub told_so : (old : View) (s : NodeState) → IsUp c s before old → IsAnswer p (answer real c s task)
-  told_so old s up = subst (λ (x : CoreValue). IsAnswer p (answer real x.setting x.tables task)) up.core (plan.answer_is task refl)
+  pub answer_so : (s : NodeState) → before.core ≡ record { setting = c; tables = s } → IsAnswer p (answer real c s task)
+  answer_so s core = subst (λ (x : CoreValue). IsAnswer p (answer real x.setting x.tables task)) core (plan.answer_is task refl)
+
+  -- the same of a plan with these parts
+  pub told_so : (all : ArrayVec Change) (out : Outcome Term Refusal) → out ≡ p.out → all ≡ p.changes → (s : NodeState) → before.core ≡ record { setting = c; tables = s } → IsAnswer (record { changes = all; out = out }) (answer real c s task)
+  told_so all out same same_all s core =
+      subst (λ (o : Outcome Term Refusal). IsAnswer (record { changes = all; out = o }) (answer real c s task)) (sym same)
+      (subst (λ (v : ArrayVec Change). IsAnswer (record { changes = v; out = p.out }) (answer real c s task)) (sym same_all) (answer_so s core))
 
   pub moments_so : (tells : Telling) (old new : View) → ((z : Standing) → IsCurrent (restored Centre) recorded z before old → IsTrue tells.content → LeavesOnly old new (StandsForEither (restored Centre) (recorded before.core) (recorded after.core)))
       → IsTrue tells.content → (s : NodeState) → IsUp c s before old → LeavesOnly old new (StandsAsEither (Some s) (Some (tables_after c task s)))
@@ -440,8 +446,8 @@ pub handled_ok : (tells : Telling) (c : Setting) (event : CentreEvent) (before a
     → ((z : Standing) → IsCurrent (restored Centre) recorded z before old → IsTrue tells.content → LeavesOnly old new (StandsForEither (restored Centre) (recorded before.core) (recorded after.core)))
     → is_some after.store ≡ true → HasHandled tells c (task_of event) before old (Ok (record { changes = all; out = out })) after new
 handled_ok tells c event before after p plan leads old new all changes out same same_all same_changes forgets still kept idle entry whole moments store = record {
-  told = λ s up. subst (λ (o : Outcome Term Refusal). IsAnswer (record { changes = all; out = o }) (answer real c s (task_of event))) (sym same)
-      (subst (λ (v : ArrayVec Change). IsAnswer (record { changes = v; out = p.out }) (answer real c s (task_of event))) (sym same_all) (told_so c event before after p plan leads old s up));
+  told = λ s up. told_so c event before after p plan leads all out same same_all s up.core;
+  follows = λ s core. (told_so c event before after p plan leads all out same same_all s core, next_core c event before after p plan leads s core);
   up = up_after c event before after p plan leads tells old new changes kept idle entry whole;
   store = store;
   moments = moments_so c event before after p plan leads tells old new moments;
@@ -455,6 +461,7 @@ pub handled_err : (tells : Telling) (c : Setting) (event : CentreEvent) (before 
     → host.IsHandleFault (writes_whole before) before.store old new f → (f ≡ Worn → IsStill old new) → HasHandled tells c (task_of event) before old (Err g) after new
 handled_err tells c event before after p plan leads old new f g same reads moments fault still = record {
   told = tt;
+  follows = tt;
   up = tt;
   store = tt;
   moments = moments_so c event before after p plan leads tells old new moments;

@@ -111,6 +111,9 @@ IsEventFault tells c old new centre NoMemory = ⊥
 pub record HasHandled (tells : Telling) (c : Setting) (task : Task) (before : Hosted CoreValue) (old : View) (result : Result CorePlan AdminFault) (after : Hosted CoreValue) (new : View) : Type 0 where
   -- what is handed out is the policy's answer
   pub told : IfOk result (λ plan. (s : NodeState) → IsUp c s before old → IsAnswer plan (answer real c s task))
+  -- over any disk, one that tells nothing too, it is the answer to what the core has, and the core is the one after it
+  pub follows : IfOk result (λ plan. (s : NodeState) → before.core ≡ record { setting = c; tables = s }
+      → IsAnswer plan (answer real c s task) × (after.core ≡ record { setting = c; tables = tables_after c task s }))
   pub up : OnOk result (IsTrue tells.content → (s : NodeState) → IsUp c s before old → IsUp c (tables_after c task s) after new)
   pub store : OnOk result (is_some after.store ≡ true)
   pub moments : IsTrue tells.content → (s : NodeState) → IsUp c s before old → LeavesOnly old new (StandsAsEither (Some s) (Some (tables_after c task s)))

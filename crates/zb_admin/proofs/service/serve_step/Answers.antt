@@ -1,6 +1,8 @@
 use Rattle.zb_admin.specs.Serving.{outside}
 use Rattle.zb_setting.specs.Settings.{setting_for}
 use Rattle.zb_admin.proofs.CommandLemmas.{always}
+use Rattle.std.proofs.KnownBytes.{Appends-nil}
+use Rattle.zb_admin.proofs.FollowLemmas.{page_front, page_written}
 use Rattle.zb_admin.proofs.ServeLemmas.{command_fault, step_cut, step_written, write_fault}
 use Rattle.zb_admin.proofs.service.serve_step.Goals as goal
 
@@ -24,3 +26,17 @@ returns-in-Ok-clause-unrisen g c = always c.write_page.result c.in-Ok.ensures.un
 pub returns-in-Ok-clause-faults : goal.returns-in-Ok-clause-faults
 returns-in-Ok-clause-faults g c =
     write_fault (outside g.D.Disk.tells g.D.Disk.state g.W.Sink.taken g.W.Sink.faults) (setting_for c.args.config.now) c.args.centre.now c.args.disk.now c.carry_out.new.disk c.args.out.now c.write_page.new.out c.write_page.result c.write_page.ensures.fault
+
+pub returns-in-Ok-clause-follows : goal.returns-in-Ok-clause-follows
+returns-in-Ok-clause-follows g c = always c.write_page.result c.in-Ok.ensures.follows
+
+pub returns-in-Ok-clause-writes : goal.returns-in-Ok-clause-writes
+returns-in-Ok-clause-writes g c =
+    page_written c.write_page.result (g.W.Sink.taken c.args.out.now) (g.W.Sink.taken c.write_page.new.out) c.args.page.now.items c.carry_out.new.page.items _ c.requires.empty c.in-Ok.ensures.writes c.write_page.ensures.whole
+
+pub returns-in-Ok-clause-front : goal.returns-in-Ok-clause-front
+returns-in-Ok-clause-front g c =
+    page_front c.write_page.result (g.W.Sink.taken c.args.out.now) (g.W.Sink.taken c.write_page.new.out) c.args.page.now.items c.carry_out.new.page.items _ c.requires.empty c.in-Ok.ensures.writes c.write_page.ensures.front
+
+pub returns-in-Err-clause-front : goal.returns-in-Err-clause-front
+returns-in-Err-clause-front g c = (0, Appends-nil (g.W.Sink.taken c.args.out.now))
