@@ -2,4 +2,5 @@ pub mod RefusedLemmas
 pub mod RunLemmas
 pub mod CommandLemmas
 pub mod MomentLemmas
+mod FollowLemmas
 pub mod ServeLemmas

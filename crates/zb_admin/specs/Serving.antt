@@ -5,6 +5,7 @@ use Rattle.zb_centre_store.specs.declared.fault.AdminFault.{AdminFault}
 use Rattle.zb_centre_store.specs.declared.fault.AdminFault.TheVariants.{Disk, NoStore, BadStore, Worn, Write, NoMemory}
 use Rattle.zb_centre_store.specs.Calls.{WasThereOrEmpty}
 use Rattle.zb_admin.specs.Commands.{IsBetween, lays_out}
+use Rattle.zb_admin.specs.Following.{WritesAll, WritesFront}
 pub use Rattle.zb_centre_store.specs.Outside.{Outside, outside}
 use Rattle.zb_admin.specs.Moments.{IsOfRun, IsRun}
 use Rattle.zb_admin.specs.Served.{IsRefusal, done, served, served_text}
@@ -141,5 +142,9 @@ pub record Serves {D W : Type 0} (x : Outside D W) (script : Script) (old : D) (
   pub all : IsTrue x.tells.content → CanBeServed (x.state old) → (s : NodeState) → found_on (x.state old).seen
       ≡ Ok (Some s)
       → LeavesOnly (x.state old) (x.state new) (IsOfRun x (setting_for script.config) script.steps (Some s) old)
+  -- over any store: at Ok what was written are the lines of the commands, going on from some core, and at a fault a
+  -- prefix of such lines
+  pub told : OnOk result ((core : Option CoreValue) × WritesAll script.steps core (x.taken before) (x.taken after))
+  pub told_front : OnErr result ((core : Option CoreValue) × WritesFront script.steps core (x.taken before) (x.taken after))
   -- when each fault comes
   pub faults : IfErr result (IsAdminFault x old before new after)

@@ -4,6 +4,7 @@ ghost use Rattle.std.specs.Io.KnownBytes.{Appends};
 ghost use Rattle.std.specs.List.{AllByRecursion};
 ghost use Rattle.zb_centre_store.specs.Calls.{HasStore, IsShort, is_own};
 ghost use Rattle.zb_admin.specs.Commands.{IsCarriedOut, IsCommandFault, items_of, lays_out};
+ghost use Rattle.zb_admin.specs.Following.{core_of, done_by, with_setting, Follows, WritesAll, WritesFront};
 ghost use Rattle.zb_admin.specs.Served.{done, handled, on_empty, on_store, outcome_lines, sent_lines};
 ghost use Rattle.zb_admin.specs.Serving.{HasServed, IsServiceFault, Runs, Serves, outside};
 ghost use Rattle.zb_centre_store.specs.Standing.{IsEmpty, IsUp, Stands};
@@ -131,6 +132,10 @@ fn handle_event<D: Disk>(
     ensures carried { IsTrue D.tells.content → (c : Setting) (s : NodeState) → IsUp c s host.old (D.state disk.old)
         → IsCarriedOut c false (Some s) (handled c line (task_of event.now) s) (D.state disk.old) page.old.items
         result (Some host.new) (D.state disk.new) page.new.items }
+    ensures follows { OnOk result (Some host.new.core ≡ with_setting host.old.core.setting
+        (handled host.old.core.setting line (task_of event.now) host.old.core.tables).after) }
+    ensures writes { OnOk result (page.new.items ≡ page.old.items
+        ++ page_of (handled host.old.core.setting line (task_of event.now) host.old.core.tables).lines) }
     ensures store { OnOk result (is_some host.new.store ≡ true) }
     ensures faults { IfErr result
         (IsCommandFault D.tells (D.state disk.old) (Some host.old) (D.state disk.new)) }
@@ -155,6 +160,10 @@ fn on_store<D: Disk>(
     ensures carried { IsTrue D.tells.content → (c : Setting) (s : NodeState) → IsUp c s host.old (D.state disk.old)
         → IsCarriedOut c false (Some s) (on_store c step.now.line step.now.order s) (D.state disk.old)
         page.old.items result (Some host.new) (D.state disk.new) page.new.items }
+    ensures follows { OnOk result (Some host.new.core ≡ with_setting host.old.core.setting
+        (on_store host.old.core.setting step.now.line step.now.order host.old.core.tables).after) }
+    ensures writes { OnOk result (page.new.items ≡ page.old.items
+        ++ page_of (on_store host.old.core.setting step.now.line step.now.order host.old.core.tables).lines) }
     ensures store { OnOk result (is_some host.new.store ≡ true) }
     ensures faults { IfErr result
         (IsCommandFault D.tells (D.state disk.old) (Some host.old) (D.state disk.new)) }
@@ -221,6 +230,9 @@ fn on_empty<D: Disk>(
         → IsCarriedOut (setting_for config.now) (lays_out step.now.order None) None
         (on_empty step.now.line step.now.order) (D.state disk.old) page.old.items
         result centre.new (D.state disk.new) page.new.items }
+    ensures follows { OnOk result (is_some (core_of centre.new) ≡ lays_out step.now.order None) }
+    ensures writes { OnOk result (page.new.items
+        ≡ page.old.items ++ page_of (on_empty step.now.line step.now.order).lines) }
     ensures store { OnOk result (HasStore centre.new) }
     ensures faults { IfErr result
         (IsCommandFault D.tells (D.state disk.old) None (D.state disk.new)) }
@@ -258,6 +270,9 @@ fn carry_out<D: Disk>(
         → IsCarriedOut (setting_for config.now) (lays_out step.now.order b) b
         (done (setting_for config.now) step.now b) (D.state disk.old) page.old.items
         result centre.new (D.state disk.new) page.new.items }
+    ensures follows { OnOk result (Follows step.now (core_of centre.old) (core_of centre.new)) }
+    ensures writes { OnOk result (page.new.items
+        ≡ page.old.items ++ page_of (done_by step.now (core_of centre.old)).lines) }
     ensures store { OnOk result (HasStore centre.new) }
     ensures faults { IfErr result
         (IsCommandFault D.tells (D.state disk.old) centre.old (D.state disk.new)) }
@@ -304,6 +319,12 @@ fn serve_step<D: Disk, W: Sink>(
         → Stands (setting_for config.now) b centre.old (D.state disk.old)
         → HasServed (outside D.tells D.state W.taken W.faults) (setting_for config.now) step.now b
         disk.old out.old result centre.new disk.new out.new }
+    // Whatever the disk tells, its lines are those of the definition for what the centre has.
+    ensures follows { OnOk result (Follows step.now (core_of centre.old) (core_of centre.new)) }
+    ensures writes { OnOk result (Appends (W.taken out.old) (W.taken out.new)
+        (page_of (done_by step.now (core_of centre.old)).lines)) }
+    ensures front { OnErr result (AppendsFront (W.taken out.old) (W.taken out.new)
+        (page_of (done_by step.now (core_of centre.old)).lines)) }
     ensures store { OnOk result (HasStore centre.new) }
     ensures empty { OnOk result (page.new.items ≡ []) }
     ensures faults { IfErr result (IsServiceFault (outside D.tells D.state W.taken W.faults) (setting_for config.now)
@@ -336,6 +357,9 @@ fn serve_steps<D: Disk, W: Sink>(
         → Stands (setting_for config.now) b centre.old (D.state disk.old)
         → Runs (outside D.tells D.state W.taken W.faults) (setting_for config.now) steps.now b
         disk.old out.old result disk.new out.new }
+    ensures told { OnOk result (WritesAll steps.now (core_of centre.old) (W.taken out.old) (W.taken out.new)) }
+    ensures told_front { OnErr result (WritesFront steps.now (core_of centre.old) (W.taken out.old)
+        (W.taken out.new)) }
     ensures faults { IfErr result (IsServiceFault (outside D.tells D.state W.taken W.faults) (setting_for config.now)
         centre.old disk.old out.old disk.new out.new) }
     ensures out_unrisen { result ≢ Err AdminFault.Write → Unrisen (W.faults out.old) (W.faults out.new) }

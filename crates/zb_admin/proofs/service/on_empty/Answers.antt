@@ -1,10 +1,15 @@
-use Rattle.std.proofs.Common.{ℕ, List, subst}
+use Rattle.std.proofs.Common.{ℕ, List, Option, subst, ap, ◌∙◌}
+use Rattle.std.specs.Prelude.{is_some}
+use Rattle.zb_host.specs.Hosts.{Hosted}
+use Rattle.zb_stored_tables.specs.Cores.{CoreValue}
+use Rattle.zb_admin.specs.Following.{core_of}
+use Rattle.zb_admin.proofs.FollowLemmas.{lines_as, made_follows, none_made, none_written, order_follows, order_writes}
 use Rattle.zb_centre_store.specs.Calls.{HasLaidOut}
 use Rattle.zb_centre_store.specs.Makings.{tables_of}
 use Rattle.zb_setting.specs.Settings.{setting_for}
 use Rattle.zb_record.specs.Records.{record_read}
 use Rattle.zb_skip.specs.Skipping.{skipped}
-use Rattle.zb_admin.proofs.CommandLemmas.{carried_for, carried_new, carried_refused, kept_command, kept_unrisen, new_stands}
+use Rattle.zb_admin.proofs.CommandLemmas.{always, carried_for, carried_new, carried_refused, kept_command, kept_unrisen, new_stands}
 use Rattle.zb_admin.proofs.service.on_empty.Goals as goal
 
 pub returns-in-Init-clause-carried : goal.returns-in-Init-clause-carried
@@ -61,3 +66,25 @@ returns-in_default-clause-carried g c = λ told empty.
     (g.D.Disk.state c.args.disk.now) c.args.page.now.items c.refuse.result c.refuse.new.page.items
     (g.met.D.Disk.only_now c.args.disk.now) empty c.requires.none
     c.in_default.not-Init c.in_default.not-Restore c.refuse.ensures.text
+
+pub returns-in-Init-clause-follows : goal.returns-in-Init-clause-follows
+returns-in-Init-clause-follows g c =
+    order_follows c.keep.result (core_of c.keep.new.centre) _ _ c.in-Init.is (made_follows c.init-made.result c.keep.result c.keep.new.centre c.keep.ensures.kept c.keep.ensures.made)
+
+pub returns-in-Init-clause-writes : goal.returns-in-Init-clause-writes
+returns-in-Init-clause-writes g c = order_writes c.keep.result c.args.page.now.items c.keep.new.page.items c.args.step.now.line _ _ c.in-Init.is c.keep.ensures.text
+
+pub returns-in-Restore-clause-follows : goal.returns-in-Restore-clause-follows
+returns-in-Restore-clause-follows g c =
+    order_follows c.keep-in-Restore.result (core_of c.keep-in-Restore.new.centre) _ _ c.in-Restore.is
+    (made_follows c.restore-made.result c.keep-in-Restore.result c.keep-in-Restore.new.centre c.keep-in-Restore.ensures.kept c.keep-in-Restore.ensures.made)
+
+pub returns-in-Restore-clause-writes : goal.returns-in-Restore-clause-writes
+returns-in-Restore-clause-writes g c = order_writes c.keep-in-Restore.result c.args.page.now.items c.keep-in-Restore.new.page.items c.args.step.now.line _ _ c.in-Restore.is c.keep-in-Restore.ensures.text
+
+pub returns-in_default-clause-follows : goal.returns-in_default-clause-follows
+returns-in_default-clause-follows g c =
+    always c.refuse.result (ap (λ (o : Option (Hosted CoreValue)). is_some (core_of o)) c.requires.none ∙ none_made c.args.step.now.order c.in_default.not-Init c.in_default.not-Restore)
+
+pub returns-in_default-clause-writes : goal.returns-in_default-clause-writes
+returns-in_default-clause-writes g c = lines_as c.refuse.result c.args.page.now.items c.refuse.new.page.items _ _ (none_written c.args.step.now.line c.args.step.now.order c.in_default.not-Init c.in_default.not-Restore) c.refuse.ensures.text
