@@ -145,6 +145,7 @@ pub record Serves {D W : Type 0} (x : Outside D W) (script : Script) (old : D) (
   -- over any store: at Ok what was written are the lines of the commands, going on from some core, and at a fault a
   -- prefix of such lines
   pub told : OnOk result ((core : Option CoreValue) × WritesAll script.steps core (x.taken before) (x.taken after))
-  pub told_front : OnErr result ((core : Option CoreValue) × WritesFront script.steps core (x.taken before) (x.taken after))
+  pub told_front : OnErr result
+      ((core : Option CoreValue) × WritesFront script.steps core (x.taken before) (x.taken after))
   -- when each fault comes
   pub faults : IfErr result (IsAdminFault x old before new after)

@@ -25,16 +25,19 @@ use Rattle.zb_stored_tables.specs.Stored.{state_given}
 abbrev pub IsBootFault : Telling → View → View → AdminFault → Type 0
 IsBootFault tells old new Disk = Rose old.faults new.faults
 IsBootFault tells old new NoStore = IsTrue tells.content → stands old.seen ≡ None
-IsBootFault tells old new (BadStore at) = IsTrue tells.content → (z : Standing) × (stands old.seen ≡ Some z) × (found_tables (state_given Centre z.content (concat z.payloads)) ≡ Err (BadStore at))
+IsBootFault tells old new (BadStore at) = IsTrue tells.content → (z : Standing) × (stands old.seen ≡ Some z)
+    × (found_tables (state_given Centre z.content (concat z.payloads)) ≡ Err (BadStore at))
 IsBootFault tells old new Worn = ⊥
 IsBootFault tells old new Write = ⊥
 IsBootFault tells old new NoMemory = Unrisen old.faults new.faults
 
 -- the record and the entries that stand give these tables
 abbrev pub HasFound : View → NodeState → Type 0
-HasFound v s = (z : Standing) × (stands v.seen ≡ Some z) × (state_given Centre z.content (concat z.payloads) ≡ Ok s) × (fits_widths s ≡ true)
+HasFound v s = (z : Standing) × (stands v.seen ≡ Some z) × (state_given Centre z.content (concat z.payloads) ≡ Ok s)
+    × (fits_widths s ≡ true)
 
-pub record HasBooted (tells : Telling) (c : Setting) (old : View) (result : Result (Hosted CoreValue) AdminFault) (new : View) : Type 0 where
+pub record HasBooted (tells : Telling) (c : Setting) (old : View) (result : Result (Hosted CoreValue) AdminFault)
+    (new : View) : Type 0 where
   pub found : IfOk result (λ centre. IsTrue tells.content → HasFound old centre.core.tables)
   pub up : IfOk result (λ centre. IsTrue tells.content → AllWhole old → IsUp c centre.core.tables centre new)
   pub store : IfOk result (λ centre. is_some centre.store ≡ true)
@@ -63,9 +66,11 @@ IsJudgeFault tells old new NoMemory = Unrisen old.faults new.faults
 abbrev pub WasThereOrEmpty : View → List ℕ → Type 0
 WasThereOrEmpty old image = (image ≡ []) ⊎ WasThere old image
 
-pub record IsJudged (tells : Telling) (c : Setting) (old : View) (result : Result (Option (Hosted CoreValue)) AdminFault) (new : View) : Type 0 where
+pub record IsJudged (tells : Telling) (c : Setting) (old : View)
+    (result : Result (Option (Hosted CoreValue)) AdminFault) (new : View) : Type 0 where
   pub found : IfOk result (λ centre. IsTrue tells.content → found_on old.seen ≡ Ok (tables_in centre))
-  pub stands_so : IfOk result (λ centre. IsTrue tells.content → CanBeServed old → Stands c (tables_in centre) centre new)
+  pub stands_so : IfOk result
+      (λ centre. IsTrue tells.content → CanBeServed old → Stands c (tables_in centre) centre new)
   -- an empty disk is left as it was
   pub empty : IfOk result (λ centre. is_some centre ≡ false → IsStill old new)
   pub store : IfOk result HasStore
@@ -83,7 +88,8 @@ IsLayOutFault tells old new Write = ⊥
 IsLayOutFault tells old new NoMemory = Unrisen old.faults new.faults
 
 -- a store was made with the record of these tables, and the centre booted from it
-pub record HasLaidOut (tells : Telling) (c : Setting) (s : NodeState) (old : View) (result : Result (Hosted CoreValue) AdminFault) (new : View) : Type 0 where
+pub record HasLaidOut (tells : Telling) (c : Setting) (s : NodeState) (old : View)
+    (result : Result (Hosted CoreValue) AdminFault) (new : View) : Type 0 where
   pub up : IfOk result (λ centre. IsTrue tells.content → IsUp c s centre new)
   pub store : IfOk result (λ centre. is_some centre.store ≡ true)
   pub faults : IfErr result (IsLayOutFault tells old new)
@@ -104,21 +110,26 @@ abbrev pub IsEventFault : Telling → Setting → View → View → Hosted CoreV
 IsEventFault tells c old new centre Disk = Rose old.faults new.faults
 IsEventFault tells c old new centre NoStore = ⊥
 IsEventFault tells c old new centre (BadStore at) = ⊥
-IsEventFault tells c old new centre Worn = IsTrue tells.content → (s : NodeState) → IsUp c s centre old → (z : Standing) × (stands new.seen ≡ Some z) × IsWornOut z
+IsEventFault tells c old new centre Worn = IsTrue tells.content → (s : NodeState) → IsUp c s centre old
+    → (z : Standing) × (stands new.seen ≡ Some z) × IsWornOut z
 IsEventFault tells c old new centre Write = ⊥
 IsEventFault tells c old new centre NoMemory = ⊥
 
-pub record HasHandled (tells : Telling) (c : Setting) (task : Task) (before : Hosted CoreValue) (old : View) (result : Result CorePlan AdminFault) (after : Hosted CoreValue) (new : View) : Type 0 where
+pub record HasHandled (tells : Telling) (c : Setting) (task : Task) (before : Hosted CoreValue) (old : View)
+    (result : Result CorePlan AdminFault) (after : Hosted CoreValue) (new : View) : Type 0 where
   -- what is handed out is the policy's answer
   pub told : IfOk result (λ plan. (s : NodeState) → IsUp c s before old → IsAnswer plan (answer real c s task))
   -- over any disk, one that tells nothing too, it is the answer to what the core has, and the core is the one after it
   pub follows : IfOk result (λ plan. (s : NodeState) → before.core ≡ record { setting = c; tables = s }
       → IsAnswer plan (answer real c s task) × (after.core ≡ record { setting = c; tables = tables_after c task s }))
-  pub up : OnOk result (IsTrue tells.content → (s : NodeState) → IsUp c s before old → IsUp c (tables_after c task s) after new)
+  pub up : OnOk result
+      (IsTrue tells.content → (s : NodeState) → IsUp c s before old → IsUp c (tables_after c task s) after new)
   pub store : OnOk result (is_some after.store ≡ true)
-  pub moments : IsTrue tells.content → (s : NodeState) → IsUp c s before old → LeavesOnly old new (StandsAsEither (Some s) (Some (tables_after c task s)))
+  pub moments : IsTrue tells.content → (s : NodeState) → IsUp c s before old
+      → LeavesOnly old new (StandsAsEither (Some s) (Some (tables_after c task s)))
   -- a refused event of its own leaves the disk and the tables as they were
-  pub spared : IfOk result (λ plan. is_own task ≡ true → is_some plan.out.refused ≡ true → IsStill old new × (after.core ≡ before.core))
+  pub spared : IfOk result (λ plan. is_own task ≡ true → is_some plan.out.refused ≡ true → IsStill old new
+      × (after.core ≡ before.core))
   pub faults : IfErr result (IsEventFault tells c old new before)
 
 -- ---- memory

@@ -17,16 +17,24 @@ returns-in-None-clause-carried g c = λ told b stood.
 
 pub returns-in-Some-clause-follows : goal.returns-in-Some-clause-follows
 returns-in-Some-clause-follows g c =
-    subst (λ (o : Option (Hosted CoreValue)). OnOk c.on_store.result (Follows c.args.step.now (core_of o) (Some c.on_store.new.host.core))) (sym c.in-Some.is) c.on_store.ensures.follows
+    subst (λ (o : Option (Hosted CoreValue)). OnOk c.on_store.result
+    (Follows c.args.step.now (core_of o) (Some c.on_store.new.host.core))) (sym c.in-Some.is)
+    c.on_store.ensures.follows
 
 pub returns-in-Some-clause-writes : goal.returns-in-Some-clause-writes
 returns-in-Some-clause-writes g c =
-    subst (λ (o : Option (Hosted CoreValue)). OnOk c.on_store.result (c.on_store.new.page.items ≡ c.args.page.now.items ++ page (done_by c.args.step.now (core_of o)).lines)) (sym c.in-Some.is) c.on_store.ensures.writes
+    subst (λ (o : Option (Hosted CoreValue)). OnOk c.on_store.result
+    (c.on_store.new.page.items ≡ c.args.page.now.items ++ page (done_by c.args.step.now (core_of o)).lines))
+    (sym c.in-Some.is) c.on_store.ensures.writes
 
 pub returns-in-None-clause-follows : goal.returns-in-None-clause-follows
 returns-in-None-clause-follows g c =
-    subst (λ (o : Option (Hosted CoreValue)). OnOk c.on_empty.result (Follows c.args.step.now (core_of o) (core_of c.on_empty.new.centre))) (sym c.in-None.is) c.on_empty.ensures.follows
+    subst (λ (o : Option (Hosted CoreValue)). OnOk c.on_empty.result
+    (Follows c.args.step.now (core_of o) (core_of c.on_empty.new.centre))) (sym c.in-None.is)
+    c.on_empty.ensures.follows
 
 pub returns-in-None-clause-writes : goal.returns-in-None-clause-writes
 returns-in-None-clause-writes g c =
-    subst (λ (o : Option (Hosted CoreValue)). OnOk c.on_empty.result (c.on_empty.new.page.items ≡ c.args.page.now.items ++ page (done_by c.args.step.now (core_of o)).lines)) (sym c.in-None.is) c.on_empty.ensures.writes
+    subst (λ (o : Option (Hosted CoreValue)). OnOk c.on_empty.result
+    (c.on_empty.new.page.items ≡ c.args.page.now.items ++ page (done_by c.args.step.now (core_of o)).lines))
+    (sym c.in-None.is) c.on_empty.ensures.writes

@@ -12,9 +12,17 @@ returns-in-Ok-clause-carried g c = λ told setting s up.
     let is = h.told s up in
     record {
       after = always c.tell.result (h.up told s up);
-      lines = on_ok_then c.tell.result (λ text. text ∙ ap (λ l. c.args.page.now.items ++ page l) (told_lines c.args.line c.in-Ok.plan (answer real setting s (task_of c.args.event.now)) is)) c.tell.ensures.text;
+      lines =
+          on_ok_then c.tell.result
+          (λ text. text ∙ ap (λ l. c.args.page.now.items ++ page l)
+          (told_lines c.args.line c.in-Ok.plan (answer real setting s (task_of c.args.event.now)) is))
+          c.tell.ensures.text;
       between = λ e. h.moments told s up;
-      spared = always c.tell.result (event_spared g.D.Disk.tells setting c.args.line (task_of c.args.event.now) s c.args.host.now c.handle.new.host (g.D.Disk.state c.args.disk.now) (g.D.Disk.state c.handle.new.disk) c.in-Ok.plan h told up c.requires.own);
+      spared =
+          always c.tell.result
+          (event_spared g.D.Disk.tells setting c.args.line (task_of c.args.event.now) s c.args.host.now
+          c.handle.new.host (g.D.Disk.state c.args.disk.now) (g.D.Disk.state c.handle.new.disk) c.in-Ok.plan h told up
+          c.requires.own);
     }
 
 pub returns-in-Ok-clause-store : goal.returns-in-Ok-clause-store
@@ -25,14 +33,19 @@ returns-in-Ok-clause-unrisen g c = always c.tell.result c.in-Ok.ensures.unrisen
 
 pub returns-in-Ok-clause-faults : goal.returns-in-Ok-clause-faults
 returns-in-Ok-clause-faults g c =
-    short_command g.D.Disk.tells (g.D.Disk.state c.args.disk.now) (g.D.Disk.state c.handle.new.disk) (Some c.args.host.now) c.tell.result
+    short_command g.D.Disk.tells (g.D.Disk.state c.args.disk.now) (g.D.Disk.state c.handle.new.disk)
+    (Some c.args.host.now) c.tell.result
     c.tell.ensures.short c.in-Ok.ensures.unrisen
 
 pub returns-in-Err-clause-carried : goal.returns-in-Err-clause-carried
-returns-in-Err-clause-carried g c = λ told setting s up. record { after = tt; lines = tt; between = λ e. (c.in-Err.ensures.handled setting).moments told s up; spared = tt }
+returns-in-Err-clause-carried g c =
+    λ told setting s up.
+    record { after = tt; lines = tt; between = λ e. (c.in-Err.ensures.handled setting).moments told s up; spared = tt }
 
 pub returns-in-Err-clause-faults : goal.returns-in-Err-clause-faults
-returns-in-Err-clause-faults g c = event_command g.D.Disk.tells (g.D.Disk.state c.args.disk.now) (g.D.Disk.state c.handle.new.disk) c.args.host.now c.in-Err.fault (λ setting. (c.in-Err.ensures.handled setting).faults)
+returns-in-Err-clause-faults g c = event_command g.D.Disk.tells (g.D.Disk.state c.args.disk.now)
+    (g.D.Disk.state c.handle.new.disk) c.args.host.now c.in-Err.fault
+    (λ setting. (c.in-Err.ensures.handled setting).faults)
 
 pub returns-in-Ok-clause-follows : goal.returns-in-Ok-clause-follows
 returns-in-Ok-clause-follows g c =
@@ -43,4 +56,7 @@ pub returns-in-Ok-clause-writes : goal.returns-in-Ok-clause-writes
 returns-in-Ok-clause-writes g c =
     let core = c.args.host.now.core in
     let is = ((c.in-Ok.ensures.handled core.setting).follows core.tables refl).0 in
-    on_ok_then c.tell.result (λ text. text ∙ ap (λ l. c.args.page.now.items ++ page l) (told_lines c.args.line c.in-Ok.plan (answer real core.setting core.tables (task_of c.args.event.now)) is)) c.tell.ensures.text
+    on_ok_then c.tell.result
+    (λ text. text ∙ ap (λ l. c.args.page.now.items ++ page l)
+    (told_lines c.args.line c.in-Ok.plan (answer real core.setting core.tables (task_of c.args.event.now)) is))
+    c.tell.ensures.text

@@ -69,22 +69,30 @@ returns-in_default-clause-carried g c = λ told empty.
 
 pub returns-in-Init-clause-follows : goal.returns-in-Init-clause-follows
 returns-in-Init-clause-follows g c =
-    order_follows c.keep.result (core_of c.keep.new.centre) _ _ c.in-Init.is (made_follows c.init-made.result c.keep.result c.keep.new.centre c.keep.ensures.kept c.keep.ensures.made)
+    order_follows c.keep.result (core_of c.keep.new.centre) _ _ c.in-Init.is
+    (made_follows c.init-made.result c.keep.result c.keep.new.centre c.keep.ensures.kept c.keep.ensures.made)
 
 pub returns-in-Init-clause-writes : goal.returns-in-Init-clause-writes
-returns-in-Init-clause-writes g c = order_writes c.keep.result c.args.page.now.items c.keep.new.page.items c.args.step.now.line _ _ c.in-Init.is c.keep.ensures.text
+returns-in-Init-clause-writes g c = order_writes c.keep.result c.args.page.now.items c.keep.new.page.items
+    c.args.step.now.line _ _ c.in-Init.is c.keep.ensures.text
 
 pub returns-in-Restore-clause-follows : goal.returns-in-Restore-clause-follows
 returns-in-Restore-clause-follows g c =
     order_follows c.keep-in-Restore.result (core_of c.keep-in-Restore.new.centre) _ _ c.in-Restore.is
-    (made_follows c.restore-made.result c.keep-in-Restore.result c.keep-in-Restore.new.centre c.keep-in-Restore.ensures.kept c.keep-in-Restore.ensures.made)
+    (made_follows c.restore-made.result c.keep-in-Restore.result c.keep-in-Restore.new.centre
+    c.keep-in-Restore.ensures.kept c.keep-in-Restore.ensures.made)
 
 pub returns-in-Restore-clause-writes : goal.returns-in-Restore-clause-writes
-returns-in-Restore-clause-writes g c = order_writes c.keep-in-Restore.result c.args.page.now.items c.keep-in-Restore.new.page.items c.args.step.now.line _ _ c.in-Restore.is c.keep-in-Restore.ensures.text
+returns-in-Restore-clause-writes g c = order_writes c.keep-in-Restore.result c.args.page.now.items
+    c.keep-in-Restore.new.page.items c.args.step.now.line _ _ c.in-Restore.is c.keep-in-Restore.ensures.text
 
 pub returns-in_default-clause-follows : goal.returns-in_default-clause-follows
 returns-in_default-clause-follows g c =
-    always c.refuse.result (ap (λ (o : Option (Hosted CoreValue)). is_some (core_of o)) c.requires.none ∙ none_made c.args.step.now.order c.in_default.not-Init c.in_default.not-Restore)
+    always c.refuse.result
+    (ap (λ (o : Option (Hosted CoreValue)). is_some (core_of o)) c.requires.none ∙ none_made c.args.step.now.order
+    c.in_default.not-Init c.in_default.not-Restore)
 
 pub returns-in_default-clause-writes : goal.returns-in_default-clause-writes
-returns-in_default-clause-writes g c = lines_as c.refuse.result c.args.page.now.items c.refuse.new.page.items _ _ (none_written c.args.step.now.line c.args.step.now.order c.in_default.not-Init c.in_default.not-Restore) c.refuse.ensures.text
+returns-in_default-clause-writes g c = lines_as c.refuse.result c.args.page.now.items c.refuse.new.page.items _ _
+    (none_written c.args.step.now.line c.args.step.now.order c.in_default.not-Init c.in_default.not-Restore)
+    c.refuse.ensures.text

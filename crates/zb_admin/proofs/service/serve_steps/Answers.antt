@@ -14,7 +14,8 @@ loop-step-init g c = record {
   unrisen = refl;
   later = omega arith;
   out_unrisen = refl;
-  goes = λ told first stood. begins (outside g.D.Disk.tells g.D.Disk.state g.W.Sink.taken g.W.Sink.faults) (setting_for c.args.config.now) c.args.steps.now first c.args.disk.now c.args.out.now c.args.centre.now stood;
+  goes = λ told first stood. begins (outside g.D.Disk.tells g.D.Disk.state g.W.Sink.taken g.W.Sink.faults)
+      (setting_for c.args.config.now) c.args.steps.now first c.args.disk.now c.args.out.now c.args.centre.now stood;
   told = told_none c.args.steps.now (core_of c.args.centre.now) (g.W.Sink.taken c.args.out.now);
 }
 
@@ -27,35 +28,52 @@ loop-step-preserved g c = record {
   later = omega (arith, c.loop-step.invariant.later, c.serve_step.ensures.later);
   out_unrisen = c.in-Ok.ensures.out_unrisen (λ is. cc is) ∙ c.loop-step.invariant.out_unrisen;
   goes = λ told first stood.
-      step_more (outside g.D.Disk.tells g.D.Disk.state g.W.Sink.taken g.W.Sink.faults) (setting_for c.args.config.now) c.args.steps.now first c.args.disk.now c.args.out.now c.loop-step.step-index c.step-item.result c.loop-step-test.true c.step-item.is
-      c.loop-step.centre c.loop-step.disk c.loop-step.out (c.loop-step.invariant.goes told first stood) c.serve_step.new.centre c.serve_step.new.disk c.serve_step.new.out
+      step_more (outside g.D.Disk.tells g.D.Disk.state g.W.Sink.taken g.W.Sink.faults) (setting_for c.args.config.now)
+      c.args.steps.now first c.args.disk.now c.args.out.now c.loop-step.step-index c.step-item.result
+      c.loop-step-test.true c.step-item.is
+      c.loop-step.centre c.loop-step.disk c.loop-step.out (c.loop-step.invariant.goes told first stood)
+      c.serve_step.new.centre c.serve_step.new.disk c.serve_step.new.out
       (c.in-Ok.ensures.served told);
   told =
-      told_more c.args.steps.now (core_of c.args.centre.now) (core_of c.loop-step.centre) c.loop-step.step-index (g.W.Sink.taken c.args.out.now) (g.W.Sink.taken c.loop-step.out) c.loop-step.invariant.told
-      c.step-item.result c.loop-step-test.true c.step-item.is (g.W.Sink.taken c.serve_step.new.out) (core_of c.serve_step.new.centre) c.in-Ok.ensures.follows c.in-Ok.ensures.writes;
+      told_more c.args.steps.now (core_of c.args.centre.now) (core_of c.loop-step.centre) c.loop-step.step-index
+      (g.W.Sink.taken c.args.out.now) (g.W.Sink.taken c.loop-step.out) c.loop-step.invariant.told
+      c.step-item.result c.loop-step-test.true c.step-item.is (g.W.Sink.taken c.serve_step.new.out)
+      (core_of c.serve_step.new.centre) c.in-Ok.ensures.follows c.in-Ok.ensures.writes;
 }
 
 pub returns-clause-run : goal.returns-clause-run
 returns-clause-run g c = λ told first stood.
-    all_served (outside g.D.Disk.tells g.D.Disk.state g.W.Sink.taken g.W.Sink.faults) (setting_for c.args.config.now) c.args.steps.now first c.args.disk.now c.args.out.now c.loop-step.step-index c.loop-step.centre c.loop-step.disk c.loop-step.out c.loop-step-test.false (c.loop-step.invariant.goes told first stood)
+    all_served (outside g.D.Disk.tells g.D.Disk.state g.W.Sink.taken g.W.Sink.faults) (setting_for c.args.config.now)
+    c.args.steps.now first c.args.disk.now c.args.out.now c.loop-step.step-index c.loop-step.centre
+    c.loop-step.disk c.loop-step.out c.loop-step-test.false (c.loop-step.invariant.goes told first stood)
 
 pub returns-in-Err-clause-run : goal.returns-in-Err-clause-run
 returns-in-Err-clause-run g c = λ told first stood.
-    step_ends (outside g.D.Disk.tells g.D.Disk.state g.W.Sink.taken g.W.Sink.faults) (setting_for c.args.config.now) c.args.steps.now first c.args.disk.now c.args.out.now c.loop-step.step-index c.step-item.result c.loop-step-test.true c.step-item.is
-    c.loop-step.centre c.loop-step.disk c.loop-step.out (c.loop-step.invariant.goes told first stood) c.in-Err.fault c.serve_step.new.centre c.serve_step.new.disk c.serve_step.new.out
+    step_ends (outside g.D.Disk.tells g.D.Disk.state g.W.Sink.taken g.W.Sink.faults) (setting_for c.args.config.now)
+    c.args.steps.now first c.args.disk.now c.args.out.now c.loop-step.step-index c.step-item.result
+    c.loop-step-test.true c.step-item.is
+    c.loop-step.centre c.loop-step.disk c.loop-step.out (c.loop-step.invariant.goes told first stood) c.in-Err.fault
+    c.serve_step.new.centre c.serve_step.new.disk c.serve_step.new.out
     (c.in-Err.ensures.served told)
 
 pub returns-in-Err-clause-faults : goal.returns-in-Err-clause-faults
 returns-in-Err-clause-faults g c =
-    fault_later (outside g.D.Disk.tells g.D.Disk.state g.W.Sink.taken g.W.Sink.faults) (setting_for c.args.config.now) c.args.centre.now c.loop-step.centre c.args.disk.now c.loop-step.disk c.serve_step.new.disk c.args.out.now c.loop-step.out c.serve_step.new.out c.in-Err.fault
+    fault_later (outside g.D.Disk.tells g.D.Disk.state g.W.Sink.taken g.W.Sink.faults) (setting_for c.args.config.now)
+    c.args.centre.now c.loop-step.centre c.args.disk.now c.loop-step.disk c.serve_step.new.disk c.args.out.now
+    c.loop-step.out c.serve_step.new.out c.in-Err.fault
     c.loop-step.invariant.unrisen c.loop-step.invariant.later
-    (λ told first stood. let now = c.loop-step.invariant.goes told first stood in (now.standing, now.stood)) c.in-Err.ensures.faults
+    (λ told first stood. let now = c.loop-step.invariant.goes told first stood in (now.standing, now.stood))
+    c.in-Err.ensures.faults
 
 pub returns-clause-told : goal.returns-clause-told
 returns-clause-told g c =
-    told_all c.args.steps.now (core_of c.args.centre.now) (core_of c.loop-step.centre) c.loop-step.step-index (g.W.Sink.taken c.args.out.now) (g.W.Sink.taken c.loop-step.out) c.loop-step.invariant.told c.loop-step-test.false
+    told_all c.args.steps.now (core_of c.args.centre.now) (core_of c.loop-step.centre) c.loop-step.step-index
+    (g.W.Sink.taken c.args.out.now) (g.W.Sink.taken c.loop-step.out) c.loop-step.invariant.told
+    c.loop-step-test.false
 
 pub returns-in-Err-clause-told_front : goal.returns-in-Err-clause-told_front
 returns-in-Err-clause-told_front g c =
-    told_cut c.args.steps.now (core_of c.args.centre.now) (core_of c.loop-step.centre) c.loop-step.step-index (g.W.Sink.taken c.args.out.now) (g.W.Sink.taken c.loop-step.out) c.loop-step.invariant.told
-    c.step-item.result c.loop-step-test.true c.step-item.is (g.W.Sink.taken c.serve_step.new.out) c.in-Err.ensures.front
+    told_cut c.args.steps.now (core_of c.args.centre.now) (core_of c.loop-step.centre) c.loop-step.step-index
+    (g.W.Sink.taken c.args.out.now) (g.W.Sink.taken c.loop-step.out) c.loop-step.invariant.told
+    c.step-item.result c.loop-step-test.true c.step-item.is (g.W.Sink.taken c.serve_step.new.out)
+    c.in-Err.ensures.front

@@ -19,7 +19,10 @@ invariant-loop-step g l = record {
   unrisen : Unrisen (g.D.Disk.state l.initial.disk).faults (g.D.Disk.state l.disk).faults;
   later : g.W.Sink.faults l.initial.out ≤ g.W.Sink.faults l.out;
   out_unrisen : Unrisen (g.W.Sink.faults l.initial.out) (g.W.Sink.faults l.out);
-  goes : IsTrue g.D.Disk.tells.content → (first : Option NodeState) → Stands (setting_for l.config) first l.initial.centre (g.D.Disk.state l.initial.disk)
-      → GoesOn (outside g.D.Disk.tells g.D.Disk.state g.W.Sink.taken g.W.Sink.faults) (setting_for l.config) l.steps first l.initial.disk l.initial.out l.step-index l.centre l.disk l.out;
-  told : IsTold l.steps (core_of l.initial.centre) (core_of l.centre) l.step-index (g.W.Sink.taken l.initial.out) (g.W.Sink.taken l.out);
+  goes : IsTrue g.D.Disk.tells.content → (first : Option NodeState)
+      → Stands (setting_for l.config) first l.initial.centre (g.D.Disk.state l.initial.disk)
+      → GoesOn (outside g.D.Disk.tells g.D.Disk.state g.W.Sink.taken g.W.Sink.faults) (setting_for l.config) l.steps
+      first l.initial.disk l.initial.out l.step-index l.centre l.disk l.out;
+  told : IsTold l.steps (core_of l.initial.centre) (core_of l.centre) l.step-index (g.W.Sink.taken l.initial.out)
+      (g.W.Sink.taken l.out);
 }
