@@ -1,13 +1,13 @@
 -- What an answer makes of the bare rows of a state, which are without limits, counters and floors: the changes of its
--- rule alone change them. Here are rules that change link rows and the state of a node.
+-- rule alone change them. Here are the changes of joining and of the exchange of link keys.
 use Rattle.std.proofs.Common.{◌≡◌, ℕ, ◌+◌, Bool, true, false, ◌&&◌, if◌then◌else◌, List, [], ◌∷◌, ◌++◌, map, filter, fold, flat_map, Option, Some, None, option_map, option_to_list, refl, sym, ap, ◌∙◌}
 use Rattle.std.specs.List.{AllByRecursion}
 use Rattle.std.proofs.lemmas.List.{map-append}
-use Rattle.zb_model.specs.Data.{Bytes, Attribute, Layer, Nwk, Aps, Term, Move, Draw, DropLink, Row, Became, Edit, Reserve, Floor, Moved}
-use Rattle.zb_model.specs.State.{NetKey, LinkKey, NodeState, same_key, is_link, is_live_of, is_told, has_link, at_net, at_link, of_active, reserved, net_floor, link_floor, revived, dropped_link, new_link, with_link, moved, applied, applied_all, next_at, sealed_at, after_sealing, net_kept, link_kept, after_hearing, after_accepting}
+use Rattle.zb_model.specs.Data.{Bytes, Attribute, Layer, Nwk, Aps, Term, Move, Draw, DropNet, DropLink, Install, Active, Row, Became, Edit, Reserve, Floor, Start, Moved}
+use Rattle.zb_model.specs.State.{NetKey, LinkKey, NodeState, same_key, is_link, is_live_of, is_told, has_net, has_link, at_net, at_link, of_active, reserved, net_floor, link_floor, revived, dropped_net, dropped_link, new_net, new_link, started_at, with_link, moved, applied, applied_all, next_at, sealed_at, after_sealing, net_kept, link_kept, after_hearing, after_accepting}
 use Rattle.zb_model.specs.Rules.{Setting, Plan}
 use Rattle.zb_model.specs.Tools.{Tools}
-use Rattle.zb_model.specs.Answer.{Answer, Counting, accepted_all, sealed_all, changes, moves_of, move_edits, floor_edit, edits_of, answer_by, answered}
+use Rattle.zb_model.specs.Answer.{Answer, Counting, accepted_all, sealed_all, changes, moves_of, move_edits, start_edit, floor_edit, edits_of, answer_by, answered}
 use Rattle.law_change_fits.proofs.Tests.{any_map}
 use Rattle.law_recovery.proofs.Changing.{reserves, applied_then}
 
@@ -102,17 +102,34 @@ linked partner key attribute told rs =
     by_test true = swapped (is_link partner key) (revived attribute told) bare_link (λ r. refl) (λ r. refl) rs
     by_test false = map-append bare_link rs (new_link partner key attribute told ∷ [])
 
--- the changes that the rules of the exchange make
-abbrev pub OfLinks : Move → Type 0
-OfLinks (Draw key) = Unit {0}
-OfLinks (DropLink partner key) = Unit {0}
-OfLinks (Row partner key attribute) = Unit {0}
-OfLinks (Became state) = Unit {0}
-OfLinks m = ◌≡◌ {A = Bool} false true
+with_nets : (s : NodeState) (a b : List NetKey) → a ≡ b → record s { nets = a } ≡ record s { nets = b }
+with_nets s a b e = ap (λ (x : List NetKey). record s { nets = x }) e
 
-by_move : (m : Move) (s : NodeState) → OfLinks m → bare (moved m s) ≡ moved m (bare s)
+installed : (key : Bytes) (sequence : ℕ) (rs : List NetKey) → map bare_net (if has_net key rs then rs else rs ++ new_net key sequence ∷ []) ≡ (if has_net key (map bare_net rs) then map bare_net rs else map bare_net rs ++ new_net key sequence ∷ [])
+installed key sequence rs =
+    by_test (has_net key rs) ∙ ap (λ b. if b then map bare_net rs else map bare_net rs ++ new_net key sequence ∷ []) (sym (any_map (λ (r : NetKey). same_key r.key key) bare_net rs))
+  where
+    by_test : (b : Bool) → map bare_net (if b then rs else rs ++ new_net key sequence ∷ []) ≡ (if b then map bare_net rs else map bare_net rs ++ new_net key sequence ∷ [])
+    by_test true = refl
+    by_test false = map-append bare_net rs (new_net key sequence ∷ [])
+
+-- the changes that the rules of joining and of the exchange make
+abbrev pub OfExchange : Move → Type 0
+OfExchange (Draw key) = Unit {0}
+OfExchange (DropNet key) = Unit {0}
+OfExchange (DropLink partner key) = Unit {0}
+OfExchange (Install key sequence) = Unit {0}
+OfExchange (Active key) = Unit {0}
+OfExchange (Row partner key attribute) = Unit {0}
+OfExchange (Became state) = Unit {0}
+OfExchange m = ◌≡◌ {A = Bool} false true
+
+by_move : (m : Move) (s : NodeState) → OfExchange m → bare (moved m s) ≡ moved m (bare s)
 unfolding bare
 by_move (Draw key) s of = refl
+by_move (DropNet key) s of = with_nets (bare s) _ _ (swapped (λ (r : NetKey). same_key r.key key) dropped_net bare_net (λ r. refl) (λ r. refl) s.nets)
+by_move (Install key sequence) s of = with_nets (bare s) _ _ (installed key sequence s.nets)
+by_move (Active key) s of = refl
 by_move (DropLink partner key) s of = with_links (bare s) _ _ (swapped (is_link partner key) dropped_link bare_link (λ r. refl) (λ r. refl) s.links)
 by_move (Row partner key attribute) s of =
     with_links (bare s) _ _ (linked partner key attribute (is_told s partner) s.links ∙ ap (λ b. with_link partner key attribute b (map bare_link s.links)) (sym (told_same s partner)))
@@ -123,19 +140,29 @@ by_move _ s of = absurd cc
 abbrev pub moved_all : List Move → NodeState → NodeState
 moved_all ms s = fold (λ (x : NodeState) (m : Move). moved m x) s ms
 
-edit_of : (k : Counting) (m : Move) → OfLinks m → move_edits k m ≡ Moved m ∷ []
-edit_of k (Draw key) of = refl
-edit_of k (DropLink partner key) of = refl
-edit_of k (Row partner key attribute) of = refl
-edit_of k (Became state) of = refl
-edit_of k _ of = absurd cc
+by_start : (key : Bytes) (value : ℕ) (s : NodeState) → bare (applied (Start key value) s) ≡ bare s
+unfolding applied
+by_start key value s = nets_same s (at_net key (started_at value) s.nets) s.nets (blind (λ (r : NetKey). same_key r.key key) (started_at value) bare_net (λ r. refl) s.nets)
 
-by_moves : (k : Counting) (ms : List Move) → AllByRecursion OfLinks ms → (s : NodeState) → bare (applied_all (flat_map (move_edits k) ms) s) ≡ moved_all ms (bare s)
+by_edit : (k : Counting) (m : Move) → OfExchange m → (es : List Edit) (s : NodeState) (x : NodeState) → ((u : NodeState) → bare u ≡ moved m (bare s) → bare (applied_all es u) ≡ x) → bare (applied_all (move_edits k m ++ es) s) ≡ x
 unfolding applied_all applied
-by_moves k [] all s = refl
-by_moves k (m ∷ ms) all s =
-    ap (λ es. bare (applied_all (es ++ flat_map (move_edits k) ms) s)) (edit_of k m all.0)
-    ∙ by_moves k ms all.1 (moved m s) ∙ ap (moved_all ms) (by_move m s all.0)
+by_edit k (Active key) of es s x rest = by_first k.start
+  where
+    by_first : (o : Option ℕ) → bare (applied_all (Moved (Active key) ∷ start_edit key o ++ es) s) ≡ x
+    by_first None = rest (moved (Active key) s) (by_move (Active key) s tt)
+    by_first (Some value) = rest (applied (Start key value) (moved (Active key) s)) (by_start key value (moved (Active key) s) ∙ by_move (Active key) s tt)
+by_edit k (Draw key) of es s x rest = rest s refl
+by_edit k (DropNet key) of es s x rest = rest (moved (DropNet key) s) (by_move (DropNet key) s tt)
+by_edit k (DropLink partner key) of es s x rest = rest (moved (DropLink partner key) s) (by_move (DropLink partner key) s tt)
+by_edit k (Install key sequence) of es s x rest = rest (moved (Install key sequence) s) (by_move (Install key sequence) s tt)
+by_edit k (Row partner key attribute) of es s x rest = rest (moved (Row partner key attribute) s) (by_move (Row partner key attribute) s tt)
+by_edit k (Became state) of es s x rest = rest (moved (Became state) s) (by_move (Became state) s tt)
+by_edit k _ of es s x rest = absurd cc
+
+by_moves : (k : Counting) (ms : List Move) → AllByRecursion OfExchange ms → (s x : NodeState) → bare s ≡ x → bare (applied_all (flat_map (move_edits k) ms) s) ≡ moved_all ms x
+unfolding applied_all
+by_moves k [] all s x e = e
+by_moves k (m ∷ ms) all s x e = by_edit k m all.0 (flat_map (move_edits k) ms) s (moved_all (m ∷ ms) x) (λ u f. by_moves k ms all.1 u (moved m x) (f ∙ ap (moved m) e))
 
 -- ---- a whole answer
 
@@ -156,7 +183,7 @@ unfolding applied_all
 by_floors k [] s = refl
 by_floors k (t ∷ ts) s = by_one_floor t (k.floor t.layer) (flat_map (floor_edit k) ts) s (by_floors k ts)
 
-pub bare_after : (tools : Tools) (c : Setting) (s : NodeState) (k : Counting) (p : Plan) (ms : List Move) → filter (changes s) (moves_of p.outcome) ≡ ms → AllByRecursion OfLinks ms
+pub bare_after : (tools : Tools) (c : Setting) (s : NodeState) (k : Counting) (p : Plan) (ms : List Move) → filter (changes s) (moves_of p.outcome) ≡ ms → AllByRecursion OfExchange ms
     → bare (answered (answer_by tools c s k p) s) ≡ moved_all ms (bare s)
 unfolding answered answer_by edits_of
 bare_after tools c s k p ms e all =
@@ -170,4 +197,4 @@ bare_after tools c s k p ms e all =
     ∙ ap bare (applied_then first (floors ++ flat_map (move_edits k) (filter (changes s) (moves_of p.outcome))) s)
     ∙ ap bare (applied_then floors (flat_map (move_edits k) (filter (changes s) (moves_of p.outcome))) u)
     ∙ ap (λ l. bare (applied_all (flat_map (move_edits k) l) v)) e
-    ∙ by_moves k ms all v ∙ ap (moved_all ms) (by_floors k p.accepts u ∙ by_reserves (k.reserve Nwk) (k.reserve Aps) s)
+    ∙ by_moves k ms all v (bare s) (by_floors k p.accepts u ∙ by_reserves (k.reserve Nwk) (k.reserve Aps) s)

@@ -2,7 +2,6 @@
 use Rattle.std.proofs.Common.{◌≡◌, ℕ, Bool, true, false, not, ◌&&◌, ◌||◌, if◌then◌else◌, List, [], ◌∷◌, ◌++◌, map, filter, find, reverse, Option, Some, None, option_map, is_some, nat_eq, refl, sym, ap, ◌∙◌, eq-eqb, eqb-true}
 use Rattle.std.specs.List.{AllByRecursion, list_any}
 use Rattle.std.proofs.lemmas.Bool.{false≢true, not-true}
-use mathlib.Core.List.{reverse_aux}
 use Rattle.zb_model.specs.Data.{Bytes, State, Attribute, Unverified, Verified}
 use Rattle.zb_model.specs.Fits.{all_apart, keeps_rules}
 use Rattle.zb_model.specs.State.{NetKey, LinkKey, NodeState, same_key, is_link, has_link, is_live_of, is_live, is_unverified, is_verified, at_link, dropped_link, revived, new_link, with_link, may_use, current, offered}
@@ -10,7 +9,7 @@ use Rattle.law_change_fits.proofs.Parts.{kinds_alike, rules_of, same_key_of}
 use Rattle.law_change_fits.proofs.Tests.{any_map, apart_map, both, neither, never, none_where}
 use Rattle.law_key_exchange.specs.Meeting.{HasNetwork, HasLink, HasOffer, HasProved}
 use Rattle.law_key_exchange.proofs.Baring.{bare, bare_net, bare_link}
-use Rattle.law_key_exchange.proofs.Rows.{Before, before, none_before, is_current, is_offer, current_bare, offered_bare, last_bare, found_before, found_last, found_test, any_found, IsProof, replaced_current, may_use_of, same_network}
+use Rattle.law_key_exchange.proofs.Rows.{Before, before, none_before, is_current, is_offer, current_bare, offered_bare, last_bare, found_before, found_last, found_test, any_found, IsProof, last_first, replaced_current, may_use_of, same_network}
 
 pub nets_of : (s x : NodeState) → bare s ≡ x → map bare_net s.nets ≡ x.nets
 unfolding bare
@@ -53,9 +52,8 @@ pub state_left : (s u : NodeState) → bare u ≡ bare s → u.state ≡ s.state
 unfolding bare
 state_left s u e = state_of u (bare s) e
 
-pub link_left : (s u : NodeState) (p : ℕ) (link : Bytes) → HasLink s p link → bare u ≡ bare s → HasLink u p link
-link_left s u p link h e =
-    let rows = links_left s u e in
+pub link_kept : (s u : NodeState) (p : ℕ) (link : Bytes) → HasLink s p link → map bare_link u.links ≡ map bare_link s.links → HasLink u p link
+link_kept s u p link h rows =
     let a = before bare_link (current u p) (bare_link h.row) (current_bare u p ∙ ap (find (is_current p)) rows ∙ sym (current_bare s p) ∙ ap (option_map bare_link) h.is_current) in
     record {
       row = a.item;
@@ -63,6 +61,9 @@ link_left s u p link h e =
       row_key = ap (λ (r : LinkKey). r.key) a.seen ∙ h.row_key;
       none_offered = none_before bare_link (offered u p) (offered_bare u p ∙ ap (find (is_offer p)) rows ∙ sym (offered_bare s p) ∙ ap (option_map bare_link) h.none_offered);
     }
+
+pub link_left : (s u : NodeState) (p : ℕ) (link : Bytes) → HasLink s p link → bare u ≡ bare s → HasLink u p link
+link_left s u p link h e = link_kept s u p link h (links_left s u e)
 
 pub offer_left : (s u : NodeState) (p : ℕ) (key : Bytes) → HasOffer s p key → bare u ≡ bare s → HasOffer u p key
 offer_left s u p key h e =
@@ -100,13 +101,6 @@ offer_comes s u p link key told h e =
     let b = before bare_link (offered u p) (offer_row p key told)
     (offered_bare u p ∙ ap (find (is_offer p)) e ∙ found_last (is_offer p) (map bare_link s.links) (offer_row p key told) (sym (offered_bare s p) ∙ ap (option_map bare_link) h.none_offered) (is_one p key told)) in
     record { row = a.item; is_current = a.is; offer = b.item; is_offered = b.is; offer_key = ap (λ (r : LinkKey). r.key) b.seen }
-
-turned_last : {X : Type 0} (xs ys : List X) (y : X) → reverse_aux (xs ++ y ∷ []) ys ≡ y ∷ reverse_aux xs ys
-turned_last [] ys y = refl
-turned_last (x ∷ xs) ys y = turned_last xs (x ∷ ys) y
-
-last_first : {X : Type 0} (xs : List X) (y : X) → reverse (xs ++ y ∷ []) ≡ y ∷ reverse xs
-last_first xs y = turned_last xs [] y
 
 pub offer_tried : (s u : NodeState) (p : ℕ) (key : Bytes) (told : Bool) → map bare_link u.links ≡ map bare_link s.links ++ offer_row p key told ∷ [] → Tries u p key
 offer_tried s u p key told e =

@@ -23,7 +23,7 @@ use Rattle.law_key_exchange.specs.CommandFrames.{NetFrame, LinkFrame, net_term, 
 use Rattle.law_key_exchange.specs.Exchanging.{Seals, net_frame, request, offer, request_bytes, offer_bytes, seals_now, Offers, StationsInRange, NwkInRange, ApsInRange}
 use Rattle.law_key_exchange.specs.Meeting.{AreDeclared, HasNetwork, HasLink, HasOffer, IsJoined}
 use Rattle.law_key_exchange.specs.Obstacles.{or_else, when, why_not_heard, why_not_opened, why_not_sealed, why_not_offered}
-use Rattle.law_key_exchange.proofs.Baring.{bare, bare_link, bare_after, moved_all, OfLinks}
+use Rattle.law_key_exchange.proofs.Baring.{bare, bare_link, bare_after, moved_all, OfExchange}
 use Rattle.law_key_exchange.proofs.Rows.{may_use_of}
 use Rattle.law_key_exchange.proofs.Sending.{sealed_out}
 use Rattle.law_key_exchange.proofs.Judged.{IsHeard, IsOpened, plan_at, plan_opened, both_terms, heard_with, delivered_sealed, refused_at, refused_opened, free_at, free_opened, or_first, or_second, when_none}

@@ -40,7 +40,7 @@ use Rattle.zb_sched.specs.Valid.{IsSchedule}
 -- ---- a run up to a front
 
 -- a claim before each event holds before the events that are left
-left_over : (P : List Line → Event → Type 0) (tools : Tools) (w : Schedule) (xs ys : List Event) (x : Front) → BeforeEach P tools w x.lines x.disks x.number (xs ++ ys)
+pub left_over : (P : List Line → Event → Type 0) (tools : Tools) (w : Schedule) (xs ys : List Event) (x : Front) → BeforeEach P tools w x.lines x.disks x.number (xs ++ ys)
     → BeforeEach P tools w (after_events tools w x xs).lines (after_events tools w x xs).disks (after_events tools w x xs).number ys
 unfolding after_event
 left_over P tools w [] ys x b = b
@@ -58,7 +58,7 @@ first_part : (P : Line → Type 0) (xs ys : List Line) → AllByRecursion P (xs 
 first_part P [] ys all = tt
 first_part P (x ∷ xs) ys all = (all.0, first_part P xs ys all.1)
 
-front_in_range : (w : Schedule) (xs ys : List Event) → w.events ≡ xs ++ ys → AllByRecursion LineInRange (transcript real w) → AllByRecursion LineInRange (after_events real w (first_front w) xs).lines
+pub front_in_range : (w : Schedule) (xs ys : List Event) → w.events ≡ xs ++ ys → AllByRecursion LineInRange (transcript real w) → AllByRecursion LineInRange (after_events real w (first_front w) xs).lines
 unfolding transcript run_lines
 front_in_range w xs ys e all =
     let x = after_events real w (first_front w) xs in
@@ -72,11 +72,11 @@ net_among : (o : Option Bytes) (s : NodeState) (r : NetKey) → net_of_active o 
 net_among None s r e = absurd (false≢true (ap is_some e))
 net_among (Some key) s r e = (found-element (λ (x : NetKey). same_key x.key key) s.nets r e).0
 
-active_among : (s : NodeState) (r : NetKey) → active_row s ≡ Some r → In r s.nets
+pub active_among : (s : NodeState) (r : NetKey) → active_row s ≡ Some r → In r s.nets
 unfolding active_row
 active_among s r e = net_among s.active s r e
 
-link_among : (s : NodeState) (device : ℕ) (r : LinkKey) → current s device ≡ Some r → In r s.links
+pub link_among : (s : NodeState) (device : ℕ) (r : LinkKey) → current s device ≡ Some r → In r s.links
 unfolding current
 link_among s device r e = (found-element (λ (x : LinkKey). is_live_of device x && not (is_unverified x.attribute)) s.links r e).0
 
@@ -84,7 +84,7 @@ below_end : (s : NodeState) → spent Aps s ≡ false → next_counter Aps s < g
 unfolding spent
 below_end s e = leb-false greatest_counter (next_counter Aps s) e
 
-station_in : (p : sched.Schedule) → IsSchedule p → (n : ℕ) → (y : Declared (schedule_of p) n) → StationInRange y.station
+pub station_in : (p : sched.Schedule) → IsSchedule p → (n : ℕ) → (y : Declared (schedule_of p) n) → StationInRange y.station
 station_in p is n y = all-in StationInRange (stations (schedule_of p)) (of_nodes StationInRange NodeInRange (λ m k. k.station) (schedule_of p).nodes (schedule_in_range p is).nodes) y.station y.among
 
 frame_in : (p : sched.Schedule) → IsSchedule p → (x : Front) (c d : ℕ) → Declared (schedule_of p) c → Declared (schedule_of p) d → AllByRecursion LineInRange x.lines

@@ -80,10 +80,10 @@ knocks tools m t role some =
 
 -- ---- the network key
 
-same_state : (t : NodeState) → t.state ≡ Knocked → in_state Knocked t ≡ t
+pub same_state : (t : NodeState) → t.state ≡ Knocked → in_state Knocked t ≡ t
 same_state t e = ap (λ g. record t { state = g }) (sym e)
 
-facts : (tools : Tools) → DeliversKeys tools → (c m : Setting) (s t : NodeState) → AreOfOneNetwork c m → (l : AreIntroduced c m s t) → KeyFrameInRange (answer_frame c m s l.net l.row) → keeps_rules t ≡ true → Facts tools m Knocked Joined t (answer_frame c m s l.net l.row) l.own
+pub facts : (tools : Tools) → DeliversKeys tools → (c m : Setting) (s t : NodeState) → AreOfOneNetwork c m → (l : AreIntroduced c m s t) → KeyFrameInRange (answer_frame c m s l.net l.row) → keeps_rules t ≡ true → Facts tools m Knocked Joined t (answer_frame c m s l.net l.row) l.own
 facts tools delivers c m s t o l range rules = record {
   arrives = delivers (answer_frame c m s l.net l.row) range;
   role = o.member_role;

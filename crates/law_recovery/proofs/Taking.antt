@@ -69,13 +69,13 @@ opened tools m g t f own a lt same one =
 abbrev heard : KeyFrame → Tools → LinkKey → Heard
 heard f tools own = heard_sealed None (seal_of f) (found tools f own)
 
-abbrev new_moves : State → NodeState → KeyFrame → List Move
+abbrev pub new_moves : State → NodeState → KeyFrame → List Move
 new_moves e t f = drop_old t ++ (Install f.key f.sequence ∷ Active f.key ∷ Became e ∷ [])
 
-abbrev same_moves : State → KeyFrame → List Move
+abbrev pub same_moves : State → KeyFrame → List Move
 same_moves e f = Active f.key ∷ Became e ∷ []
 
-abbrev outcome_by : State → NodeState → KeyFrame → Option ℕ → Bool → Bool → Outcome
+abbrev pub outcome_by : State → NodeState → KeyFrame → Option ℕ → Bool → Bool → Outcome
 outcome_by e t f (Some place) has full = Stop (KeyOld place)
 outcome_by e t f None true full = Does (same_moves e f) None
 outcome_by e t f None false true = Stop KeysFull
@@ -93,7 +93,7 @@ taken_so m g e t tools f own w role is_from is_to at good none None false false 
 
 -- ---- the plan
 
-abbrev plan_by : Tools → KeyFrame → LinkKey → Bool → Outcome → Plan
+abbrev pub plan_by : Tools → KeyFrame → LinkKey → Bool → Outcome → Plan
 plan_by tools f own true o = stopped_at [] AtAps (Stale own.kept)
 plan_by tools f own false o = comes_to (key_term tools f ∷ []) AtAps o
 
@@ -123,7 +123,7 @@ by_floor tools m g e t f own draw x false =
     rw (x.arrives.is_command, x.arrives.means)
     (ap (comes_to (key_term tools f ∷ []) AtAps) (taken_so m g e t tools f own x.waits x.role x.from_centre x.device x.at x.ends x.none (dropped_at 0 f.key t.nets) (has_net f.key t.nets) (nets_full t) refl refl refl))
 
-delivered : (tools : Tools) (m : Setting) (g e : State) (t : NodeState) (f : KeyFrame) (own : LinkKey) (draw : Option Bytes) → Facts tools m g e t f own
+pub delivered : (tools : Tools) (m : Setting) (g e : State) (t : NodeState) (f : KeyFrame) (own : LinkKey) (draw : Option Bytes) → Facts tools m g e t f own
     → plan_of tools m (in_state g t) (Received (key_bytes tools f) draw) ≡ plan_by tools f own (nat_lt f.counter own.kept) (outcome_by e t f (dropped_at 0 f.key t.nets) (has_net f.key t.nets) (nets_full t))
 unfolding plan_of
 delivered tools m g e t f own draw x =

@@ -3,8 +3,9 @@ use Rattle.std.proofs.Common.{◌≡◌, ℕ, ◌+◌, ◌<◌, ◌≤◌, Bool,
 use Rattle.std.specs.Prelude.{is_none}
 use Rattle.std.proofs.lemmas.Bool.{false≢true, leb-false}
 use Rattle.std.proofs.lemmas.List.{append-nil}
+use Rattle.std.proofs.lemmas.List.Sums.{fold-append}
 use Rattle.zb_model.specs.Answer.{Answer, answer, answered}
-use Rattle.zb_model.specs.Data.{Bytes, Nwk, Aps, Task, DoTimer, Received, Reason, CounterSpent, NoDraw, RowsFull}
+use Rattle.zb_model.specs.Data.{Bytes, Nwk, Aps, Task, DoTimer, HasChild, Received, Reason, CounterSpent, NoDraw, RowsFull}
 use Rattle.zb_model.specs.Play.{Schedule, Event, Own, Deliver, setting_of, supply, step, frame_at, answer_step}
 use Rattle.zb_model.specs.Readings.{air, state_of}
 use Rattle.zb_model.specs.Rules.{spent, both_spent, links_full, unless_held}
@@ -15,17 +16,24 @@ use Rattle.law_key_exchange.specs.CommandFrames.{DeliversCommands}
 use Rattle.law_key_exchange.specs.Exchanging.{Seals, Offers, Confirms, seals_now, request_bytes, offer_bytes, proof_bytes, confirmation_bytes, NwkInRange, ApsInRange}
 use Rattle.law_key_exchange.specs.Meeting.{HasLink, HasNetwork, HasOffer, HasProved, IsConfirmed, IsJoined, IsOffered, IsSteady}
 use Rattle.law_key_exchange.specs.Obstacles.{or_else, when, in_row, why_unheard, why_not_opened, why_not_offered, why_not_sealed, why_no_confirmation, why_no_offer, why_no_proof, why_no_request, why_not_confirmed, why_offer_not_kept}
+use Rattle.law_key_exchange.proofs.Joining.{child_bare, is_joined}
 use Rattle.law_key_exchange.proofs.Judged.{or_second, when_none}
+use Rattle.law_key_exchange.proofs.Keeping.{link_left, network_left}
 use Rattle.law_key_exchange.proofs.Laws as law
 use Rattle.law_key_exchange.proofs.Proving.{proof_sent}
 use Rattle.law_key_exchange.proofs.Requesting.{request_sent}
 use Rattle.law_key_exchange.proofs.Sending.{apart_spent}
 use Rattle.law_key_exchange.proofs.Steady.{steady_after}
 use Rattle.law_recovery.specs.Answering.{after_task, frame_of}
+use Rattle.law_recovery.specs.KeyFrames.{DeliversKeys, key_bytes}
+use Rattle.law_recovery.specs.Rejoining.{answer_frame}
+use Rattle.law_recovery.proofs.Asking.{sends_to}
+use Rattle.law_recovery.proofs.Taking.{unspent_of}
 use Rattle.law_run_steps.proofs.Others.{own-up, frame-up}
 use Rattle.law_run_steps.specs.Steps.{is_of}
 use Rattle.law_recovery_runs.specs.Fronts.{Front, IsReady, after_event, after_events}
-use Rattle.law_recovery_runs.specs.KeyExchange.{AreMet, EndsConfirmed, HaveJoined, KeysInRange, NothingStops, eui_of, exchange_events, front_after}
+use Rattle.law_recovery_runs.specs.KeyExchange.{AreMet, EndsConfirmed, HaveJoined, IsNew, KeysInRange, NothingStops, eui_of, exchange_events, front_after, joined_front, joining_events}
+use Rattle.law_recovery_runs.specs.Joining.{CanJoin, join_events}
 use Rattle.law_recovery_runs.proofs.Airs.{last-frame}
 use Rattle.law_recovery_runs.proofs.Exchanged.{Answered, answered-by, left-by, turned}
 
@@ -292,6 +300,42 @@ ended tools delivers opens w x c d k frames a rn ra none =
       device_ready = b.met.device_ready;
     }
 
+-- ---- a device that knocked has joined
+
+record Introduced (tools : Tools) (w : Schedule) (y : Front) (c d : ℕ) (key : Bytes) (sequence : ℕ) (link : Bytes) : Type 0 where
+  met : AreMet w y c d
+  joined : HaveJoined w y c d key sequence link
+
+introduced : (tools : Tools) → DeliversKeys tools → OpensAsJudged tools → (w : Schedule) (x : Front) (c d : ℕ) → (can : CanJoin w x c d) → IsNew w x c d can
+    → Introduced tools w (joined_front tools w x c d) c d can.introduced.net.key can.introduced.net.sequence can.introduced.row.key
+introduced tools delivers opens w x c d can new =
+    let l = can.introduced in
+    let s = state_of x.lines c in
+    let t = state_of x.lines d in
+    let bytes = key_bytes tools (answer_frame (setting_of w c) (setting_of w d) s l.net l.row) in
+    let frames = length (air x.lines) in
+    let child = HasChild d false in
+    let y = after_event tools w x (Own c child) in
+    let a = centre_acts tools opens w x c d child (Own c child) new.met (turned d c can.apart) (own-up tools w x.lines x.disks x.number c child can.centre_ready.up) in
+    let sent : frame_of tools (setting_of w c) s child ≡ Some bytes =
+    ap (λ n. frame_of tools (setting_of w c) s (HasChild n false)) (sym can.mine)
+    ∙ sends_to tools (setting_of w c) (setting_of w d) s can.network l.net l.row l.active_key l.at_centre (unspent_of s d can.not_stopped) false in
+    let heard = sent_on_air x y frames bytes (frame_of tools (setting_of w c) s child) refl a.on_air sent in
+    let task = Received bytes (supply w y.lines) in
+    let z = after_event tools w y (Deliver (frames + 1) d) in
+    let b = device_acts tools opens w y c d task (Deliver (frames + 1) d) a.met can.apart (frame-up tools w y.lines y.disks y.number (frames + 1) d bytes a.met.device_ready.up heard.last) in
+    let same = child_bare tools (setting_of w c) s d false can.network.centre_role in
+    let mine : HasLink s (eui_of w d) l.row.key = record { row = l.row; is_current = l.at_centre; row_key = refl; none_offered = new.none_offered } in
+    record {
+      met = b.met;
+      joined = record {
+        device = subst (λ u. IsJoined u (eui_of w c) l.net.key l.net.sequence l.row.key) (sym (b.device ∙ ap (λ u. after_task tools (setting_of w d) u task) a.device))
+            (is_joined tools delivers (setting_of w c) (setting_of w d) s t can.network l can.in_range can.rules (supply w y.lines) can.not_refused new.key_is_new);
+        network = subst (λ u. HasNetwork u l.net.key l.net.sequence) (sym (b.centre ∙ a.centre)) (network_left s (after_task tools (setting_of w c) s child) l.net.key l.net.sequence new.network same);
+        keys = subst (λ u. HasLink u (eui_of w d) l.row.key) (sym (b.centre ∙ a.centre)) (link_left s (after_task tools (setting_of w c) s child) (eui_of w d) l.row.key mine same);
+      };
+    }
+
 -- ---- all of it
 
 first_half : (tools : Tools) → DeliversCommands tools → OpensAsJudged tools → (w : Schedule) (x : Front) (c d : ℕ) (key : Bytes) (sequence : ℕ) (link drawn : Bytes) → AreMet w x c d → HaveJoined w x c d key sequence link → KeysInRange key sequence link → length drawn ≡ 16
@@ -331,3 +375,14 @@ pub exchanged : (tools : Tools) → DeliversCommands tools → OpensAsJudged too
     → NothingStops tools w x c d key sequence link drawn → EndsConfirmed w (after_events tools w x (exchange_events x c d)) c d key sequence drawn
 exchanged tools delivers opens w x c d key sequence link drawn met j r long n =
     second_half tools delivers opens w x c d key sequence link drawn r long n (first_half tools delivers opens w x c d key sequence link drawn met j r long n)
+
+pub joined_and_exchanged : (tools : Tools) → DeliversKeys tools → DeliversCommands tools → OpensAsJudged tools → (w : Schedule) (x : Front) (c d : ℕ) (drawn : Bytes) → (can : CanJoin w x c d) → IsNew w x c d can → length drawn ≡ 16
+    → NothingStops tools w (joined_front tools w x c d) c d can.introduced.net.key can.introduced.net.sequence can.introduced.row.key drawn
+    → EndsConfirmed w (after_events tools w x (joining_events tools w x c d)) c d can.introduced.net.key can.introduced.net.sequence drawn
+joined_and_exchanged tools keys delivers opens w x c d drawn can new long n =
+    let l = can.introduced in
+    let y = joined_front tools w x c d in
+    let i = introduced tools keys opens w x c d can new in
+    let range : KeysInRange l.net.key l.net.sequence l.row.key = record { key_size = can.in_range.key; small = can.in_range.sequence; link_size = can.in_range.link } in
+    subst (λ z. EndsConfirmed w z c d l.net.key l.net.sequence drawn) (sym (fold-append (after_event tools w) x (join_events x c d) (exchange_events y c d)))
+    (exchanged tools delivers opens w y c d l.net.key l.net.sequence l.row.key drawn i.met i.joined range long n)
