@@ -7,7 +7,7 @@ use Rattle.zb_model.specs.Data.{Bytes, Attribute, Layer, Nwk, Aps, Term, Move, D
 use Rattle.zb_model.specs.State.{NetKey, LinkKey, NodeState, same_key, is_link, is_live_of, is_told, has_net, has_link, at_net, at_link, of_active, reserved, net_floor, link_floor, revived, dropped_net, dropped_link, new_net, new_link, started_at, with_link, moved, applied, applied_all, next_at, sealed_at, after_sealing, net_kept, link_kept, after_hearing, after_accepting}
 use Rattle.zb_model.specs.Rules.{Setting, Plan}
 use Rattle.zb_model.specs.Tools.{Tools}
-use Rattle.zb_model.specs.Answer.{Answer, Counting, accepted_all, sealed_all, changes, moves_of, move_edits, start_edit, floor_edit, edits_of, answer_by, answered}
+use Rattle.zb_model.specs.Answer.{Counting, accepted_all, sealed_all, changes, moves_of, move_edits, start_edit, floor_edit, edits_of, answer_by, answered}
 use Rattle.law_change_fits.proofs.Tests.{any_map}
 use Rattle.law_recovery.proofs.Changing.{reserves, applied_then}
 

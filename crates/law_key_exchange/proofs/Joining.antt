@@ -1,29 +1,28 @@
 -- A device that knocked takes a network key that is new to it: it has joined as the exchange of link keys asks.
-use Rattle.std.proofs.Common.{◌≡◌, ℕ, Bool, true, false, not, ◌&&◌, ◌||◌, if◌then◌else◌, List, [], ◌∷◌, ◌++◌, map, filter, length, Option, Some, None, is_some, nat_eq, nat_lt, nat_le, refl, sym, ap, ◌∙◌, subst}
-use Rattle.std.specs.List.{AllByRecursion, list_any}
+use Rattle.std.proofs.Common.{◌≡◌, ℕ, Bool, true, false, not, if◌then◌else◌, List, [], ◌∷◌, ◌++◌, map, filter, length, Option, Some, None, is_some, nat_lt, nat_le, refl, sym, ap, ◌∙◌, subst}
+use Rattle.std.specs.List.{AllByRecursion}
 use Rattle.std.proofs.lemmas.Bool.{false≢true}
-use Rattle.zb_model.specs.Data.{Bytes, Aps, State, Knocked, Joined, AtAps, AtEvent, Reason, Stale, KeysFull, Move, DropNet, Install, Active, Became, HasChild, Received}
+use Rattle.zb_model.specs.Data.{Bytes, Aps, Knocked, Joined, AtAps, AtEvent, Reason, Stale, KeysFull, Move, DropNet, Install, Active, Became, HasChild, Received}
 use Rattle.zb_model.specs.Commands.{dropped_at}
 use Rattle.zb_model.specs.Fits.{keeps_rules}
-use Rattle.zb_model.specs.Record.{state_byte}
 use Rattle.zb_model.specs.OwnEvents.{child_of_centre}
 use Rattle.zb_model.specs.Rules.{Setting, Plan, Does, drop_old, first_drop, nets_full}
-use Rattle.zb_model.specs.State.{NetKey, LinkKey, NodeState, same_key, is_centre, is_active_key, has_net, at_net, dropped_net, new_net, live_nets, moved, next_counter, current, offered}
+use Rattle.zb_model.specs.State.{NetKey, LinkKey, NodeState, same_key, is_centre, is_active_key, has_net, at_net, dropped_net, new_net, live_nets, next_counter}
 use Rattle.zb_model.specs.Tools.{Tools}
-use Rattle.zb_model.specs.Answer.{changes, moves_of, comes_to, answer_by, counting_of, plan_of, answer, answered}
+use Rattle.zb_model.specs.Answer.{changes, comes_to, answer_by, counting_of, plan_of, answer, answered}
 use Rattle.law_change_fits.proofs.Parts.{same_key_is}
 use Rattle.law_change_fits.proofs.Tests.{any_map, any_same}
 use Rattle.law_recovery.specs.Answering.{after_task}
 use Rattle.law_recovery.specs.Joining.{AreIntroduced}
 use Rattle.law_recovery.specs.KeyFrames.{KeyFrame, KeyFrameInRange, key_bytes, key_term, DeliversKeys}
-use Rattle.law_recovery.specs.Rejoining.{AreOfOneNetwork, answer_frame, why_not_taken, why_old, why_no_room}
+use Rattle.law_recovery.specs.Rejoining.{AreOfOneNetwork, answer_frame, why_not_taken, why_old}
 use Rattle.law_recovery.proofs.Asking.{child_answer, child_idle}
 use Rattle.law_recovery.proofs.Knocking.{facts, same_state}
-use Rattle.law_recovery.proofs.Taking.{Facts, delivered, in_state, new_moves, outcome_by, plan_by}
-use Rattle.law_key_exchange.specs.Meeting.{HasLink, HasNetwork, IsJoined}
+use Rattle.law_recovery.proofs.Taking.{Facts, delivered, new_moves, outcome_by, plan_by}
+use Rattle.law_key_exchange.specs.Meeting.{HasLink, IsJoined}
 use Rattle.law_key_exchange.proofs.Baring.{bare, bare_net, bare_link, bare_after, moved_all, OfExchange}
 use Rattle.law_key_exchange.proofs.Rows.{new_network}
-use Rattle.law_key_exchange.proofs.Keeping.{nets_of, links_of, active_of, state_of, may_of, link_kept}
+use Rattle.law_key_exchange.proofs.Keeping.{nets_of, links_of, active_of, state_of, link_kept}
 
 -- ---- the plan, where nothing is in the way and the key is new
 
@@ -52,7 +51,6 @@ free_plan tools m t f own draw x knocked fresh none =
 abbrev last_moves : Bytes → ℕ → List Move
 last_moves key sequence = Install key sequence ∷ Active key ∷ Became Joined ∷ []
 
-
 -- where the last two moves lead
 record Leads (t : NodeState) (key : Bytes) (sequence : ℕ) (ms : List Move) : Type 0 where
   of : AllByRecursion OfExchange ms
@@ -74,7 +72,6 @@ dropped_has key old rs =
     by_test : (b : Bool) (r : NetKey) → same_key (if b then dropped_net r else r).key key ≡ same_key r.key key
     by_test true r = refl
     by_test false r = refl
-
 
 kept_key : (o : Option Bytes) (key : Bytes) → is_active_key o key ≡ true → o ≡ Some key
 kept_key None key e = absurd (false≢true e)

@@ -1,15 +1,13 @@
 -- What a node has of its network and of its partner after an answer, by its bare rows.
-use Rattle.std.proofs.Common.{◌≡◌, ℕ, Bool, true, false, not, ◌&&◌, ◌||◌, if◌then◌else◌, List, [], ◌∷◌, ◌++◌, map, filter, find, reverse, Option, Some, None, option_map, is_some, nat_eq, refl, sym, ap, ◌∙◌, eq-eqb, eqb-true}
-use Rattle.std.specs.List.{AllByRecursion, list_any}
-use Rattle.std.proofs.lemmas.Bool.{false≢true, not-true}
-use Rattle.zb_model.specs.Data.{Bytes, State, Attribute, Unverified, Verified}
+use Rattle.std.proofs.Common.{◌≡◌, ℕ, Bool, true, false, not, List, [], ◌∷◌, ◌++◌, map, find, reverse, Some, option_map, nat_eq, refl, sym, ap, ◌∙◌, eq-eqb}
+use Rattle.zb_model.specs.Data.{Bytes, Unverified, Verified}
 use Rattle.zb_model.specs.Fits.{all_apart, keeps_rules}
-use Rattle.zb_model.specs.State.{NetKey, LinkKey, NodeState, same_key, is_link, has_link, is_live_of, is_live, is_unverified, is_verified, at_link, dropped_link, revived, new_link, with_link, may_use, current, offered}
-use Rattle.law_change_fits.proofs.Parts.{kinds_alike, rules_of, same_key_of}
-use Rattle.law_change_fits.proofs.Tests.{any_map, apart_map, both, neither, never, none_where}
+use Rattle.zb_model.specs.State.{LinkKey, NodeState, same_key, is_link, has_link, is_live_of, is_live, is_unverified, is_verified, at_link, dropped_link, revived, new_link, with_link, may_use, current, offered}
+use Rattle.law_change_fits.proofs.Parts.{kinds_alike, rules_of}
+use Rattle.law_change_fits.proofs.Tests.{any_map, apart_map, both, never}
 use Rattle.law_key_exchange.specs.Meeting.{HasNetwork, HasLink, HasOffer, HasProved}
 use Rattle.law_key_exchange.proofs.Baring.{bare, bare_net, bare_link}
-use Rattle.law_key_exchange.proofs.Rows.{Before, before, none_before, is_current, is_offer, current_bare, offered_bare, last_bare, found_before, found_last, found_test, any_found, IsProof, last_first, replaced_current, may_use_of, same_network}
+use Rattle.law_key_exchange.proofs.Rows.{before, none_before, is_current, is_offer, current_bare, offered_bare, last_bare, found_before, found_last, found_test, any_found, last_first, replaced_current, may_use_of, same_network}
 
 pub nets_of : (s x : NodeState) → bare s ≡ x → map bare_net s.nets ≡ x.nets
 unfolding bare

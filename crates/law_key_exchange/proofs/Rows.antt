@@ -6,9 +6,9 @@ use mathlib.Core.List.{reverse_aux}
 use Rattle.zb_model.specs.Data.{Bytes, Attribute, Provisional, Unverified, Verified}
 use Rattle.zb_model.specs.Fits.{all_apart}
 use Rattle.zb_model.specs.Record.{attribute_byte}
-use Rattle.zb_model.specs.State.{NetKey, LinkKey, NodeState, same_key, is_link, has_net, has_link, new_net, is_live_of, is_unverified, is_verified, at_link, dropped_link, revived, new_link, with_link, net_of_active, active_row, may_use, live_nets, usable_nets, usable_of, current, offered}
+use Rattle.zb_model.specs.State.{NetKey, LinkKey, NodeState, same_key, is_link, has_net, has_link, new_net, is_live_of, is_unverified, is_verified, at_link, dropped_link, revived, net_of_active, active_row, may_use, live_nets, usable_nets, usable_of, current, offered}
 use Rattle.law_change_fits.proofs.Parts.{kinds_alike, links_alike, same_key_is, same_key_of}
-use Rattle.law_change_fits.proofs.Tests.{any_from, any_map, apart_map, both, neither, never, none_where, not_apart}
+use Rattle.law_change_fits.proofs.Tests.{any_from, any_map, both, neither, never, not_apart}
 use Rattle.law_recovery.proofs.Once.{find_map, reverse_map}
 use Rattle.law_key_exchange.specs.Meeting.{HasNetwork}
 use Rattle.law_key_exchange.proofs.Baring.{bare_net, bare_link}
@@ -147,7 +147,6 @@ only_current p row (x ∷ xs) apart e =
     by_test false t e apart later = (λ f. never (is_current p x) f t, later e)
 
 -- ---- the offered row takes the place of the current one
-
 
 -- a row with this key, verified
 abbrev pub IsProof : Bytes → LinkKey → Type 0

@@ -80,7 +80,7 @@ pub link_among : (s : NodeState) (device : ℕ) (r : LinkKey) → current s devi
 unfolding current
 link_among s device r e = (found-element (λ (x : LinkKey). is_live_of device x && not (is_unverified x.attribute)) s.links r e).0
 
-below_end : (s : NodeState) → spent Aps s ≡ false → next_counter Aps s < greatest_counter
+pub below_end : (s : NodeState) → spent Aps s ≡ false → next_counter Aps s < greatest_counter
 unfolding spent
 below_end s e = leb-false greatest_counter (next_counter Aps s) e
 

@@ -1,18 +1,18 @@
 -- A joined device is confirmed at the end of a schedule's run: what the laws over runs know of its front.
-use Rattle.std.proofs.Common.{◌≡◌, ℕ, suc, ◌<◌, ◌^◌, Bool, true, false, List, [], ◌∷◌, ◌++◌, map, fold, find, length, slice_get, Option, Some, None, option_map, is_some, nat_eq, refl, sym, ap, ◌∙◌, subst, eqb-true}
+use Rattle.std.proofs.Common.{◌≡◌, ℕ, zero, suc, ◌<◌, ◌^◌, true, false, List, [], ◌∷◌, ◌++◌, map, fold, find, length, slice_get, Option, Some, None, option_map, is_some, nat_eq, refl, sym, ap, ◌∙◌, subst, eqb-true}
 use Rattle.std.specs.List.{AllByRecursion}
 use Rattle.std.proofs.lemmas.Bool.{false≢true}
 use Rattle.std.proofs.lemmas.List.Sums.{fold-append}
-use Rattle.zb_base.specs.declared.role.Role.{Role}
-use Rattle.zb_base.specs.declared.role.Role.TheVariants.{Centre, Router, Device}
+use Rattle.zb_base.specs.declared.node.Role.{Role}
+use Rattle.zb_base.specs.declared.node.Role.TheVariants.{Centre, Router, Device}
 use Rattle.zb_model.specs.Data.{Bytes, Station, DoTimer}
 use Rattle.zb_model.specs.Lines.{Line}
 use Rattle.zb_model.specs.Play as model
-use Rattle.zb_model.specs.Play.{Event, Own, Deliver, setting_of, start, stations, supply, without_blocks}
-use Rattle.zb_model.specs.Readings.{air, state_of, draws_used}
-use Rattle.zb_model.specs.Rules.{Setting, is_declared, station_of}
+use Rattle.zb_model.specs.Play.{Event, Own, setting_of, start, stations, supply, without_blocks}
+use Rattle.zb_model.specs.Readings.{state_of, draws_used}
+use Rattle.zb_model.specs.Rules.{is_declared, station_of}
 use Rattle.zb_model.specs.Schedules.{Names}
-use Rattle.zb_model.specs.State.{NetKey, LinkKey, NodeState, is_centre}
+use Rattle.zb_model.specs.State.{is_centre}
 use Rattle.law_key_exchange.specs.Exchanging.{StationsInRange}
 use Rattle.law_key_exchange.specs.Meeting.{AreDeclared, IsSteady}
 use Rattle.law_recovery.proofs.Once.{find_map}
@@ -68,23 +68,23 @@ known w n other named = ap is_some (find_map (λ (p : Station). nat_eq p.eui n) 
     still None = refl
     still (Some p) = refl
 
-are_declared : (p : sched.Schedule) → IsSchedule p → (c d : ℕ) (x : Front) (key : Bytes) (sequence : ℕ) (link : Bytes) → (may : MayExchange (schedule_of p) x c d key sequence link) → 0 < (setting_of (schedule_of p) c).me.in_block
-    → AreDeclared (setting_of (schedule_of p) c) (setting_of (schedule_of p) d)
-are_declared p is c d x key sequence link may block =
+pub are_declared : (p : sched.Schedule) → IsSchedule p → (c d : ℕ) → Names (schedule_of p) c → Names (schedule_of p) d → is_centre (setting_of (schedule_of p) c).me.role ≡ true → is_centre (setting_of (schedule_of p) d).me.role ≡ false
+    → 0 < (setting_of (schedule_of p) c).me.in_block → AreDeclared (setting_of (schedule_of p) c) (setting_of (schedule_of p) d)
+are_declared p is c d cn dn centre device block =
     let w = schedule_of p in
-    let y = declared w c may.centre_named in
-    let z = declared w d may.device_named in
+    let y = declared w c cn in
+    let z = declared w d dn in
     let mine : (setting_of w c).me.eui ≡ c = ap (λ (s : Station). s.eui) y.me ∙ y.mine in
     let theirs : (setting_of w d).me.eui ≡ d = ap (λ (s : Station). s.eui) z.me ∙ z.mine in
     record {
-      network = one_network p is c d may.centre_named may.device_named may.centre_role may.device_role;
-      centre_short = ap (λ (s : Station). s.short) y.me ∙ zero_of p is y.station y.among (ap (λ (s : Station). is_centre s.role) (sym y.me) ∙ may.centre_role);
+      network = one_network p is c d cn dn centre device;
+      centre_short = ap (λ (s : Station). s.short) y.me ∙ zero_of p is y.station y.among (ap (λ (s : Station). is_centre s.role) (sym y.me) ∙ centre);
       centre_block = block;
-      centre_declared = ap (is_declared (setting_of w d)) mine ∙ known w c d may.centre_named;
-      device_declared = ap (is_declared (setting_of w c)) theirs ∙ known w d c may.device_named;
+      centre_declared = ap (is_declared (setting_of w d)) mine ∙ known w c d cn;
+      device_declared = ap (is_declared (setting_of w c)) theirs ∙ known w d c dn;
     }
 
-stations_fit : (p : sched.Schedule) → IsSchedule p → (c d : ℕ) → Declared (schedule_of p) c → Declared (schedule_of p) d → StationsInRange (setting_of (schedule_of p) c) (setting_of (schedule_of p) d)
+pub stations_fit : (p : sched.Schedule) → IsSchedule p → (c d : ℕ) → Declared (schedule_of p) c → Declared (schedule_of p) d → StationsInRange (setting_of (schedule_of p) c) (setting_of (schedule_of p) d)
 stations_fit p is c d y z =
     let here = station_in p is c y in
     let there = station_in p is d z in
@@ -111,13 +111,13 @@ keys_fit w x c d key sequence link lines j =
 
 drawn_at : (draws : List Bytes) (place : ℕ) (key : Bytes) → AllByRecursion IsKey draws → slice_get draws place ≡ Some key → length key ≡ 16
 drawn_at [] place key all e = absurd (false≢true (ap is_some e))
-drawn_at (k ∷ draws) 0 key all e = ap (length {A = ℕ}) (same e) ∙ all.0.1
+drawn_at (k ∷ draws) zero key all e = ap (length {A = ℕ}) (same e) ∙ all.0.1
   where
     same : Some k ≡ Some key → key ≡ k
     same d = cc
 drawn_at (k ∷ draws) (suc place) key all e = drawn_at draws place key all.1 e
 
-drawn_fits : (p : sched.Schedule) → IsSchedule p → (h : List Line) (key : Bytes) → supply (schedule_of p) h ≡ Some key → length key ≡ 16
+pub drawn_fits : (p : sched.Schedule) → IsSchedule p → (h : List Line) (key : Bytes) → supply (schedule_of p) h ≡ Some key → length key ≡ 16
 unfolding supply
 drawn_fits p is h key e = drawn_at (schedule_of p).draws (draws_used h) key (schedule_in_range p is).draws e
 
@@ -144,7 +144,7 @@ exchanged_at_the_end p is before c d key sequence link drawn e may free =
     let left = left-by real w x c (Own d DoTimer) apart in
     let met : AreMet w x c d = record {
       apart = apart;
-      declared = are_declared p is c d x key sequence link may roles.1.0.in_block;
+      declared = are_declared p is c d may.centre_named may.device_named may.centre_role may.device_role roles.1.0.in_block;
       stations = stations_fit p is c d y z;
       centre_ready = may.centre_ready;
       device_ready = may.device_ready;

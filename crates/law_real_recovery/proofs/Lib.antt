@@ -4,3 +4,4 @@ pub mod Whole
 pub mod Ending
 pub mod ArrivingCommands
 pub mod Exchanged
+pub mod Joined

@@ -1,11 +1,11 @@
 -- The exchange of link keys, event by event: what each leaves of the two nodes, and the frame that it puts on the air.
-use Rattle.std.proofs.Common.{◌≡◌, ℕ, ◌+◌, ◌<◌, ◌≤◌, Bool, true, false, List, [], ◌∷◌, ◌++◌, length, Option, Some, None, option_to_list, is_some, nat_eq, refl, sym, ap, ◌∙◌, subst, arith, length-append}
+use Rattle.std.proofs.Common.{◌≡◌, ℕ, ◌+◌, ◌<◌, false, [], ◌∷◌, ◌++◌, length, Option, Some, None, option_to_list, refl, sym, ap, ◌∙◌, subst, arith, length-append}
 use Rattle.std.specs.Prelude.{is_none}
-use Rattle.std.proofs.lemmas.Bool.{false≢true, leb-false}
+use Rattle.std.proofs.lemmas.Bool.{leb-false}
 use Rattle.std.proofs.lemmas.List.{append-nil}
 use Rattle.std.proofs.lemmas.List.Sums.{fold-append}
-use Rattle.zb_model.specs.Answer.{Answer, answer, answered}
-use Rattle.zb_model.specs.Data.{Bytes, Nwk, Aps, Task, DoTimer, HasChild, Received, Reason, CounterSpent, NoDraw, RowsFull}
+use Rattle.zb_model.specs.Answer.{answer}
+use Rattle.zb_model.specs.Data.{Bytes, Nwk, Aps, Task, DoTimer, HasChild, Received, CounterSpent, NoDraw, RowsFull}
 use Rattle.zb_model.specs.Play.{Schedule, Event, Own, Deliver, setting_of, supply, step, frame_at, answer_step}
 use Rattle.zb_model.specs.Readings.{air, state_of}
 use Rattle.zb_model.specs.Rules.{spent, both_spent, links_full, unless_held}
@@ -13,9 +13,9 @@ use Rattle.zb_model.specs.State.{NodeState, current, greatest_counter, has_link,
 use Rattle.zb_model.specs.Tools.{Tools}
 use Rattle.law_answer_storable.specs.Storing.{OpensAsJudged}
 use Rattle.law_key_exchange.specs.CommandFrames.{DeliversCommands}
-use Rattle.law_key_exchange.specs.Exchanging.{Seals, Offers, Confirms, seals_now, request_bytes, offer_bytes, proof_bytes, confirmation_bytes, NwkInRange, ApsInRange}
+use Rattle.law_key_exchange.specs.Exchanging.{Seals, seals_now, request_bytes, offer_bytes, proof_bytes, confirmation_bytes, NwkInRange, ApsInRange}
 use Rattle.law_key_exchange.specs.Meeting.{HasLink, HasNetwork, HasOffer, HasProved, IsConfirmed, IsJoined, IsOffered, IsSteady}
-use Rattle.law_key_exchange.specs.Obstacles.{or_else, when, in_row, why_unheard, why_not_opened, why_not_offered, why_not_sealed, why_no_confirmation, why_no_offer, why_no_proof, why_no_request, why_not_confirmed, why_offer_not_kept}
+use Rattle.law_key_exchange.specs.Obstacles.{or_else, when, in_row, why_unheard, why_not_opened, why_not_sealed, why_no_confirmation, why_no_offer, why_no_proof, why_no_request, why_not_confirmed, why_offer_not_kept}
 use Rattle.law_key_exchange.proofs.Joining.{child_bare, is_joined}
 use Rattle.law_key_exchange.proofs.Judged.{or_second, when_none}
 use Rattle.law_key_exchange.proofs.Keeping.{link_left, network_left}
@@ -31,11 +31,11 @@ use Rattle.law_recovery.proofs.Asking.{sends_to}
 use Rattle.law_recovery.proofs.Taking.{unspent_of}
 use Rattle.law_run_steps.proofs.Others.{own-up, frame-up}
 use Rattle.law_run_steps.specs.Steps.{is_of}
-use Rattle.law_recovery_runs.specs.Fronts.{Front, IsReady, after_event, after_events}
+use Rattle.law_recovery_runs.specs.Fronts.{Front, after_event, after_events}
 use Rattle.law_recovery_runs.specs.KeyExchange.{AreMet, EndsConfirmed, HaveJoined, IsNew, KeysInRange, NothingStops, eui_of, exchange_events, front_after, joined_front, joining_events}
 use Rattle.law_recovery_runs.specs.Joining.{CanJoin, join_events}
 use Rattle.law_recovery_runs.proofs.Airs.{last-frame}
-use Rattle.law_recovery_runs.proofs.Exchanged.{Answered, answered-by, left-by, turned}
+use Rattle.law_recovery_runs.proofs.Exchanged.{answered-by, left-by, turned}
 
 -- ---- one event of either node
 

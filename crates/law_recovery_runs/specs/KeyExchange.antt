@@ -1,11 +1,11 @@
 -- A device that has joined gets a link key of its own, as events that follow the front of a run.
-use Rattle.std.specs.Prelude.{ℕ, ◌≡◌, ◌+◌, ◌<◌, ◌^◌, false, List, [], ◌∷◌, ◌++◌, length, take, Option, Some, None, nat_eq}
+use Rattle.std.specs.Prelude.{ℕ, ◌≡◌, ◌+◌, ◌<◌, ◌^◌, false, List, [], ◌∷◌, ◌++◌, length, take, Some, None, nat_eq}
 use Rattle.zb_model.specs.Data.{Bytes, DoTimer}
 use Rattle.zb_model.specs.Play.{Schedule, Event, Own, Deliver, setting_of, supply}
 use Rattle.zb_model.specs.Readings.{air, state_of}
-use Rattle.zb_model.specs.State.{NodeState, has_link, has_net, offered}
+use Rattle.zb_model.specs.State.{has_link, has_net, offered}
 use Rattle.zb_model.specs.Tools.{Tools}
-use Rattle.law_key_exchange.specs.Exchanging.{Seals, StationsInRange, seals_now}
+use Rattle.law_key_exchange.specs.Exchanging.{StationsInRange, seals_now}
 use Rattle.law_key_exchange.specs.Meeting.{AreDeclared, HasLink, HasNetwork, HasProved, IsConfirmed, IsJoined, IsSteady}
 use Rattle.law_key_exchange.specs.Obstacles.{why_no_confirmation, why_no_offer, why_no_proof, why_no_request, why_not_confirmed, why_offer_not_kept}
 use Rattle.law_recovery_runs.specs.Fronts.{Front, IsReady, after_events}
