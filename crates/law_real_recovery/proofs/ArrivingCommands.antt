@@ -13,11 +13,11 @@ use Rattle.zb_cmd.specs.Shape as cmd_shape
 use Rattle.zb_cmd.specs.Spelling.{command}
 use Rattle.zb_cursor.specs.Spelling.{number}
 use Rattle.zb_model.specs.Data.{Bytes, Label, ForData, ForLoad, Command, TransportLink, RequestLink, VerifyKey, ConfirmKey}
-use Rattle.zb_model.specs.Frames.{secured_frame, low_byte}
+use Rattle.zb_model.specs.Frames.{low_byte}
 use Rattle.zb_model.specs.Tools.{Known, verify_hash}
-use Rattle.zb_model_real.specs.Readers.{aps_shown, nwk_shown, command_shown, aps_frame_shown, nwk_frame_shown}
+use Rattle.zb_model_real.specs.Readers.{aps_shown, nwk_shown, command_shown, aps_frame_shown}
 use Rattle.zb_model_real.specs.Real.{real, opened, command_for}
-use Rattle.zb_model_real.specs.Terms.{term_of, eui_of, key_of}
+use Rattle.zb_model_real.specs.Terms.{term_of, eui_of}
 use Rattle.zb_nwk.proofs.ReadAgain as nwk_again
 use Rattle.zb_nwk.specs.Shape as nwk_shape
 use Rattle.zb_nwk.specs.Spelling as nwk
@@ -32,7 +32,7 @@ use Rattle.zb_seal.specs.Keys.{sealing_key}
 use Rattle.zb_seal.specs.Opening.{IsApsTerm, IsNwkTerm}
 use Rattle.zb_seal.specs.Wire.{nonce, sealed_term, wire}
 use Rattle.zb_seal.specs.declared.term.Term.{Term}
-use Rattle.law_key_exchange.specs.CommandFrames.{NetFrame, LinkFrame, net_term, link_term, sealed_content, clear_content, NetFrameInRange, LinkFrameInRange, SealedInRange, ClearInRange, IsCarried, IsUnsealed, IsRead, DeliversCommands}
+use Rattle.law_key_exchange.specs.CommandFrames.{NetFrame, LinkFrame, net_term, link_term, sealed_content, clear_content, NetFrameInRange, SealedInRange, ClearInRange, IsCarried, IsUnsealed, IsRead, DeliversCommands}
 use Rattle.law_run_text.proofs.Ciphers.{crypted_length}
 
 -- ---- commands
