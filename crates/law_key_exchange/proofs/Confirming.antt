@@ -1,19 +1,17 @@
 -- The confirmation is delivered to the device, which is confirmed with the key that it proved.
-use Rattle.std.proofs.Common.{◌≡◌, ℕ, ◌<◌, ◌^◌, nat_lt, Bool, true, false, not, ◌&&◌, ◌||◌, if◌then◌else◌, List, [], ◌∷◌, ◌++◌, map, filter, find, reverse, Option, Some, None, is_some, nat_eq, refl, sym, ap, ◌∙◌, eq-eqb, eqb-true, subst, arith}
-use Rattle.std.proofs.lemmas.Bool.{false≢true}
-use Rattle.zb_model.specs.Data.{Bytes, Offered, Confirmed, Verified, ForData, AtAps, Reason, Move, DropLink, Row, Became, ConfirmKey, Received}
+use Rattle.std.proofs.Common.{◌≡◌, ℕ, nat_lt, true, if◌then◌else◌, List, [], ◌∷◌, map, filter, find, reverse, Option, Some, None, nat_eq, refl, sym, ap, ◌∙◌, eq-eqb, eqb-true, subst, arith}
+use Rattle.zb_model.specs.Data.{Bytes, Offered, Confirmed, Verified, AtAps, Reason, Move, DropLink, Row, Became, ConfirmKey, Received}
 use Rattle.zb_model.specs.Fits.{keeps_rules}
-use Rattle.zb_model.specs.Record.{state_byte}
-use Rattle.zb_model.specs.State.{greatest_counter, NetKey, LinkKey, NodeState, same_key, is_centre, is_live_of, is_unverified, is_told, at_link, dropped_link, revived, moved, may_use, current, offered}
+use Rattle.zb_model.specs.State.{LinkKey, NodeState, same_key, is_live_of, is_unverified, is_told, at_link, dropped_link, revived, current, offered}
 use Rattle.zb_model.specs.Tools.{Tools}
 use Rattle.zb_model.specs.Rules.{Setting, Plan, Outcome, Does, unless, found_or, centre_of}
-use Rattle.zb_model.specs.Commands.{Heard, take_confirm, take_command}
+use Rattle.zb_model.specs.Commands.{take_confirm, take_command}
 use Rattle.zb_model.specs.Judging.{candidates}
-use Rattle.zb_model.specs.Answer.{Answer, comes_to, changes, reason_of, refusal_of, answer_by, counting_of, plan_of, answer, answered}
+use Rattle.zb_model.specs.Answer.{comes_to, changes, refusal_of, answer_by, counting_of, plan_of, answer, answered}
 use Rattle.law_change_fits.proofs.Parts.{same_key_of}
 use Rattle.law_change_fits.proofs.Tests.{both}
 use Rattle.law_recovery.specs.Answering.{after_task}
-use Rattle.law_key_exchange.specs.CommandFrames.{NetFrame, LinkFrame, net_term, sealed_content, LinkFrameInRange, DeliversCommands}
+use Rattle.law_key_exchange.specs.CommandFrames.{NetFrame, net_term, sealed_content, LinkFrameInRange, DeliversCommands}
 use Rattle.law_key_exchange.specs.Exchanging.{Seals, net_frame, confirmation, confirmation_bytes, StationsInRange, NwkInRange, ApsInRange}
 use Rattle.law_key_exchange.specs.Meeting.{AreDeclared, HasNetwork, HasOffer, HasProved, IsOffered, IsConfirmed}
 use Rattle.law_key_exchange.specs.Obstacles.{or_else, why_not_heard, why_not_opened}

@@ -1,15 +1,15 @@
 -- A frame of the exchange is delivered to the node for which it is: what is in the way, and what it comes to.
-use Rattle.std.proofs.Common.{◌≡◌, ℕ, ◌<◌, Bool, true, false, not, ◌&&◌, ◌||◌, if◌then◌else◌, List, [], ◌∷◌, ◌++◌, filter, find, reverse, Option, Some, None, is_some, nat_eq, nat_lt, nat_le, refl, sym, ap, ◌∙◌, eq-eqb}
+use Rattle.std.proofs.Common.{◌≡◌, ℕ, ◌<◌, Bool, true, false, not, ◌&&◌, List, [], ◌∷◌, Option, Some, None, is_some, nat_eq, nat_lt, nat_le, refl, sym, ap, ◌∙◌, eq-eqb}
 use Rattle.std.proofs.lemmas.Bool.{false≢true, lt-leb}
 use Rattle.zb_model.specs.Data.{Bytes, AtNwk, AtAps, Reason, Stale, RowsFull, Term, Command, Received}
-use Rattle.zb_model.specs.State.{greatest_counter, NetKey, LinkKey, NodeState, is_centre, is_live_of, is_live, is_known, usable_of, sender_floor}
-use Rattle.zb_model.specs.Tools.{Tools, NwkShown, ApsShown, ApsAuxiliary}
-use Rattle.zb_model.specs.Rules.{Setting, Plan, Outcome, is_declared}
-use Rattle.zb_model.specs.Judging.{Verdict, Not, Good, reject, need, Carrier, carrier, senders_full, judge_net, judge_nwk, Unsealed, judge_aps, candidates}
+use Rattle.zb_model.specs.State.{greatest_counter, NetKey, LinkKey, NodeState, is_centre, is_live, is_known, usable_of, sender_floor}
+use Rattle.zb_model.specs.Tools.{Tools, NwkShown, ApsAuxiliary}
+use Rattle.zb_model.specs.Rules.{Setting, Plan, is_declared}
+use Rattle.zb_model.specs.Judging.{Verdict, Good, reject, need, Carrier, carrier, senders_full, judge_net, judge_nwk, Unsealed, judge_aps, candidates}
 use Rattle.zb_model.specs.Commands.{Heard, take_command}
-use Rattle.zb_model.specs.Answer.{stopped_at, comes_to, heard_sealed, heard_clear, received_as, net_part, aps_part, by_security, sealed_part, plan_of, refusal_of, reason_of}
+use Rattle.zb_model.specs.Answer.{stopped_at, comes_to, heard_sealed, heard_clear, received_as, aps_part, by_security, sealed_part, plan_of, refusal_of}
 use Rattle.law_key_exchange.specs.CommandFrames.{NetFrame, LinkFrame, net_term, link_term, sealed_content, clear_content, sealed_bytes, clear_bytes, IsCarried, IsUnsealed, IsRead}
-use Rattle.law_key_exchange.specs.Obstacles.{or_else, when, why_stale, why_not_heard, why_not_opened}
+use Rattle.law_key_exchange.specs.Obstacles.{or_else, when, why_not_heard, why_not_opened}
 
 -- ---- at NWK
 

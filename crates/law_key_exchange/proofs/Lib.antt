@@ -9,3 +9,4 @@ pub mod Proving
 pub mod Confirming
 pub mod Steady
 pub mod Laws
+pub mod Joining

@@ -1,24 +1,21 @@
 -- The key that the centre offers is delivered to the device, which keeps it beside the one that it has.
-use Rattle.std.proofs.Common.{◌≡◌, ℕ, ◌<◌, ◌^◌, nat_lt, Bool, true, false, not, ◌&&◌, ◌||◌, if◌then◌else◌, List, [], ◌∷◌, ◌++◌, map, filter, length, Option, Some, None, is_some, nat_eq, refl, sym, ap, ◌∙◌, eq-eqb, subst}
-use Rattle.std.specs.List.{list_any}
+use Rattle.std.proofs.Common.{◌≡◌, ℕ, ◌<◌, nat_lt, Bool, true, false, List, [], ◌∷◌, ◌++◌, map, filter, length, Option, Some, None, is_some, nat_eq, refl, sym, ap, ◌∙◌, eq-eqb, subst}
 use Rattle.std.proofs.lemmas.Bool.{false≢true}
-use Rattle.zb_model.specs.Data.{Bytes, Joined, Offered, Unverified, ForData, ForLoad, AtAps, Reason, RowsFull, KeyInUse, Move, Row, Became, TransportLink, Received}
+use Rattle.zb_model.specs.Data.{Bytes, Joined, Offered, Unverified, AtAps, Reason, RowsFull, KeyInUse, Move, Row, Became, TransportLink, Received}
 use Rattle.zb_model.specs.Fits.{keeps_rules}
-use Rattle.zb_model.specs.Record.{attribute_byte, state_byte}
-use Rattle.zb_model.specs.State.{greatest_counter, NetKey, LinkKey, NodeState, new_link, same_key, is_centre, has_link, is_link, is_told, is_known, is_live, may_use, current, offered, other_user}
+use Rattle.zb_model.specs.Record.{attribute_byte}
+use Rattle.zb_model.specs.State.{greatest_counter, NetKey, LinkKey, NodeState, new_link, same_key, has_link, is_told, current, offered, other_user}
 use Rattle.zb_model.specs.Tools.{Tools}
 use Rattle.zb_model.specs.Rules.{Setting, Plan, Outcome, Stop, Does, unless, choose, centre_of, links_full}
-use Rattle.zb_model.specs.Commands.{Heard, take_link_key, take_row, take_command}
-use Rattle.zb_model.specs.Judging.{candidates}
-use Rattle.zb_model.specs.Answer.{Answer, comes_to, changes, reason_of, refusal_of, Counting, may_seal, out_of, answer_by, counting_of, plan_of, answer, answered}
+use Rattle.zb_model.specs.Commands.{take_link_key, take_row, take_command}
+use Rattle.zb_model.specs.Answer.{comes_to, changes, reason_of, refusal_of, Counting, may_seal, out_of, answer_by, counting_of, plan_of, answer, answered}
 use Rattle.law_recovery.specs.Answering.{after_task, frame_of}
 use Rattle.law_recovery.proofs.Candidates.{one_candidate}
-use Rattle.law_key_exchange.specs.CommandFrames.{NetFrame, LinkFrame, net_term, link_term, sealed_content, LinkFrameInRange, DeliversCommands}
+use Rattle.law_key_exchange.specs.CommandFrames.{NetFrame, net_term, sealed_content, LinkFrameInRange, DeliversCommands}
 use Rattle.law_key_exchange.specs.Exchanging.{Seals, net_frame, offer, offer_bytes, StationsInRange, NwkInRange, ApsInRange}
-use Rattle.law_key_exchange.specs.Meeting.{AreDeclared, HasNetwork, HasLink, HasOffer, IsJoined, IsOffered}
+use Rattle.law_key_exchange.specs.Meeting.{AreDeclared, HasNetwork, IsJoined, IsOffered}
 use Rattle.law_key_exchange.specs.Obstacles.{or_else, when, why_not_heard, why_not_opened, why_key_in_use, why_not_kept}
 use Rattle.law_key_exchange.proofs.Baring.{bare, bare_link, bare_after, moved_all}
-use Rattle.law_key_exchange.proofs.Rows.{may_use_of}
 use Rattle.law_key_exchange.proofs.Judged.{IsHeard, IsOpened, plan_at, plan_opened, both_terms, heard_with, delivered_sealed, refused_at, refused_opened, free_at, free_opened, or_first, or_second, when_none}
 use Rattle.law_key_exchange.proofs.Keeping.{keeps_network, links_of, state_of, offer_comes, offer_tried, no_row, not_its_key}
 use Rattle.law_key_exchange.proofs.Requesting.{net_range, no_such_row}

@@ -1,35 +1,28 @@
 -- The device proves the key that it was offered, and the centre takes the proof and confirms.
-use Rattle.std.proofs.Common.{◌≡◌, ℕ, ◌<◌, ◌^◌, Bool, true, false, not, ◌&&◌, ◌||◌, if◌then◌else◌, List, [], ◌∷◌, ◌++◌, map, filter, Option, Some, None, is_some, nat_eq, refl, sym, ap, ◌∙◌, eq-eqb, eqb-true, subst, arith}
-use Rattle.std.specs.Prelude.{is_none}
-use Rattle.std.specs.List.{list_any}
-use Rattle.std.proofs.lemmas.Bool.{false≢true}
-use Rattle.zb_model.specs.Data.{Bytes, Nwk, Aps, Offered, Verified, ForData, AtAps, AtEvent, Reason, CounterSpent, Move, DropLink, Row, VerifyKey, ConfirmKey, DoTimer, Received}
+use Rattle.std.proofs.Common.{◌≡◌, ℕ, Bool, true, false, not, if◌then◌else◌, List, [], ◌∷◌, map, filter, Option, Some, None, nat_eq, refl, sym, ap, ◌∙◌, eq-eqb, eqb-true, subst, arith}
+use Rattle.zb_model.specs.Data.{Bytes, Nwk, Aps, Offered, Verified, ForData, AtAps, AtEvent, CounterSpent, Move, DropLink, Row, VerifyKey, ConfirmKey, DoTimer, Received}
 use Rattle.zb_model.specs.Fits.{keeps_rules}
 use Rattle.zb_model.specs.Frames.{clear_command}
-use Rattle.zb_model.specs.Record.{attribute_byte}
-use Rattle.zb_model.specs.State.{greatest_counter, NetKey, LinkKey, NodeState, same_key, is_centre, has_link, is_link, is_live_of, is_unverified, is_told, is_live, is_known, at_link, dropped_link, revived, with_link, moved, may_use, active_row, usable_active, current, offered, next_counter}
+use Rattle.zb_model.specs.State.{NetKey, LinkKey, NodeState, same_key, is_centre, has_link, is_link, is_live_of, is_unverified, is_told, is_live, at_link, dropped_link, revived, with_link, moved, may_use, active_row, usable_active, current, offered, next_counter}
 use Rattle.zb_model.specs.Tools.{Tools, verify_hash}
 use Rattle.zb_model.specs.Rules.{Setting, Plan, Outcome, Stop, Does, Secret, Clear, sends, unless, found_or, choose, centre_of, short_of, spent, both_spent}
 use Rattle.zb_model.specs.OwnEvents.{member_timer, verify_key}
-use Rattle.zb_model.specs.Commands.{Heard, take_verify, take_command}
+use Rattle.zb_model.specs.Commands.{take_verify, take_command}
 use Rattle.zb_model.specs.Answer.{Answer, comes_to, changes, moves_of, reason_of, refusal_of, answer_by, counting_of, plan_of, answer, answered}
 use Rattle.law_change_fits.proofs.Parts.{rules_of, same_key_of}
 use Rattle.law_change_fits.proofs.Tests.{any_map, any_same, both}
 use Rattle.law_recovery.specs.Answering.{after_task, frame_of}
 use Rattle.law_recovery.proofs.Asking.{by_outcome}
 use Rattle.law_key_exchange.specs.CommandFrames.{NetFrame, net_term, clear_content, clear_bytes, sealed_bytes, ClearInRange, DeliversCommands}
-use Rattle.law_key_exchange.specs.Exchanging.{Seals, net_frame, proof_bytes, confirmation_bytes, seals_now, Confirms, StationsInRange, NwkInRange}
+use Rattle.law_key_exchange.specs.Exchanging.{Seals, net_frame, proof_bytes, seals_now, Confirms, StationsInRange, NwkInRange}
 use Rattle.law_key_exchange.specs.Meeting.{AreDeclared, HasNetwork, HasOffer, HasProved, IsOffered}
 use Rattle.law_key_exchange.specs.Obstacles.{or_else, when, why_not_heard, why_not_sealed, why_not_sealed_at_nwk}
 use Rattle.law_key_exchange.proofs.Baring.{bare, bare_link, bare_after, moved_all}
 use Rattle.law_key_exchange.proofs.Rows.{may_use_of, is_current, found_test, not_verified, has_offer}
 use Rattle.law_key_exchange.proofs.Sending.{sealed_out, clear_out}
 use Rattle.law_key_exchange.proofs.Judged.{plan_at, heard_open, delivered_clear, refused_at, free_at, or_first, or_second, when_none}
-use Rattle.law_key_exchange.proofs.Keeping.{Tries, keeps_network, network_left, state_left, offer_left, tries_left, links_of, proof_comes, is_member}
+use Rattle.law_key_exchange.proofs.Keeping.{keeps_network, network_left, state_left, offer_left, tries_left, links_of, proof_comes, is_member}
 use Rattle.law_key_exchange.proofs.Requesting.{four, net_range, timer_answer, heard_up}
-
-self : (n : ℕ) → nat_eq n n ≡ true
-self n = eq-eqb n n refl
 
 -- ---- the proof is sent
 

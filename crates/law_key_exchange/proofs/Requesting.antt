@@ -1,29 +1,28 @@
 -- A joined device asks its centre for a link key of its own, and the centre offers one.
-use Rattle.std.proofs.Common.{◌≡◌, ℕ, ◌<◌, ◌^◌, nat_lt, Bool, true, false, not, ◌&&◌, ◌||◌, if◌then◌else◌, List, [], ◌∷◌, ◌++◌, map, filter, Option, Some, None, is_some, nat_eq, refl, sym, ap, ◌∙◌, eq-eqb, eqb-true, subst}
+use Rattle.std.proofs.Common.{◌≡◌, ℕ, ◌<◌, ◌^◌, nat_lt, Bool, true, false, ◌&&◌, ◌||◌, if◌then◌else◌, List, [], ◌∷◌, ◌++◌, map, filter, Option, Some, None, nat_eq, refl, sym, ap, ◌∙◌, eq-eqb, eqb-true, subst}
 use Rattle.std.specs.Prelude.{is_none}
-use Rattle.std.specs.List.{AllByRecursion, list_any}
+use Rattle.std.specs.List.{list_any}
 use Rattle.std.proofs.lemmas.Bool.{false≢true}
-use Rattle.zb_model.specs.Data.{Bytes, Nwk, Aps, Joined, Unverified, ForData, ForLoad, AtAps, AtEvent, Reason, NoDraw, CounterSpent, RowsFull, Move, Draw, Row, Term, RequestLink, TransportLink, DoTimer, Received, Command}
+use Rattle.zb_model.specs.Data.{Bytes, Nwk, Aps, Joined, Unverified, ForData, ForLoad, AtAps, AtEvent, NoDraw, CounterSpent, RowsFull, Move, Draw, Row, RequestLink, TransportLink, DoTimer, Received}
 use Rattle.zb_model.specs.Record.{attribute_byte}
-use Rattle.zb_model.specs.State.{greatest_counter, NetKey, LinkKey, NodeState, new_link, same_key, is_centre, has_net, has_link, is_link, is_live, is_known, is_told, may_use, active_row, usable_active, current, offered, next_counter}
+use Rattle.zb_model.specs.State.{greatest_counter, NetKey, LinkKey, NodeState, new_link, same_key, is_centre, has_net, has_link, is_link, is_known, is_told, may_use, active_row, usable_active, current, offered, next_counter}
 use Rattle.zb_model.specs.Fits.{keeps_rules}
 use Rattle.zb_model.specs.Tools.{Tools}
-use Rattle.zb_model.specs.Rules.{Setting, Plan, Outcome, Stop, Does, Secret, sends, unless, found_or, centre_of, short_of, spent, both_spent, links_full, unless_held}
+use Rattle.zb_model.specs.Rules.{Setting, Plan, Outcome, Stop, Does, Secret, sends, unless, found_or, centre_of, short_of, both_spent, links_full, unless_held}
 use Rattle.zb_model.specs.OwnEvents.{member_timer, request_key, own}
-use Rattle.zb_model.specs.Commands.{Heard, take_request, take_command, send_link_key}
+use Rattle.zb_model.specs.Commands.{take_request, take_command}
 use Rattle.zb_model.specs.Judging.{candidates}
-use Rattle.zb_model.specs.Answer.{Answer, Counting, comes_to, changes, moves_of, reason_of, refusal_of, answer_by, counting_of, plan_of, answer, answered}
+use Rattle.zb_model.specs.Answer.{Answer, comes_to, changes, moves_of, reason_of, refusal_of, answer_by, counting_of, plan_of, answer, answered}
 use Rattle.law_change_fits.proofs.Parts.{same_key_of}
-use Rattle.law_change_fits.proofs.Tests.{neither, none_where}
+use Rattle.law_change_fits.proofs.Tests.{none_where}
 use Rattle.law_recovery.specs.Answering.{after_task, frame_of}
-use Rattle.law_recovery.specs.Rejoining.{AreOfOneNetwork}
 use Rattle.law_recovery.proofs.Asking.{by_outcome}
 use Rattle.law_recovery.proofs.Candidates.{one_candidate}
-use Rattle.law_key_exchange.specs.CommandFrames.{NetFrame, LinkFrame, net_term, link_term, sealed_content, sealed_bytes, NetFrameInRange, LinkFrameInRange, DeliversCommands}
-use Rattle.law_key_exchange.specs.Exchanging.{Seals, net_frame, request, offer, request_bytes, offer_bytes, seals_now, Offers, StationsInRange, NwkInRange, ApsInRange}
-use Rattle.law_key_exchange.specs.Meeting.{AreDeclared, HasNetwork, HasLink, HasOffer, IsJoined}
+use Rattle.law_key_exchange.specs.CommandFrames.{NetFrame, net_term, sealed_content, sealed_bytes, NetFrameInRange, LinkFrameInRange, DeliversCommands}
+use Rattle.law_key_exchange.specs.Exchanging.{Seals, net_frame, request, request_bytes, seals_now, Offers, StationsInRange, NwkInRange, ApsInRange}
+use Rattle.law_key_exchange.specs.Meeting.{AreDeclared, HasNetwork, HasLink, IsJoined}
 use Rattle.law_key_exchange.specs.Obstacles.{or_else, when, why_not_heard, why_not_opened, why_not_sealed, why_not_offered}
-use Rattle.law_key_exchange.proofs.Baring.{bare, bare_link, bare_after, moved_all, OfLinks}
+use Rattle.law_key_exchange.proofs.Baring.{bare, bare_link, bare_after, moved_all}
 use Rattle.law_key_exchange.proofs.Rows.{may_use_of}
 use Rattle.law_key_exchange.proofs.Sending.{sealed_out}
 use Rattle.law_key_exchange.proofs.Judged.{IsHeard, IsOpened, plan_at, plan_opened, both_terms, heard_with, delivered_sealed, refused_at, refused_opened, free_at, free_opened, or_first, or_second, when_none}

@@ -2,12 +2,13 @@
 use Rattle.std.proofs.Common.{◌≡◌, ℕ, Bool, true, false, not, ◌&&◌, ◌||◌, if◌then◌else◌, List, [], ◌∷◌, ◌++◌, map, filter, find, reverse, Option, Some, None, option_map, is_some, nat_eq, refl, sym, ap, ◌∙◌, eq-eqb, eqb-true}
 use Rattle.std.specs.List.{AllByRecursion, list_any}
 use Rattle.std.proofs.lemmas.Bool.{false≢true, not-true}
+use mathlib.Core.List.{reverse_aux}
 use Rattle.zb_model.specs.Data.{Bytes, Attribute, Provisional, Unverified, Verified}
 use Rattle.zb_model.specs.Fits.{all_apart}
 use Rattle.zb_model.specs.Record.{attribute_byte}
-use Rattle.zb_model.specs.State.{NetKey, LinkKey, NodeState, same_key, is_link, has_link, is_live_of, is_unverified, is_verified, at_link, dropped_link, revived, new_link, with_link, net_of_active, active_row, may_use, live_nets, usable_nets, usable_of, current, offered}
+use Rattle.zb_model.specs.State.{NetKey, LinkKey, NodeState, same_key, is_link, has_net, has_link, new_net, is_live_of, is_unverified, is_verified, at_link, dropped_link, revived, net_of_active, active_row, may_use, live_nets, usable_nets, usable_of, current, offered}
 use Rattle.law_change_fits.proofs.Parts.{kinds_alike, links_alike, same_key_is, same_key_of}
-use Rattle.law_change_fits.proofs.Tests.{any_from, any_map, apart_map, both, neither, never, none_where, not_apart}
+use Rattle.law_change_fits.proofs.Tests.{any_from, any_map, both, neither, never, not_apart}
 use Rattle.law_recovery.proofs.Once.{find_map, reverse_map}
 use Rattle.law_key_exchange.specs.Meeting.{HasNetwork}
 use Rattle.law_key_exchange.proofs.Baring.{bare_net, bare_link}
@@ -390,4 +391,50 @@ same_network s u key sequence h nets active may =
       found = f.item;
       is_found = f.is;
       found_key = ap (λ (r : NetKey). r.key) f.seen ∙ h.found_key;
+    }
+
+-- ---- a network key that is new becomes active
+
+none_among : (key : Bytes) (rs : List NetKey) → has_net key rs ≡ false → find (λ (r : NetKey). same_key r.key key) rs ≡ None
+none_among key [] e = refl
+none_among key (r ∷ rs) e =
+    let parts = neither (same_key r.key key) (has_net key rs) e in
+    rw parts.0 (none_among key rs parts.1)
+
+live_last : (rs : List NetKey) (r : NetKey) → r.live ≡ true → filter (λ (x : NetKey). x.live) (rs ++ r ∷ []) ≡ filter (λ (x : NetKey). x.live) rs ++ r ∷ []
+live_last [] r e = rw e refl
+live_last (x ∷ rs) r e = by_test x.live (live_last rs r e)
+  where
+    by_test : (b : Bool) → filter (λ (y : NetKey). y.live) (rs ++ r ∷ []) ≡ filter (λ (y : NetKey). y.live) rs ++ r ∷ []
+        → (if b then x ∷ filter (λ (y : NetKey). y.live) (rs ++ r ∷ []) else filter (λ (y : NetKey). y.live) (rs ++ r ∷ [])) ≡ (if b then x ∷ filter (λ (y : NetKey). y.live) rs else filter (λ (y : NetKey). y.live) rs) ++ r ∷ []
+    by_test true f = ap (λ l. x ∷ l) f
+    by_test false f = f
+
+turned_last : {X : Type 0} (xs ys : List X) (y : X) → reverse_aux (xs ++ y ∷ []) ys ≡ y ∷ reverse_aux xs ys
+turned_last [] ys y = refl
+turned_last (x ∷ xs) ys y = turned_last xs (x ∷ ys) y
+
+pub last_first : {X : Type 0} (xs : List X) (y : X) → reverse (xs ++ y ∷ []) ≡ y ∷ reverse xs
+last_first xs y = turned_last xs [] y
+
+last_by_sequence : (sequence : ℕ) (rs : List NetKey) (r : NetKey) → r.live ≡ true → nat_eq r.sequence sequence ≡ true → by_sequence sequence (rs ++ r ∷ []) ≡ Some r
+last_by_sequence sequence rs r live same =
+    ap (λ l. find (λ (x : NetKey). nat_eq x.sequence sequence) (reverse l)) (live_last rs r live)
+    ∙ ap (find (λ (x : NetKey). nat_eq x.sequence sequence)) (last_first (filter (λ (x : NetKey). x.live) rs) r) ∙ rw same refl
+
+pub new_network : (u : NodeState) (rows : List NetKey) (key : Bytes) (sequence : ℕ) → map bare_net u.nets ≡ rows ++ new_net key sequence ∷ [] → u.active ≡ Some key → may_use u ≡ true → has_net key rows ≡ false → HasNetwork u key sequence
+new_network u rows key sequence nets active may fresh =
+    let row = new_net key sequence in
+    let a = before bare_net (active_row u) row (active_bare u ∙ ap (λ o. of_nets o (map bare_net u.nets)) active ∙ ap (of_nets (Some key)) nets
+    ∙ found_last (λ (r : NetKey). same_key r.key key) rows row (none_among key rows fresh) (same_key_of key key refl)) in
+    let f = before bare_net (usable_of u sequence) row
+    (ap (option_map bare_net) (usable_is u sequence may) ∙ sequence_bare sequence u.nets ∙ ap (by_sequence sequence) nets ∙ last_by_sequence sequence rows row refl (eq-eqb sequence sequence refl)) in
+    record {
+      active = a.item;
+      is_active = a.is;
+      active_key = ap (λ (r : NetKey). r.key) a.seen;
+      active_sequence = ap (λ (r : NetKey). r.sequence) a.seen;
+      found = f.item;
+      is_found = f.is;
+      found_key = ap (λ (r : NetKey). r.key) f.seen;
     }

@@ -1,13 +1,12 @@
 -- What goes out where a rule sends a command under the active network key, sealed under a link key or in clear.
-use Rattle.std.proofs.Common.{◌≡◌, ℕ, Bool, true, false, not, ◌&&◌, ◌||◌, if◌then◌else◌, List, [], ◌∷◌, ◌++◌, Option, Some, None, refl, sym, ap, ◌∙◌}
+use Rattle.std.proofs.Common.{◌≡◌, ℕ, true, false, List, ◌∷◌, Some, refl}
 use Rattle.zb_model.specs.Data.{Bytes, Nwk, Aps, Label, Command, Term, Place, Move}
 use Rattle.zb_model.specs.Frames.{secured_frame, nwk_term, aps_term, sealed_command, clear_command, low_byte}
-use Rattle.zb_model.specs.State.{NetKey, NodeState, active_row, next_counter}
+use Rattle.zb_model.specs.State.{NetKey, NodeState, active_row}
 use Rattle.zb_model.specs.Tools.{Tools}
 use Rattle.zb_model.specs.Rules.{Setting, Does, Secret, Clear, sends, spent, both_spent}
-use Rattle.zb_model.specs.Answer.{Counting, comes_to, part_of, may_seal, out_of, answer_by, counting_of}
+use Rattle.zb_model.specs.Answer.{Counting, comes_to, part_of, may_seal, out_of, answer_by}
 use Rattle.law_change_fits.proofs.Tests.{neither}
-use Rattle.law_recovery.specs.Answering.{after_task}
 
 pub apart_spent : (s : NodeState) → both_spent s ≡ false → (spent Nwk s ≡ false) × (spent Aps s ≡ false)
 unfolding both_spent

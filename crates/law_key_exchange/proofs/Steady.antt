@@ -1,7 +1,6 @@
 -- The role of a node stays in an answer, and so do the rules for records.
-use Rattle.std.proofs.Common.{◌≡◌, ℕ, ◌≤◌, true, List, [], ◌∷◌, refl, ap, ◌∙◌}
-use Rattle.zb_model.specs.Data.{Role, Layer, Nwk, Aps, Term, Move, Edit, Reserve, Floor, Start, Moved, Roll, Task}
-use Rattle.zb_model.specs.Fits.{keeps_rules}
+use Rattle.std.proofs.Common.{◌≡◌, ◌≤◌, List, [], ◌∷◌, refl, ◌∙◌}
+use Rattle.zb_model.specs.Data.{Layer, Nwk, Aps, Term, Move, Edit, Reserve, Floor, Start, Moved, Roll, Task}
 use Rattle.zb_model.specs.State.{NodeState, moved, applied, applied_all, sealed_at, after_sealing, after_hearing, after_accepting}
 use Rattle.zb_model.specs.Tools.{Tools}
 use Rattle.zb_model.specs.Rules.{Setting}

@@ -1,6 +1,6 @@
 -- What can stand in the way of an exchange of link keys, event by event, each with the refusal that it gives, in the
 -- order in which they are tried.
-use Rattle.std.specs.Prelude.{ℕ, Bool, true, false, if◌then◌else◌, Option, Some, None, nat_lt, is_none, find, reverse}
+use Rattle.std.specs.Prelude.{ℕ, Bool, true, false, Option, Some, None, nat_lt, is_none, find, reverse}
 use Rattle.zb_model.specs.Data.{Bytes, Nwk, Reason, NoKey, CounterSpent, NoDraw, RowsFull, KeyInUse, Stale}
 use Rattle.zb_model.specs.Judging.{senders_full}
 use Rattle.zb_model.specs.Rules.{spent, both_spent, links_full, unless_held}

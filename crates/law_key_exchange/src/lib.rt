@@ -14,12 +14,27 @@ ghost use Rattle.law_key_exchange.specs.Meeting.{IsOffered, IsSteady};
 ghost use Rattle.law_key_exchange.specs.Obstacles.{why_no_confirmation, why_no_offer, why_no_proof, why_no_request};
 ghost use Rattle.law_key_exchange.specs.Obstacles.{why_not_confirmed, why_offer_not_kept};
 ghost use Rattle.law_recovery.specs.Answering.{after_task, frame_of};
+ghost use Rattle.law_recovery.specs.Joining.{AreIntroduced};
+ghost use Rattle.law_recovery.specs.KeyFrames.{DeliversKeys, KeyFrameInRange, key_bytes};
+ghost use Rattle.law_recovery.specs.Rejoining.{AreOfOneNetwork, answer_frame, why_not_taken};
 ghost use Rattle.zb_model.specs.Answer.{answer};
-ghost use Rattle.zb_model.specs.Data.{Bytes, DoTimer, Received, Task};
+ghost use Rattle.zb_model.specs.Data.{Aps, Bytes, DoTimer, Received, Task};
 ghost use Rattle.zb_model.specs.Fits.{keeps_rules};
 ghost use Rattle.zb_model.specs.Rules.{Setting};
-ghost use Rattle.zb_model.specs.State.{NodeState, has_link};
+ghost use Rattle.zb_model.specs.State.{NodeState, has_link, has_net, next_counter};
 ghost use Rattle.zb_model.specs.Tools.{Tools};
+
+/// States that a device that knocked and takes a network key that is new to it has joined as the exchange asks.
+///
+/// It finds the key by its sequence, has its centre's link key, and is offered no other.
+pub fn a_device_joins_for_the_exchange()
+    ensures { (tools : Tools) → DeliversKeys tools → (c m : Setting) (s t : NodeState) → AreOfOneNetwork c m
+        → (l : AreIntroduced c m s t) → KeyFrameInRange (answer_frame c m s l.net l.row) → keeps_rules t ≡ true
+        → (draw : Option Bytes) → why_not_taken t l.own (next_counter Aps s) l.net.key ≡ None
+        → has_net l.net.key t.nets ≡ false
+        → IsJoined (after_task tools m t (Received (key_bytes tools (answer_frame c m s l.net l.row)) draw))
+        c.me.eui l.net.key l.net.sequence l.row.key }
+{}
 
 /// States that a joined device asks its centre for a link key, and is as joined afterwards as before.
 ///

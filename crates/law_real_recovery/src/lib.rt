@@ -3,11 +3,16 @@
 #![tactic(auto)]
 
 ghost use Rattle.std.specs.Prelude.{◌≡◌, ℕ, ◌++◌, true, false, List};
+ghost use Rattle.law_key_exchange.specs.CommandFrames.{DeliversCommands};
 ghost use Rattle.law_recovery.specs.KeyFrames.{DeliversKeys};
 ghost use Rattle.law_recovery.specs.Rejoining.{AreOfOneNetwork};
+ghost use Rattle.law_real_recovery.specs.Exchanging.{MayExchange, MayJoin};
 ghost use Rattle.law_real_recovery.specs.Texts.{MayRejoin, first_front};
 ghost use Rattle.law_recovery_runs.specs.Fronts.{EndsRejoined, after_events, rejoin_events};
+ghost use Rattle.law_recovery_runs.specs.KeyExchange.{EndsConfirmed, NothingStops, exchange_events, joined_front};
+ghost use Rattle.law_recovery_runs.specs.KeyExchange.{joining_events};
 ghost use Rattle.law_schedules.specs.Schedules.{schedule_of};
+ghost use Rattle.zb_model.specs.Data.{Bytes};
 ghost use Rattle.zb_model.specs.Play.{Event, setting_of};
 ghost use Rattle.zb_model.specs.Schedules.{Names};
 ghost use Rattle.zb_model.specs.State.{is_centre};
@@ -40,4 +45,42 @@ pub fn a_member_rejoins_in_each_schedule()
         ≡ before ++ rejoin_events (after_events real (schedule_of p) (first_front (schedule_of p)) before) c d
         → MayRejoin (schedule_of p) (after_events real (schedule_of p) (first_front (schedule_of p)) before) c d
         → EndsRejoined (after_events real (schedule_of p) (first_front (schedule_of p)) (schedule_of p).events) c d }
+{}
+
+/// States that the real frames of the exchange of link keys are read, opened and understood as they were sealed.
+pub fn real_frames_deliver_commands()
+    ensures { DeliversCommands real }
+{}
+
+/// States that a joined device is confirmed at the end of each schedule's run, unless one of the named obstacles holds.
+///
+/// The schedule ends with the six events of the exchange, and may have any events before them.
+pub fn a_device_is_confirmed_in_each_schedule()
+    ensures { (p : Schedule) → IsSchedule p → (before : List Event) (c d : ℕ) (key : Bytes) (sequence : ℕ)
+        (link drawn : Bytes) → (schedule_of p).events
+        ≡ before ++ exchange_events (after_events real (schedule_of p) (first_front (schedule_of p)) before) c d
+        → MayExchange (schedule_of p) (after_events real (schedule_of p) (first_front (schedule_of p)) before) c d
+        key sequence link
+        → NothingStops real (schedule_of p) (after_events real (schedule_of p) (first_front (schedule_of p)) before) c d
+        key sequence link drawn
+        → EndsConfirmed (schedule_of p)
+        (after_events real (schedule_of p) (first_front (schedule_of p)) (schedule_of p).events) c d
+        key sequence drawn }
+{}
+
+/// States that a device that knocked ends confirmed at the end of each schedule's run, unless an obstacle holds.
+///
+/// The schedule ends with the eight events from the centre's answer on, and may have any events before them.
+pub fn a_device_joins_and_is_confirmed_in_each_schedule()
+    ensures { (p : Schedule) → IsSchedule p → (before : List Event) (c d : ℕ) (drawn : Bytes)
+        → (schedule_of p).events
+        ≡ before ++ joining_events real (schedule_of p)
+        (after_events real (schedule_of p) (first_front (schedule_of p)) before) c d
+        → (may : MayJoin (schedule_of p) (after_events real (schedule_of p) (first_front (schedule_of p)) before) c d)
+        → NothingStops real (schedule_of p) (joined_front real (schedule_of p)
+        (after_events real (schedule_of p) (first_front (schedule_of p)) before) c d) c d
+        may.introduced.net.key may.introduced.net.sequence may.introduced.row.key drawn
+        → EndsConfirmed (schedule_of p)
+        (after_events real (schedule_of p) (first_front (schedule_of p)) (schedule_of p).events) c d
+        may.introduced.net.key may.introduced.net.sequence drawn }
 {}

@@ -161,7 +161,7 @@ idle_fields tools c s k o e =
     (fields s) (flat_map (move_edits k) (filter (changes s) (moves_of o)))
     ∙ ap (λ ms. fold fields_by (fields s) (flat_map (move_edits k) (filter (changes s) ms))) e
 
-child_idle : (c : Setting) (s : NodeState) (device : ℕ) → moves_of (child_of_centre c s device) ≡ []
+pub child_idle : (c : Setting) (s : NodeState) (device : ℕ) → moves_of (child_of_centre c s device) ≡ []
 unfolding child_of_centre found_or unless
 child_idle c s device = by_net (active_row s) (current s device) (spent Aps s)
   where

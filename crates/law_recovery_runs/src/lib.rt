@@ -10,8 +10,8 @@ ghost use Rattle.law_recovery_runs.specs.Fronts.{CanRejoin, EndsRejoined, Front,
 ghost use Rattle.law_recovery_runs.specs.Fronts.{after_event, after_events, rejoin_events};
 ghost use Rattle.law_recovery.specs.Rollovers.{HasCounters, IsRolling, untold};
 ghost use Rattle.law_recovery_runs.specs.Joining.{CanJoin, EndsJoined, join_events};
-ghost use Rattle.law_recovery_runs.specs.KeyExchange.{AreMet, EndsConfirmed, HaveJoined, KeysInRange, NothingStops};
-ghost use Rattle.law_recovery_runs.specs.KeyExchange.{exchange_events};
+ghost use Rattle.law_recovery_runs.specs.KeyExchange.{AreMet, EndsConfirmed, HaveJoined, IsNew, KeysInRange};
+ghost use Rattle.law_recovery_runs.specs.KeyExchange.{NothingStops, exchange_events, joined_front, joining_events};
 ghost use Rattle.law_recovery_runs.specs.Rolled.{EndsRolled, rollover_events};
 ghost use Rattle.zb_model.specs.Data.{Bytes};
 ghost use Rattle.zb_model.specs.Play.{NotArmed, PowerOn, Schedule, disk_of, setting_of};
@@ -61,4 +61,16 @@ pub fn a_device_is_confirmed_in_a_run()
         (key : Bytes) (sequence : ℕ) (link drawn : Bytes) → AreMet w x c d → HaveJoined w x c d key sequence link
         → KeysInRange key sequence link → length drawn ≡ 16 → NothingStops tools w x c d key sequence link drawn
         → EndsConfirmed w (after_events tools w x (exchange_events x c d)) c d key sequence drawn }
+{}
+
+/// States that a device that knocked ends confirmed by eight events, unless one of the named obstacles holds.
+///
+/// The centre's network key is new to it. The key that both have verified then is the one that the centre drew.
+pub fn a_device_joins_and_is_confirmed_in_a_run()
+    ensures { (tools : Tools) → DeliversKeys tools → DeliversCommands tools → OpensAsJudged tools → (w : Schedule)
+        (x : Front) (c d : ℕ) (drawn : Bytes) → (can : CanJoin w x c d) → IsNew w x c d can → length drawn ≡ 16
+        → NothingStops tools w (joined_front tools w x c d) c d can.introduced.net.key can.introduced.net.sequence
+        can.introduced.row.key drawn
+        → EndsConfirmed w (after_events tools w x (joining_events tools w x c d)) c d can.introduced.net.key
+        can.introduced.net.sequence drawn }
 {}
