@@ -25,8 +25,8 @@ abbrev pub done_by : Step → Option CoreValue → Done
 done_by step None = on_empty step.line step.order
 done_by step (Some core) = on_store core.setting step.line step.order core.tables
 
--- After a command the centre has what stands then. Where the command makes a new store, the centre is booted from it, and
--- has what is found there.
+-- After a command the centre has what stands then. Where the command makes a new store, the centre is booted from it,
+-- and has what is found there.
 abbrev pub Follows : Step → Option CoreValue → Option CoreValue → Type 0
 Follows step None next = is_some next ≡ lays_out step.order None
 Follows step (Some core) next = next ≡ with_setting core.setting (done_by step (Some core)).after
