@@ -1,5 +1,5 @@
-//! That a text is the text of one line: the lines of the program are fixed by what is printed of them. The function here
-//! says so and does nothing.
+//! That a text is the text of one line: the lines of the program are fixed by what is printed of them. The function
+//! here says so and does nothing.
 #![tactic(auto)]
 
 ghost use Rattle.std.specs.Prelude.{◌≡◌, List};

@@ -18,8 +18,7 @@ abbrev pub core_of : Option (Hosted CoreValue) → Option CoreValue
 core_of centre = option_map (λ (h : Hosted CoreValue). h.core) centre
 
 abbrev pub with_setting : Setting → Option NodeState → Option CoreValue
-with_setting c standing =
-    option_map (λ (s : NodeState). let core : CoreValue = record { setting = c; tables = s } in core) standing
+with_setting c standing = option_map (λ (s : NodeState). let core : CoreValue = record { setting = c; tables = s } in core) standing
 
 -- the lines of a command, and what stands after it
 abbrev pub done_by : Step → Option CoreValue → Done
@@ -27,8 +26,7 @@ done_by step None = on_empty step.line step.order
 done_by step (Some core) = on_store core.setting step.line step.order core.tables
 
 -- After a command the centre has what stands then. Where the command makes a new store, the centre is booted from it,
--- and
--- has what is found there.
+-- and has what is found there.
 abbrev pub Follows : Step → Option CoreValue → Option CoreValue → Type 0
 Follows step None next = is_some next ≡ lays_out step.order None
 Follows step (Some core) next = next ≡ with_setting core.setting (done_by step (Some core)).after
@@ -37,8 +35,7 @@ Follows step (Some core) next = next ≡ with_setting core.setting (done_by step
 abbrev pub Writes : List Step → Option CoreValue → Bytes → Type 0
 Writes [] core text = text ≡ []
 Writes (step ∷ steps) core text =
-    (next : Option CoreValue) × (more : Bytes) × Follows step core next
-    × (text ≡ page (done_by step core).lines ++ more) × Writes steps next more
+    (next : Option CoreValue) × (more : Bytes) × Follows step core next × (text ≡ page (done_by step core).lines ++ more) × Writes steps next more
 
 -- all of such a text was written
 abbrev pub WritesAll : List Step → Option CoreValue → Option Bytes → Option Bytes → Type 0
