@@ -22,40 +22,52 @@ bare s = record s { aps_limit = 0; aps_next = 0; nets = map bare_net s.nets; lin
 
 -- ---- what bare rows don't show
 
-blind : {X : Type 0} (test : X → Bool) (f g : X → X) → ((x : X) → g (f x) ≡ g x) → (xs : List X) → map g (map (λ x. if test x then f x else x) xs) ≡ map g xs
+blind : {X : Type 0} (test : X → Bool) (f g : X → X) → ((x : X) → g (f x) ≡ g x) → (xs : List X)
+    → map g (map (λ x. if test x then f x else x) xs) ≡ map g xs
 blind test f g each [] = refl
-blind {X} test f g each (x ∷ xs) = ap (λ y. y ∷ map g (map (λ x. if test x then f x else x) xs)) (by_test (test x)) ∙ ap (λ l. g x ∷ l) (blind test f g each xs)
+blind {X} test f g each (x ∷ xs) = ap (λ y. y ∷ map g (map (λ x. if test x then f x else x) xs)) (by_test (test x)) ∙
+    ap (λ l. g x ∷ l) (blind test f g each xs)
   where
     by_test : (b : Bool) → g (if b then f x else x) ≡ g x
     by_test true = each x
     by_test false = refl
 
-nets_same : (s : NodeState) (a b : List NetKey) → map bare_net a ≡ map bare_net b → bare (record s { nets = a }) ≡ bare (record s { nets = b })
+nets_same : (s : NodeState) (a b : List NetKey) → map bare_net a ≡ map bare_net b → bare (record s { nets = a })
+    ≡ bare (record s { nets = b })
 unfolding bare
 nets_same s a b e = ap (λ (x : List NetKey). record (bare s) { nets = x }) e
 
-links_same : (s : NodeState) (a b : List LinkKey) → map bare_link a ≡ map bare_link b → bare (record s { links = a }) ≡ bare (record s { links = b })
+links_same : (s : NodeState) (a b : List LinkKey) → map bare_link a ≡ map bare_link b → bare (record s { links = a })
+    ≡ bare (record s { links = b })
 unfolding bare
 links_same s a b e = ap (λ (x : List LinkKey). record (bare s) { links = x }) e
 
-in_active : (limit : ℕ) (o : Option Bytes) (rs : List NetKey) → map bare_net (of_active (reserved limit) o rs) ≡ map bare_net rs
+in_active : (limit : ℕ) (o : Option Bytes) (rs : List NetKey) → map bare_net (of_active (reserved limit) o rs)
+    ≡ map bare_net rs
 in_active limit None rs = refl
 in_active limit (Some key) rs = blind (λ (r : NetKey). same_key r.key key) (reserved limit) bare_net (λ r. refl) rs
 
 by_reserve : (layer : Layer) (limit : ℕ) (s : NodeState) → bare (applied (Reserve layer limit) s) ≡ bare s
 unfolding bare applied
-by_reserve Nwk limit s = nets_same s (of_active (reserved limit) s.active s.nets) s.nets (in_active limit s.active s.nets)
+by_reserve Nwk limit s = nets_same s (of_active (reserved limit) s.active s.nets) s.nets
+    (in_active limit s.active s.nets)
 by_reserve Aps limit s = refl
 
-by_floor : (layer : Layer) (key : Bytes) (sender value : ℕ) (s : NodeState) → bare (applied (Floor layer key sender value) s) ≡ bare s
+by_floor : (layer : Layer) (key : Bytes) (sender value : ℕ) (s : NodeState)
+    → bare (applied (Floor layer key sender value) s) ≡ bare s
 unfolding applied
-by_floor Nwk key sender value s = nets_same s (at_net key (net_floor sender value) s.nets) s.nets (blind (λ (r : NetKey). same_key r.key key) (net_floor sender value) bare_net (λ r. refl) s.nets)
-by_floor Aps key sender value s = links_same s (at_link sender key (link_floor value) s.links) s.links (blind (is_link sender key) (link_floor value) bare_link (λ r. refl) s.links)
+by_floor Nwk key sender value s = nets_same s (at_net key (net_floor sender value) s.nets) s.nets
+    (blind (λ (r : NetKey). same_key r.key key) (net_floor sender value) bare_net (λ r. refl) s.nets)
+by_floor Aps key sender value s = links_same s (at_link sender key (link_floor value) s.links) s.links
+    (blind (is_link sender key) (link_floor value) bare_link (λ r. refl) s.links)
 
-by_hearing : (layer : Layer) (key : Bytes) (sender counter : ℕ) (s : NodeState) → bare (after_hearing layer key sender counter s) ≡ bare s
+by_hearing : (layer : Layer) (key : Bytes) (sender counter : ℕ) (s : NodeState)
+    → bare (after_hearing layer key sender counter s) ≡ bare s
 unfolding after_hearing
-by_hearing Nwk key sender counter s = nets_same s (at_net key (net_kept sender (counter + 1)) s.nets) s.nets (blind (λ (r : NetKey). same_key r.key key) (net_kept sender (counter + 1)) bare_net (λ r. refl) s.nets)
-by_hearing Aps key sender counter s = links_same s (at_link sender key (link_kept (counter + 1)) s.links) s.links (blind (is_link sender key) (link_kept (counter + 1)) bare_link (λ r. refl) s.links)
+by_hearing Nwk key sender counter s = nets_same s (at_net key (net_kept sender (counter + 1)) s.nets) s.nets
+    (blind (λ (r : NetKey). same_key r.key key) (net_kept sender (counter + 1)) bare_net (λ r. refl) s.nets)
+by_hearing Aps key sender counter s = links_same s (at_link sender key (link_kept (counter + 1)) s.links) s.links
+    (blind (is_link sender key) (link_kept (counter + 1)) bare_link (λ r. refl) s.links)
 
 by_accepts : (ts : List Term) (s : NodeState) → bare (accepted_all ts s) ≡ bare s
 unfolding after_accepting
@@ -64,7 +76,8 @@ by_accepts (t ∷ ts) s = by_accepts ts (after_accepting t s) ∙ by_hearing t.l
 
 by_sealing : (layer : Layer) (t : Term) (s : NodeState) → bare (sealed_at layer t s) ≡ bare s
 unfolding bare
-by_sealing Nwk t s = nets_same s (at_net t.base (next_at (t.counter + 1)) s.nets) s.nets (blind (λ (r : NetKey). same_key r.key t.base) (next_at (t.counter + 1)) bare_net (λ r. refl) s.nets)
+by_sealing Nwk t s = nets_same s (at_net t.base (next_at (t.counter + 1)) s.nets) s.nets
+    (blind (λ (r : NetKey). same_key r.key t.base) (next_at (t.counter + 1)) bare_net (λ r. refl) s.nets)
 by_sealing Aps t s = refl
 
 by_seals : (ts : List Term) (s : NodeState) → bare (sealed_all ts s) ≡ bare s
@@ -74,11 +87,13 @@ by_seals (t ∷ ts) s = by_seals ts (after_sealing t s) ∙ by_sealing t.layer t
 
 -- ---- changes of link rows
 
-swapped : {X : Type 0} (test : X → Bool) (f g : X → X) → ((x : X) → test (g x) ≡ test x) → ((x : X) → g (f x) ≡ f (g x)) → (xs : List X)
+swapped : {X : Type 0} (test : X → Bool) (f g : X → X) → ((x : X) → test (g x) ≡ test x)
+    → ((x : X) → g (f x) ≡ f (g x)) → (xs : List X)
     → map g (map (λ x. if test x then f x else x) xs) ≡ map (λ x. if test x then f x else x) (map g xs)
 swapped test f g same each [] = refl
 swapped {X} test f g same each (x ∷ xs) =
-    ap (λ y. y ∷ map g (map (λ x. if test x then f x else x) xs)) (by_test (test x) ∙ ap (λ b. if b then f (g x) else g x) (sym (same x)))
+    ap (λ y. y ∷ map g (map (λ x. if test x then f x else x) xs))
+    (by_test (test x) ∙ ap (λ b. if b then f (g x) else g x) (sym (same x)))
     ∙ ap (λ l. (if test (g x) then f (g x) else g x) ∷ l) (swapped test f g same each xs)
   where
     by_test : (b : Bool) → g (if b then f x else x) ≡ (if b then f (g x) else g x)
@@ -92,24 +107,33 @@ told_same : (s : NodeState) (partner : ℕ) → is_told (bare s) partner ≡ is_
 unfolding bare is_told
 told_same s partner = any_map (λ (r : LinkKey). is_live_of partner r && r.told) bare_link s.links
 
-linked : (partner : ℕ) (key : Bytes) (attribute : Attribute) (told : Bool) (rs : List LinkKey) → map bare_link (with_link partner key attribute told rs) ≡ with_link partner key attribute told (map bare_link rs)
+linked : (partner : ℕ) (key : Bytes) (attribute : Attribute) (told : Bool) (rs : List LinkKey)
+    → map bare_link (with_link partner key attribute told rs) ≡ with_link partner key attribute told (map bare_link rs)
 linked partner key attribute told rs =
     by_test (has_link partner key rs)
-    ∙ ap (λ b. if b then at_link partner key (revived attribute told) (map bare_link rs) else map bare_link rs ++ new_link partner key attribute told ∷ []) (sym (any_map (is_link partner key) bare_link rs))
+    ∙ ap (λ b. if b then at_link partner key (revived attribute told) (map bare_link rs)
+    else map bare_link rs ++ new_link partner key attribute told ∷ [])
+    (sym (any_map (is_link partner key) bare_link rs))
   where
-    by_test : (b : Bool) → map bare_link (if b then at_link partner key (revived attribute told) rs else rs ++ new_link partner key attribute told ∷ [])
-        ≡ (if b then at_link partner key (revived attribute told) (map bare_link rs) else map bare_link rs ++ new_link partner key attribute told ∷ [])
+    by_test : (b : Bool) → map bare_link (if b then at_link partner key (revived attribute told) rs
+        else rs ++ new_link partner key attribute told ∷ [])
+        ≡ (if b then at_link partner key (revived attribute told) (map bare_link rs)
+        else map bare_link rs ++ new_link partner key attribute told ∷ [])
     by_test true = swapped (is_link partner key) (revived attribute told) bare_link (λ r. refl) (λ r. refl) rs
     by_test false = map-append bare_link rs (new_link partner key attribute told ∷ [])
 
 with_nets : (s : NodeState) (a b : List NetKey) → a ≡ b → record s { nets = a } ≡ record s { nets = b }
 with_nets s a b e = ap (λ (x : List NetKey). record s { nets = x }) e
 
-installed : (key : Bytes) (sequence : ℕ) (rs : List NetKey) → map bare_net (if has_net key rs then rs else rs ++ new_net key sequence ∷ []) ≡ (if has_net key (map bare_net rs) then map bare_net rs else map bare_net rs ++ new_net key sequence ∷ [])
+installed : (key : Bytes) (sequence : ℕ) (rs : List NetKey) → map bare_net (if has_net key rs then rs
+    else rs ++ new_net key sequence ∷ []) ≡ (if has_net key (map bare_net rs) then map bare_net rs
+    else map bare_net rs ++ new_net key sequence ∷ [])
 installed key sequence rs =
-    by_test (has_net key rs) ∙ ap (λ b. if b then map bare_net rs else map bare_net rs ++ new_net key sequence ∷ []) (sym (any_map (λ (r : NetKey). same_key r.key key) bare_net rs))
+    by_test (has_net key rs) ∙ ap (λ b. if b then map bare_net rs else map bare_net rs ++ new_net key sequence ∷ [])
+    (sym (any_map (λ (r : NetKey). same_key r.key key) bare_net rs))
   where
-    by_test : (b : Bool) → map bare_net (if b then rs else rs ++ new_net key sequence ∷ []) ≡ (if b then map bare_net rs else map bare_net rs ++ new_net key sequence ∷ [])
+    by_test : (b : Bool) → map bare_net (if b then rs else rs ++ new_net key sequence ∷ [])
+        ≡ (if b then map bare_net rs else map bare_net rs ++ new_net key sequence ∷ [])
     by_test true = refl
     by_test false = map-append bare_net rs (new_net key sequence ∷ [])
 
@@ -127,12 +151,17 @@ OfExchange m = ◌≡◌ {A = Bool} false true
 by_move : (m : Move) (s : NodeState) → OfExchange m → bare (moved m s) ≡ moved m (bare s)
 unfolding bare
 by_move (Draw key) s of = refl
-by_move (DropNet key) s of = with_nets (bare s) _ _ (swapped (λ (r : NetKey). same_key r.key key) dropped_net bare_net (λ r. refl) (λ r. refl) s.nets)
+by_move (DropNet key) s of =
+    with_nets (bare s) _ _
+    (swapped (λ (r : NetKey). same_key r.key key) dropped_net bare_net (λ r. refl) (λ r. refl) s.nets)
 by_move (Install key sequence) s of = with_nets (bare s) _ _ (installed key sequence s.nets)
 by_move (Active key) s of = refl
-by_move (DropLink partner key) s of = with_links (bare s) _ _ (swapped (is_link partner key) dropped_link bare_link (λ r. refl) (λ r. refl) s.links)
+by_move (DropLink partner key) s of =
+    with_links (bare s) _ _ (swapped (is_link partner key) dropped_link bare_link (λ r. refl) (λ r. refl) s.links)
 by_move (Row partner key attribute) s of =
-    with_links (bare s) _ _ (linked partner key attribute (is_told s partner) s.links ∙ ap (λ b. with_link partner key attribute b (map bare_link s.links)) (sym (told_same s partner)))
+    with_links (bare s) _ _
+    (linked partner key attribute (is_told s partner) s.links ∙ ap
+    (λ b. with_link partner key attribute b (map bare_link s.links)) (sym (told_same s partner)))
 by_move (Became state) s of = refl
 by_move _ s of = absurd cc
 
@@ -142,27 +171,36 @@ moved_all ms s = fold (λ (x : NodeState) (m : Move). moved m x) s ms
 
 by_start : (key : Bytes) (value : ℕ) (s : NodeState) → bare (applied (Start key value) s) ≡ bare s
 unfolding applied
-by_start key value s = nets_same s (at_net key (started_at value) s.nets) s.nets (blind (λ (r : NetKey). same_key r.key key) (started_at value) bare_net (λ r. refl) s.nets)
+by_start key value s = nets_same s (at_net key (started_at value) s.nets) s.nets
+    (blind (λ (r : NetKey). same_key r.key key) (started_at value) bare_net (λ r. refl) s.nets)
 
-by_edit : (k : Counting) (m : Move) → OfExchange m → (es : List Edit) (s : NodeState) (x : NodeState) → ((u : NodeState) → bare u ≡ moved m (bare s) → bare (applied_all es u) ≡ x) → bare (applied_all (move_edits k m ++ es) s) ≡ x
+by_edit : (k : Counting) (m : Move) → OfExchange m → (es : List Edit) (s : NodeState) (x : NodeState)
+    → ((u : NodeState) → bare u ≡ moved m (bare s) → bare (applied_all es u) ≡ x)
+    → bare (applied_all (move_edits k m ++ es) s) ≡ x
 unfolding applied_all applied
 by_edit k (Active key) of es s x rest = by_first k.start
   where
     by_first : (o : Option ℕ) → bare (applied_all (Moved (Active key) ∷ start_edit key o ++ es) s) ≡ x
     by_first None = rest (moved (Active key) s) (by_move (Active key) s tt)
-    by_first (Some value) = rest (applied (Start key value) (moved (Active key) s)) (by_start key value (moved (Active key) s) ∙ by_move (Active key) s tt)
+    by_first (Some value) = rest (applied (Start key value) (moved (Active key) s))
+        (by_start key value (moved (Active key) s) ∙ by_move (Active key) s tt)
 by_edit k (Draw key) of es s x rest = rest s refl
 by_edit k (DropNet key) of es s x rest = rest (moved (DropNet key) s) (by_move (DropNet key) s tt)
-by_edit k (DropLink partner key) of es s x rest = rest (moved (DropLink partner key) s) (by_move (DropLink partner key) s tt)
-by_edit k (Install key sequence) of es s x rest = rest (moved (Install key sequence) s) (by_move (Install key sequence) s tt)
-by_edit k (Row partner key attribute) of es s x rest = rest (moved (Row partner key attribute) s) (by_move (Row partner key attribute) s tt)
+by_edit k (DropLink partner key) of es s x rest =
+    rest (moved (DropLink partner key) s) (by_move (DropLink partner key) s tt)
+by_edit k (Install key sequence) of es s x rest =
+    rest (moved (Install key sequence) s) (by_move (Install key sequence) s tt)
+by_edit k (Row partner key attribute) of es s x rest = rest (moved (Row partner key attribute) s)
+    (by_move (Row partner key attribute) s tt)
 by_edit k (Became state) of es s x rest = rest (moved (Became state) s) (by_move (Became state) s tt)
 by_edit k _ of es s x rest = absurd cc
 
-by_moves : (k : Counting) (ms : List Move) → AllByRecursion OfExchange ms → (s x : NodeState) → bare s ≡ x → bare (applied_all (flat_map (move_edits k) ms) s) ≡ moved_all ms x
+by_moves : (k : Counting) (ms : List Move) → AllByRecursion OfExchange ms → (s x : NodeState) → bare s ≡ x
+    → bare (applied_all (flat_map (move_edits k) ms) s) ≡ moved_all ms x
 unfolding applied_all
 by_moves k [] all s x e = e
-by_moves k (m ∷ ms) all s x e = by_edit k m all.0 (flat_map (move_edits k) ms) s (moved_all (m ∷ ms) x) (λ u f. by_moves k ms all.1 u (moved m x) (f ∙ ap (moved m) e))
+by_moves k (m ∷ ms) all s x e = by_edit k m all.0 (flat_map (move_edits k) ms) s (moved_all (m ∷ ms) x)
+    (λ u f. by_moves k ms all.1 u (moved m x) (f ∙ ap (moved m) e))
 
 -- ---- a whole answer
 
@@ -173,17 +211,22 @@ by_reserves None (Some v) s = by_reserve Aps v s
 by_reserves (Some u) None s = by_reserve Nwk u s
 by_reserves (Some u) (Some v) s = by_reserve Aps v (applied (Reserve Nwk u) s) ∙ by_reserve Nwk u s
 
-by_one_floor : (t : Term) (o : Option ℕ) (es : List Edit) (s : NodeState) → ((u : NodeState) → bare (applied_all es u) ≡ bare u) → bare (applied_all (option_to_list (option_map (Floor t.layer t.base t.source) o) ++ es) s) ≡ bare s
+by_one_floor : (t : Term) (o : Option ℕ) (es : List Edit) (s : NodeState)
+    → ((u : NodeState) → bare (applied_all es u) ≡ bare u)
+    → bare (applied_all (option_to_list (option_map (Floor t.layer t.base t.source) o) ++ es) s) ≡ bare s
 unfolding applied_all
 by_one_floor t None es s rest = rest s
-by_one_floor t (Some n) es s rest = rest (applied (Floor t.layer t.base t.source n) s) ∙ by_floor t.layer t.base t.source n s
+by_one_floor t (Some n) es s rest = rest (applied (Floor t.layer t.base t.source n) s) ∙ by_floor t.layer t.base
+    t.source n s
 
-by_floors : (k : Counting) (ts : List Term) (s : NodeState) → bare (applied_all (flat_map (floor_edit k) ts) s) ≡ bare s
+by_floors : (k : Counting) (ts : List Term) (s : NodeState) → bare (applied_all (flat_map (floor_edit k) ts) s)
+    ≡ bare s
 unfolding applied_all
 by_floors k [] s = refl
 by_floors k (t ∷ ts) s = by_one_floor t (k.floor t.layer) (flat_map (floor_edit k) ts) s (by_floors k ts)
 
-pub bare_after : (tools : Tools) (c : Setting) (s : NodeState) (k : Counting) (p : Plan) (ms : List Move) → filter (changes s) (moves_of p.outcome) ≡ ms → AllByRecursion OfExchange ms
+pub bare_after : (tools : Tools) (c : Setting) (s : NodeState) (k : Counting) (p : Plan) (ms : List Move)
+    → filter (changes s) (moves_of p.outcome) ≡ ms → AllByRecursion OfExchange ms
     → bare (answered (answer_by tools c s k p) s) ≡ moved_all ms (bare s)
 unfolding answered answer_by edits_of
 bare_after tools c s k p ms e all =

@@ -30,21 +30,27 @@ abbrev taken : Tools → NodeState → KeyFrame → Plan
 taken tools t f = comes_to (key_term tools f ∷ []) AtAps (Does (new_moves Joined t f) None)
 
 abbrev refused : NodeState → KeyFrame → LinkKey → Bool → Option ℕ → Bool → Bool → Option Reason
-refused t f own stale old has full = if stale then Some (Stale own.kept) else why_old old (if has then None else (if full then Some KeysFull else None))
+refused t f own stale old has full = if stale then Some (Stale own.kept)
+    else why_old old (if has then None else (if full then Some KeysFull else None))
 
-new_plan : (tools : Tools) (t : NodeState) (f : KeyFrame) (own : LinkKey) (stale : Bool) (old : Option ℕ) (has full : Bool) → has ≡ false → refused t f own stale old has full ≡ None → plan_by tools f own stale (outcome_by Joined t f old has full) ≡ taken tools t f
+new_plan : (tools : Tools) (t : NodeState) (f : KeyFrame) (own : LinkKey) (stale : Bool) (old : Option ℕ)
+    (has full : Bool) → has ≡ false → refused t f own stale old has full ≡ None
+    → plan_by tools f own stale (outcome_by Joined t f old has full) ≡ taken tools t f
 new_plan tools t f own true old has full fresh e = absurd (false≢true (sym (ap is_some e)))
 new_plan tools t f own false (Some place) has full fresh e = absurd (false≢true (sym (ap is_some e)))
 new_plan tools t f own false None true full fresh e = absurd (false≢true (sym fresh))
 new_plan tools t f own false None false true fresh e = absurd (false≢true (sym (ap is_some e)))
 new_plan tools t f own false None false false fresh e = refl
 
-free_plan : (tools : Tools) (m : Setting) (t : NodeState) (f : KeyFrame) (own : LinkKey) (draw : Option Bytes) → Facts tools m Knocked Joined t f own → t.state ≡ Knocked → has_net f.key t.nets ≡ false → why_not_taken t own f.counter f.key ≡ None
+free_plan : (tools : Tools) (m : Setting) (t : NodeState) (f : KeyFrame) (own : LinkKey) (draw : Option Bytes)
+    → Facts tools m Knocked Joined t f own → t.state ≡ Knocked → has_net f.key t.nets ≡ false
+    → why_not_taken t own f.counter f.key ≡ None
     → plan_of tools m t (Received (key_bytes tools f) draw) ≡ taken tools t f
 unfolding why_not_taken
 free_plan tools m t f own draw x knocked fresh none =
     subst (λ u. plan_of tools m u (Received (key_bytes tools f) draw) ≡ taken tools t f) (same_state t knocked)
-    (delivered tools m Knocked Joined t f own draw x ∙ new_plan tools t f own (nat_lt f.counter own.kept) (dropped_at 0 f.key t.nets) (has_net f.key t.nets) (nets_full t) fresh none)
+    (delivered tools m Knocked Joined t f own draw x ∙ new_plan tools t f own (nat_lt f.counter own.kept)
+    (dropped_at 0 f.key t.nets) (has_net f.key t.nets) (nets_full t) fresh none)
 
 -- ---- its changes
 
@@ -67,7 +73,8 @@ bare_has key rs = any_map (λ (r : NetKey). same_key r.key key) bare_net rs
 dropped_has : (key old : Bytes) (rs : List NetKey) → has_net key (at_net old dropped_net rs) ≡ has_net key rs
 dropped_has key old rs =
     any_map (λ (r : NetKey). same_key r.key key) (λ (r : NetKey). if same_key r.key old then dropped_net r else r) rs
-    ∙ any_same (λ (r : NetKey). same_key (if same_key r.key old then dropped_net r else r).key key) (λ (r : NetKey). same_key r.key key) (λ r. by_test (same_key r.key old) r) rs
+    ∙ any_same (λ (r : NetKey). same_key (if same_key r.key old then dropped_net r else r).key key)
+    (λ (r : NetKey). same_key r.key key) (λ r. by_test (same_key r.key old) r) rs
   where
     by_test : (b : Bool) (r : NetKey) → same_key (if b then dropped_net r else r).key key ≡ same_key r.key key
     by_test true r = refl
@@ -77,7 +84,9 @@ kept_key : (o : Option Bytes) (key : Bytes) → is_active_key o key ≡ true →
 kept_key None key e = absurd (false≢true e)
 kept_key (Some a) key e = ap Some (same_key_is a key e)
 
-last_leads : (t : NodeState) (key : Bytes) (sequence : ℕ) (b : Bool) → is_active_key t.active key ≡ b → Leads t key sequence (Install key sequence ∷ (if not b then Active key ∷ Became Joined ∷ [] else Became Joined ∷ []))
+last_leads : (t : NodeState) (key : Bytes) (sequence : ℕ) (b : Bool) → is_active_key t.active key ≡ b
+    → Leads t key sequence
+    (Install key sequence ∷ (if not b then Active key ∷ Became Joined ∷ [] else Became Joined ∷ []))
 unfolding bare
 last_leads t key sequence true e = record {
   of = (tt, (tt, tt));
@@ -98,7 +107,9 @@ last_leads t key sequence false e = record {
   state = refl;
 }
 
-drop_leads : (t : NodeState) (old key : Bytes) (sequence : ℕ) (b : Bool) → is_active_key t.active key ≡ b → Leads t key sequence (DropNet old ∷ Install key sequence ∷ (if not b then Active key ∷ Became Joined ∷ [] else Became Joined ∷ []))
+drop_leads : (t : NodeState) (old key : Bytes) (sequence : ℕ) (b : Bool) → is_active_key t.active key ≡ b
+    → Leads t key sequence
+    (DropNet old ∷ Install key sequence ∷ (if not b then Active key ∷ Became Joined ∷ [] else Became Joined ∷ []))
 unfolding bare
 drop_leads t old key sequence true e = record {
   of = (tt, (tt, (tt, tt)));
@@ -119,33 +130,49 @@ drop_leads t old key sequence false e = record {
   state = refl;
 }
 
-first_leads : (t : NodeState) (key : Bytes) (sequence : ℕ) (rs : List NetKey) (b : Bool) → is_active_key t.active key ≡ b → (c : Bool) → c ≡ true
-    → Leads t key sequence (filter (changes t) (first_drop rs) ++ Install key sequence ∷ (if not b then Active key ∷ (if c then Became Joined ∷ [] else []) else (if c then Became Joined ∷ [] else [])))
+first_leads : (t : NodeState) (key : Bytes) (sequence : ℕ) (rs : List NetKey) (b : Bool) → is_active_key t.active key
+    ≡ b → (c : Bool) → c ≡ true
+    → Leads t key sequence
+    (filter (changes t) (first_drop rs) ++ Install key sequence
+    ∷ (if not b then Active key ∷ (if c then Became Joined ∷ [] else [])
+    else (if c then Became Joined ∷ [] else [])))
 first_leads t key sequence [] b e c d = rw d (last_leads t key sequence b e)
 first_leads t key sequence (r ∷ rs) b e c d = rw d (drop_leads t r.key key sequence b e)
 
-filter_first : (t : NodeState) (rs : List NetKey) (rest : List Move) → filter (changes t) (first_drop rs ++ rest) ≡ filter (changes t) (first_drop rs) ++ filter (changes t) rest
+filter_first : (t : NodeState) (rs : List NetKey) (rest : List Move) → filter (changes t) (first_drop rs ++ rest)
+    ≡ filter (changes t) (first_drop rs) ++ filter (changes t) rest
 filter_first t [] rest = refl
 filter_first t (r ∷ rs) rest = refl
 
 becomes : (t : NodeState) → t.state ≡ Knocked → changes t (Became Joined) ≡ true
 becomes t e = rw e refl
 
-all_leads : (t : NodeState) (f : KeyFrame) → t.state ≡ Knocked → Leads t f.key f.sequence (filter (changes t) (new_moves Joined t f))
+all_leads : (t : NodeState) (f : KeyFrame) → t.state ≡ Knocked
+    → Leads t f.key f.sequence (filter (changes t) (new_moves Joined t f))
 unfolding drop_old
 all_leads t f knocked = by_test (nat_le 2 (length (live_nets t)))
   where
-    by_test : (b : Bool) → Leads t f.key f.sequence (filter (changes t) ((if b then first_drop (filter (λ (r : NetKey). not (is_active_key t.active r.key)) (live_nets t)) else []) ++ last_moves f.key f.sequence))
+    by_test : (b : Bool)
+        → Leads t f.key f.sequence
+        (filter (changes t)
+        ((if b then first_drop (filter (λ (r : NetKey). not (is_active_key t.active r.key)) (live_nets t)) else [])
+        ++ last_moves f.key f.sequence))
     by_test true =
         let rs = filter (λ (r : NetKey). not (is_active_key t.active r.key)) (live_nets t) in
-        subst (Leads t f.key f.sequence) (sym (filter_first t rs (last_moves f.key f.sequence))) (first_leads t f.key f.sequence rs (is_active_key t.active f.key) refl (changes t (Became Joined)) (becomes t knocked))
-    by_test false = first_leads t f.key f.sequence [] (is_active_key t.active f.key) refl (changes t (Became Joined)) (becomes t knocked)
+        subst (Leads t f.key f.sequence) (sym (filter_first t rs (last_moves f.key f.sequence)))
+        (first_leads t f.key f.sequence rs (is_active_key t.active f.key) refl (changes t (Became Joined))
+        (becomes t knocked))
+    by_test false = first_leads t f.key f.sequence [] (is_active_key t.active f.key) refl (changes t (Became Joined))
+        (becomes t knocked)
 
 -- ---- all of it
 
-pub is_joined : (tools : Tools) → DeliversKeys tools → (c m : Setting) (s t : NodeState) → AreOfOneNetwork c m → (l : AreIntroduced c m s t) → KeyFrameInRange (answer_frame c m s l.net l.row) → keeps_rules t ≡ true → (draw : Option Bytes)
+pub is_joined : (tools : Tools) → DeliversKeys tools → (c m : Setting) (s t : NodeState) → AreOfOneNetwork c m
+    → (l : AreIntroduced c m s t) → KeyFrameInRange (answer_frame c m s l.net l.row) → keeps_rules t ≡ true
+    → (draw : Option Bytes)
     → why_not_taken t l.own (next_counter Aps s) l.net.key ≡ None → has_net l.net.key t.nets ≡ false
-    → IsJoined (after_task tools m t (Received (key_bytes tools (answer_frame c m s l.net l.row)) draw)) c.me.eui l.net.key l.net.sequence l.row.key
+    → IsJoined (after_task tools m t (Received (key_bytes tools (answer_frame c m s l.net l.row)) draw)) c.me.eui
+    l.net.key l.net.sequence l.row.key
 unfolding after_task answer
 is_joined tools delivers c m s t o l range rules draw none fresh =
     let f = answer_frame c m s l.net l.row in
@@ -156,18 +183,24 @@ is_joined tools delivers c m s t o l range rules draw none fresh =
     let leads = all_leads t f l.knocked in
     let rows : bare u ≡ moved_all ms (bare t) = bare_after tools m t (counting_of m t p) p ms refl leads.of in
     let joined : u.state ≡ Joined = state_of u (moved_all ms (bare t)) rows ∙ leads.state in
-    let link : HasLink t c.me.eui l.row.key = record { row = l.own; is_current = l.at_device; row_key = l.same_key; none_offered = l.no_offer } in
-    subst (λ q. IsJoined (answered (answer_by tools m t (counting_of m t q) q) t) c.me.eui l.net.key l.net.sequence l.row.key) (sym plan)
+    let link : HasLink t c.me.eui l.row.key =
+    record { row = l.own; is_current = l.at_device; row_key = l.same_key; none_offered = l.no_offer } in
+    subst (λ q. IsJoined (answered (answer_by tools m t (counting_of m t q) q) t) c.me.eui l.net.key l.net.sequence
+    l.row.key) (sym plan)
     (record {
-      network = new_network u leads.rows l.net.key l.net.sequence (nets_of u (moved_all ms (bare t)) rows ∙ leads.nets fresh) (active_of u (moved_all ms (bare t)) rows ∙ leads.active) (rw joined refl) (leads.fresh fresh);
+      network = new_network u leads.rows l.net.key l.net.sequence
+          (nets_of u (moved_all ms (bare t)) rows ∙ leads.nets fresh)
+          (active_of u (moved_all ms (bare t)) rows ∙ leads.active) (rw joined refl) (leads.fresh fresh);
       joined = joined;
       keys = link_kept t u c.me.eui l.row.key link (links_of u (moved_all ms (bare t)) rows ∙ leads.links);
     })
 
 -- the centre's answer leaves its bare rows
-pub child_bare : (tools : Tools) (c : Setting) (s : NodeState) (device : ℕ) (rejoin : Bool) → is_centre c.me.role ≡ true → bare (after_task tools c s (HasChild device rejoin)) ≡ bare s
+pub child_bare : (tools : Tools) (c : Setting) (s : NodeState) (device : ℕ) (rejoin : Bool) → is_centre c.me.role
+    ≡ true → bare (after_task tools c s (HasChild device rejoin)) ≡ bare s
 unfolding after_task
 child_bare tools c s device rejoin role =
     let o = child_of_centre c s device in
     ap (λ a. bare (answered a s)) (child_answer tools c s device rejoin o role refl)
-    ∙ bare_after tools c s (counting_of c s (comes_to [] AtEvent o)) (comes_to [] AtEvent o) [] (ap (filter (changes s)) (child_idle c s device)) tt
+    ∙ bare_after tools c s (counting_of c s (comes_to [] AtEvent o)) (comes_to [] AtEvent o) []
+    (ap (filter (changes s)) (child_idle c s device)) tt

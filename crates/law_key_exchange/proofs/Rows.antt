@@ -395,18 +395,23 @@ same_network s u key sequence h nets active may =
 
 -- ---- a network key that is new becomes active
 
-none_among : (key : Bytes) (rs : List NetKey) → has_net key rs ≡ false → find (λ (r : NetKey). same_key r.key key) rs ≡ None
+none_among : (key : Bytes) (rs : List NetKey) → has_net key rs ≡ false → find (λ (r : NetKey). same_key r.key key) rs
+    ≡ None
 none_among key [] e = refl
 none_among key (r ∷ rs) e =
     let parts = neither (same_key r.key key) (has_net key rs) e in
     rw parts.0 (none_among key rs parts.1)
 
-live_last : (rs : List NetKey) (r : NetKey) → r.live ≡ true → filter (λ (x : NetKey). x.live) (rs ++ r ∷ []) ≡ filter (λ (x : NetKey). x.live) rs ++ r ∷ []
+live_last : (rs : List NetKey) (r : NetKey) → r.live ≡ true → filter (λ (x : NetKey). x.live) (rs ++ r ∷ [])
+    ≡ filter (λ (x : NetKey). x.live) rs ++ r ∷ []
 live_last [] r e = rw e refl
 live_last (x ∷ rs) r e = by_test x.live (live_last rs r e)
   where
-    by_test : (b : Bool) → filter (λ (y : NetKey). y.live) (rs ++ r ∷ []) ≡ filter (λ (y : NetKey). y.live) rs ++ r ∷ []
-        → (if b then x ∷ filter (λ (y : NetKey). y.live) (rs ++ r ∷ []) else filter (λ (y : NetKey). y.live) (rs ++ r ∷ [])) ≡ (if b then x ∷ filter (λ (y : NetKey). y.live) rs else filter (λ (y : NetKey). y.live) rs) ++ r ∷ []
+    by_test : (b : Bool) → filter (λ (y : NetKey). y.live) (rs ++ r ∷ []) ≡ filter (λ (y : NetKey). y.live) rs ++ r
+        ∷ []
+        → (if b then x ∷ filter (λ (y : NetKey). y.live) (rs ++ r ∷ [])
+        else filter (λ (y : NetKey). y.live) (rs ++ r ∷ [])) ≡ (if b then x ∷ filter (λ (y : NetKey). y.live) rs
+        else filter (λ (y : NetKey). y.live) rs) ++ r ∷ []
     by_test true f = ap (λ l. x ∷ l) f
     by_test false f = f
 
@@ -417,18 +422,26 @@ turned_last (x ∷ xs) ys y = turned_last xs (x ∷ ys) y
 pub last_first : {X : Type 0} (xs : List X) (y : X) → reverse (xs ++ y ∷ []) ≡ y ∷ reverse xs
 last_first xs y = turned_last xs [] y
 
-last_by_sequence : (sequence : ℕ) (rs : List NetKey) (r : NetKey) → r.live ≡ true → nat_eq r.sequence sequence ≡ true → by_sequence sequence (rs ++ r ∷ []) ≡ Some r
+last_by_sequence : (sequence : ℕ) (rs : List NetKey) (r : NetKey) → r.live ≡ true → nat_eq r.sequence sequence ≡ true
+    → by_sequence sequence (rs ++ r ∷ []) ≡ Some r
 last_by_sequence sequence rs r live same =
     ap (λ l. find (λ (x : NetKey). nat_eq x.sequence sequence) (reverse l)) (live_last rs r live)
-    ∙ ap (find (λ (x : NetKey). nat_eq x.sequence sequence)) (last_first (filter (λ (x : NetKey). x.live) rs) r) ∙ rw same refl
+    ∙ ap (find (λ (x : NetKey). nat_eq x.sequence sequence)) (last_first (filter (λ (x : NetKey). x.live) rs) r) ∙ rw
+    same refl
 
-pub new_network : (u : NodeState) (rows : List NetKey) (key : Bytes) (sequence : ℕ) → map bare_net u.nets ≡ rows ++ new_net key sequence ∷ [] → u.active ≡ Some key → may_use u ≡ true → has_net key rows ≡ false → HasNetwork u key sequence
+pub new_network : (u : NodeState) (rows : List NetKey) (key : Bytes) (sequence : ℕ) → map bare_net u.nets ≡ rows
+    ++ new_net key sequence ∷ [] → u.active ≡ Some key → may_use u ≡ true → has_net key rows ≡ false
+    → HasNetwork u key sequence
 new_network u rows key sequence nets active may fresh =
     let row = new_net key sequence in
-    let a = before bare_net (active_row u) row (active_bare u ∙ ap (λ o. of_nets o (map bare_net u.nets)) active ∙ ap (of_nets (Some key)) nets
-    ∙ found_last (λ (r : NetKey). same_key r.key key) rows row (none_among key rows fresh) (same_key_of key key refl)) in
+    let a =
+    before bare_net (active_row u) row
+    (active_bare u ∙ ap (λ o. of_nets o (map bare_net u.nets)) active ∙ ap (of_nets (Some key)) nets
+    ∙ found_last (λ (r : NetKey). same_key r.key key) rows row (none_among key rows fresh) (same_key_of key key refl))
+    in
     let f = before bare_net (usable_of u sequence) row
-    (ap (option_map bare_net) (usable_is u sequence may) ∙ sequence_bare sequence u.nets ∙ ap (by_sequence sequence) nets ∙ last_by_sequence sequence rows row refl (eq-eqb sequence sequence refl)) in
+    (ap (option_map bare_net) (usable_is u sequence may) ∙ sequence_bare sequence u.nets ∙ ap (by_sequence sequence)
+    nets ∙ last_by_sequence sequence rows row refl (eq-eqb sequence sequence refl)) in
     record {
       active = a.item;
       is_active = a.is;

@@ -40,31 +40,39 @@ use Rattle.zb_sched.specs.Valid.{IsSchedule}
 -- ---- a run up to a front
 
 -- a claim before each event holds before the events that are left
-pub left_over : (P : List Line → Event → Type 0) (tools : Tools) (w : Schedule) (xs ys : List Event) (x : Front) → BeforeEach P tools w x.lines x.disks x.number (xs ++ ys)
-    → BeforeEach P tools w (after_events tools w x xs).lines (after_events tools w x xs).disks (after_events tools w x xs).number ys
+pub left_over : (P : List Line → Event → Type 0) (tools : Tools) (w : Schedule) (xs ys : List Event) (x : Front)
+    → BeforeEach P tools w x.lines x.disks x.number (xs ++ ys)
+    → BeforeEach P tools w (after_events tools w x xs).lines (after_events tools w x xs).disks
+    (after_events tools w x xs).number ys
 unfolding after_event
 left_over P tools w [] ys x b = b
 left_over P tools w (event ∷ xs) ys x b = left_over P tools w xs ys (after_event tools w x event) b.1
 
 same_lines : (tools : Tools) (w : Schedule) (xs ys : List Event) (x : Front)
-    → x.lines ++ groups tools w x.lines x.disks x.number (xs ++ ys) ≡ (after_events tools w x xs).lines ++ groups tools w (after_events tools w x xs).lines (after_events tools w x xs).disks (after_events tools w x xs).number ys
+    → x.lines ++ groups tools w x.lines x.disks x.number (xs ++ ys) ≡ (after_events tools w x xs).lines
+    ++ groups tools w (after_events tools w x xs).lines (after_events tools w x xs).disks
+    (after_events tools w x xs).number ys
 unfolding after_event groups
 same_lines tools w [] ys x = refl
 same_lines tools w (event ∷ xs) ys x =
     let g = step tools w x.lines x.disks x.number event in
-    sym (append_assoc x.lines g.lines (groups tools w (x.lines ++ g.lines) g.disks (x.number + 1) (xs ++ ys))) ∙ same_lines tools w xs ys (after_event tools w x event)
+    sym (append_assoc x.lines g.lines (groups tools w (x.lines ++ g.lines) g.disks (x.number + 1) (xs ++ ys))) ∙
+    same_lines tools w xs ys (after_event tools w x event)
 
 first_part : (P : Line → Type 0) (xs ys : List Line) → AllByRecursion P (xs ++ ys) → AllByRecursion P xs
 first_part P [] ys all = tt
 first_part P (x ∷ xs) ys all = (all.0, first_part P xs ys all.1)
 
-pub front_in_range : (w : Schedule) (xs ys : List Event) → w.events ≡ xs ++ ys → AllByRecursion LineInRange (transcript real w) → AllByRecursion LineInRange (after_events real w (first_front w) xs).lines
+pub front_in_range : (w : Schedule) (xs ys : List Event) → w.events ≡ xs ++ ys
+    → AllByRecursion LineInRange (transcript real w)
+    → AllByRecursion LineInRange (after_events real w (first_front w) xs).lines
 unfolding transcript run_lines
 front_in_range w xs ys e all =
     let x = after_events real w (first_front w) xs in
     let run = first_part LineInRange (start w ++ groups real w (start w) [] 1 w.events) _ all in
     first_part LineInRange x.lines (groups real w x.lines x.disks x.number ys)
-    (subst (AllByRecursion LineInRange) (ap (λ l. start w ++ groups real w (start w) [] 1 l) e ∙ same_lines real w xs ys (first_front w)) run)
+    (subst (AllByRecursion LineInRange)
+    (ap (λ l. start w ++ groups real w (start w) [] 1 l) e ∙ same_lines real w xs ys (first_front w)) run)
 
 -- ---- the frame is in its ranges
 
@@ -78,23 +86,32 @@ active_among s r e = net_among s.active s r e
 
 pub link_among : (s : NodeState) (device : ℕ) (r : LinkKey) → current s device ≡ Some r → In r s.links
 unfolding current
-link_among s device r e = (found-element (λ (x : LinkKey). is_live_of device x && not (is_unverified x.attribute)) s.links r e).0
+link_among s device r e =
+    (found-element (λ (x : LinkKey). is_live_of device x && not (is_unverified x.attribute)) s.links r e).0
 
 pub below_end : (s : NodeState) → spent Aps s ≡ false → next_counter Aps s < greatest_counter
 unfolding spent
 below_end s e = leb-false greatest_counter (next_counter Aps s) e
 
-pub station_in : (p : sched.Schedule) → IsSchedule p → (n : ℕ) → (y : Declared (schedule_of p) n) → StationInRange y.station
-station_in p is n y = all-in StationInRange (stations (schedule_of p)) (of_nodes StationInRange NodeInRange (λ m k. k.station) (schedule_of p).nodes (schedule_in_range p is).nodes) y.station y.among
+pub station_in : (p : sched.Schedule) → IsSchedule p → (n : ℕ) → (y : Declared (schedule_of p) n)
+    → StationInRange y.station
+station_in p is n y = all-in StationInRange (stations (schedule_of p))
+    (of_nodes StationInRange NodeInRange (λ m k. k.station) (schedule_of p).nodes (schedule_in_range p is).nodes)
+    y.station y.among
 
-frame_in : (p : sched.Schedule) → IsSchedule p → (x : Front) (c d : ℕ) → Declared (schedule_of p) c → Declared (schedule_of p) d → AllByRecursion LineInRange x.lines
-    → (l : AreLinked (setting_of (schedule_of p) c) (setting_of (schedule_of p) d) (state_of x.lines c) (state_of x.lines d)) → spent Aps (state_of x.lines c) ≡ false
+frame_in : (p : sched.Schedule) → IsSchedule p → (x : Front) (c d : ℕ) → Declared (schedule_of p) c
+    → Declared (schedule_of p) d → AllByRecursion LineInRange x.lines
+    → (l : AreLinked (setting_of (schedule_of p) c) (setting_of (schedule_of p) d) (state_of x.lines c)
+    (state_of x.lines d)) → spent Aps (state_of x.lines c) ≡ false
     → (setting_of (schedule_of p) d).me.eui ≡ d
-    → KeyFrameInRange (answer_frame (setting_of (schedule_of p) c) (setting_of (schedule_of p) d) (state_of x.lines c) l.net l.row)
+    → KeyFrameInRange
+    (answer_frame (setting_of (schedule_of p) c) (setting_of (schedule_of p) d) (state_of x.lines c) l.net l.row)
 frame_in p is x c d y z lines l unspent mine =
     let whole = whole_in x.lines c lines in
-    let net = all-in NetWhole (state_of x.lines c).nets whole.nets l.net (active_among (state_of x.lines c) l.net l.active_key) in
-    let row = all-in LinkWhole (state_of x.lines c).links whole.links l.row (link_among (state_of x.lines c) (setting_of (schedule_of p) d).me.eui l.row l.at_centre) in
+    let net = all-in NetWhole (state_of x.lines c).nets whole.nets l.net
+    (active_among (state_of x.lines c) l.net l.active_key) in
+    let row = all-in LinkWhole (state_of x.lines c).links whole.links l.row
+    (link_among (state_of x.lines c) (setting_of (schedule_of p) d).me.eui l.row l.at_centre) in
     let here = station_in p is c y in
     let there = station_in p is d z in
     record {
@@ -111,7 +128,8 @@ frame_in p is x c d y z lines l unspent mine =
 -- ---- all of it
 
 pub rejoins_at_the_end : (p : sched.Schedule) → IsSchedule p → (before : List Event) (c d : ℕ)
-    → (schedule_of p).events ≡ before ++ rejoin_events (after_events real (schedule_of p) (first_front (schedule_of p)) before) c d
+    → (schedule_of p).events ≡ before
+    ++ rejoin_events (after_events real (schedule_of p) (first_front (schedule_of p)) before) c d
     → MayRejoin (schedule_of p) (after_events real (schedule_of p) (first_front (schedule_of p)) before) c d
     → EndsRejoined (after_events real (schedule_of p) (first_front (schedule_of p)) (schedule_of p).events) c d
 rejoins_at_the_end p is before c d e may =
@@ -120,12 +138,22 @@ rejoins_at_the_end p is before c d e may =
     let y = declared w c may.centre_named in
     let z = declared w d may.member_named in
     let mine : (setting_of w d).me.eui ≡ d = ap (λ (s : Station). s.eui) z.me ∙ z.mine in
-    let at : (P : List Line → Event → Type 0) → BeforeEach P real w (start w) [] 1 w.events → BeforeEach P real w x.lines x.disks x.number (rejoin_events x c d) =
-    λ P b. left_over P real w before (rejoin_events x c d) (first_front w) (subst (BeforeEach P real w (start w) [] 1) e b) in
-    let rules = (at (λ h event. OfNode (λ n. IsRuled (state_of h n) (setting_of w n) n) event) (ruled_along real opens_as_judged w (is_schedule p is) (different p is))).0 in
-    let role = (at (λ h event. OfNode (λ n. IsAsDeclared (state_of h n) (setting_of w n) n) event) (declared_along real w (is_schedule p is) (different p is))).0 in
-    let lines = front_in_range w before (rejoin_events x c d) e (in_range real opens_as_judged real_keeps w (is_schedule p is) (different p is) (schedule_in_range p is)) in
-    let apart : nat_eq d c ≡ false = no_true (nat_eq d c) (λ same. false≢true (sym may.member_role ∙ ap (λ n. is_centre (setting_of w n).me.role) (eqb-true d c same) ∙ may.centre_role)) in
+    let at : (P : List Line → Event → Type 0) → BeforeEach P real w (start w) [] 1 w.events
+    → BeforeEach P real w x.lines x.disks x.number (rejoin_events x c d) =
+    λ P b. left_over P real w before (rejoin_events x c d) (first_front w)
+    (subst (BeforeEach P real w (start w) [] 1) e b) in
+    let rules =
+    (at (λ h event. OfNode (λ n. IsRuled (state_of h n) (setting_of w n) n) event)
+    (ruled_along real opens_as_judged w (is_schedule p is) (different p is))).0 in
+    let role =
+    (at (λ h event. OfNode (λ n. IsAsDeclared (state_of h n) (setting_of w n) n) event)
+    (declared_along real w (is_schedule p is) (different p is))).0 in
+    let lines = front_in_range w before (rejoin_events x c d) e
+    (in_range real opens_as_judged real_keeps w (is_schedule p is) (different p is) (schedule_in_range p is)) in
+    let apart : nat_eq d c ≡ false =
+    no_true (nat_eq d c)
+    (λ same. false≢true
+    (sym may.member_role ∙ ap (λ n. is_centre (setting_of w n).me.role) (eqb-true d c same) ∙ may.centre_role)) in
     let can : CanRejoin w x c d = record {
       apart = apart;
       mine = mine;
@@ -140,4 +168,6 @@ rejoins_at_the_end p is before c d e may =
       not_stopped = may.not_stopped;
       not_refused = may.not_refused;
     } in
-    subst (λ l. EndsRejoined l c d) (sym (ap (fold (after_event real w) (first_front w)) e ∙ fold-append (after_event real w) (first_front w) before (rejoin_events x c d))) (rejoined real delivers opens_as_judged w x c d can)
+    subst (λ l. EndsRejoined l c d)
+    (sym (ap (fold (after_event real w) (first_front w)) e ∙ fold-append (after_event real w) (first_front w)
+    before (rejoin_events x c d))) (rejoined real delivers opens_as_judged w x c d can)

@@ -42,22 +42,41 @@ use Rattle.zb_model_real.specs.Real.{real}
 use Rattle.zb_sched.specs.Schedules as sched
 use Rattle.zb_sched.specs.Valid.{IsSchedule}
 
-key_frame_in : (p : sched.Schedule) → IsSchedule p → (x : Front) (c d : ℕ) → Declared (schedule_of p) c → Declared (schedule_of p) d → AllByRecursion LineInRange x.lines
-    → (l : AreIntroduced (setting_of (schedule_of p) c) (setting_of (schedule_of p) d) (state_of x.lines c) (state_of x.lines d)) → next_counter Aps (state_of x.lines c) < greatest_counter
-    → KeyFrameInRange (answer_frame (setting_of (schedule_of p) c) (setting_of (schedule_of p) d) (state_of x.lines c) l.net l.row)
+key_frame_in : (p : sched.Schedule) → IsSchedule p → (x : Front) (c d : ℕ) → Declared (schedule_of p) c
+    → Declared (schedule_of p) d → AllByRecursion LineInRange x.lines
+    → (l : AreIntroduced (setting_of (schedule_of p) c) (setting_of (schedule_of p) d) (state_of x.lines c)
+    (state_of x.lines d)) → next_counter Aps (state_of x.lines c) < greatest_counter
+    → KeyFrameInRange
+    (answer_frame (setting_of (schedule_of p) c) (setting_of (schedule_of p) d) (state_of x.lines c) l.net l.row)
 key_frame_in p is x c d y z lines l small =
     let s = state_of x.lines c in
     let whole = whole_in x.lines c lines in
     let net = all-in NetWhole s.nets whole.nets l.net (active_among s l.net l.active_key) in
-    let row = all-in LinkWhole s.links whole.links l.row (link_among s (setting_of (schedule_of p) d).me.eui l.row l.at_centre) in
+    let row = all-in LinkWhole s.links whole.links l.row
+    (link_among s (setting_of (schedule_of p) d).me.eui l.row l.at_centre) in
     let fit = stations_fit p is c d y z in
-    record { key = net.0.1; sequence = net.1; device = fit.device; centre = fit.centre; to = fit.device_short; from = fit.centre_short; link = row.1; counter = small }
+    record {
+      key = net.0.1;
+      sequence = net.1;
+      device = fit.device;
+      centre = fit.centre;
+      to = fit.device_short;
+      from = fit.centre_short;
+      link = row.1;
+      counter = small;
+    }
 
 pub joined_at_the_end : (p : sched.Schedule) → IsSchedule p → (before : List Event) (c d : ℕ) (drawn : Bytes)
-    → (schedule_of p).events ≡ before ++ joining_events real (schedule_of p) (after_events real (schedule_of p) (first_front (schedule_of p)) before) c d
+    → (schedule_of p).events ≡ before
+    ++ joining_events real (schedule_of p)
+    (after_events real (schedule_of p) (first_front (schedule_of p)) before) c d
     → (may : MayJoin (schedule_of p) (after_events real (schedule_of p) (first_front (schedule_of p)) before) c d)
-    → NothingStops real (schedule_of p) (joined_front real (schedule_of p) (after_events real (schedule_of p) (first_front (schedule_of p)) before) c d) c d may.introduced.net.key may.introduced.net.sequence may.introduced.row.key drawn
-    → EndsConfirmed (schedule_of p) (after_events real (schedule_of p) (first_front (schedule_of p)) (schedule_of p).events) c d may.introduced.net.key may.introduced.net.sequence drawn
+    → NothingStops real (schedule_of p)
+    (joined_front real (schedule_of p) (after_events real (schedule_of p) (first_front (schedule_of p)) before) c
+    d) c d may.introduced.net.key may.introduced.net.sequence may.introduced.row.key drawn
+    → EndsConfirmed (schedule_of p)
+    (after_events real (schedule_of p) (first_front (schedule_of p)) (schedule_of p).events) c d
+    may.introduced.net.key may.introduced.net.sequence drawn
 unfolding after_event
 joined_at_the_end p is before c d drawn e may free =
     let w = schedule_of p in
@@ -66,17 +85,27 @@ joined_at_the_end p is before c d drawn e may free =
     let y = declared w c may.centre_named in
     let z = declared w d may.device_named in
     let more = joining_events real w x c d in
-    let at : (P : List Line → Event → Type 0) → BeforeEach P real w (start w) [] 1 w.events → BeforeEach P real w x.lines x.disks x.number more =
+    let at : (P : List Line → Event → Type 0) → BeforeEach P real w (start w) [] 1 w.events
+    → BeforeEach P real w x.lines x.disks x.number more =
     λ P b. left_over P real w before more (first_front w) (subst (BeforeEach P real w (start w) [] 1) e b) in
-    let rules = at (λ h event. OfNode (λ n. IsRuled (state_of h n) (setting_of w n) n) event) (ruled_along real opens_as_judged w (is_schedule p is) (different p is)) in
-    let roles = at (λ h event. OfNode (λ n. IsAsDeclared (state_of h n) (setting_of w n) n) event) (declared_along real w (is_schedule p is) (different p is)) in
-    let lines = front_in_range w before more e (in_range real opens_as_judged real_keeps w (is_schedule p is) (different p is) (schedule_in_range p is)) in
-    let apart : nat_eq d c ≡ false = no_true (nat_eq d c) (λ same. false≢true (sym may.device_role ∙ ap (λ n. is_centre (setting_of w n).me.role) (eqb-true d c same) ∙ may.centre_role)) in
+    let rules = at (λ h event. OfNode (λ n. IsRuled (state_of h n) (setting_of w n) n) event)
+    (ruled_along real opens_as_judged w (is_schedule p is) (different p is)) in
+    let roles = at (λ h event. OfNode (λ n. IsAsDeclared (state_of h n) (setting_of w n) n) event)
+    (declared_along real w (is_schedule p is) (different p is)) in
+    let lines =
+    front_in_range w before more e
+    (in_range real opens_as_judged real_keeps w (is_schedule p is) (different p is) (schedule_in_range p is)) in
+    let apart : nat_eq d c ≡ false =
+    no_true (nat_eq d c)
+    (λ same. false≢true
+    (sym may.device_role ∙ ap (λ n. is_centre (setting_of w n).me.role) (eqb-true d c same) ∙ may.centre_role)) in
     let left = left-by real w x d (Own c (HasChild d false)) (turned d c apart) in
-    let steady : IsSteady (setting_of w d) (state_of x.lines d) = subst (IsSteady (setting_of w d)) left.state (record { rules = rules.1.0; role = roles.1.0.role }) in
+    let steady : IsSteady (setting_of w d) (state_of x.lines d) = subst (IsSteady (setting_of w d)) left.state
+    (record { rules = rules.1.0; role = roles.1.0.role }) in
     let met : AreMet w x c d = record {
       apart = apart;
-      declared = are_declared p is c d may.centre_named may.device_named may.centre_role may.device_role roles.0.in_block;
+      declared = are_declared p is c d may.centre_named may.device_named may.centre_role may.device_role
+          roles.0.in_block;
       stations = stations_fit p is c d y z;
       centre_ready = may.centre_ready;
       device_ready = may.device_ready;
@@ -92,10 +121,17 @@ joined_at_the_end p is before c d drawn e may free =
       rules = steady.rules;
       role = steady.role;
       introduced = l;
-      in_range = key_frame_in p is x c d y z lines l (below_end (state_of x.lines c) (unspent_of (state_of x.lines c) d may.not_stopped));
+      in_range =
+          key_frame_in p is x c d y z lines l
+          (below_end (state_of x.lines c) (unspent_of (state_of x.lines c) d may.not_stopped));
       not_stopped = may.not_stopped;
       not_refused = may.not_refused;
     } in
-    let new : IsNew w x c d can = record { met = met; network = may.network; none_offered = may.none_offered; key_is_new = may.key_is_new } in
-    subst (λ k. EndsConfirmed w k c d l.net.key l.net.sequence drawn) (sym (ap (fold (after_event real w) (first_front w)) e ∙ fold-append (after_event real w) (first_front w) before more))
-    (joined_and_exchanged real delivers delivers_commands opens_as_judged w x c d drawn can new (drawn_fits p is (after_events real w (joined_front real w x c d) (Own d DoTimer ∷ [])).lines drawn free.draw) free)
+    let new : IsNew w x c d can =
+    record { met = met; network = may.network; none_offered = may.none_offered; key_is_new = may.key_is_new } in
+    subst (λ k. EndsConfirmed w k c d l.net.key l.net.sequence drawn)
+    (sym (ap (fold (after_event real w) (first_front w)) e ∙ fold-append (after_event real w) (first_front w)
+    before more))
+    (joined_and_exchanged real delivers delivers_commands opens_as_judged w x c d drawn can new
+    (drawn_fits p is (after_events real w (joined_front real w x c d) (Own d DoTimer ∷ [])).lines drawn free.draw)
+    free)

@@ -23,7 +23,8 @@ pub record MayExchange (w : Schedule) (x : Front) (c d : ℕ) (key : Bytes) (seq
   pub device_ready : IsReady x d
   pub joined : HaveJoined w x c d key sequence link
 
--- The centre c of a schedule and a device d of it, which knocked, have power, and nothing is armed on their disks. Both
+-- The centre c of a schedule and a device d of it, which knocked, have power, and nothing is armed on their disks.
+-- Both
 -- have the link key of the device's code, and none is offered. The centre's network key is new to the device, and
 -- nothing is in the way of its joining.
 pub record MayJoin (w : Schedule) (x : Front) (c d : ℕ) : Type 0 where
@@ -38,4 +39,5 @@ pub record MayJoin (w : Schedule) (x : Front) (c d : ℕ) : Type 0 where
   pub none_offered : offered (state_of x.lines c) (setting_of w d).me.eui ≡ None
   pub key_is_new : has_net introduced.net.key (state_of x.lines d).nets ≡ false
   pub not_stopped : why_not_sent (state_of x.lines c) d ≡ None
-  pub not_refused : why_not_taken (state_of x.lines d) introduced.own (next_counter Aps (state_of x.lines c)) introduced.net.key ≡ None
+  pub not_refused : why_not_taken (state_of x.lines d) introduced.own (next_counter Aps (state_of x.lines c))
+      introduced.net.key ≡ None

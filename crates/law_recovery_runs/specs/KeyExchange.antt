@@ -47,26 +47,33 @@ pub record KeysInRange (key : Bytes) (sequence : ℕ) (link : Bytes) : Type 0 wh
   pub link_size : length link ≡ 16
 
 -- Nothing is in the way of one of the six events, each in the states that are reached then. The centre draws the key.
-pub record NothingStops (tools : Tools) (w : Schedule) (x : Front) (c d : ℕ) (key : Bytes) (sequence : ℕ) (link drawn : Bytes) : Type 0 where
+pub record NothingStops (tools : Tools) (w : Schedule) (x : Front) (c d : ℕ) (key : Bytes) (sequence : ℕ)
+    (link drawn : Bytes) : Type 0 where
   pub request : why_no_request (state_of x.lines d) ≡ None
   pub draw : supply w (front_after tools w x c d 1).lines ≡ Some drawn
-  pub offer : why_no_offer (state_of (front_after tools w x c d 1).lines c) (eui_of w d) (seals_now (state_of x.lines d) key sequence link) (Some drawn) ≡ None
+  pub offer : why_no_offer (state_of (front_after tools w x c d 1).lines c) (eui_of w d)
+      (seals_now (state_of x.lines d) key sequence link) (Some drawn) ≡ None
   pub fresh : has_link (eui_of w c) drawn (state_of (front_after tools w x c d 2).lines d).links ≡ false
-  pub kept : why_offer_not_kept (state_of (front_after tools w x c d 2).lines d) (eui_of w c) (seals_now (state_of (front_after tools w x c d 1).lines c) key sequence link) drawn ≡ None
+  pub kept : why_offer_not_kept (state_of (front_after tools w x c d 2).lines d) (eui_of w c)
+      (seals_now (state_of (front_after tools w x c d 1).lines c) key sequence link) drawn ≡ None
   pub proof : why_no_proof (state_of (front_after tools w x c d 3).lines d) ≡ None
-  pub confirmation : why_no_confirmation (state_of (front_after tools w x c d 4).lines c) (eui_of w d) (seals_now (state_of (front_after tools w x c d 3).lines d) key sequence drawn) ≡ None
-  pub confirmed : why_not_confirmed (state_of (front_after tools w x c d 5).lines d) (eui_of w c) (seals_now (state_of (front_after tools w x c d 4).lines c) key sequence drawn) ≡ None
+  pub confirmation : why_no_confirmation (state_of (front_after tools w x c d 4).lines c) (eui_of w d)
+      (seals_now (state_of (front_after tools w x c d 3).lines d) key sequence drawn) ≡ None
+  pub confirmed : why_not_confirmed (state_of (front_after tools w x c d 5).lines d) (eui_of w c)
+      (seals_now (state_of (front_after tools w x c d 4).lines c) key sequence drawn) ≡ None
 
 -- The device is confirmed with this link key, which both have verified; both have the network key active, and are
 -- ready for what comes.
-pub record EndsConfirmed (w : Schedule) (x : Front) (c d : ℕ) (key : Bytes) (sequence : ℕ) (link : Bytes) : Type 0 where
-  pub device : IsConfirmed (state_of x.lines d) (eui_of w c) key sequence link
-  pub network : HasNetwork (state_of x.lines c) key sequence
-  pub keys : HasProved (state_of x.lines c) (eui_of w d) link
-  pub centre_ready : IsReady x c
-  pub device_ready : IsReady x d
+pub record EndsConfirmed (w : Schedule) (x : Front) (c d : ℕ) (key : Bytes) (sequence : ℕ) (link : Bytes) : Type 0
+  where
+    pub device : IsConfirmed (state_of x.lines d) (eui_of w c) key sequence link
+    pub network : HasNetwork (state_of x.lines c) key sequence
+    pub keys : HasProved (state_of x.lines c) (eui_of w d) link
+    pub centre_ready : IsReady x c
+    pub device_ready : IsReady x d
 
--- A device that knocked, to which the centre's network key is new. The centre finds that key by its sequence, and offers
+-- A device that knocked, to which the centre's network key is new. The centre finds that key by its sequence, and
+-- offers
 -- the device no link key.
 pub record IsNew (w : Schedule) (x : Front) (c d : ℕ) (can : CanJoin w x c d) : Type 0 where
   pub met : AreMet w x c d

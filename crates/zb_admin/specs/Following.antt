@@ -18,7 +18,8 @@ abbrev pub core_of : Option (Hosted CoreValue) → Option CoreValue
 core_of centre = option_map (λ (h : Hosted CoreValue). h.core) centre
 
 abbrev pub with_setting : Setting → Option NodeState → Option CoreValue
-with_setting c standing = option_map (λ (s : NodeState). let core : CoreValue = record { setting = c; tables = s } in core) standing
+with_setting c standing =
+    option_map (λ (s : NodeState). let core : CoreValue = record { setting = c; tables = s } in core) standing
 
 -- the lines of a command, and what stands after it
 abbrev pub done_by : Step → Option CoreValue → Done
@@ -35,7 +36,8 @@ Follows step (Some core) next = next ≡ with_setting core.setting (done_by step
 abbrev pub Writes : List Step → Option CoreValue → Bytes → Type 0
 Writes [] core text = text ≡ []
 Writes (step ∷ steps) core text =
-    (next : Option CoreValue) × (more : Bytes) × Follows step core next × (text ≡ page (done_by step core).lines ++ more) × Writes steps next more
+    (next : Option CoreValue) × (more : Bytes) × Follows step core next
+    × (text ≡ page (done_by step core).lines ++ more) × Writes steps next more
 
 -- all of such a text was written
 abbrev pub WritesAll : List Step → Option CoreValue → Option Bytes → Option Bytes → Type 0
