@@ -1,5 +1,5 @@
 -- The moments of a session, line after line.
-use Rattle.std.proofs.Common.{◌≡◌, ℕ, zero, suc, inl, inr, List, [], ◌∷◌, ◌++◌, length, take, Option, refl, sym, ap, ◌∙◌, subst, append_assoc, append-nil}
+use Rattle.std.proofs.Common.{◌≡◌, ℕ, zero, suc, inl, inr, List, [], ◌∷◌, ◌++◌, length, take, Option, Some, refl, sym, ap, ◌∙◌, subst, append_assoc, append-nil}
 use Rattle.std.proofs.KnownBytes.{Appends-nil, Appends-trans}
 use Rattle.std.specs.Io.KnownBytes.{Appends}
 use Rattle.zb_base.specs.Outside.{AppendsFront}
@@ -8,7 +8,7 @@ use Rattle.zb_disk.proofs.Moments.{weakened}
 use Rattle.zb_disk.specs.View.{View, LeavesOnly}
 use Rattle.zb_live.specs.Alive.{Holds, HoldsEither}
 use Rattle.zb_live.specs.Living.{Done, Found, Living, done, fresh, served}
-use Rattle.zb_live_serve.specs.Moments.{Covers, Goes, Moment, Stretch, calls, writes}
+use Rattle.zb_live_serve.specs.Moments.{AnsweredFirst, Covers, Goes, Input, Moment, Stretch, calls, reads, writes}
 use Rattle.zb_model.specs.Data.{Bytes}
 
 -- ---- prefixes of what is written
@@ -50,7 +50,7 @@ text_on found (l ∷ front) line v =
 
 -- ---- stretches
 
-module _ {D W : Type 0} (x : Outside D W) (found : Found) (first : View) (before : W) where
+module _ {D W : Type 0} (x : Outside D W) (found : Found) (first : View) (input : Input) (before : W) where
   covers_more : (lines more : List Bytes) (out : W) (image : List ℕ) → Covers x found first lines before out image → Covers x found first (lines ++ more) before out image
   covers_more lines more out image c = record {
     taken = c.taken;
@@ -60,31 +60,49 @@ module _ {D W : Type 0} (x : Outside D W) (found : Found) (first : View) (before
     written = c.written;
   }
 
-  stretch_more : (lines more : List Bytes) (now next : Moment D W) → Stretch x found first lines before now next → Stretch x found first (lines ++ more) before now next
-  stretch_more lines more now next (calls same leaves) =
-      calls same (weakened (x.state now.disk) (x.state next.disk) (Covers x found first lines before next.out) (Covers x found first (lines ++ more) before next.out) (covers_more lines more next.out) leaves)
-  stretch_more lines more now next (writes text same front each) = writes text same front (λ image there. covers_more lines more next.out image (each image there))
+  stretch_more : (lines more : List Bytes) (now next : Moment D W) → Stretch x found first input lines before now next → Stretch x found first input (lines ++ more) before now next
+  stretch_more lines more now next (calls same unread leaves) =
+      calls same unread (weakened (x.state now.disk) (x.state next.disk) (Covers x found first lines before next.out) (Covers x found first (lines ++ more) before next.out) (covers_more lines more next.out) leaves)
+  stretch_more lines more now next (writes text same unread front each) = writes text same unread front (λ image there. covers_more lines more next.out image (each image there))
+  stretch_more lines more now next (reads same unwritten first_answered) = reads same unwritten first_answered
 
-  goes_more : (lines more : List Bytes) (now : Moment D W) (between : List (Moment D W)) (last : Moment D W) → Goes x found first lines before now between last → Goes x found first (lines ++ more) before now between last
+  goes_more : (lines more : List Bytes) (now : Moment D W) (between : List (Moment D W)) (last : Moment D W) → Goes x found first input lines before now between last → Goes x found first input (lines ++ more) before now between last
   goes_more lines more now [] last same = same
   goes_more lines more now (next ∷ rest) last (stretch, goes) = (stretch_more lines more now next stretch, goes_more lines more next rest last goes)
 
-  goes_on : (lines : List Bytes) (now : Moment D W) (between : List (Moment D W)) (mid next : Moment D W) → Goes x found first lines before now between mid → Stretch x found first lines before mid next
-      → Goes x found first lines before now (between ++ next ∷ []) next
-  goes_on lines now [] mid next same stretch = (subst (λ (m : Moment D W). Stretch x found first lines before m next) same stretch, refl)
+  goes_on : (lines : List Bytes) (now : Moment D W) (between : List (Moment D W)) (mid next : Moment D W) → Goes x found first input lines before now between mid → Stretch x found first input lines before mid next
+      → Goes x found first input lines before now (between ++ next ∷ []) next
+  goes_on lines now [] mid next same stretch = (subst (λ (m : Moment D W). Stretch x found first input lines before m next) same stretch, refl)
   goes_on lines now (step ∷ rest) mid next (one, goes) stretch = (one, goes_on lines step rest mid next goes stretch)
 
+  -- the moments at the beginning and now
+  abbrev pub begun : D → Moment D W
+  begun old = record { disk = old; out = before; input = input }
+
+  abbrev pub present : D → W → Input → Moment D W
+  present disk out rest = record { disk = disk; out = out; input = rest }
+
   -- These lines were served so far: the session is the one after them, and what they write was written.
-  pub record SoFar (lines : List Bytes) (v : Living) (old disk : D) (out : W) : Type 0 where
+  pub record SoFar (lines : List Bytes) (v : Living) (old disk : D) (out : W) (rest : Input) : Type 0 where
     pub session : v ≡ (served found lines fresh).after
     pub written : Appends (x.taken before) (x.taken out) (served found lines fresh).text
     pub between : List (Moment D W)
-    pub goes : Goes x found first lines before (record { disk = old; out = before }) between (record { disk = disk; out = out })
+    pub goes : Goes x found first input lines before (begun old) between (present disk out rest)
 
-  pub nothing_yet : (old : D) → SoFar [] fresh old old before
+  pub nothing_yet : (old : D) → SoFar [] fresh old old before input
   nothing_yet old = record { session = refl; written = Appends-nil (x.taken before); between = []; goes = refl }
 
-  module _ (lines : List Bytes) (line : Bytes) (v : Living) (old disk : D) (out : W) (so_far : SoFar lines v old disk out) where
+  -- the input was read, once the lines were answered
+  pub read_more : (lines : List Bytes) (v : Living) (old disk : D) (out : W) (rest next : Input) → SoFar lines v old disk out rest
+      → ((all : Bytes) → input.rest ≡ Some all → AnsweredFirst x found all before (present disk out rest) (present disk out next)) → SoFar lines v old disk out next
+  read_more lines v old disk out rest next s answered = record {
+    session = s.session;
+    written = s.written;
+    between = s.between ++ present disk out next ∷ [];
+    goes = goes_on lines (begun old) s.between (present disk out rest) (present disk out next) s.goes (reads refl refl answered);
+  }
+
+  module _ (lines : List Bytes) (line : Bytes) (v : Living) (old disk : D) (out : W) (rest : Input) (so_far : SoFar lines v old disk out rest) where
     abbrev pub d : Done
     d = done found line v
 
@@ -127,15 +145,15 @@ module _ {D W : Type 0} (x : Outside D W) (found : Found) (first : View) (before
     }
 
     abbrev pub Way : D → W → Type 0
-    Way disk2 out2 = (between : List (Moment D W)) × Goes x found first longer before (record { disk = old; out = before }) between (record { disk = disk2; out = out2 })
+    Way disk2 out2 = (between : List (Moment D W)) × Goes x found first input longer before (begun old) between (present disk2 out2 rest)
 
     -- the disk was called for the line
     pub called : (disk2 : D) → LeavesOnly (x.state disk) (x.state disk2) (HoldsEither first v.tables d.after.tables) → Way disk2 out
     called disk2 leaves = (
-      so_far.between ++ record { disk = disk2; out = out } ∷ [],
-      goes_on longer (record { disk = old; out = before }) so_far.between (record { disk = disk; out = out }) (record { disk = disk2; out = out })
-          (goes_more lines (line ∷ []) (record { disk = old; out = before }) so_far.between (record { disk = disk; out = out }) so_far.goes)
-          (calls refl (weakened (x.state disk) (x.state disk2) (HoldsEither first v.tables d.after.tables) (Covers x found first longer before out) covers_either leaves)),
+      so_far.between ++ present disk2 out rest ∷ [],
+      goes_on longer (begun old) so_far.between (present disk out rest) (present disk2 out rest)
+          (goes_more lines (line ∷ []) (begun old) so_far.between (present disk out rest) so_far.goes)
+          (calls refl refl (weakened (x.state disk) (x.state disk2) (HoldsEither first v.tables d.after.tables) (Covers x found first longer before out) covers_either leaves)),
     )
 
     -- and then a prefix of what it writes was written
@@ -143,14 +161,14 @@ module _ {D W : Type 0} (x : Outside D W) (found : Found) (first : View) (before
         → ((image : List ℕ) → (x.state disk2).images image → Holds first d.after.tables image) → Way disk2 sink
     told disk2 sink leaves front holds =
         let way = called disk2 leaves in (
-          way.0 ++ record { disk = disk2; out = sink } ∷ [],
-          goes_on longer (record { disk = old; out = before }) way.0 (record { disk = disk2; out = out }) (record { disk = disk2; out = sink }) way.1
-              (writes d.text refl front (λ image there. covers_after sink front image (holds image there))),
+          way.0 ++ present disk2 sink rest ∷ [],
+          goes_on longer (begun old) way.0 (present disk2 out rest) (present disk2 sink rest) way.1
+              (writes d.text refl refl front (λ image there. covers_after sink front image (holds image there))),
         )
 
     -- all of it was
     pub one_more : (v2 : Living) (disk2 : D) (sink : W) → LeavesOnly (x.state disk) (x.state disk2) (HoldsEither first v.tables d.after.tables) → Appends (x.taken out) (x.taken sink) d.text
-        → ((image : List ℕ) → (x.state disk2).images image → Holds first d.after.tables image) → v2 ≡ d.after → SoFar longer v2 old disk2 sink
+        → ((image : List ℕ) → (x.state disk2).images image → Holds first d.after.tables image) → v2 ≡ d.after → SoFar longer v2 old disk2 sink rest
     one_more v2 disk2 sink leaves text holds is =
         let way = told disk2 sink leaves (front_of_all (x.taken out) (x.taken sink) d.text text) holds in record {
           session = is ∙ after_is;
