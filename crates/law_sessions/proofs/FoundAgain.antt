@@ -18,7 +18,7 @@ use Rattle.zb_record.proofs.Tested.{fits_from}
 use Rattle.zb_record.proofs.WholeAgain.{record_again}
 use Rattle.zb_record.specs.Ranges.{FitsBytes, fits_widths}
 use Rattle.zb_record.specs.Records.{record_read}
-use Rattle.zb_store.specs.Layout.{IsWhole, Standing, slot, stands}
+use Rattle.zb_store.specs.Layout.{Standing, slot, stands}
 use Rattle.zb_stored_tables.proofs.CoreLaws.{begun}
 use Rattle.zb_stored_tables.proofs.Entries.{IsRuled, entries_ruled}
 use Rattle.zb_stored_tables.proofs.InMemory.{boot_of_shown, recorded_booted}

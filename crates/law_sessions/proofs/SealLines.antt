@@ -1,5 +1,5 @@
 -- The seal lines of an event have the terms that its answer seals.
-use Rattle.std.proofs.Common.{◌≡◌, ℕ, List, [], ◌∷◌, ◌++◌, map, flat_map, Option, Some, None, refl, sym, ap, ◌∙◌, append-nil}
+use Rattle.std.proofs.Common.{◌≡◌, ℕ, List, [], ◌∷◌, ◌++◌, map, flat_map, Option, Some, None, refl, ap, ◌∙◌, append-nil}
 use Rattle.law_run.proofs.Basics.{flat_map-append}
 use Rattle.zb_live.specs.Shown.{event_lines}
 use Rattle.zb_model.specs.Answer.{Answer}

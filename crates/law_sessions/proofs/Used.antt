@@ -13,11 +13,11 @@ use Rattle.law_run.proofs.Counters.{ApsCovers, aps-after, on-sealed}
 use Rattle.law_run.proofs.Nets.{Closed, Holds, Keeps, KeepsHeard, Mild, On, at_key, on-accepted, on-applied, on-booted, on-map, on-map-found}
 use Rattle.law_sessions.specs.Sessions.{AreCountedAsOne, IsUnderKept, NoneTwice, TakeOneCounter}
 use Rattle.zb_model.specs.Answer.{Answer, accepted_all, answer, answered, sealed_all}
-use Rattle.zb_model.specs.Data.{Bytes, Layer, Nwk, Aps, Task, Term, Edit, Reserve, Floor, Start, Moved}
-use Rattle.zb_model.specs.Lines.{Line, Changed, Accept, Boot}
+use Rattle.zb_model.specs.Data.{Layer, Nwk, Aps, Task, Term, Edit, Reserve, Floor, Start, Moved}
+use Rattle.zb_model.specs.Lines.{Changed, Accept, Boot}
 use Rattle.zb_model.specs.Readings.{after}
 use Rattle.zb_model.specs.Rules.{Setting}
-use Rattle.zb_model.specs.State.{NetKey, NodeState, after_accepting, after_boot, after_sealing, applied, applied_all, at_net, booted_net, net_of, next_at, sealed_at, shown, shown_net, stored_limit}
+use Rattle.zb_model.specs.State.{NetKey, NodeState, after_accepting, after_boot, after_sealing, applied, applied_all, booted_net, next_at, sealed_at, shown, shown_net, stored_limit}
 use Rattle.zb_model.specs.Tools.{Tools}
 use Rattle.zb_skip.specs.Freshness.{HasUsed, IsAbove}
 use Rattle.zb_skip.specs.Skipping.{counted_from, skipped, skipped_limit, skipped_net}
