@@ -1,5 +1,5 @@
 -- The whole lines of a text, and what a feed takes of it.
-use Rattle.std.proofs.Common.{◌≡◌, ℕ, zero, suc, ◌+◌, ◌<◌, ◌≤◌, ◌==◌, Bool, true, false, List, [], ◌∷◌, ◌++◌, length, get_or, take, drop, Some, None, refl, sym, ap, ◌∙◌, subst, arith, append_assoc, append-nil, position, cond, nat_lt, eqb-true}
+use Rattle.std.proofs.Common.{◌≡◌, ℕ, zero, suc, ◌<◌, ◌≤◌, ◌==◌, Bool, true, false, List, [], ◌∷◌, ◌++◌, length, get_or, take, drop, Some, None, refl, sym, ap, ◌∙◌, subst, arith, append_assoc, append-nil, position, cond, nat_lt, eqb-true}
 use Rattle.std.proofs.lemmas.Bool.Decides.{nat_tests}
 use Rattle.std.proofs.lemmas.List.Quantifiers.{position-Some}
 use Rattle.std.proofs.lemmas.List.{length-take-le, take-append-drop}
@@ -10,16 +10,12 @@ use Rattle.zb_live_serve.specs.Feeding.{BeginsLong, IsInLine}
 use Rattle.zb_live_serve.specs.WholeLines.{longest_line, whole_from, whole_lines}
 
 -- a line with its line feed is the first whole line
-first_line : (line acc more : List ℕ) → IsInLine line → whole_from acc (line ++ 10 ∷ more)
-    ≡ strip_carriage_return (acc ++ line) ∷ whole_from [] more
+first_line : (line acc more : List ℕ) → IsInLine line → whole_from acc (line ++ 10 ∷ more) ≡ strip_carriage_return (acc ++ line) ∷ whole_from [] more
 first_line [] acc more in_line = ap (λ l. strip_carriage_return l ∷ whole_from [] more) (sym (append-nil acc))
 first_line (b ∷ line) acc more (miss, in_line) =
-    rw miss
-    (first_line line (acc ++ b ∷ []) more in_line ∙ ap (λ l. strip_carriage_return l ∷ whole_from [] more)
-    (append_assoc acc (b ∷ []) line))
+    rw miss (first_line line (acc ++ b ∷ []) more in_line ∙ ap (λ l. strip_carriage_return l ∷ whole_from [] more) (append_assoc acc (b ∷ []) line))
 
-pub lines_then : (line more : List ℕ) → IsInLine line → whole_lines (line ++ 10 ∷ more) ≡ strip_carriage_return line
-    ∷ whole_lines more
+pub lines_then : (line more : List ℕ) → IsInLine line → whole_lines (line ++ 10 ∷ more) ≡ strip_carriage_return line ∷ whole_lines more
 unfolding whole_lines
 lines_then line more in_line = first_line line [] more in_line
 
@@ -34,16 +30,13 @@ no_lines bytes in_line = none_from bytes [] in_line
 
 -- ---- the first line feed
 
-in_line_to : (bytes : List ℕ) (end : ℕ) → end ≤ length bytes → ((k : ℕ) → k < end → (get_or bytes k 0 == 10) ≡ false)
-    → IsInLine (take end bytes)
+in_line_to : (bytes : List ℕ) (end : ℕ) → end ≤ length bytes → ((k : ℕ) → k < end → (get_or bytes k 0 == 10) ≡ false) → IsInLine (take end bytes)
 in_line_to bytes zero within miss = tt
 in_line_to [] (suc end) within miss = absurd (omega (arith, within))
-in_line_to (b ∷ bytes) (suc end) within miss =
-    (miss 0 (omega arith), in_line_to bytes end (omega (arith, within)) (λ k lt. miss (suc k) (omega (arith, lt))))
+in_line_to (b ∷ bytes) (suc end) within miss = (miss 0 (omega arith), in_line_to bytes end (omega (arith, within)) (λ k lt. miss (suc k) (omega (arith, lt))))
 
 -- where the first line feed is
-pub found_feed : (bytes : List ℕ) (end : ℕ) → position (λ byte. byte == 10) bytes ≡ Some end → (end < length bytes)
-    × ((get_or bytes end 0 == 10) ≡ true) × IsInLine (take end bytes)
+pub found_feed : (bytes : List ℕ) (end : ℕ) → position (λ byte. byte == 10) bytes ≡ Some end → (end < length bytes) × ((get_or bytes end 0 == 10) ≡ true) × IsInLine (take end bytes)
 found_feed bytes end is =
     let h = position-Some (λ byte. byte == 10) bytes end 0 is in
     (h.0, h.1, in_line_to bytes end (omega (arith, h.0)) h.2)
@@ -63,77 +56,56 @@ no_feed bytes none =
     let whole : length bytes ≤ position_or_len (λ byte. byte == 10) bytes = grind (arith, nat_tests) in
     in_line_all bytes (λ k lt. fails_before_first (λ byte. byte == 10) bytes k 0 (omega (arith, lt, whole)))
 
--- ---- lines that follow one another
+-- ---- what a feed takes
 
--- what is left leads to the lines of the whole: these were taken, and those of the bytes that are left come next
-pub line_taken : (all line more : List ℕ) (lines : List (List ℕ)) (whole : List ℕ) → whole_lines whole ≡ lines
-    ++ whole_lines all → all ≡ line ++ 10 ∷ more → IsInLine line
-    → whole_lines whole ≡ (lines ++ strip_carriage_return line ∷ []) ++ whole_lines more
-line_taken all line more lines whole so_far is in_line =
-    so_far ∙ ap (λ l. lines ++ whole_lines l) is ∙ ap (λ l. lines ++ l) (lines_then line more in_line)
-    ∙ sym (append_assoc lines (strip_carriage_return line ∷ []) (whole_lines more))
+take_front : (xs ys : List ℕ) → take (length xs) (xs ++ ys) ≡ xs
+take_front [] ys = refl
+take_front (x ∷ xs) ys = ap (λ l. x ∷ l) (take_front xs ys)
 
--- ---- the next line
+front_is : (held line rest : List ℕ) (b end : ℕ) → held ≡ line ++ b ∷ rest → length line ≡ end → take end held ≡ line
+front_is held line rest b end cut long = ap (λ n. take n held) (sym long) ∙ ap (take (length line)) cut ∙ take_front line (b ∷ rest)
 
 -- the next line, where its line feed is the first one
-pub next_line : (held left line rest : List ℕ) (end : ℕ) → position (λ byte. byte == 10) held ≡ Some end → held ≡ line
-    ++ get_or held end 0 ∷ rest → length line ≡ end
-    → (held ++ left ≡ line ++ 10 ∷ (rest ++ left)) × IsInLine line
-next_line held left line rest end is cut long =
-    let h = found_feed held end is in
+pub taken_line : (held slice line rest : List ℕ) (end : ℕ) → slice ≡ held → position (λ byte. byte == 10) slice ≡ Some end → held ≡ line ++ get_or held end 0 ∷ rest → length line ≡ end
+    → (held ≡ line ++ 10 ∷ rest) × IsInLine line
+taken_line held slice line rest end slice_is at cut long =
+    let h = found_feed held end (subst (λ l. position (λ byte. byte == 10) l ≡ Some end) slice_is at) in
     let feed : get_or held end 0 ≡ 10 = eqb-true (get_or held end 0) 10 h.1 in (
-      ap (λ l. l ++ left) (cut ∙ ap (λ b. line ++ b ∷ rest) feed) ∙ append_assoc line (10 ∷ rest) left,
+      cut ∙ ap (λ b. line ++ b ∷ rest) feed,
       subst IsInLine (front_is held line rest (get_or held end 0) end cut long) h.2,
     )
-  where
-    take_front : (xs ys : List ℕ) → take (length xs) (xs ++ ys) ≡ xs
-    take_front [] ys = refl
-    take_front (x ∷ xs) ys = ap (λ l. x ∷ l) (take_front xs ys)
 
-    front_is : (held line rest : List ℕ) (b end : ℕ) → held ≡ line ++ b ∷ rest → length line ≡ end → take end held
-        ≡ line
-    front_is held line rest b end cut long = ap (λ n. take n held) (sym long) ∙ ap (take (length line)) cut ∙
-        take_front line (b ∷ rest)
+-- none is whole
+pub no_line : (held slice : List ℕ) → slice ≡ held → position (λ byte. byte == 10) slice ≡ None → IsInLine held
+no_line held slice slice_is none = no_feed held (subst (λ l. position (λ byte. byte == 10) l ≡ None) slice_is none)
 
 -- the line that comes next is too long, with its line feed and without one
-pub long_feed : (all held left slice : List ℕ) (end : ℕ) → all ≡ held ++ left → slice ≡ held
-    → position (λ byte. byte == 10) slice ≡ Some end → longest_line < end → BeginsLong all
-long_feed all held left slice end same slice_is at long =
-    let at_held : position (λ byte. byte == 10) held ≡ Some end =
-    subst (λ l. position (λ byte. byte == 10) l ≡ Some end) slice_is at in
-    let h = found_feed held end at_held in
+pub long_feed : (held slice : List ℕ) (end : ℕ) → slice ≡ held → position (λ byte. byte == 10) slice ≡ Some end → longest_line < end → BeginsLong held
+long_feed held slice end slice_is at long =
+    let h = found_feed held end (subst (λ l. position (λ byte. byte == 10) l ≡ Some end) slice_is at) in
     record {
       line = take end held;
-      back = drop end held ++ left;
-      whole = same ∙ ap (λ l. l ++ left) (sym (take-append-drop end held)) ∙ append_assoc (take end held)
-          (drop end held) left;
+      back = drop end held;
+      whole = sym (take-append-drop end held);
       in_line = h.2;
       long = omega (arith, long, length-take-le end held (omega (arith, h.0)));
     }
 
-pub long_rest : (all held left slice : List ℕ) → all ≡ held ++ left → slice ≡ held
-    → position (λ byte. byte == 10) slice ≡ None → longest_line < length held → BeginsLong all
-long_rest all held left slice same slice_is none long = record {
+pub long_rest : (held slice : List ℕ) → slice ≡ held → position (λ byte. byte == 10) slice ≡ None → longest_line < length held → BeginsLong held
+long_rest held slice slice_is none long = record {
   line = held;
-  back = left;
-  whole = same;
-  in_line = no_feed held (subst (λ l. position (λ byte. byte == 10) l ≡ None) slice_is none);
+  back = [];
+  whole = sym (append-nil held);
+  in_line = no_line held slice slice_is none;
   long = long;
 }
 
--- the next line was taken, and the input ended
-pub taken_line : (all held left slice line rest : List ℕ) (end : ℕ) → all ≡ held ++ left → slice ≡ held
-    → position (λ byte. byte == 10) slice ≡ Some end → held ≡ line ++ get_or held end 0 ∷ rest → length line ≡ end
-    → (all ≡ line ++ 10 ∷ (rest ++ left)) × IsInLine line
-taken_line all held left slice line rest end same slice_is at cut long =
-    let n = next_line held left line rest end (subst (λ l. position (λ byte. byte == 10) l ≡ Some end) slice_is at)
-    cut long in
-    (same ∙ n.0, n.1)
-
-pub no_more : (all held left slice held2 left2 : List ℕ) → all ≡ held ++ left → slice ≡ held
-    → position (λ byte. byte == 10) slice ≡ None → held ++ left ≡ held2 ++ left2 → left2 ≡ [] → held2 ≡ held
-    → (all ≡ held2) × IsInLine held2
-no_more all held left slice held2 left2 same slice_is none split ended kept = (
-  same ∙ split ∙ ap (λ l. held2 ++ l) ended ∙ append-nil held2,
-  subst IsInLine (sym kept) (no_feed held (subst (λ l. position (λ byte. byte == 10) l ≡ None) slice_is none)),
-)
+-- a line that is too long stays so, whatever follows
+pub long_before : (held more : List ℕ) → BeginsLong held → BeginsLong (held ++ more)
+long_before held more l = record {
+  line = l.line;
+  back = l.back ++ more;
+  whole = ap (λ h. h ++ more) l.whole ∙ append_assoc l.line l.back more;
+  in_line = l.in_line;
+  long = l.long;
+}

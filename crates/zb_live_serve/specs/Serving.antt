@@ -1,5 +1,5 @@
 -- What serving a session does to its input, the disk and the output.
-use Rattle.std.specs.Prelude.{ℕ, ◌≡◌, ◌++◌, List, [], Option, Some, Result, Err, IfErr, OnOk, OnErr, IsTrue}
+use Rattle.std.specs.Prelude.{ℕ, ◌≡◌, ◌++◌, List, [], Some, Result, Err, IfErr, OnOk, OnErr, IsTrue}
 use Rattle.std.specs.Io.KnownBytes.{Appends}
 use Rattle.zb_base.specs.Outside.{AppendsFront, Rose, Unrisen}
 use Rattle.zb_centre_store.specs.Outside.{Outside}
@@ -8,7 +8,7 @@ use Rattle.zb_centre_store.specs.declared.fault.AdminFault.TheVariants as store
 use Rattle.zb_live.specs.Alive.{Holds}
 use Rattle.zb_live.specs.Living.{fresh, served}
 use Rattle.zb_live_serve.specs.Feeding.{BeginsLong}
-use Rattle.zb_live_serve.specs.Moments.{Goes, Moment}
+use Rattle.zb_live_serve.specs.Moments.{Goes, Input, Moment}
 use Rattle.zb_live_serve.specs.WholeLines.{whole_lines}
 use Rattle.zb_live_serve.specs.declared.fault.LiveFault.{LiveFault}
 use Rattle.zb_live_serve.specs.declared.fault.LiveFault.TheVariants.{Read, TooLong, Write, Disk, NoStore, BadStore, Worn, NoMemory}
@@ -17,14 +17,6 @@ use Rattle.zb_store.specs.Layout.{Standing, stands}
 
 abbrev pub Ended : Type 0
 Ended = Result (Unit {0}) LiveFault
-
--- what definitions have of a source: the bytes that are still to come, and its count of faults
-pub record Input : Type 0 where
-  pub rest : Option Bytes
-  pub faults : ℕ
-
-abbrev pub input_of : Option Bytes → ℕ → Input
-input_of rest faults = record { rest = rest; faults = faults }
 
 -- When each fault comes. Those of a store that is no centre's tell what was found on the disk. Where memory is short
 -- the disk's count of faults stands.
@@ -60,9 +52,9 @@ pub record Lives {D W : Type 0} (x : Outside D W) (input : Input) (old : D) (bef
       (IsTrue x.tells.content → CanBeServed (x.state old) → (image : List ℕ) → (x.state new).images image
       → Holds (x.state old) (served (found_on (x.state old).seen) lines fresh).after.tables image)
   -- at every moment an image holds the session after some first lines, and each line is among them of whose answer a
-  -- byte was written
+  -- byte was written; and before each read all whole lines that came were answered
   pub moments : IsTrue x.tells.content → CanBeServed (x.state old)
-      → (between : List (Moment D W)) × Goes x (found_on (x.state old).seen) (x.state old) lines before
-      (record { disk = old; out = before }) between (record { disk = new; out = after })
+      → (between : List (Moment D W)) × Goes x (found_on (x.state old).seen) (x.state old) input lines before
+      (record { disk = old; out = before; input = input }) between (record { disk = new; out = after; input = rest })
   -- when each fault comes
   pub faults : IfErr result (IsLiveFault x input old before rest new after)

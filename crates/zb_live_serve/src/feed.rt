@@ -1,7 +1,7 @@
 //! The lines of an input, as they come.
 ghost use Rattle.std.specs.Prelude.{◌≡◌, ◌≤◌, ◌<◌, ◌==◌, ◌⊎◌, ◌++◌, ◌∷◌, [], ℕ, List, Some, false, length, position, get_or, IfOk, IfErr};
 ghost use Rattle.zb_base.specs.Outside.{Rose};
-ghost use Rattle.zb_live_serve.specs.Feeding.{IsFeedFault, IsNext};
+ghost use Rattle.zb_live_serve.specs.Feeding.{IsTakeFault, IsNext, TakesFew};
 ghost use Rattle.zb_live_serve.specs.declared.fault.LiveFault.TheVariants.{NoMemory as lacks, Read as read_fault};
 
 use crate::LiveFault;
@@ -48,8 +48,33 @@ impl Feed {
         Ok(mem::replace(&mut self.held, rest))
     }
 
-    // Reads on, and answers whether something came.
-    fn read_on<R: Source>(&mut self, input: &mut R) -> Result<bool, LiveFault>
+    /// Takes the next whole line off what came, without its line feed. It answers None where none is whole.
+    ///
+    /// # Errors
+    /// `TooLong`; `NoMemory`.
+    pub fn take_line(&mut self) -> Result<Option<Vec<u8>>, LiveFault>
+        ensures next { IfOk result (λ line. IsNext self.old.held.items line self.new.held.items) }
+        ensures fault { IfErr result (IsTakeFault self.old.held.items) }
+    {
+        if let Some(end) = line_feed(self.held.as_slice()) {
+            if end > LONGEST_LINE {
+                return Err(LiveFault::TooLong);
+            }
+            let line = self.cut(end)?;
+            return Ok(Some(line));
+        }
+        if self.held.len() > LONGEST_LINE {
+            return Err(LiveFault::TooLong);
+        }
+        Ok(None)
+    }
+
+    /// Reads once, and answers whether something came.
+    ///
+    /// # Errors
+    /// `Read`; `NoMemory`.
+    pub fn read_on<R: Source>(&mut self, input: &mut R) -> Result<bool, LiveFault>
+        ensures few { (bytes : List ℕ) → R.rest input.old ≡ Some bytes → TakesFew bytes (R.rest input.new) }
         ensures bytes { IfOk result (λ came. (bytes : List ℕ) → R.rest input.old ≡ Some bytes
             → (left : List ℕ) × (R.rest input.new ≡ Some left)
             × (self.old.held.items ++ bytes ≡ self.new.held.items ++ left) × (came ≡ false → left ≡ [])) }
@@ -66,37 +91,5 @@ impl Feed {
             }
             Err(Failed) => Err(LiveFault::Read),
         }
-    }
-
-    /// Takes the next whole line, without its line feed. It answers None where the input ends before the next one.
-    ///
-    /// It reads only where no whole line came yet.
-    ///
-    /// # Errors
-    /// `Read`; `TooLong`; `NoMemory`.
-    pub fn next<R: Source>(&mut self, input: &mut R) -> Result<Option<Vec<u8>>, LiveFault>
-        ensures next { (bytes : List ℕ) → R.rest input.old ≡ Some bytes
-            → IsNext (self.old.held.items ++ bytes) result self.new.held.items (R.rest input.new) }
-        ensures fault { IfErr result (IsFeedFault (R.rest input.old) self.old.held.items (R.faults input.old)
-            (R.faults input.new)) }
-        ensures later { R.faults input.old ≤ R.faults input.new }
-    {
-        for _ in 0..u64::MAX {
-            if let Some(end) = line_feed(self.held.as_slice()) {
-                if end > LONGEST_LINE {
-                    return Err(LiveFault::TooLong);
-                }
-                let line = self.cut(end)?;
-                return Ok(Some(line));
-            }
-            if self.held.len() > LONGEST_LINE {
-                return Err(LiveFault::TooLong);
-            }
-            if !self.read_on(input)? {
-                return Ok(None);
-            }
-        }
-        // No input comes in as many parts.
-        Err(LiveFault::NoMemory)
     }
 }

@@ -8,7 +8,8 @@ ghost use Rattle.zb_disk.specs.View.{IsStill};
 ghost use Rattle.zb_live.specs.Alive.{CanGoOn, IsAlive, living_of};
 ghost use Rattle.zb_live.specs.Living.{Found, done};
 ghost use Rattle.zb_live_serve.specs.ServedLines.{HasServedLine, IsServeFault};
-ghost use Rattle.zb_live_serve.specs.Serving.{Lives, input_of};
+ghost use Rattle.zb_live_serve.specs.Moments.{input_of};
+ghost use Rattle.zb_live_serve.specs.Serving.{Lives};
 
 use crate::LiveFault;
 use crate::feed::Feed;
@@ -77,8 +78,8 @@ fn serve_line<W: Sink, D: Disk>(
 
 /// Serves the lines of an input over the store on a disk, and writes what they answer.
 ///
-/// Each line is carried out and stored, and what it writes goes out by one write, before the next line is read. What
-/// stands behind the last line feed isn't carried out.
+/// Each line is carried out and stored, and then what it writes goes out by one write. The input is read only once all
+/// whole lines that came were answered. What stands behind the last line feed isn't carried out.
 ///
 /// # Errors
 /// `Read`; `TooLong`; `Write`; `Disk`; `NoStore`, where the session is opened, the disk isn't empty and no slot stands
@@ -97,18 +98,23 @@ pub fn live<R: Source, W: Sink, D: Disk>(
     let mut feed = Feed::new(alloc);
     let mut page = Vec::new(alloc);
     for _ in 0..u64::MAX {
-        let Some(line) = feed.next(input)? else {
-            return Ok(());
-        };
-        serve_line(
-            alloc,
-            &mut session,
-            disk,
-            without_carriage_return(line.as_slice()),
-            &mut page,
-            output,
-        )?;
+        match feed.take_line()? {
+            Some(line) => serve_line(
+                alloc,
+                &mut session,
+                disk,
+                without_carriage_return(line.as_slice()),
+                &mut page,
+                output,
+            )?,
+            None => {
+                if !feed.read_on(input)? {
+                    return Ok(());
+                }
+                continue;
+            }
+        }
     }
-    // No input has as many lines.
+    // No input has as many lines and comes in as many parts.
     Err(LiveFault::NoMemory)
 }

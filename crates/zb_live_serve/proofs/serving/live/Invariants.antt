@@ -3,7 +3,7 @@ use Rattle.std.proofs.Common.{◌≡◌, []}
 use Rattle.zb_centre_store.specs.Outside.{outside}
 use Rattle.zb_live.specs.Alive.{CanGoOn}
 use Rattle.zb_live_serve.proofs.ServingLemmas.{Loop}
-use Rattle.zb_live_serve.specs.Serving.{input_of}
+use Rattle.zb_live_serve.specs.Moments.{input_of}
 use Rattle.zb_live_serve.proofs.serving.live.Given as goal
 
 abbrev pub invariant-loop : goal.invariant-loop

@@ -1,0 +1,5 @@
+mod Used
+mod SessionLemmas
+mod Stamps
+mod FoundAgain
+mod SealLines

@@ -1,0 +1,76 @@
+//! What holds of all sessions on one store together, however often they are killed. Each law is the contract of a
+//! function with an empty body.
+#![tactic(auto)]
+
+ghost use Rattle.std.specs.Prelude.{◌≡◌, ℕ, List, Some, Ok};
+ghost use Rattle.law_sessions.specs.Sessions.{AreSessions, NoneAgain, NoneTwice, Session, left_by_all, sealed_on, sessions_seal};
+ghost use Rattle.zb_centre_store.specs.Standing.{StandsAs, found_on};
+ghost use Rattle.zb_live.specs.Shown.{event_lines};
+ghost use Rattle.zb_model.specs.Answer.{Answer};
+ghost use Rattle.zb_model.specs.Claims.{AreApart, sealed_terms};
+ghost use Rattle.zb_model.specs.Data.{Bytes};
+ghost use Rattle.zb_model.specs.State.{NodeState, after_boot, shown};
+ghost use Rattle.zb_model_real.specs.Real.{real};
+ghost use Rattle.zb_skip.specs.Freshness.{HasUsed};
+ghost use Rattle.zb_skip.specs.Skipping.{skipped};
+ghost use Rattle.zb_stored_tables.specs.Stored.{IsKept};
+
+/// States that the lines of an event have just the terms that its answer seals, in their order.
+#[tactic(auto, using(crate::proofs::SealLines::event_seals_are))]
+pub fn the_lines_of_an_event_have_its_seals()
+    ensures { (event n frame : ℕ) (a : Answer) → sealed_terms (event_lines event n frame a) ≡ a.seals }
+{}
+
+/// States that no two terms that the centre seals in any sessions on one store take one counter.
+///
+/// So no two have one layer, one key and one counter; at the application support layer no two have one counter at all.
+/// `image` is the store as the first session finds it, whatever it holds. A session is given by its lines that are
+/// stored, and has a header of its own. The next one finds the tables that it left, as after a boot.
+#[tactic(auto, using(crate::proofs::SessionLemmas::sessions_apart))]
+pub fn no_counter_comes_twice_in_all_sessions()
+    ensures { (image : List ℕ) (sessions : List (List Bytes)) → NoneTwice (sessions_seal (found_on image) sessions) }
+{}
+
+/// States that no two terms that the centre seals in any sessions on one store have one sealing key and one nonce.
+///
+/// This is the claim `Fresh` on the seal lines of a run, for the seals of all sessions.
+#[tactic(auto, using(crate::proofs::Stamps::nonces_apart))]
+pub fn no_nonce_comes_twice_in_all_sessions()
+    ensures { (image : List ℕ) (sessions : List (List Bytes))
+        → AreApart real (sessions_seal (found_on image) sessions) }
+{}
+
+/// States that sessions after a restore take no counter again that the sessions before it took.
+///
+/// `lost` are the tables that those left, and `backup` earlier ones, below whose limits `lost` has come by at most
+/// `by`. It holds at the application support layer, and under each network key of the backup.
+#[tactic(auto, using(crate::proofs::SessionLemmas::sessions_apart_since))]
+pub fn no_counter_comes_again_after_a_restore()
+    ensures again { (image : List ℕ) (before since : List (List Bytes)) (by : ℕ) (backup lost : NodeState)
+        → left_by_all (found_on image) before ≡ Ok (Some lost) → HasUsed by backup lost
+        → NoneAgain backup (sessions_seal (found_on image) before)
+        (sessions_seal (Ok (Some (skipped by backup))) since) }
+    ensures since { (by : ℕ) (backup : NodeState) (since : List (List Bytes))
+        → NoneTwice (sessions_seal (Ok (Some (skipped by backup))) since) }
+{}
+
+/// States that the next session finds what a session left, wherever that ended or was killed.
+///
+/// An image that represents these tables is found as these tables after a boot. The tables of a centre keep the rules
+/// for records and the widths of a record.
+#[tactic(auto, using(crate::proofs::FoundAgain::found_again))]
+pub fn what_a_session_leaves_is_found()
+    ensures { (s : NodeState) (image : List ℕ) → IsKept s → StandsAs (Some s) image
+        → found_on image ≡ Ok (Some (shown (after_boot s))) }
+{}
+
+/// States that on one disk no two terms of any sessions take one counter, or have one sealing key and one nonce.
+///
+/// Each session begins on the image that the one before left, at its end or at a crash at any moment of it.
+#[tactic(auto, using(crate::proofs::FoundAgain::disk_apart, crate::proofs::FoundAgain::disk_nonces_apart))]
+pub fn no_counter_comes_twice_on_one_disk()
+    ensures counters { (image : List ℕ) (sessions : List Session) → AreSessions image sessions
+        → NoneTwice (sealed_on image sessions) }
+    ensures nonces { (image : List ℕ) (sessions : List Session) → AreSessions image sessions
+        → AreApart real (sealed_on image sessions) }
+{}
