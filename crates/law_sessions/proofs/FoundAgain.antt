@@ -38,19 +38,26 @@ same_given s t e = ap (state_or s) e
 
 read_ruled : (r : List ℕ) (s : NodeState) → record_read r ≡ gave s → s.role ≡ Centre → IsRuled Centre s
 unfolding shown
-read_ruled r s read role_is = let kept = read_kept r s read in record { role_is = role_is; rules = kept.rules; forgets = ap (λ l. record s { nets = l }) kept.forgets }
+read_ruled r s read role_is = let kept =
+    read_kept r s read in
+    record { role_is = role_is; rules = kept.rules; forgets = ap (λ l. record s { nets = l }) kept.forgets }
 
 -- what bytes give whose record is that of kept tables
-given_same : (r q : List ℕ) (s t : NodeState) → IsKept s → state_given Centre r q ≡ gave t → fits_widths t ≡ true → record_of t ≡ record_of s → t ≡ shown (after_boot s)
+given_same : (r q : List ℕ) (s t : NodeState) → IsKept s → state_given Centre r q ≡ gave t → fits_widths t ≡ true
+    → record_of t ≡ record_of s → t ≡ shown (after_boot s)
 given_same r q s t kept is widths same =
     let b = begun Centre r q t is in
-    let ruled = entries_ruled (version_in r) Centre q [] b.start b.reached (read_ruled r b.start b.read b.role_is) b.made in
+    let ruled = entries_ruled (version_in r) Centre q [] b.start b.reached (read_ruled r b.start b.read b.role_is)
+    b.made in
     let fits = fits_back b.reached (subst FitsBytes b.booted (fits_from t widths)) in
     let one_record = sym (recorded_booted b.reached) ∙ ap record_of (sym b.booted) ∙ same in
-    let read = sym (record_again b.reached ruled.rules fits) ∙ ap record_read one_record ∙ record_again s kept.rules kept.widths in
-    b.booted ∙ ap after_boot (sym ruled.forgets) ∙ boot_of_shown b.reached ∙ same_given (shown (after_boot b.reached)) (shown (after_boot s)) read
+    let read = sym (record_again b.reached ruled.rules fits) ∙ ap record_read one_record ∙ record_again s kept.rules
+    kept.widths in
+    b.booted ∙ ap after_boot (sym ruled.forgets) ∙ boot_of_shown b.reached ∙ same_given (shown (after_boot b.reached))
+    (shown (after_boot s)) read
 
-store_found : (s : NodeState) (z : Standing) → IsKept s → restored Centre z.content (concat z.payloads) ≡ gives (record_of s) → found_store (Some z) ≡ Ok (Some (shown (after_boot s)))
+store_found : (s : NodeState) (z : Standing) → IsKept s → restored Centre z.content (concat z.payloads)
+    ≡ gives (record_of s) → found_store (Some z) ≡ Ok (Some (shown (after_boot s)))
 unfolding restored
 store_found s z kept e = by_state (state_given Centre z.content (concat z.payloads)) refl e
   where
@@ -58,12 +65,16 @@ store_found s z kept e = by_state (state_given Centre z.content (concat z.payloa
     content_of (gives w) = w
     content_of (bad at) = []
 
-    by_widths : (t : NodeState) (b : Bool) → state_given Centre z.content (concat z.payloads) ≡ gave t → fits_widths t ≡ b → (if b then gives (record_of t) else bad 0) ≡ gives (record_of s)
+    by_widths : (t : NodeState) (b : Bool) → state_given Centre z.content (concat z.payloads) ≡ gave t → fits_widths t
+        ≡ b → (if b then gives (record_of t) else bad 0) ≡ gives (record_of s)
         → (if b then Ok (Some t) else Err (BadStore 0)) ≡ Ok (Some (shown (after_boot s)))
-    by_widths t true is widths e = ap (λ (u : NodeState). Ok (Some u)) (given_same z.content (concat z.payloads) s t kept is widths (ap content_of e))
+    by_widths t true is widths e =
+        ap (λ (u : NodeState). Ok (Some u))
+        (given_same z.content (concat z.payloads) s t kept is widths (ap content_of e))
     by_widths t false is widths e = absurd (cc)
 
-    by_state : (x : Result NodeState ℕ) → state_given Centre z.content (concat z.payloads) ≡ x → recorded x ≡ gives (record_of s) → found_tables x ≡ Ok (Some (shown (after_boot s)))
+    by_state : (x : Result NodeState ℕ) → state_given Centre z.content (concat z.payloads) ≡ x → recorded x
+        ≡ gives (record_of s) → found_tables x ≡ Ok (Some (shown (after_boot s)))
     by_state (Ok t) is e = by_widths t (fits_widths t) is refl e
     by_state (Err at) is e = absurd (cc)
 
@@ -72,26 +83,34 @@ unfolding slot
 slot_of_none true lt = omega (arith, lt)
 slot_of_none false lt = omega (arith, lt)
 
-pub found_again : (s : NodeState) (image : List ℕ) → IsKept s → StandsAs (Some s) image → found_on image ≡ Ok (Some (shown (after_boot s)))
+pub found_again : (s : NodeState) (image : List ℕ) → IsKept s → StandsAs (Some s) image → found_on image
+    ≡ Ok (Some (shown (after_boot s)))
 unfolding found_on
 found_again s [] kept (z, whole, given) = absurd (slot_of_none (not z.second) whole.other_gate)
 found_again s (byte ∷ bytes) kept (z, whole, given) = ap found_store whole.stands ∙ store_found s z kept given
 
 -- ---- sessions on a disk
 
-left_found : (found : Found) (o : Option NodeState) (left : List ℕ) → IsLeft found o left → found_on left ≡ found_after found o
+left_found : (found : Found) (o : Option NodeState) (left : List ℕ) → IsLeft found o left → found_on left
+    ≡ found_after found o
 left_found found None left is = is
 left_found found (Some s) left (kept, stands_so) = found_again s left kept stands_so
 
 -- what they seal is what their lines seal
-same_seals : (image : List ℕ) (sessions : List Session) → AreSessions image sessions → sealed_on image sessions ≡ sessions_seal (found_on image) (map (λ (x : Session). x.lines) sessions)
+same_seals : (image : List ℕ) (sessions : List Session) → AreSessions image sessions → sealed_on image sessions
+    ≡ sessions_seal (found_on image) (map (λ (x : Session). x.lines) sessions)
 same_seals image [] are = refl
 same_seals image (x ∷ more) (is, are) =
     ap (λ ts. lines_seal (found_on image) x.lines fresh ++ ts)
-    (same_seals x.left more are ∙ ap (λ (found : Found). sessions_seal found (map (λ (x : Session). x.lines) more)) (left_found (found_on image) (served (found_on image) x.lines fresh).after.tables x.left is))
+    (same_seals x.left more are ∙ ap (λ (found : Found). sessions_seal found (map (λ (x : Session). x.lines) more))
+    (left_found (found_on image) (served (found_on image) x.lines fresh).after.tables x.left is))
 
-pub disk_apart : (image : List ℕ) (sessions : List Session) → AreSessions image sessions → NoneTwice (sealed_on image sessions)
-disk_apart image sessions are = subst NoneTwice (sym (same_seals image sessions are)) (sessions_apart image (map (λ (x : Session). x.lines) sessions))
+pub disk_apart : (image : List ℕ) (sessions : List Session) → AreSessions image sessions
+    → NoneTwice (sealed_on image sessions)
+disk_apart image sessions are = subst NoneTwice (sym (same_seals image sessions are))
+    (sessions_apart image (map (λ (x : Session). x.lines) sessions))
 
-pub disk_nonces_apart : (image : List ℕ) (sessions : List Session) → AreSessions image sessions → AreApart real (sealed_on image sessions)
-disk_nonces_apart image sessions are = subst (AreApart real) (sym (same_seals image sessions are)) (nonces_apart image (map (λ (x : Session). x.lines) sessions))
+pub disk_nonces_apart : (image : List ℕ) (sessions : List Session) → AreSessions image sessions
+    → AreApart real (sealed_on image sessions)
+disk_nonces_apart image sessions are = subst (AreApart real) (sym (same_seals image sessions are))
+    (nonces_apart image (map (λ (x : Session). x.lines) sessions))

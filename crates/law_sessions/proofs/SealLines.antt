@@ -31,7 +31,8 @@ of_seals : (event n : ℕ) (ts : List Term) → seals_in (map (Seal event n) ts)
 of_seals event n [] = refl
 of_seals event n (t ∷ ts) = ap (λ l. t ∷ l) (of_seals event n ts)
 
-of_frame : (event : ℕ) (n : Option ℕ) (frame : ℕ) (bytes : Option Bytes) → seals_in (send_lines event n frame bytes) ≡ []
+of_frame : (event : ℕ) (n : Option ℕ) (frame : ℕ) (bytes : Option Bytes) → seals_in (send_lines event n frame bytes)
+    ≡ []
 of_frame event n frame None = refl
 of_frame event n frame (Some b) = refl
 
@@ -42,11 +43,18 @@ pub event_seals_are : (event n frame : ℕ) (a : Answer) → sealed_terms (event
 unfolding sealed_terms event_lines stored_lines told_lines
 event_seals_are event n frame a =
     both_parts (map (Changed event n) a.edits ++ commit_lines event n a.edits)
-    (map (Accept event n) a.accepts ++ (refuse_lines event n a.place a.refusal ++ (map (Seal event n) a.seals ++ send_lines event (Some n) frame a.frame))) [] a.seals
-    (both_parts (map (Changed event n) a.edits) (commit_lines event n a.edits) [] [] (of_changes event n a.edits) (of_commit event n a.edits))
-    (both_parts (map (Accept event n) a.accepts) (refuse_lines event n a.place a.refusal ++ (map (Seal event n) a.seals ++ send_lines event (Some n) frame a.frame)) [] a.seals
+    (map (Accept event n) a.accepts
+    ++ (refuse_lines event n a.place a.refusal
+    ++ (map (Seal event n) a.seals ++ send_lines event (Some n) frame a.frame))) [] a.seals
+    (both_parts (map (Changed event n) a.edits) (commit_lines event n a.edits) [] [] (of_changes event n a.edits)
+    (of_commit event n a.edits))
+    (both_parts (map (Accept event n) a.accepts)
+    (refuse_lines event n a.place a.refusal
+    ++ (map (Seal event n) a.seals ++ send_lines event (Some n) frame a.frame)) [] a.seals
     (of_accepts event n a.accepts)
-    (both_parts (refuse_lines event n a.place a.refusal) (map (Seal event n) a.seals ++ send_lines event (Some n) frame a.frame) [] a.seals
+    (both_parts (refuse_lines event n a.place a.refusal)
+    (map (Seal event n) a.seals ++ send_lines event (Some n) frame a.frame) [] a.seals
     (of_refusal event n a.place a.refusal)
-    (both_parts (map (Seal event n) a.seals) (send_lines event (Some n) frame a.frame) a.seals [] (of_seals event n a.seals) (of_frame event (Some n) frame a.frame)
+    (both_parts (map (Seal event n) a.seals) (send_lines event (Some n) frame a.frame) a.seals []
+    (of_seals event n a.seals) (of_frame event (Some n) frame a.frame)
     ∙ append-nil a.seals)))

@@ -46,15 +46,18 @@ other_control ForLoad e = ne_of_lt (omega arith) (sym e)
 other_control ForData e = ne_of_lt (omega arith) e
 other_control ForNetwork e = ne_of_lt (omega arith) e
 
-all_append : {X : Type 0} (P : X → Type 0) (xs ys : List X) → AllByRecursion P xs → AllByRecursion P ys → AllByRecursion P (xs ++ ys)
+all_append : {X : Type 0} (P : X → Type 0) (xs ys : List X) → AllByRecursion P xs → AllByRecursion P ys
+    → AllByRecursion P (xs ++ ys)
 all_append P [] ys a b = b
 all_append P (x ∷ xs) ys a b = (a.0, all_append P xs ys a.1 b)
 
-all_two : {X : Type 0} (P Q R : X → Type 0) → ((x : X) → P x → Q x → R x) → (xs : List X) → AllByRecursion P xs → AllByRecursion Q xs → AllByRecursion R xs
+all_two : {X : Type 0} (P Q R : X → Type 0) → ((x : X) → P x → Q x → R x) → (xs : List X) → AllByRecursion P xs
+    → AllByRecursion Q xs → AllByRecursion R xs
 all_two P Q R k [] a b = tt
 all_two P Q R k (x ∷ xs) a b = (k x a.0 b.0, all_two P Q R k xs a.1 b.1)
 
-part_formed : (tools : Tools) (me to nwk aps : ℕ) (body : Body) → AllByRecursion IsFormed (part_of tools me to nwk aps body).seals
+part_formed : (tools : Tools) (me to nwk aps : ℕ) (body : Body)
+    → AllByRecursion IsFormed (part_of tools me to nwk aps body).seals
 unfolding part_of
 part_formed tools me to nwk aps (Saying bytes) = tt
 part_formed tools me to nwk aps (Clear control command) = tt
@@ -64,17 +67,22 @@ part_formed tools me to nwk aps (Telling key bytes) = (other_control ForData, tt
 part_formed tools me to nwk aps Leaving = tt
 part_formed tools me to nwk aps (Relayed bytes) = tt
 
-framed_formed : (tools : Tools) (c : Setting) (to nwk aps : ℕ) (secured : Bool) (row : Option NetKey) (body : Body) → AllByRecursion IsFormed (framed tools c to nwk secured row (part_of tools c.me.eui to nwk aps body)).seals
+framed_formed : (tools : Tools) (c : Setting) (to nwk aps : ℕ) (secured : Bool) (row : Option NetKey) (body : Body)
+    → AllByRecursion IsFormed (framed tools c to nwk secured row (part_of tools c.me.eui to nwk aps body)).seals
 framed_formed tools c to nwk aps false row body = part_formed tools c.me.eui to nwk aps body
 framed_formed tools c to nwk aps true None body = tt
 framed_formed tools c to nwk aps true (Some r) body =
-    all_append IsFormed (part_of tools c.me.eui to nwk aps body).seals _ (part_formed tools c.me.eui to nwk aps body) ((refl, refl), tt)
+    all_append IsFormed (part_of tools c.me.eui to nwk aps body).seals _ (part_formed tools c.me.eui to nwk aps body)
+    ((refl, refl), tt)
 
-sent_formed : (tools : Tools) (c : Setting) (s : NodeState) (k : Counting) (send : Option Sending) → AllByRecursion IsFormed (sent tools c s k send).seals
+sent_formed : (tools : Tools) (c : Setting) (s : NodeState) (k : Counting) (send : Option Sending)
+    → AllByRecursion IsFormed (sent tools c s k send).seals
 sent_formed tools c s k None = tt
-sent_formed tools c s k (Some send) = framed_formed tools c send.to (k.counter Nwk) (k.counter Aps) send.secured (active_row s) send.body
+sent_formed tools c s k (Some send) = framed_formed tools c send.to (k.counter Nwk) (k.counter Aps) send.secured
+    (active_row s) send.body
 
-answer_formed : (tools : Tools) (c : Setting) (s : NodeState) (task : Task) → AllByRecursion IsFormed (answer tools c s task).seals
+answer_formed : (tools : Tools) (c : Setting) (s : NodeState) (task : Task)
+    → AllByRecursion IsFormed (answer tools c s task).seals
 unfolding answer answer_by out_of
 answer_formed tools c s task = by_test (may_seal s sending)
   where
@@ -84,7 +92,8 @@ answer_formed tools c s task = by_test (may_seal s sending)
     sending : Option Sending
     sending = sending_of p.outcome
 
-    by_test : (b : Bool) → AllByRecursion IsFormed (if b then sent tools c s (counting_of c s p) sending else nothing_out).seals
+    by_test : (b : Bool) → AllByRecursion IsFormed (if b then sent tools c s (counting_of c s p) sending
+        else nothing_out).seals
     by_test true = sent_formed tools c s (counting_of c s p) sending
     by_test false = tt
 
@@ -92,18 +101,22 @@ next_small : (s : NodeState) (ts : List Term) → SealsNext s ts → AllByRecurs
 next_small s [] next = tt
 next_small s (t ∷ ts) next = (next.0.below_last, next_small (after_sealing t s) ts next.1)
 
-answer_has_form : (tools : Tools) (c : Setting) (s : NodeState) (task : Task) → AllByRecursion HasForm (answer tools c s task).seals
+answer_has_form : (tools : Tools) (c : Setting) (s : NodeState) (task : Task)
+    → AllByRecursion HasForm (answer tools c s task).seals
 answer_has_form tools c s task =
     let ts = (answer tools c s task).seals in
-    all_two IsFormed IsSmall HasForm (λ t f n. record { form = f; small = n }) ts (answer_formed tools c s task) (next_small (before_seals (answer tools c s task) s) ts (answer_next tools c s task))
+    all_two IsFormed IsSmall HasForm (λ t f n. record { form = f; small = n }) ts (answer_formed tools c s task)
+    (next_small (before_seals (answer tools c s task) s) ts (answer_next tools c s task))
 
 -- ---- all sessions
 
-event_form : (network : Script) (s : NodeState) (r : Result Task Cause) → AllByRecursion HasForm (event_seals network s r)
+event_form : (network : Script) (s : NodeState) (r : Result Task Cause)
+    → AllByRecursion HasForm (event_seals network s r)
 event_form network s (Ok task) = answer_has_form real (setting_of network) s task
 event_form network s (Err why) = tt
 
-meaning_form : (network : Script) (o : Option NodeState) (m : Option Sentence) → AllByRecursion HasForm (meaning_seals network o m)
+meaning_form : (network : Script) (o : Option NodeState) (m : Option Sentence)
+    → AllByRecursion HasForm (meaning_seals network o m)
 meaning_form network None m = tt
 meaning_form network (Some s) None = tt
 meaning_form network (Some s) (Some Quiet) = tt
@@ -121,45 +134,69 @@ line_form line v = meaning_form v.network v.tables (meaning_of line)
 
 lines_form : (found : Found) (lines : List Bytes) (v : Living) → AllByRecursion HasForm (lines_seal found lines v)
 lines_form found [] v = tt
-lines_form found (line ∷ more) v = all_append HasForm (line_seals line v) (lines_seal found more (done found line v).after) (line_form line v) (lines_form found more (done found line v).after)
+lines_form found (line ∷ more) v =
+    all_append HasForm (line_seals line v) (lines_seal found more (done found line v).after) (line_form line v)
+    (lines_form found more (done found line v).after)
 
 sessions_form : (found : Found) (sessions : List (List Bytes)) → AllByRecursion HasForm (sessions_seal found sessions)
 sessions_form found [] = tt
-sessions_form found (lines ∷ more) = all_append HasForm (lines_seal found lines fresh) (sessions_seal (left_by found lines) more) (lines_form found lines fresh) (sessions_form (left_by found lines) more)
+sessions_form found (lines ∷ more) = all_append HasForm (lines_seal found lines fresh)
+    (sessions_seal (left_by found lines) more) (lines_form found lines fresh)
+    (sessions_form (left_by found lines) more)
 
 -- ---- two terms
 
 same_counter : (t u : Term) → t.counter < 2 ^ 32 → u.counter < 2 ^ 32 → nonce t ≡ nonce u → t.counter ≡ u.counter
 unfolding nonce
-same_counter t u a b e = sym (from_le_bytes-to_le_bytes_4 t.counter a) ∙ ap (λ l. from_le_bytes w32 l) (ap (λ l. take 4 (drop 8 l)) e) ∙ from_le_bytes-to_le_bytes_4 u.counter b
+same_counter t u a b e = sym (from_le_bytes-to_le_bytes_4 t.counter a) ∙ ap (λ l. from_le_bytes w32 l)
+    (ap (λ l. take 4 (drop 8 l)) e) ∙ from_le_bytes-to_le_bytes_4 u.counter b
 
 same_control : (t u : Term) → nonce t ≡ nonce u → t.control ≡ u.control
 unfolding nonce
 same_control t u e = ap (λ l. get_or l 12 0) e
 
-same_base : (tools : Tools) (t u : Term) → t.label ≡ ForNetwork → u.label ≡ ForNetwork → sealing_key tools t.label t.base ≡ sealing_key tools u.label u.base → t.base ≡ u.base
+same_base : (tools : Tools) (t u : Term) → t.label ≡ ForNetwork → u.label ≡ ForNetwork
+    → sealing_key tools t.label t.base ≡ sealing_key tools u.label u.base → t.base ≡ u.base
 unfolding sealing_key
 same_base tools t u a b e = ap (λ l. sealing_key tools l t.base) (sym a) ∙ e ∙ ap (λ l. sealing_key tools l u.base) b
 
-differ : (tools : Tools) (t u : Term) (lt lu : Layer) → t.layer ≡ lt → u.layer ≡ lu → FormAt lt t → FormAt lu u → t.counter ≡ u.counter → t.control ≡ u.control
+differ : (tools : Tools) (t u : Term) (lt lu : Layer) → t.layer ≡ lt → u.layer ≡ lu → FormAt lt t → FormAt lu u
+    → t.counter ≡ u.counter → t.control ≡ u.control
     → sealing_key tools t.label t.base ≡ sealing_key tools u.label u.base → (TakeOneCounter t u → ⊥) → ⊥
 differ tools t u Nwk Nwk a b ft fu counter control key apart =
-    apart (record { layer = a ∙ sym b; key = subst (λ (l : Layer). AreCountedAsOne l t.base u.base) (sym a) (same_base tools t u ft.0 fu.0 key); counter = counter })
+    apart (record {
+      layer = a ∙ sym b;
+      key = subst (λ (l : Layer). AreCountedAsOne l t.base u.base) (sym a)
+          (same_base tools t u ft.0 fu.0 key);
+      counter = counter;
+    })
 differ tools t u Nwk Aps a b ft fu counter control key apart = fu (sym control ∙ ft.1)
 differ tools t u Aps Nwk a b ft fu counter control key apart = ft (control ∙ fu.1)
 differ tools t u Aps Aps a b ft fu counter control key apart =
-    apart (record { layer = a ∙ sym b; key = subst (λ (l : Layer). AreCountedAsOne l t.base u.base) (sym a) tt; counter = counter })
+    apart (record {
+      layer = a ∙ sym b;
+      key = subst (λ (l : Layer). AreCountedAsOne l t.base u.base) (sym a) tt;
+      counter = counter;
+    })
 
-two_apart : (tools : Tools) (t u : Term) → HasForm t → HasForm u → (TakeOneCounter t u → ⊥) → stamp tools t ≡ stamp tools u → ⊥
+two_apart : (tools : Tools) (t u : Term) → HasForm t → HasForm u → (TakeOneCounter t u → ⊥) → stamp tools t
+    ≡ stamp tools u → ⊥
 unfolding stamp
 two_apart tools t u ft fu apart e =
     let nonces = ap (λ x. x.nonce) e in
-    differ tools t u t.layer u.layer refl refl ft.form fu.form (same_counter t u (omega (arith, ft.small)) (omega (arith, fu.small)) nonces) (same_control t u nonces) (ap (λ x. x.key) e) apart
+    differ tools t u t.layer u.layer refl refl ft.form fu.form
+    (same_counter t u (omega (arith, ft.small)) (omega (arith, fu.small)) nonces) (same_control t u nonces)
+    (ap (λ x. x.key) e) apart
 
 stamps_apart : (tools : Tools) (ts : List Term) → AllByRecursion HasForm ts → NoneTwice ts → AreApart tools ts
 stamps_apart tools [] form none = tt
-stamps_apart tools (t ∷ ts) form none =
-    (all_two HasForm (λ u. TakeOneCounter t u → ⊥) (λ u. stamp tools t ≡ stamp tools u → ⊥) (λ u f apart. two_apart tools t u form.0 f apart) ts form.1 none.0, stamps_apart tools ts form.1 none.1)
+stamps_apart tools (t ∷ ts) form none = (
+  all_two HasForm (λ u. TakeOneCounter t u → ⊥) (λ u. stamp tools t ≡ stamp tools u → ⊥)
+      (λ u f apart. two_apart tools t u form.0 f apart) ts form.1 none.0,
+  stamps_apart tools ts form.1 none.1,
+)
 
-pub nonces_apart : (image : List ℕ) (sessions : List (List Bytes)) → AreApart real (sessions_seal (found_on image) sessions)
-nonces_apart image sessions = stamps_apart real (sessions_seal (found_on image) sessions) (sessions_form (found_on image) sessions) (sessions_apart image sessions)
+pub nonces_apart : (image : List ℕ) (sessions : List (List Bytes))
+    → AreApart real (sessions_seal (found_on image) sessions)
+nonces_apart image sessions = stamps_apart real (sessions_seal (found_on image) sessions)
+    (sessions_form (found_on image) sessions) (sessions_apart image sessions)

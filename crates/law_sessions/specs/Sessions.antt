@@ -16,7 +16,8 @@ use Rattle.zb_stored_tables.specs.Stored.{IsKept}
 
 -- ---- what is sealed
 
--- An event of the centre seals what the policy's answer to its task seals. One that is refused for a name seals nothing.
+-- An event of the centre seals what the policy's answer to its task seals. One that is refused for a name seals
+-- nothing.
 abbrev pub event_seals : Script → NodeState → Result Task Cause → List Term
 event_seals network s (Ok task) = (answer real (setting_of network) s task).seals
 event_seals network s (Err cause) = []
@@ -65,7 +66,8 @@ left_by_all found (lines ∷ more) = left_by_all (left_by found lines) more
 
 -- ---- sessions on a disk
 
--- A session with the image that its end, or a crash at any moment of it, left of the disk: its lines are those that the
+-- A session with the image that its end, or a crash at any moment of it, left of the disk: its lines are those that
+-- the
 -- image holds.
 pub record Session : Type 0 where
   pub lines : List Bytes
@@ -80,7 +82,8 @@ IsLeft found (Some s) left = IsKept s × StandsAs (Some s) left
 -- each session begins on the image that the one before left
 abbrev pub AreSessions : List ℕ → List Session → Type 0
 AreSessions image [] = ⊤
-AreSessions image (x ∷ more) = IsLeft (found_on image) (served (found_on image) x.lines fresh).after.tables x.left × AreSessions x.left more
+AreSessions image (x ∷ more) = IsLeft (found_on image) (served (found_on image) x.lines fresh).after.tables x.left
+    × AreSessions x.left more
 
 -- what they seal
 abbrev pub sealed_on : List ℕ → List Session → List Term
@@ -112,4 +115,6 @@ IsUnderKept Aps key backup = ⊤
 
 -- no term of the second list takes a counter of the first one, under a key that the backup has
 abbrev pub NoneAgain : NodeState → List Term → List Term → Type 0
-NoneAgain backup before since = AllByRecursion (λ (t : Term). IsUnderKept t.layer t.base backup → AllByRecursion (λ u. TakeOneCounter t u → ⊥) since) before
+NoneAgain backup before since =
+    AllByRecursion
+    (λ (t : Term). IsUnderKept t.layer t.base backup → AllByRecursion (λ u. TakeOneCounter t u → ⊥) since) before

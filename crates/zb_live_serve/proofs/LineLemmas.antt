@@ -10,12 +10,16 @@ use Rattle.zb_live_serve.specs.Feeding.{BeginsLong, IsInLine}
 use Rattle.zb_live_serve.specs.WholeLines.{longest_line, whole_from, whole_lines}
 
 -- a line with its line feed is the first whole line
-first_line : (line acc more : List ℕ) → IsInLine line → whole_from acc (line ++ 10 ∷ more) ≡ strip_carriage_return (acc ++ line) ∷ whole_from [] more
+first_line : (line acc more : List ℕ) → IsInLine line → whole_from acc (line ++ 10 ∷ more)
+    ≡ strip_carriage_return (acc ++ line) ∷ whole_from [] more
 first_line [] acc more in_line = ap (λ l. strip_carriage_return l ∷ whole_from [] more) (sym (append-nil acc))
 first_line (b ∷ line) acc more (miss, in_line) =
-    rw miss (first_line line (acc ++ b ∷ []) more in_line ∙ ap (λ l. strip_carriage_return l ∷ whole_from [] more) (append_assoc acc (b ∷ []) line))
+    rw miss
+    (first_line line (acc ++ b ∷ []) more in_line ∙ ap (λ l. strip_carriage_return l ∷ whole_from [] more)
+    (append_assoc acc (b ∷ []) line))
 
-pub lines_then : (line more : List ℕ) → IsInLine line → whole_lines (line ++ 10 ∷ more) ≡ strip_carriage_return line ∷ whole_lines more
+pub lines_then : (line more : List ℕ) → IsInLine line → whole_lines (line ++ 10 ∷ more) ≡ strip_carriage_return line
+    ∷ whole_lines more
 unfolding whole_lines
 lines_then line more in_line = first_line line [] more in_line
 
@@ -30,13 +34,16 @@ no_lines bytes in_line = none_from bytes [] in_line
 
 -- ---- the first line feed
 
-in_line_to : (bytes : List ℕ) (end : ℕ) → end ≤ length bytes → ((k : ℕ) → k < end → (get_or bytes k 0 == 10) ≡ false) → IsInLine (take end bytes)
+in_line_to : (bytes : List ℕ) (end : ℕ) → end ≤ length bytes → ((k : ℕ) → k < end → (get_or bytes k 0 == 10) ≡ false)
+    → IsInLine (take end bytes)
 in_line_to bytes zero within miss = tt
 in_line_to [] (suc end) within miss = absurd (omega (arith, within))
-in_line_to (b ∷ bytes) (suc end) within miss = (miss 0 (omega arith), in_line_to bytes end (omega (arith, within)) (λ k lt. miss (suc k) (omega (arith, lt))))
+in_line_to (b ∷ bytes) (suc end) within miss =
+    (miss 0 (omega arith), in_line_to bytes end (omega (arith, within)) (λ k lt. miss (suc k) (omega (arith, lt))))
 
 -- where the first line feed is
-pub found_feed : (bytes : List ℕ) (end : ℕ) → position (λ byte. byte == 10) bytes ≡ Some end → (end < length bytes) × ((get_or bytes end 0 == 10) ≡ true) × IsInLine (take end bytes)
+pub found_feed : (bytes : List ℕ) (end : ℕ) → position (λ byte. byte == 10) bytes ≡ Some end → (end < length bytes)
+    × ((get_or bytes end 0 == 10) ≡ true) × IsInLine (take end bytes)
 found_feed bytes end is =
     let h = position-Some (λ byte. byte == 10) bytes end 0 is in
     (h.0, h.1, in_line_to bytes end (omega (arith, h.0)) h.2)
@@ -63,10 +70,12 @@ take_front [] ys = refl
 take_front (x ∷ xs) ys = ap (λ l. x ∷ l) (take_front xs ys)
 
 front_is : (held line rest : List ℕ) (b end : ℕ) → held ≡ line ++ b ∷ rest → length line ≡ end → take end held ≡ line
-front_is held line rest b end cut long = ap (λ n. take n held) (sym long) ∙ ap (take (length line)) cut ∙ take_front line (b ∷ rest)
+front_is held line rest b end cut long = ap (λ n. take n held) (sym long) ∙ ap (take (length line)) cut ∙ take_front
+    line (b ∷ rest)
 
 -- the next line, where its line feed is the first one
-pub taken_line : (held slice line rest : List ℕ) (end : ℕ) → slice ≡ held → position (λ byte. byte == 10) slice ≡ Some end → held ≡ line ++ get_or held end 0 ∷ rest → length line ≡ end
+pub taken_line : (held slice line rest : List ℕ) (end : ℕ) → slice ≡ held → position (λ byte. byte == 10) slice
+    ≡ Some end → held ≡ line ++ get_or held end 0 ∷ rest → length line ≡ end
     → (held ≡ line ++ 10 ∷ rest) × IsInLine line
 taken_line held slice line rest end slice_is at cut long =
     let h = found_feed held end (subst (λ l. position (λ byte. byte == 10) l ≡ Some end) slice_is at) in
@@ -80,7 +89,8 @@ pub no_line : (held slice : List ℕ) → slice ≡ held → position (λ byte. 
 no_line held slice slice_is none = no_feed held (subst (λ l. position (λ byte. byte == 10) l ≡ None) slice_is none)
 
 -- the line that comes next is too long, with its line feed and without one
-pub long_feed : (held slice : List ℕ) (end : ℕ) → slice ≡ held → position (λ byte. byte == 10) slice ≡ Some end → longest_line < end → BeginsLong held
+pub long_feed : (held slice : List ℕ) (end : ℕ) → slice ≡ held → position (λ byte. byte == 10) slice ≡ Some end
+    → longest_line < end → BeginsLong held
 long_feed held slice end slice_is at long =
     let h = found_feed held end (subst (λ l. position (λ byte. byte == 10) l ≡ Some end) slice_is at) in
     record {
@@ -91,7 +101,8 @@ long_feed held slice end slice_is at long =
       long = omega (arith, long, length-take-le end held (omega (arith, h.0)));
     }
 
-pub long_rest : (held slice : List ℕ) → slice ≡ held → position (λ byte. byte == 10) slice ≡ None → longest_line < length held → BeginsLong held
+pub long_rest : (held slice : List ℕ) → slice ≡ held → position (λ byte. byte == 10) slice ≡ None → longest_line
+    < length held → BeginsLong held
 long_rest held slice slice_is none long = record {
   line = held;
   back = [];

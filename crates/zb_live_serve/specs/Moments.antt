@@ -26,7 +26,8 @@ pub record Moment (D W : Type 0) : Type 0 where
 
 -- An image holds the session after the first of some lines, and all that was written by then is a prefix of what these
 -- write. So each line is among them of whose answer a byte was written.
-pub record Covers {D W : Type 0} (x : Outside D W) (found : Found) (first : View) (lines : List Bytes) (before out : W) (image : List ℕ) : Type 0 where
+pub record Covers {D W : Type 0} (x : Outside D W) (found : Found) (first : View) (lines : List Bytes)
+    (before out : W) (image : List ℕ) : Type 0 where
   pub taken : List Bytes
   pub more : List Bytes
   pub split : taken ++ more ≡ lines
@@ -35,7 +36,8 @@ pub record Covers {D W : Type 0} (x : Outside D W) (found : Found) (first : View
 
 -- Of all bytes of the input these came so far, and the whole lines among them were all answered: what was written is
 -- just what they write. Then the input is read: at most 4,096 bytes come, and the others are left.
-pub record AnsweredFirst {D W : Type 0} (x : Outside D W) (found : Found) (all : Bytes) (before : W) (now next : Moment D W) : Type 0 where
+pub record AnsweredFirst {D W : Type 0} (x : Outside D W) (found : Found) (all : Bytes) (before : W)
+    (now next : Moment D W) : Type 0 where
   pub came : Bytes
   pub read : Bytes
   pub left : Bytes
@@ -46,16 +48,25 @@ pub record AnsweredFirst {D W : Type 0} (x : Outside D W) (found : Found) (all :
   pub answered : Appends (x.taken before) (x.taken now.out) (served found (whole_lines came) fresh).text
 
 -- From one moment to a later one. The disk is called, and nothing is written or read. Or something is written, and the
--- disk and the input stay as they are; a crash at any moment in between leaves an image that covers what was written by
+-- disk and the input stay as they are; a crash at any moment in between leaves an image that covers what was written
+-- by
 -- then. Or the input is read, once all whole lines that came were answered.
-pub data Stretch {D W : Type 0} (x : Outside D W) (found : Found) (first : View) (input : Input) (lines : List Bytes) (before : W) (now next : Moment D W) : Type 0 where
-  calls : next.out ≡ now.out → next.input ≡ now.input → LeavesOnly (x.state now.disk) (x.state next.disk) (Covers x found first lines before next.out)
+pub data Stretch {D W : Type 0} (x : Outside D W) (found : Found) (first : View) (input : Input) (lines : List Bytes)
+    (before : W) (now next : Moment D W) : Type 0 where
+  calls : next.out ≡ now.out → next.input ≡ now.input → LeavesOnly (x.state now.disk) (x.state next.disk)
+      (Covers x found first lines before next.out)
       → Stretch x found first input lines before now next
-  writes : (text : Bytes) → next.disk ≡ now.disk → next.input ≡ now.input → AppendsFront (x.taken now.out) (x.taken next.out) text
-      → ((image : List ℕ) → (x.state next.disk).images image → Covers x found first lines before next.out image) → Stretch x found first input lines before now next
-  reads : next.disk ≡ now.disk → next.out ≡ now.out → ((all : Bytes) → input.rest ≡ Some all → AnsweredFirst x found all before now next) → Stretch x found first input lines before now next
+  writes : (text : Bytes) → next.disk ≡ now.disk → next.input ≡ now.input
+      → AppendsFront (x.taken now.out) (x.taken next.out) text
+      → ((image : List ℕ) → (x.state next.disk).images image → Covers x found first lines before next.out image)
+      → Stretch x found first input lines before now next
+  reads : next.disk ≡ now.disk → next.out ≡ now.out
+      → ((all : Bytes) → input.rest ≡ Some all → AnsweredFirst x found all before now next)
+      → Stretch x found first input lines before now next
 
 -- from one moment over these to the last one
-abbrev pub Goes : {D W : Type 0} → Outside D W → Found → View → Input → List Bytes → W → Moment D W → List (Moment D W) → Moment D W → Type 0
+abbrev pub Goes : {D W : Type 0} → Outside D W → Found → View → Input → List Bytes → W → Moment D W
+    → List (Moment D W) → Moment D W → Type 0
 Goes x found first input lines before now [] last = last ≡ now
-Goes x found first input lines before now (next ∷ more) last = Stretch x found first input lines before now next × Goes x found first input lines before next more last
+Goes x found first input lines before now (next ∷ more) last = Stretch x found first input lines before now next
+    × Goes x found first input lines before next more last
