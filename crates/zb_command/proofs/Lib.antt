@@ -4,3 +4,4 @@ pub mod AuditedTexts
 pub mod PlayedRuns
 pub mod Fronts
 mod PartLaws
+pub mod ServedScripts
