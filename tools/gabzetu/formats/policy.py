@@ -36,8 +36,8 @@ EVENTS = {
     ),
     ('remove', 'centre'): (
         "not-member where the device isn't live",
-        'its live rows are dropped; removed; its pairs end. Then a Leave to it (by way of the centre) or a '
-        'Remove-Device to its parent, unless no frame can be sealed',
+        "its live link rows are dropped, a `removed` line comes, and its pairs end (`moved` in `State.antt`). Then a "
+        "Leave to it where PARENT is the centre, else a Remove-Device to PARENT; nothing where that can't be sealed",
     ),
     ('roll', 'centre'): (
         'no-key; wrong-state while sending; keys-full; no-draw',
