@@ -1,4 +1,4 @@
-//! Tests of the three cores over their hosts, each on a disk in memory: a join, hostile frames, crashes at each device
+//! Tests of the three cores over their hosts, each on a disk in memory: frames of strangers, crashes at each device
 //! call, records of the first version.
 #![tactic(auto)]
 
@@ -8,7 +8,5 @@ mod air;
 mod crashes;
 #[cfg(test)]
 mod hostile;
-#[cfg(test)]
-mod join;
 #[cfg(test)]
 mod network;

@@ -166,16 +166,3 @@ pub(crate) fn frame(rt: &(impl AllocGlobal + Abort), digits: &str) -> Result<Fra
     let bytes = hex::decode(rt.alloc(), digits)?;
     Ok(Frame::try_from(bytes.as_slice()).expect(rt, "a frame"))
 }
-
-/// Returns the record of what a host's core has.
-pub(crate) fn standing<C: Core>(
-    rt: &(impl AllocGlobal + Abort),
-    host: &Host<C>,
-) -> Result<Vec<u8>, Fail> {
-    let mut room = Vec::new(rt.alloc());
-    room.resize(RECORD_ROOM, 0)?;
-    assert!(rt; host.is_up());
-    let len = host.core().record(&mut room) as usize;
-    room.truncate(len);
-    Ok(room)
-}
