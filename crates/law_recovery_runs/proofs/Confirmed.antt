@@ -40,19 +40,19 @@ use Rattle.law_recovery_runs.proofs.Exchanged.{answered-by, left-by, turned}
 -- ---- one event of either node
 
 -- what an event of the device leaves, and what one of the centre does
-record DeviceActs (tools : Tools) (w : Schedule) (x y : Front) (c d : ℕ) (task : Task) : Type 0 where
-  met : AreMet w y c d
-  device : state_of y.lines d ≡ after_task tools (setting_of w d) (state_of x.lines d) task
-  centre : state_of y.lines c ≡ state_of x.lines c
-  on_air : air y.lines ≡ air x.lines ++ option_to_list (frame_of tools (setting_of w d) (state_of x.lines d) task)
+pub record DeviceActs (tools : Tools) (w : Schedule) (x y : Front) (c d : ℕ) (task : Task) : Type 0 where
+  pub met : AreMet w y c d
+  pub device : state_of y.lines d ≡ after_task tools (setting_of w d) (state_of x.lines d) task
+  pub centre : state_of y.lines c ≡ state_of x.lines c
+  pub on_air : air y.lines ≡ air x.lines ++ option_to_list (frame_of tools (setting_of w d) (state_of x.lines d) task)
 
-record CentreActs (tools : Tools) (w : Schedule) (x y : Front) (c d : ℕ) (task : Task) : Type 0 where
-  met : AreMet w y c d
-  device : state_of y.lines d ≡ state_of x.lines d
-  centre : state_of y.lines c ≡ after_task tools (setting_of w c) (state_of x.lines c) task
-  on_air : air y.lines ≡ air x.lines ++ option_to_list (frame_of tools (setting_of w c) (state_of x.lines c) task)
+pub record CentreActs (tools : Tools) (w : Schedule) (x y : Front) (c d : ℕ) (task : Task) : Type 0 where
+  pub met : AreMet w y c d
+  pub device : state_of y.lines d ≡ state_of x.lines d
+  pub centre : state_of y.lines c ≡ after_task tools (setting_of w c) (state_of x.lines c) task
+  pub on_air : air y.lines ≡ air x.lines ++ option_to_list (frame_of tools (setting_of w c) (state_of x.lines c) task)
 
-device_acts : (tools : Tools) → OpensAsJudged tools → (w : Schedule) (x : Front) (c d : ℕ) (task : Task)
+pub device_acts : (tools : Tools) → OpensAsJudged tools → (w : Schedule) (x : Front) (c d : ℕ) (task : Task)
     (event : Event) → AreMet w x c d → is_of c event ≡ false
     → step tools w x.lines x.disks x.number event
     ≡ answer_step x.lines x.disks x.number d (answer tools (setting_of w d) (state_of x.lines d) task)
@@ -79,7 +79,7 @@ device_acts tools opens w x c d task event met other is =
       on_air = a.on_air;
     }
 
-centre_acts : (tools : Tools) → OpensAsJudged tools → (w : Schedule) (x : Front) (c d : ℕ) (task : Task)
+pub centre_acts : (tools : Tools) → OpensAsJudged tools → (w : Schedule) (x : Front) (c d : ℕ) (task : Task)
     (event : Event) → AreMet w x c d → is_of d event ≡ false
     → step tools w x.lines x.disks x.number event
     ≡ answer_step x.lines x.disks x.number c (answer tools (setting_of w c) (state_of x.lines c) task)
@@ -107,9 +107,9 @@ centre_acts tools opens w x c d task event met other is =
     }
 
 -- so many frames are on the air, and the last of them is this one
-record OnAir (x : Front) (frames : ℕ) (bytes : Bytes) : Type 0 where
-  count : length (air x.lines) ≡ frames
-  last : frame_at x.lines frames ≡ Some bytes
+pub record OnAir (x : Front) (frames : ℕ) (bytes : Bytes) : Type 0 where
+  pub count : length (air x.lines) ≡ frames
+  pub last : frame_at x.lines frames ≡ Some bytes
 
 comes_on_air : (x y : Front) (frames : ℕ) (bytes : Bytes) → length (air x.lines) ≡ frames → air y.lines ≡ air x.lines
     ++ bytes ∷ [] → OnAir y (frames + 1) bytes
@@ -118,7 +118,7 @@ comes_on_air x y frames bytes count e = record {
   last = subst (λ n. frame_at y.lines (n + 1) ≡ Some bytes) count (last-frame y.lines (air x.lines) bytes e);
 }
 
-sent_on_air : (x y : Front) (frames : ℕ) (bytes : Bytes) (o : Option Bytes) → length (air x.lines) ≡ frames
+pub sent_on_air : (x y : Front) (frames : ℕ) (bytes : Bytes) (o : Option Bytes) → length (air x.lines) ≡ frames
     → air y.lines ≡ air x.lines ++ option_to_list o → o ≡ Some bytes → OnAir y (frames + 1) bytes
 sent_on_air x y frames bytes o count e sent =
     comes_on_air x y frames bytes count (e ∙ ap (λ p. air x.lines ++ option_to_list p) sent)

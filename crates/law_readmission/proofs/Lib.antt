@@ -1,0 +1,6 @@
+pub mod Dropping
+pub mod Removing
+pub mod Codes
+pub mod Knocks
+pub mod Known
+pub mod Readmitted

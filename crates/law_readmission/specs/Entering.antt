@@ -1,0 +1,58 @@
+-- How a device is let in anew: the centre removes it, its code is entered, and it knocks. What can stand in the way of
+-- each event, with the refusal that it gives, in the order in which they are tried; and what each event leaves.
+use Rattle.std.specs.Prelude.{ℕ, ◌≡◌, false, not, ◌&&◌, Option, Some, None, is_none}
+use Rattle.zb_model.specs.Data.{Bytes, Aps, Knocked, Reason, NoKey, NotMember, WrongState, RowsFull}
+use Rattle.zb_model.specs.Rules.{links_full}
+use Rattle.zb_model.specs.State.{LinkKey, NodeState, code_row, current, has_link, is_live, is_verified, next_counter, offered, other_user}
+use Rattle.law_key_exchange.specs.Meeting.{HasLink, HasNetwork}
+use Rattle.law_key_exchange.specs.Obstacles.{or_else, when, why_key_in_use}
+
+-- ---- the obstacles
+
+-- why a device isn't removed: it isn't live
+unfoldable pub why_not_removed : NodeState → ℕ → Option Reason
+why_not_removed s device = when (not (is_live s device)) NotMember
+
+-- Why no row is there for a code: none has its key, and the rows are full; another device has that key.
+unfoldable pub why_no_row : NodeState → ℕ → Bytes → Option Reason
+why_no_row s device key =
+    or_else (when (not (has_link device key s.links) && links_full s) RowsFull)
+    (why_key_in_use (other_user s device key))
+
+-- why a code isn't entered: its device is live, or no row is there for it
+unfoldable pub why_not_entered : NodeState → ℕ → Bytes → Option Reason
+why_not_entered s device key = or_else (when (is_live s device) WrongState) (why_no_row s device key)
+
+-- why a device doesn't knock: it has no install code's key
+unfoldable pub why_no_knock : NodeState → ℕ → Option Reason
+why_no_knock t centre = when (is_none (code_row t centre)) NoKey
+
+-- ---- what the events leave
+
+-- a network key that is active stays so
+abbrev pub KeepsNetwork : NodeState → NodeState → Type 0
+KeepsNetwork s u = (key : Bytes) (sequence : ℕ) → HasNetwork s key sequence → HasNetwork u key sequence
+
+-- The centre was in state s and removed a device: the device isn't live, and what a code finds is as it was.
+pub record IsRemoved (s u : NodeState) (device : ℕ) : Type 0 where
+  pub gone : is_live u device ≡ false
+  pub network : KeepsNetwork s u
+  pub room : (key : Bytes) → why_no_row u device key ≡ why_no_row s device key
+
+-- A code was entered: its key is the device's current one, and no other is offered.
+pub record IsEntered (s u : NodeState) (device : ℕ) (key : Bytes) : Type 0 where
+  pub keys : HasLink u device key
+  pub network : KeepsNetwork s u
+  pub counter : next_counter Aps u ≡ next_counter Aps s
+
+-- A device knocked: the row of its code is its current one of the centre, provisional, with the floor that it had, and
+-- no other is offered. Its network keys are as they were.
+pub record HasKnocked (t u : NodeState) (centre : ℕ) (code : LinkKey) : Type 0 where
+  pub knocked : u.state ≡ Knocked
+  pub row : LinkKey
+  pub is_current : current u centre ≡ Some row
+  pub row_key : row.key ≡ code.key
+  pub row_floor : row.kept ≡ code.kept
+  pub provisional : is_verified row.attribute ≡ false
+  pub none_offered : offered u centre ≡ None
+  pub nets : u.nets ≡ t.nets

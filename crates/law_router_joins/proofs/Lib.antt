@@ -1,0 +1,3 @@
+pub mod Reporting
+pub mod Passing
+pub mod Through

@@ -1,0 +1,3 @@
+pub mod RouterFrames
+pub mod Relaying
+pub mod Routed
