@@ -30,7 +30,9 @@ use Rattle.law_run_readings.proofs.Rows.{row_at}
 use Rattle.law_run_readings.proofs.SaidRows.{RowIs}
 use Rattle.law_run_readings.proofs.Steps.{Said, Recalls}
 use Rattle.law_run_readings.proofs.Lines.{alike_recalls, said_of, was_active, RecallsAt, flat_snoc}
-use Rattle.law_run_readings.proofs.Events.{AnswersFit, IsReady, active_said, answers_fit, step_recalls}
+use Rattle.law_run_readings.proofs.Events.{AnswersFit, IsReady, active_said, answers_fit, event_changes, step_recalls}
+use Rattle.law_run_readings.proofs.Joining.{Joins, joins_group, joins_said, start_joins}
+use Rattle.law_run_readings.proofs.OwnLines.{keys_said, links_said, lives_said, nets_said, role_said, rolling_said, rows_said}
 use Rattle.law_run_readings.proofs.Starting.{has_eui, start_even, start_recalls}
 use Rattle.law_run_readings.proofs.Evens.{Even, EvenRow, EvenAps, IfRow}
 use Rattle.law_run_readings.proofs.Along.{Evens, EvensAt, own_evens, other_evens, of_node, to_node}
@@ -42,6 +44,7 @@ pub record Stands (tools : Tools) (w : Schedule) (before : List (List Line)) : T
   pub evens : (n : ℕ) → Names w n → EvensAt (flat before) n
   pub grounded : Grounded (flat before)
   pub inv : Inv tools (flat before)
+  pub joins : (n : ℕ) → Names w n → Joins (flat before) n
 
 -- the node of an event is ready
 ready_node : (w : Schedule) (h : List Line) (event : Event) → OfNode (λ n. IsRuled (state_of h n) (setting_of w n) n)
@@ -111,6 +114,9 @@ stands_more tools opens judged w i before disks number event named ready s =
       grounded = subst Grounded same (event-grounded tools w h disks number event s.grounded);
       inv = subst (Inv tools) same
           (inv-lines tools h ls (step-fits tools w i h disks number event named s.inv.commanded) s.inv);
+      joins = λ n its. subst (λ x. Joins x n) same
+          (joins_group before [] ls n (event_changes tools w before n disks number event fits)
+          (subst (λ x. Joins x n) (sym (append-nil' h)) (s.joins n its)));
     }
   where
     by_node : (n : ℕ) → Names w n → (b : Bool) → is_of n event ≡ b
@@ -147,6 +153,7 @@ start_stands tools w differ =
           subst (λ x. EvensAt x n) same (λ on. record { nwk = λ key none. e.0 key; aps = λ none. e.1 }));
       grounded = subst Grounded same (start-grounded w);
       inv = subst (Inv tools) same (start-inv tools w);
+      joins = λ n named. subst (λ x. Joins x n) same (start_joins w n);
     }
 
 -- ---- what is said is what the state says
@@ -299,6 +306,14 @@ stands_agree tools w before s n named =
       limits = limits_are before n is on same;
       nexts = λ up. nexts_are before n is on same (s.evens n named up);
       floors = floors_are before n is;
+      networks = sym (keys_said (flat before) n);
+      network = λ key. sym (nets_said (flat before) n key);
+      rows = sym (rows_said (flat before) n);
+      row = λ partner key. sym (links_said (flat before) n partner key);
+      lives = lives_said (flat before) n;
+      role_is = role_said (flat before) n;
+      state_is = joins_said (flat before) n (s.joins n named);
+      rolling = sym (rolling_said (flat before) n);
     }
 
 -- ---- along the run

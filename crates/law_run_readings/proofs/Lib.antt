@@ -7,5 +7,9 @@ pub mod Lines
 pub mod Events
 pub mod Evens
 pub mod Starting
+mod NetRows
+mod LinkRows
+pub mod OwnLines
+mod Joining
 pub mod Along
 pub mod Agreed

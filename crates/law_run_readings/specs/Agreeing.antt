@@ -1,14 +1,15 @@
 -- Where the lines of whole groups say of a node what its state says.
-use Rattle.std.specs.Prelude.{ℕ, ◌≡◌, ◌+◌, true, List, [], ◌∷◌, ◌++◌, find}
+use Rattle.std.specs.Prelude.{ℕ, ◌≡◌, ◌+◌, true, false, None, List, [], ◌∷◌, ◌++◌, find}
 use Rattle.zb_model.specs.Data.{Bytes, Layer, Nwk, Aps}
 use Rattle.zb_model.specs.Lines.{Line}
-use Rattle.zb_model.specs.State.{NodeState, is_link, net_of, next_counter, stored_limit}
+use Rattle.zb_model.specs.State.{NodeState, is_link, is_live, net_of, next_counter, stored_limit}
 use Rattle.zb_model.specs.Fits.{net_stored, link_stored}
 use Rattle.zb_model.specs.Play.{Schedule, Event, Disk, start, step}
 use Rattle.zb_model.specs.Schedules.{Names}
 use Rattle.zb_model.specs.Tools.{Tools}
 use Rattle.zb_model.specs.Readings.{is_up, state_of}
 use Rattle.law_run_readings.specs.LastLines.{active, flat, limit, next, stored}
+use Rattle.law_run_readings.specs.RowLines.{joining, keys_of, link_of_state, link_says, live, names_key, names_row, net_of_state, net_says, role, rolls, rows_of, said_own}
 
 -- the stored floor of a sender under a key of the layer
 abbrev pub floor_at : Layer → Bytes → ℕ → NodeState → ℕ
@@ -25,6 +26,18 @@ pub record Agrees (before : List (List Line)) (n : ℕ) : Type 0 where
       ≡ next_counter layer (state_of (flat before) n)
   pub floors : (layer : Layer) (key : Bytes) (sender : ℕ) → stored (flat before) n layer key sender
       ≡ floor_at layer key sender (state_of (flat before) n)
+  -- the network keys in their order, and whether each is live
+  pub networks : said_own names_key [] (flat before) n ≡ keys_of (state_of (flat before) n)
+  pub network : (key : Bytes) → said_own (net_says key) None (flat before) n
+      ≡ net_of_state key (state_of (flat before) n)
+  -- the link rows in their order, and of each its attribute and whether it is live
+  pub rows : said_own names_row [] (flat before) n ≡ rows_of (state_of (flat before) n)
+  pub row : (partner : ℕ) (key : Bytes) → said_own (link_says partner key) None (flat before) n
+      ≡ link_of_state partner key (state_of (flat before) n)
+  pub lives : (device : ℕ) → live (flat before) n device ≡ is_live (state_of (flat before) n) device
+  pub role_is : role (flat before) n ≡ (state_of (flat before) n).role
+  pub state_is : joining (flat before) n ≡ (state_of (flat before) n).state
+  pub rolling : said_own rolls false (flat before) n ≡ (state_of (flat before) n).sending
 
 abbrev pub AllAgree : Schedule → List (List Line) → Type 0
 AllAgree w before = (n : ℕ) → Names w n → Agrees before n

@@ -6,7 +6,7 @@ use Rattle.std.proofs.lemmas.List.{map-append}
 use Rattle.zb_model.specs.Data.{Bytes}
 use Rattle.zb_model.specs.State.{NetKey, at_net, dropped_net, has_net, of_active, same_key}
 use Rattle.law_run.proofs.Basics.{same_key-eq, same_key-refl}
-use Rattle.law_last_lines.specs.LastLines.{first_given, with_key}
+use Rattle.law_run_readings.specs.RowLines.{first_given, with_key}
 
 abbrev pub keys : List NetKey → List Bytes
 keys nets = map (λ (r : NetKey). r.key) nets

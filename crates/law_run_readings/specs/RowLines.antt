@@ -1,11 +1,12 @@
--- What lines say of a node's rows and of a rollover, with no tables and no counters: of each thing the last line of
--- the node that speaks of it decides.
-use Rattle.std.specs.Prelude.{ℕ, Bool, true, false, if◌then◌else◌, ◌&&◌, List, [], ◌∷◌, ◌++◌, fold, find, map, Option, Some, None, nat_eq, option_map}
+-- What lines say of a node's rows, of its state of joining and of a rollover, with no tables and no counters: of each
+-- thing the last line of the node that speaks of it decides.
+use Rattle.std.specs.Prelude.{ℕ, Bool, true, false, if◌then◌else◌, ◌&&◌, List, [], ◌∷◌, ◌++◌, fold, find, map, Option, Some, None, nat_eq, option_map, unwrap_or}
 use Rattle.std.specs.List.{list_any}
-use Rattle.zb_model.specs.Data.{Attribute, Bytes, DropLink, DropNet, Install, Moved, Provisional, Roll, Row}
-use Rattle.zb_model.specs.Lines.{Changed, GivenLink, GivenNet, Line}
+use Rattle.zb_model.specs.Data.{Attribute, Became, Bytes, Device, DropLink, DropNet, Fresh, Install, Joined, Moved, Provisional, Role, Roll, Row, State}
+use Rattle.zb_model.specs.Lines.{Changed, Declared, GivenLink, GivenNet, Line}
 use Rattle.zb_model.specs.Readings.{speaker}
-use Rattle.zb_model.specs.State.{LinkKey, NetKey, NodeState, is_link, same_key}
+use Rattle.zb_model.specs.State.{LinkKey, NetKey, NodeState, is_centre, is_link, same_key}
+use Rattle.law_run_readings.specs.LastLines.{last_said}
 
 -- what a node's own lines say one after the other: others say nothing of it
 abbrev pub said_own : {A : Type 0} → (Line → A → A) → A → List Line → ℕ → A
@@ -61,6 +62,43 @@ link_says partner key (Changed e n (Moved (DropLink p k))) found = if is_row par
     then option_map dropped_said found else found
 link_says partner key _ found = found
 
+-- the partners and keys of the link rows, in the order of their first lines
+abbrev pub with_row : ℕ → Bytes → List (ℕ × Bytes) → List (ℕ × Bytes)
+with_row partner key rows = if list_any (λ (r : ℕ × Bytes). nat_eq r.0 partner && same_key r.1 key) rows
+    then rows else rows ++ (partner, key) ∷ []
+
+abbrev pub names_row : Line → List (ℕ × Bytes) → List (ℕ × Bytes)
+names_row (GivenLink n p k) found = with_row p k found
+names_row (Changed e n (Moved (Row p k attribute))) found = with_row p k found
+names_row _ found = found
+
+-- A device is live where one of its rows is.
+abbrev pub is_live_row : Option LinkSaid → Bool
+is_live_row None = false
+is_live_row (Some x) = x.live
+
+unfoldable pub live : List Line → ℕ → ℕ → Bool
+live h n device = list_any (λ (r : ℕ × Bytes). is_live_row (said_own (link_says r.0 r.1) None h n)
+    && nat_eq r.0 device) (said_own names_row [] h n)
+
+-- the role, by the line that declares the node
+abbrev pub role_in : Line → Option Role
+role_in (Declared p) = Some p.role
+role_in _ = None
+
+unfoldable pub role : List Line → ℕ → Role
+role h n = unwrap_or (last_said n role_in h) Device
+
+-- The state of joining: that of the last `state` line. Where there is none, a router or device that was given a
+-- network key has joined, and any other node is fresh.
+abbrev pub state_in : Role → Line → Option State
+state_in r (GivenNet n key sequence) = Some (if is_centre r then Fresh else Joined)
+state_in r (Changed e n (Moved (Became state))) = Some state
+state_in r _ = None
+
+unfoldable pub joining : List Line → ℕ → State
+joining h n = unwrap_or (last_said n (state_in (role h n)) h) Fresh
+
 -- the same of a state
 
 abbrev pub keys_of : NodeState → List Bytes
@@ -74,3 +112,6 @@ link_said r = record { attribute = r.attribute; live = r.live }
 
 abbrev pub link_of_state : ℕ → Bytes → NodeState → Option LinkSaid
 link_of_state partner key s = option_map link_said (find (is_link partner key) s.links)
+
+abbrev pub rows_of : NodeState → List (ℕ × Bytes)
+rows_of s = map (λ (r : LinkKey). (r.partner, r.key)) s.links

@@ -1,10 +1,13 @@
 -- Link rows after the changes of rows: the attribute of each, and whether it is live.
-use Rattle.std.proofs.Common.{◌≡◌, ℕ, Bool, true, false, cond, ◌&&◌, ◌||◌, List, [], ◌∷◌, ◌++◌, Option, Some, None, option_map, find, map, nat_eq, refl, sym, ap, ◌∙◌}
+use Rattle.std.proofs.Common.{◌≡◌, ℕ, Bool, true, false, cond, ◌&&◌, ◌||◌, List, [], ◌∷◌, ◌++◌, Option, Some, None, option_map, find, map, nat_eq, refl, sym, ap, ◌∙◌, subst}
 use Rattle.std.proofs.lemmas.Bool.{and_parts, eqb-true, false≢true}
 use Rattle.zb_model.specs.Data.{Attribute, Bytes}
 use Rattle.zb_model.specs.State.{LinkKey, at_link, dropped_link, has_link, is_link, new_link, revived, same_key, told_as, with_link, with_told, is_live_of}
-use Rattle.law_run.proofs.Basics.{nat_eq-refl, same_key-eq, same_key-refl}
-use Rattle.law_last_lines.specs.LastLines.{LinkSaid, dropped_said, given_as, is_row, link_said}
+use Rattle.law_run.proofs.Basics.{find-map, nat_eq-refl, same_key-eq, same_key-refl}
+use Rattle.law_run.proofs.FreshLines.{all-append}
+use Rattle.std.specs.List.{AllByRecursion, list_any}
+use Rattle.std.proofs.lemmas.List.{map-append}
+use Rattle.law_run_readings.specs.RowLines.{LinkSaid, dropped_said, given_as, is_live_row, is_row, link_said, with_row}
 
 abbrev pub said_at : ℕ → Bytes → List LinkKey → Option LinkSaid
 said_at partner key links = option_map link_said (find (is_link partner key) links)
@@ -122,7 +125,7 @@ changed_said f g keeps says p k partner key (r ∷ rs) =
         (row_is partner key p k r own)
     by_own false own again = again
 
-dropped_keeps : Keeps dropped_link
+pub dropped_keeps : Keeps dropped_link
 dropped_keeps = record { partner = λ r. refl; key = λ r. refl }
 
 pub said_dropped : (p : ℕ) (k : Bytes) (partner : ℕ) (key : Bytes) (links : List LinkKey)
@@ -217,3 +220,127 @@ said_given p k attribute told partner key links = by_has (has_link p k links) re
         changed_said (revived attribute told) (λ (y : LinkSaid). record { attribute = attribute; live = true })
         (revived_keeps attribute told) (λ r. refl) p k partner key links ∙ by_row (is_row partner key p k) refl has
     by_has false has = said_behind (new_link p k attribute told) partner key links has
+
+-- ---- the rows in their order
+
+abbrev pub names : List LinkKey → List (ℕ × Bytes)
+names links = map (λ (r : LinkKey). (r.partner, r.key)) links
+
+pub names_same : (f : LinkKey → LinkKey) → Keeps f → (links : List LinkKey) → names (map f links) ≡ names links
+names_same f keeps [] = refl
+names_same f keeps (r ∷ rs) =
+    ap (λ p. (p, (f r).key) ∷ names (map f rs)) (keeps.partner r) ∙ ap (λ k. (r.partner, k) ∷ names (map f rs))
+    (keeps.key r) ∙ ap (λ ns. (r.partner, r.key) ∷ ns) (names_same f keeps rs)
+
+pub names_at : (f : LinkKey → LinkKey) → Keeps f → (p : ℕ) (k : Bytes) (links : List LinkKey)
+    → names (at_link p k f links) ≡ names links
+names_at f keeps p k links = names_same (λ r. cond (is_link p k r) (f r) r) (some_keep f keeps (is_link p k)) links
+
+pub told_keeps : (told : Bool) → Keeps (told_as told)
+told_keeps told = record { partner = λ r. refl; key = λ r. refl }
+
+pub names_told : (p : ℕ) (told : Bool) (links : List LinkKey) → names (with_told p told links) ≡ names links
+names_told p told links = names_same (λ r. cond (is_live_of p r) (told_as told r) r)
+    (some_keep (told_as told) (told_keeps told) (is_live_of p)) links
+
+has_named : (p : ℕ) (k : Bytes) (links : List LinkKey) → has_link p k links
+    ≡ list_any (λ (r : ℕ × Bytes). nat_eq r.0 p && same_key r.1 k) (names links)
+has_named p k [] = refl
+has_named p k (r ∷ rs) = ap (λ b. is_link p k r || b) (has_named p k rs)
+
+pub names_given : (p : ℕ) (k : Bytes) (attribute : Attribute) (told : Bool) (links : List LinkKey)
+    → names (with_link p k attribute told links) ≡ with_row p k (names links)
+names_given p k attribute told links = by_has (has_link p k links) ∙ ap
+    (λ b. cond b (names links) (names links ++ (p, k) ∷ [])) (has_named p k links)
+  where
+    by_has : (b : Bool)
+        → names (cond b (at_link p k (revived attribute told) links) (links ++ new_link p k attribute told ∷ []))
+        ≡ cond b (names links) (names links ++ (p, k) ∷ [])
+    by_has true = names_at (revived attribute told) (revived_keeps attribute told) p k links
+    by_has false = map-append (λ (r : LinkKey). (r.partner, r.key)) links (new_link p k attribute told ∷ [])
+
+-- ---- no two rows have one partner and key: looking one up finds it
+
+abbrev pub OwnRows : List LinkKey → List LinkKey → Type 0
+OwnRows all rs = AllByRecursion (λ (r : LinkKey). find (is_link r.partner r.key) all ≡ Some r) rs
+
+own_same : (f : LinkKey → LinkKey) → Keeps f → (all rs : List LinkKey) → OwnRows all rs
+    → OwnRows (map f all) (map f rs)
+own_same f keeps all [] own = tt
+own_same f keeps all (r ∷ rs) own = (
+  ap (λ p. find (is_link p (f r).key) (map f all)) (keeps.partner r) ∙ ap
+      (λ k. find (is_link r.partner k) (map f all)) (keeps.key r)
+      ∙ find-map (is_link r.partner r.key) f (is_same f keeps r.partner r.key) all ∙ ap (option_map f) own.0,
+  own_same f keeps all rs own.1,
+)
+
+pub own_rows : (f : LinkKey → LinkKey) → Keeps f → (links : List LinkKey) → OwnRows links links
+    → OwnRows (map f links) (map f links)
+own_rows f keeps links own = own_same f keeps links links own
+
+pub own_at : (f : LinkKey → LinkKey) → Keeps f → (p : ℕ) (k : Bytes) (links : List LinkKey) → OwnRows links links
+    → OwnRows (at_link p k f links) (at_link p k f links)
+own_at f keeps p k links own = own_rows (λ r. cond (is_link p k r) (f r) r) (some_keep f keeps (is_link p k)) links own
+
+pub own_told : (p : ℕ) (told : Bool) (links : List LinkKey) → OwnRows links links
+    → OwnRows (with_told p told links) (with_told p told links)
+own_told p told links own = own_rows (λ r. cond (is_live_of p r) (told_as told r) r)
+    (some_keep (told_as told) (told_keeps told) (is_live_of p)) links own
+
+found_before : (test : LinkKey → Bool) (r x : LinkKey) (links : List LinkKey) → find test links ≡ Some r
+    → find test (links ++ x ∷ []) ≡ Some r
+found_before test r x [] found = absurd (no_row found)
+  where
+    is_row_there : Option LinkKey → Type 0
+    is_row_there None = Unit {0}
+    is_row_there (Some y) = ⊥
+
+    no_row : None ≡ Some r → ⊥
+    no_row e = subst is_row_there e tt
+found_before test r x (y ∷ ys) found = by_test (test y) found (found_before test r x ys)
+  where
+    by_test : (b : Bool) → cond b (Some y) (find test ys) ≡ Some r
+        → (find test ys ≡ Some r → find test (ys ++ x ∷ []) ≡ Some r)
+        → cond b (Some y) (find test (ys ++ x ∷ [])) ≡ Some r
+    by_test true found again = found
+    by_test false found again = again found
+
+found_behind : (test : LinkKey → Bool) (x : LinkKey) (links : List LinkKey) → list_any test links ≡ false
+    → test x ≡ true → find test (links ++ x ∷ []) ≡ Some x
+found_behind test x [] none is = ap (λ b. cond b (Some x) None) is
+found_behind test x (y ∷ ys) none is =
+    let others = parts (test y) (list_any test ys) none in
+    ap (λ b. cond b (Some y) (find test (ys ++ x ∷ []))) others.0 ∙ found_behind test x ys others.1 is
+
+own_more : (x : LinkKey) (all rs : List LinkKey) → OwnRows all rs → OwnRows (all ++ x ∷ []) rs
+own_more x all [] own = tt
+own_more x all (r ∷ rs) own = (found_before (is_link r.partner r.key) r x all own.0, own_more x all rs own.1)
+
+pub own_given : (p : ℕ) (k : Bytes) (attribute : Attribute) (told : Bool) (links : List LinkKey)
+    → OwnRows links links → OwnRows (with_link p k attribute told links) (with_link p k attribute told links)
+own_given p k attribute told links own = by_has (has_link p k links) refl
+  where
+    x : LinkKey
+    x = new_link p k attribute told
+
+    itself : is_link p k x ≡ true
+    itself = ap (λ b. b && same_key k k) (nat_eq-refl p) ∙ same_key-refl k
+
+    by_has : (b : Bool) → has_link p k links ≡ b
+        → OwnRows (cond b (at_link p k (revived attribute told) links) (links ++ x ∷ []))
+        (cond b (at_link p k (revived attribute told) links) (links ++ x ∷ []))
+    by_has true has = own_at (revived attribute told) (revived_keeps attribute told) p k links own
+    by_has false has =
+        all-append (λ (r : LinkKey). find (is_link r.partner r.key) (links ++ x ∷ []) ≡ Some r) links (x ∷ [])
+        (own_more x links links own) (found_behind (is_link p k) x links has itself, tt)
+
+-- ---- a device is live where one of its rows is
+
+pub lives_in : (device : ℕ) (all rs : List LinkKey) → OwnRows all rs
+    → list_any (λ (r : ℕ × Bytes). is_live_row (said_at r.0 r.1 all) && nat_eq r.0 device) (names rs)
+    ≡ list_any (is_live_of device) rs
+lives_in device all [] own = refl
+lives_in device all (r ∷ rs) own =
+    ap (λ o. is_live_row (option_map link_said o) && nat_eq r.partner device
+    || list_any (λ (x : ℕ × Bytes). is_live_row (said_at x.0 x.1 all) && nat_eq x.0 device) (names rs)) own.0 ∙ ap
+    (λ b. is_live_of device r || b) (lives_in device all rs own.1)

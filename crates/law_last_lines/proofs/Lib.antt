@@ -1,3 +1,0 @@
-mod Nets
-mod Links
-pub mod Said
