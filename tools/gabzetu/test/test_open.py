@@ -112,6 +112,13 @@ class Links(Folder):
         )
         self.assertEqual(opened_of(objects_of(run('open', path, '--code', CODE, '--json'))), OPENED)
 
+    def test_reads_every_kind_of_block_of_pcapng(self):
+        for kind in ('plain', 'simple', 'old', 'big-endian', 'several interfaces'):
+            with self.subTest(kind):
+                path = self.write_bytes('blocks', captures.pcapng_of(kind, packets_of('mixed.pcap')))
+                ran = run('open', path, '--code', CODE, '--json')
+                self.assertEqual((ran.status, opened_of(objects_of(ran))), (0, OPENED))
+
     def test_says_what_a_file_is_that_is_no_capture(self):
         self.assertEqual(run('open', self.path('none')).status, 66)
         self.assertIn('no capture file', run('open', self.write('words', 'hello')).said)
