@@ -101,7 +101,7 @@ class Capture:
     """A capture that is read once. left_out counts the packets without a frame, by reason."""
 
     def __init__(self, path, checks='auto', zep_port=None, is_followed=False):
-        self.links = Links() if zep_port is None else Links(zep_port)
+        self.links = Links(zep_port)
         self.checks = Checks(checks)
         self.path, self.is_followed = path, is_followed
         self.packets, self.frames, self.left_out = 0, 0, Tally()

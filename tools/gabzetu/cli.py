@@ -1,14 +1,15 @@
 """The command line: finds the commands, reads the words, runs one command and returns the exit status."""
 import argparse
 import importlib
+import io
 import os
 import pkgutil
 import sys
 
 from . import commands
-from .errors import UNWRITABLE, WRONG_USE, Stop
+from .errors import UNWRITABLE, WRONG_USE, Stop, reason_of
 from .formats.words import suggestion
-from .output import say
+from .output import say, write_output
 
 DESCRIPTION = 'Front end of the proved Zigbee trust centre program tc. Every verdict is that of tc.'
 SEE_HELP = '`gabzetu help` lists the commands.'
@@ -24,6 +25,10 @@ class Parser(argparse.ArgumentParser):
     def error(self, message):
         """Stops with the message and the usage."""
         raise Stop(f'{message}\n{self.format_usage().rstrip()}', WRONG_USE)
+
+    def _print_message(self, message, file=None):
+        """Writes the text of --help, and says so where that fails, which argparse passes over."""
+        write_output(None, message)
 
 
 def command_names():
@@ -76,21 +81,55 @@ def run(words):
     return arguments.run(arguments) or 0
 
 
+def fill_streams():
+    """Opens the standard streams that are closed, so that no file of a command gets their place.
+
+    Reading such an input fails, and so does writing such an output; what is said on standard error is lost."""
+    for handle, how in ((0, os.O_WRONLY), (1, os.O_RDONLY), (2, os.O_WRONLY)):
+        try:
+            os.fstat(handle)
+        except OSError:
+            os.open(os.devnull, how)
+    sys.stdin = sys.stdin or open(0, encoding='utf-8', closefd=False)
+    sys.stdout = sys.stdout or open(1, 'w', encoding='utf-8', closefd=False)
+    sys.stderr = sys.stderr or open(2, 'w', encoding='utf-8', closefd=False)
+    if hasattr(sys.stdout, 'reconfigure'):
+        sys.stdout.reconfigure(errors='backslashreplace')  # a terminal may lack a letter of a file's name
+
+
 def drop_output():
-    """Sends what is still buffered nowhere, after a reader of standard output has gone."""
-    os.dup2(os.open(os.devnull, os.O_WRONLY), sys.stdout.fileno())
+    """Sends what is still buffered nowhere, after standard output took no more."""
+    try:
+        os.dup2(os.open(os.devnull, os.O_WRONLY), sys.stdout.fileno())
+    except io.UnsupportedOperation:  # it is no file
+        pass
+
+
+def run_to_end(words):
+    """Runs the command of these words until its output is written, and returns its exit status."""
+    try:
+        status = run(words)
+    except SystemExit as ended:  # by --help
+        status = ended.code or 0
+    sys.stdout.flush()
+    return status
 
 
 def main(words):
     """Runs gabzetu with these words, and returns its exit status."""
+    fill_streams()
     try:
-        status = run(words)
-        sys.stdout.flush()
-        return status
+        return run_to_end(words)
     except Stop as stop:
         say(f'gabzetu: {stop.message}')
+        if stop.status == UNWRITABLE:
+            drop_output()
         return stop.status
     except BrokenPipeError:
+        drop_output()
+        return UNWRITABLE
+    except OSError as error:
+        say(f'gabzetu: {error.filename or "standard output: cannot be written"}: {reason_of(error)}')
         drop_output()
         return UNWRITABLE
     except KeyboardInterrupt:

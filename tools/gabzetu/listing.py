@@ -134,9 +134,10 @@ class Listing:
         hints = [WRONG_CHECK] if wrong * 10 > self.capture.packets * 9 else []
         if self.counts['closed'] and not self.known.opened:
             hints += [NO_CHECK, NO_KEY] if 'none' in self.capture.checks.in_use() else [NO_KEY]
-        ports = self.capture.links.other_ports.most_common(3)
+        links = self.capture.links
+        ports = links.other_ports.most_common(3) if links.zep_port else []
         return hints + [
-            f'{counted(count, "packet")} to UDP port {port} have a ZEP header: try --zep-port {port}.'
+            f'{counted(count, "packet")} to UDP port {port} look like ZEP: leave out --zep-port, or give this one.'
             for port, count in ports
         ]
 

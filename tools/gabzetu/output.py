@@ -17,7 +17,8 @@ def read_input(path):
         with open(path, 'rb') as file:
             return file.read()
     except OSError as error:
-        raise Stop(f'{path}: cannot be read: {reason_of(error)}', UNREADABLE) from error
+        name = 'standard input' if path == '-' else path
+        raise Stop(f'{name}: cannot be read: {reason_of(error)}', UNREADABLE) from error
 
 
 def is_written_in_place(path):
@@ -69,18 +70,25 @@ def open_output(path):
     except BrokenPipeError:
         raise
     except OSError as error:
-        raise Stop(f'{path or "standard output"}: cannot be written: {reason_of(error)}', UNWRITABLE) from error
+        name = 'standard output' if path in (None, '-') else path
+        raise Stop(f'{name}: cannot be written: {reason_of(error)}', UNWRITABLE) from error
 
 
 def write_output(path, data):
     """Writes bytes or text to a path, all or nothing. `-` or none is standard output."""
     with open_output(path) as file:
-        file.write(data.encode() if isinstance(data, str) else data)
+        file.write(data.encode('utf-8', 'backslashreplace') if isinstance(data, str) else data)
+
+
+def shown(text):
+    """Returns a text, as the name of a file, in which what isn't printed is escaped: a terminal takes no orders from
+    it."""
+    return ''.join(it if it.isprintable() else ascii(it)[1:-1] for it in text)
 
 
 def say(text):
-    """Writes a line for people on standard error."""
-    print(text, file=sys.stderr, flush=True)
+    """Writes lines for people on standard error."""
+    print('\n'.join(map(shown, text.split('\n'))), file=sys.stderr, flush=True)
 
 
 def is_watched():

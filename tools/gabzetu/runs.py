@@ -14,10 +14,10 @@ JOBS_USAGE = 'JOBS is a number from 1 to 64.'
 ANSWERS = (0, 10)
 
 
-def add_output(parser):
-    """Adds `-o OUT` and `--json`."""
+def add_output(parser, how='all or nothing'):
+    """Adds `-o OUT` and `--json`. `how` says how OUT is written."""
     parser.add_argument(
-        '-o', '--output', metavar='OUT', help='write to this file, all or nothing, and not to standard output'
+        '-o', '--output', metavar='OUT', help=f'write to this file, {how}, and not to standard output'
     )
     parser.add_argument('--json', action='store_true', help='write JSON lines: an object for each line of the output')
 

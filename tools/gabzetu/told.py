@@ -2,6 +2,7 @@
 import signal
 
 from .formats.causes import CAUSES, CLAIMS
+from .output import shown
 
 # Where each format is described: what `gabzetu help` knows, and the page.
 FORMATS = {
@@ -70,5 +71,5 @@ def exit_status(status):
 
 
 def base_name(path):
-    """Returns how an input is named in messages: as it was given."""
-    return 'standard input' if path == '-' else path
+    """Returns how an input is named in messages: as it was given, with escapes for what isn't printed."""
+    return 'standard input' if path == '-' else shown(path)

@@ -30,7 +30,7 @@ def add_arguments(parser):
         'store', metavar='STORE', help='the file of the store; where there is none, `init` or `restore` makes it'
     )
     parser.add_argument('script', metavar='SCRIPT', help='a script (gabzetu help script), or - for standard input')
-    add_output(parser)
+    add_output(parser, 'line by line')
 
 
 class Lines:

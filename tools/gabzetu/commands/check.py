@@ -47,9 +47,9 @@ def ask_tc(kind, data):
     return Verdict(ran.status, *((int(words[1]), words[2]) if is_refused else (None, None)), ran.output)
 
 
-def object_of(name, mistake):
+def object_of(path, mistake):
     """Returns the fields of a mistake, without those that it has not."""
-    fields = {'file': name, **mistake._asdict()}
+    fields = {'file': 'standard input' if path == '-' else path, **mistake._asdict()}
     return {key: value for key, value in fields.items() if value is not None}
 
 
@@ -81,11 +81,12 @@ def notes_of(name, data, output):
             yield f'{place}: this frame was not sent before; {sent} frames were'
 
 
-def report(arguments, name, found):
+def report(arguments, path, found):
     """Writes mistakes, at most some of them."""
+    name = told.base_name(path)
     shown = found if arguments.all else found[:MOST_SHOWN]
     if arguments.json:
-        write_output(None, ''.join(json.dumps(object_of(name, it)) + '\n' for it in shown))
+        write_output(None, ''.join(json.dumps(object_of(path, it)) + '\n' for it in shown))
     else:
         write_output(None, ''.join(f'{name}:{describe(it)}\n' for it in shown))
     left = len(found) - len(shown)
@@ -112,7 +113,7 @@ def check(arguments, path):
     kind = arguments.kind or diagnosis.kind_of(path, data)
     verdict = ask_tc(kind, data)
     if verdict.status == 5:
-        report(arguments, name, mistakes_of(kind, data, verdict))
+        report(arguments, path, mistakes_of(kind, data, verdict))
         return 5
     if verdict.status:
         say(f'gabzetu: {told.fault_of(kind, name, verdict.status, verdict.output)}')

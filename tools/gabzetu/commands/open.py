@@ -7,6 +7,7 @@ from ..capture import Capture
 from ..errors import WRONG_USE, Stop
 from ..formats.checks import MODES
 from ..formats.keyfiles import normal_key, printable, read_key_file
+from ..formats.words import counted
 from ..opening import MOST_FRAMES, WELL_KNOWN, Opener, Ring
 from ..output import is_watched, open_output, say
 from ..program import run_tc
@@ -43,7 +44,12 @@ def add_arguments(parser):
         help='what the last two bytes of each packet are: a check sequence (crc), '
         "a TI chip's words (ti), part of the packet (none), or anything else (ignore); auto finds out",
     )
-    parser.add_argument('--zep-port', metavar='PORT', type=int, help='the UDP port of ZEP packets (17754)')
+    parser.add_argument(
+        '--zep-port',
+        metavar='PORT',
+        type=int,
+        help='the only UDP port of ZEP packets; without it, 17754 and what looks like ZEP on any other port',
+    )
     parser.add_argument(
         '--follow', action='store_true', help='go on as the file or pipe grows, until it ends or you press Ctrl-C'
     )
@@ -157,6 +163,12 @@ def finish(shown, arguments):
         say(
             f'gabzetu: packets of {kind} should end with {ENDINGS[said]}. '
             f'These end with {ENDINGS[how]}, and are read so (see --fcs)'
+        )
+    links = shown.capture.links
+    for port, count in [] if links.zep_port else links.other_ports.most_common():
+        say(
+            f'gabzetu: {counted(count, "packet")} to UDP port {port} begin with a ZEP header, and are read as ZEP '
+            '(see --zep-port)'
         )
 
 

@@ -33,7 +33,7 @@ def add_arguments(parser):
         help='of keys: the capture that `sniff` read, so that they get the numbers of its packets',
     )
     parser.add_argument('--fcs', choices=MODES, default='auto', help='of packets: as for `open`')
-    parser.add_argument('--zep-port', metavar='PORT', type=int, help='of packets: the UDP port of ZEP packets (17754)')
+    parser.add_argument('--zep-port', metavar='PORT', type=int, help='of packets: as for `open`')
 
 
 def run(arguments):

@@ -94,7 +94,8 @@ LAYOUTS = [
     (re.compile('^ +'), 'a line begins with its first word, without spaces before it'),
     (re.compile(' +$'), 'a line ends with its last word, without spaces after it'),
     (re.compile('  +'), 'words are separated by one space, and here are more'),
-    (re.compile('[\x80-\xff]+|[\x01-\x1f\x7f]'), 'only a comment may have characters that are not ASCII'),
+    (re.compile('[\x01-\x1f\x7f]'), 'a control character; a line has words and single spaces alone'),
+    (re.compile('[\x80-\xff]+'), 'only a comment may have characters that are not ASCII'),
 ]
 
 
@@ -213,4 +214,4 @@ class Grammar:
         if not forms or not any(it.has_rest() for it in forms):
             return fault_of_layout(line, LAYOUTS)
         head = line._replace(text=' '.join(it.text for it in line.words[:2]))
-        return fault_of_layout(head, LAYOUTS) or fault_of_layout(line, LAYOUTS[-1:])
+        return fault_of_layout(head, LAYOUTS) or fault_of_layout(line, LAYOUTS[-2:])

@@ -73,18 +73,21 @@ def in_zep(data):
     return Wrapped(data[size : size + data[length]], data[length], check, f'ZEP {check}')
 
 
-def looks_like_zep(data):
-    """Returns whether a payload of UDP has a ZEP header whose length is that of what stands behind it."""
+def looks_like_zep(data, whole):
+    """Returns whether a payload of UDP, of which the bytes `data` are there, begins with a ZEP header whose length is
+    that of what is behind it."""
     if data[:2] != b'EX' or len(data) < 4 or data[2] not in ZEP_FORMS or (data[2] == 2 and data[3] != 1):
         return False
     size, _, length = ZEP_FORMS[data[2]]
-    return len(data) >= size and len(data) == size + data[length]
+    return len(data) >= size and whole == size + data[length]
 
 
 class Links:
-    """Unwraps packets of all link types. ZEP packets are those of one UDP port; scapy reads what is before them."""
+    """Unwraps packets of all link types; scapy reads what is before UDP.
 
-    def __init__(self, zep_port=ZEP_PORT):
+    ZEP packets are those of one UDP port, or without one those of ZEP's port and what looks like ZEP on any other."""
+
+    def __init__(self, zep_port=None):
         self.zep_port, self.scapy, self.other_ports = zep_port, None, collections.Counter()
 
     def unwrap(self, packet):
@@ -128,8 +131,11 @@ class Links:
             raise LeftOut('no ZEP packet')
         udp = read[self.udp]
         data = udp.original[8 : udp.len]
-        if self.zep_port in (udp.sport, udp.dport):
+        if (self.zep_port or ZEP_PORT) in (udp.sport, udp.dport):
             return in_zep(data)
-        if looks_like_zep(data):
-            self.other_ports[udp.dport] += 1
-        raise LeftOut('no ZEP packet')
+        if not looks_like_zep(data, udp.len - 8):
+            raise LeftOut('no ZEP packet')
+        self.other_ports[udp.dport] += 1
+        if self.zep_port:
+            raise LeftOut('ZEP packet of another port')
+        return in_zep(data)

@@ -114,6 +114,11 @@ def readers_of(scapy):
             self.interfaces = []
             super()._read_block_shb()
 
+        def _read_block_idb(self, *block):
+            super()._read_block_idb(*block)
+            link, snap, *more = self.interfaces[-1]
+            self.interfaces[-1] = (link, snap or LONGEST, *more)  # 0 is no limit, and scapy takes it as one
+
     return Pcap, Pcapng
 
 
@@ -128,6 +133,8 @@ def open_reader(path, source):
     """Returns scapy's reader of a capture, whose magic number tells the format."""
     scapy = import_scapy()
     magic = source.read(4)
+    if not magic:
+        raise Stop(f'{path}: this is no capture file, for it is empty', UNREADABLE)
     if magic[:1] in (b'#', b'k', b'c', b'a', b'f') and magic.isascii():
         raise Stop(f'{path}: this is text, and no capture file. `gabzetu inspect` reads text captures.', UNREADABLE)
     kind = readers_of(scapy)[magic == b'\n\r\r\n']

@@ -136,7 +136,7 @@ class Bytes:
         if fault:
             return fault
         if len(word) % 2:
-            return f'a byte has 2 digits, and this has {len(word)} digits, an odd number'
+            return f'a byte has 2 digits, and this has {counted(len(word), "digit")}, an odd number'
         if not self.low <= len(word) // 2 <= self.high:
             return f'{self.name} is {self.wanted}, and this has {len(word) // 2}'
         return None
@@ -154,7 +154,7 @@ class Code:
             return None
         fault = fault_of_digits(word)
         if fault is None and len(word) % 2:
-            return f'a byte has 2 digits, and this has {len(word)} digits, an odd number'
+            return f'a byte has 2 digits, and this has {counted(len(word), "digit")}, an odd number'
         return fault
 
 

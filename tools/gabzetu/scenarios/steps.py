@@ -241,4 +241,5 @@ def write_schedule(name, data):
             plan.comment(text)
         else:
             take_line(plan, steps, line)
+    plan.origin += 1  # of what the whole scenario lacks
     return plan.text()

@@ -84,9 +84,9 @@ def pcap(link, packets, order='<'):
     )
 
 
-def block(kind, body):
+def block(kind, body, order='<'):
     body += bytes(-len(body) % 4)
-    return struct.pack('<II', kind, len(body) + 12) + body + struct.pack('<I', len(body) + 12)
+    return struct.pack(order + 'II', kind, len(body) + 12) + body + struct.pack(order + 'I', len(body) + 12)
 
 
 def pcapng(link, packets):
@@ -97,6 +97,28 @@ def pcapng(link, packets):
         block(6, struct.pack('<5I', 0, time >> 32, time & 0xFFFFFFFF, len(it), len(it)) + it)
         for time, it in zip(times, packets)
     )
+
+
+def pcapng_of(kind, packets):
+    """Returns the bytes of a pcapng whose packets are in blocks of a kind, or of interfaces of several link types."""
+    order = '>' if kind == 'big-endian' else '<'
+    ether = bytes(12) + b'\x08\0'
+    wraps = [(230, bytes)]
+    if kind == 'several interfaces':
+        wraps += [(195, with_check), (283, tap), (1, lambda it: ether + udp(zep(it)))]
+    out = block(0x0A0D0D0A, struct.pack(order + 'IHHq', 0x1A2B3C4D, 1, 0, -1), order)
+    out += b''.join(block(1, struct.pack(order + 'HHI', link, 0, 0), order) for link, _ in wraps)
+    for at, packet in enumerate(packets):
+        place = at % len(wraps)
+        body = wraps[place][1](packet)
+        sizes = (len(body), len(body))
+        if kind == 'simple':
+            out += block(3, struct.pack(order + 'I', len(body)) + body, order)
+        elif kind == 'old':
+            out += block(2, struct.pack(order + 'HH4I', place, 0, 0, at, *sizes) + body, order)
+        else:
+            out += block(6, struct.pack(order + '5I', place, 0, at, *sizes) + body, order)
+    return out + block(5, struct.pack(order + '3I', 0, 0, 0), order)
 
 
 def every_link(packets):

@@ -88,8 +88,7 @@ class Links(Folder):
         for name, (content, _) in captures.every_link(packets_of('mixed.pcap')).items():
             with self.subTest(name):
                 path = self.write_bytes('capture', content)
-                port = ['--zep-port', '17755'] if 'another port' in name else []
-                ran = run('open', path, '--code', CODE, '--json', *port)
+                ran = run('open', path, '--code', CODE, '--json')
                 self.assertEqual(ran.status, 0, ran.said)
                 self.assertEqual(opened_of(objects_of(ran)), OPENED)
 
@@ -112,6 +111,13 @@ class Links(Folder):
             captures.pcapng(230, packets[:10]) + captures.pcapng(195, list(map(captures.with_check, packets[10:]))),
         )
         self.assertEqual(opened_of(objects_of(run('open', path, '--code', CODE, '--json'))), OPENED)
+
+    def test_reads_every_kind_of_block_of_pcapng(self):
+        for kind in ('plain', 'simple', 'old', 'big-endian', 'several interfaces'):
+            with self.subTest(kind):
+                path = self.write_bytes('blocks', captures.pcapng_of(kind, packets_of('mixed.pcap')))
+                ran = run('open', path, '--code', CODE, '--json')
+                self.assertEqual((ran.status, opened_of(objects_of(ran))), (0, OPENED))
 
     def test_says_what_a_file_is_that_is_no_capture(self):
         self.assertEqual(run('open', self.path('none')).status, 66)
@@ -207,10 +213,19 @@ class Open(Folder):
             'packets of link type 195 should end with a check sequence. These end with no check sequence', said
         )
 
-    def test_hints_at_the_port_of_zep(self):
+    def test_one_port_of_zep(self):
         ether = bytes(12) + b'\x08\0'
         self.write_pcap('port', 1, [ether + captures.udp(captures.zep(it), 17755) for it in packets_of('mixed.pcap')])
-        self.assertIn('try --zep-port 17755', run('open', self.path('port')).output)
+        self.assertIn('30 packets to UDP port 17755 begin with a ZEP header', run('open', self.path('port')).said)
+        ran = run('open', self.path('port'), '--zep-port', '17756')
+        self.assertIn('30  ZEP packet of another port (the first is packet 1)', ran.output)
+        self.assertIn('30 packets to UDP port 17755 look like ZEP: leave out --zep-port', ran.output)
+        self.assertEqual(run('open', self.path('port'), '--zep-port', '17755').said, '')
+
+    def test_other_packets_to_other_ports_are_no_zep(self):
+        ether, zep = bytes(12) + b'\x08\0', captures.zep(packets_of('mixed.pcap')[0])
+        self.write_pcap('port', 1, [ether + captures.udp(it, 9999) for it in (b'EX', zep[:31], zep[:-1], zep + b'\0')])
+        self.assertIn('4  no ZEP packet (the first is packet 1)', run('open', self.path('port')).output)
 
     def test_refuses_what_is_no_key_or_code(self):
         ran = run('open', data('mixed.pcap'), '--code', '00')

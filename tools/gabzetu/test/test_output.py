@@ -2,14 +2,15 @@
 import io
 import os
 import stat
+import subprocess
 import sys
 import time
 import unittest
 from unittest import mock
 
-from gabzetu import output, progress
+from gabzetu import TOP, output, progress
 from gabzetu.errors import Stop
-from gabzetu.test.support import Folder
+from gabzetu.test.support import Folder, example, needs_tc
 
 LONGEST = 60  # seconds, for a machine that is busy with other work
 
@@ -46,6 +47,64 @@ class Output(Folder):
             output.read_input(self.folder)
         self.assertEqual(stopped.exception.status, 66)
         self.assertIn('is a directory', stopped.exception.message)
+
+
+class Streams(Folder):
+    """Standard streams that are closed or take no more, and names that no terminal should get as they are."""
+
+    def gabzetu(self, words, shell='', environment=None):
+        """Returns how gabzetu ends on some words, with what a shell does to its streams, and what it says."""
+        command = f'exec "$0" "$@" {shell}'
+        front = [sys.executable, os.path.join(TOP, 'gabzetu')]
+        ran = subprocess.run(
+            ['sh', '-c', command, *front, *words],
+            stdin=subprocess.DEVNULL,
+            capture_output=True,
+            env={**os.environ, **(environment or {})},
+            timeout=LONGEST,
+            check=False,
+        )
+        return ran.returncode, ran.stdout.decode(), ran.stderr.decode()
+
+    def test_an_output_that_takes_no_more_is_a_fault(self):
+        for words in (['--help'], ['--version'], ['man'], ['help', 'schedule'], ['play', '--help']):
+            for shell, why in (('>/dev/full', 'no space left on device'), ('>&-', 'bad file descriptor')):
+                with self.subTest(words=words, shell=shell):
+                    status, _, said = self.gabzetu(words, shell)
+                    self.assertEqual((status, said), (74, f'gabzetu: standard output: cannot be written: {why}\n'))
+
+    def test_a_closed_input_or_standard_error(self):
+        status, _, said = self.gabzetu(['from-zigpy', '-'], '<&-')
+        self.assertEqual(
+            (status, said), (66, 'gabzetu: standard input: cannot be read: bad file descriptor\n')
+        )
+        self.assertEqual(self.gabzetu(['play', self.folder], '2>&-'), (66, '', ''))
+        self.assertEqual(self.gabzetu(['man', '-o', self.path('page')], '>&- <&- 2>&-')[0], 0)
+        self.assertGreater(os.path.getsize(self.path('page')), 1000)
+
+    def test_names_are_shown_with_escapes(self):
+        name = b'a\xff \x1b[31m\n\xc3\xb6'
+        status, _, said = self.gabzetu(['play', os.fsdecode(name)])
+        self.assertEqual(status, 66)
+        self.assertEqual(
+            said, 'gabzetu: a\\udcff \\x1b[31m\n\u00f6: cannot be read: no such file or directory\n'
+        )
+
+    def test_a_terminal_may_lack_letters(self):
+        with open(os.path.join(os.fsencode(self.folder), b'\xc3\xb6\xff.scn'), 'wb') as file:
+            file.write(b'kock\n')
+        ascii_only = {'PYTHONIOENCODING': 'ascii', 'LC_ALL': 'C'}
+        status, _, said = self.gabzetu(['scenario', self.path(os.fsdecode(b'\xc3\xb6\xff.scn'))], '', ascii_only)
+        self.assertEqual(status, 65)
+        self.assertIn("\\xf6\\udcff.scn:1:1: 'kock'", said)
+
+    @needs_tc
+    def test_what_is_right_is_said_with_escapes_too(self):
+        path = os.path.join(os.fsencode(self.folder), b'\n\xff')
+        with open(path, 'wb') as file, open(example('join.sched'), 'rb') as given:
+            file.write(given.read())
+        status, output_text, _ = self.gabzetu(['check', os.fsdecode(path)])
+        self.assertEqual((status, output_text), (0, f'{self.folder}/\\n\\udcff: a schedule, right\n'))
 
 
 class Progress(unittest.TestCase):
