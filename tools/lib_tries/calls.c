@@ -1,11 +1,9 @@
-/* Tries the library for C: each number of each call, worked values, and changed frames in buffers of their own length.
- * The status is 0, or 1 with the line of the first try that fails. Without a C library, as on a bare aarch64, there is
- * no message, and each buffer is part of a larger one. */
-#include "tc.h"
+/* Tries the library for C: each number of each call on keys and frames, worked values, and changed frames in buffers of
+ * their own length. */
+#define BARE_ROUNDS 2000
+#include "tries.h"
 
 #if __STDC_HOSTED__
-#include <stdio.h>
-#include <stdlib.h>
 #define TAKE(len) malloc((len) ? (len) : 1)
 #define GIVE(buffer) free(buffer)
 #else
@@ -14,10 +12,6 @@ static int taken;
 #define TAKE(len) rooms[taken++ % 4]
 #define GIVE(buffer) (void)(buffer)
 #endif
-
-#define CHECK(it) \
-    if (!(it)) return __LINE__
-#define MARK 0xEE
 
 /* An install code of the Base Device Behavior with its CRC, and its link key. */
 static const uint8_t code[18] = {0x83, 0xFE, 0xD3, 0x40, 0x7A, 0x93, 0x97, 0x23, 0xA5,
@@ -36,22 +30,6 @@ static const uint8_t frame[40] = {0x08, 0x02, 0x00, 0x00, 0x4D, 0x3C, 0x1E, 0x00
 enum { FRAME = 40, HEADER = 22, CONTENT = 14 };
 static const uint8_t content_of_it[CONTENT] = {0x01, 0x00, 0x06, 0x02, 0x00, 0x00, 0x00,
                                                0x00, 0x4B, 0x12, 0x00, 0x2B, 0x1A, 0x01};
-
-static int same(const uint8_t *some, const uint8_t *others, size_t len) {
-    while (len--)
-        if (*some++ != *others++) return 0;
-    return 1;
-}
-
-static int all_marked(const uint8_t *bytes, size_t len) {
-    while (len--)
-        if (*bytes++ != MARK) return 0;
-    return 1;
-}
-
-static void mark(uint8_t *bytes, size_t len) {
-    while (len--) *bytes++ = MARK;
-}
 
 static int link_keys(void) {
     uint8_t key[20], wrong[18];
@@ -99,7 +77,8 @@ static int frames(const uint8_t *key) {
     CHECK(all_marked(content, sizeof content));
     CHECK(tc_open_nwk(frame, FRAME, key, 16, content, 130, &opened) == TC_DONE);
     CHECK(opened.source == 0x00124B0000000003 && opened.counter == 0 && opened.len == CONTENT && opened.label == 1);
-    CHECK(opened.control == 0x2D && same(content, content_of_it, CONTENT) && all_marked(content + CONTENT, 130 - CONTENT));
+    CHECK(opened.control == 0x2D && same(content, content_of_it, CONTENT));
+    CHECK(all_marked(content + CONTENT, 130 - CONTENT));
     for (size_t at = 0; at < FRAME; at++) clear[at] = at < HEADER ? frame[at] : content_of_it[(at - HEADER) % CONTENT];
     CHECK(tc_seal_nwk(clear, FRAME - 4, key, 17, sealed, 127, &len) == TC_WRONG_KEY);
     CHECK(tc_seal_nwk(clear, FRAME - 4, key, 16, sealed, 126, &len) == TC_WRONG_ROOM);
@@ -124,15 +103,6 @@ static int longest(const uint8_t *key) {
     CHECK(tc_open_nwk(sealed, 127, key, 16, content, 127, &opened) == TC_DONE);
     CHECK(opened.len == 123 - HEADER && same(content, clear + HEADER, 123 - HEADER));
     return 0;
-}
-
-static uint64_t seed = 1;
-
-static uint32_t dice(uint32_t below) {
-    seed ^= seed << 13;
-    seed ^= seed >> 7;
-    seed ^= seed << 17;
-    return (uint32_t)(seed % below);
 }
 
 /* Opens and seals a changed frame in buffers of their own length. */
@@ -171,41 +141,3 @@ static int tried(long changed) {
     while (!line && changed--) line = changed_frame(key);
     return line;
 }
-
-#if __STDC_HOSTED__
-int main(int count, char **words) {
-    int line = tried(count > 1 ? atol(words[1]) : 100000);
-    if (line) printf("calls.c:%d failed\n", line);
-    return line != 0;
-}
-#else
-void *memcpy(void *into, const void *from, size_t len) {
-    for (size_t at = 0; at < len; at++) ((volatile uint8_t *)into)[at] = ((const uint8_t *)from)[at];
-    return into;
-}
-
-void *memset(void *into, int byte, size_t len) {
-    for (size_t at = 0; at < len; at++) ((volatile uint8_t *)into)[at] = (uint8_t)byte;
-    return into;
-}
-
-void *memmove(void *into, const void *from, size_t len) {
-    if ((uintptr_t)into <= (uintptr_t)from) return memcpy(into, from, len);
-    while (len--) ((volatile uint8_t *)into)[len] = ((const uint8_t *)from)[len];
-    return into;
-}
-
-int memcmp(const void *some, const void *others, size_t len) {
-    for (size_t at = 0; at < len; at++)
-        if (((const uint8_t *)some)[at] != ((const uint8_t *)others)[at]) return 1;
-    return 0;
-}
-
-/* Linux on aarch64: call 93 ends the process. */
-void _start(void) {
-    register long status __asm__("x0") = tried(2000) != 0;
-    register long call __asm__("x8") = 93;
-    __asm__ volatile("svc 0" : : "r"(status), "r"(call));
-    __builtin_unreachable();
-}
-#endif
