@@ -1,31 +1,25 @@
 -- What stands in a store after a session is what the next one finds: the tables that it left, as after a boot.
-use Rattle.std.proofs.Common.{◌≡◌, ℕ, ◌<◌, Bool, true, false, not, if◌then◌else◌, List, [], ◌∷◌, ◌++◌, length, map, Option, Some, None, Result, Ok, Err, refl, sym, ap, ◌∙◌, subst, arith}
+use Rattle.std.proofs.Common.{◌≡◌, ℕ, ◌<◌, Bool, true, false, not, if◌then◌else◌, List, [], ◌∷◌, length, Some, Result, Ok, Err, refl, sym, ap, ◌∙◌, subst, arith}
 use Rattle.std.specs.List.{concat}
-use Rattle.law_sessions.specs.Sessions.{AreSessions, IsLeft, NoneTwice, Session, found_after, lines_seal, sealed_on, sessions_seal}
-use Rattle.law_sessions.proofs.SessionLemmas.{sessions_apart}
-use Rattle.law_sessions.proofs.Stamps.{nonces_apart}
 use Rattle.zb_centre_store.specs.Standing.{StandsAs, found_on, found_store, found_tables}
 use Rattle.zb_centre_store.specs.declared.fault.AdminFault.TheVariants.{BadStore}
 use Rattle.zb_host.specs.Plans.{Restored, gives, bad}
-use Rattle.zb_live.specs.Living.{Found, fresh, served}
-use Rattle.zb_model.specs.Claims.{AreApart}
 use Rattle.zb_model.specs.Data.{Centre}
 use Rattle.zb_model.specs.Record.{record_of}
 use Rattle.zb_model.specs.State.{NodeState, after_boot, shown}
-use Rattle.zb_model_real.specs.Real.{real}
 use Rattle.zb_record.proofs.Sound.{read_kept}
 use Rattle.zb_record.proofs.Tested.{fits_from}
 use Rattle.zb_record.proofs.WholeAgain.{record_again}
 use Rattle.zb_record.specs.Ranges.{FitsBytes, fits_widths}
 use Rattle.zb_record.specs.Records.{record_read}
-use Rattle.zb_store.specs.Layout.{Standing, slot, stands}
+use Rattle.zb_store.specs.Layout.{Standing, slot}
 use Rattle.zb_stored_tables.proofs.CoreLaws.{begun}
 use Rattle.zb_stored_tables.proofs.Entries.{IsRuled, entries_ruled}
 use Rattle.zb_stored_tables.proofs.InMemory.{boot_of_shown, recorded_booted}
 use Rattle.zb_stored_tables.proofs.Made.{fits_back}
 use Rattle.zb_stored_tables.specs.Stored.{IsKept, recorded, restored, state_given, version_in}
 
-abbrev gave : NodeState → Result NodeState ℕ
+abbrev pub gave : NodeState → Result NodeState ℕ
 gave t = Ok t
 
 state_or : NodeState → Result NodeState ℕ → NodeState
@@ -36,7 +30,7 @@ same_given : (s t : NodeState) → gave s ≡ gave t → s ≡ t
 unfolding state_or
 same_given s t e = ap (state_or s) e
 
-read_ruled : (r : List ℕ) (s : NodeState) → record_read r ≡ gave s → s.role ≡ Centre → IsRuled Centre s
+pub read_ruled : (r : List ℕ) (s : NodeState) → record_read r ≡ gave s → s.role ≡ Centre → IsRuled Centre s
 unfolding shown
 read_ruled r s read role_is = let kept =
     read_kept r s read in
@@ -88,29 +82,3 @@ pub found_again : (s : NodeState) (image : List ℕ) → IsKept s → StandsAs (
 unfolding found_on
 found_again s [] kept (z, whole, given) = absurd (slot_of_none (not z.second) whole.other_gate)
 found_again s (byte ∷ bytes) kept (z, whole, given) = ap found_store whole.stands ∙ store_found s z kept given
-
--- ---- sessions on a disk
-
-left_found : (found : Found) (o : Option NodeState) (left : List ℕ) → IsLeft found o left → found_on left
-    ≡ found_after found o
-left_found found None left is = is
-left_found found (Some s) left (kept, stands_so) = found_again s left kept stands_so
-
--- what they seal is what their lines seal
-same_seals : (image : List ℕ) (sessions : List Session) → AreSessions image sessions → sealed_on image sessions
-    ≡ sessions_seal (found_on image) (map (λ (x : Session). x.lines) sessions)
-same_seals image [] are = refl
-same_seals image (x ∷ more) (is, are) =
-    ap (λ ts. lines_seal (found_on image) x.lines fresh ++ ts)
-    (same_seals x.left more are ∙ ap (λ (found : Found). sessions_seal found (map (λ (x : Session). x.lines) more))
-    (left_found (found_on image) (served (found_on image) x.lines fresh).after.tables x.left is))
-
-pub disk_apart : (image : List ℕ) (sessions : List Session) → AreSessions image sessions
-    → NoneTwice (sealed_on image sessions)
-disk_apart image sessions are = subst NoneTwice (sym (same_seals image sessions are))
-    (sessions_apart image (map (λ (x : Session). x.lines) sessions))
-
-pub disk_nonces_apart : (image : List ℕ) (sessions : List Session) → AreSessions image sessions
-    → AreApart real (sealed_on image sessions)
-disk_nonces_apart image sessions are = subst (AreApart real) (sym (same_seals image sessions are))
-    (nonces_apart image (map (λ (x : Session). x.lines) sessions))

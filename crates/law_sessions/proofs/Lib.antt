@@ -3,3 +3,10 @@ mod SessionLemmas
 mod Stamps
 mod FoundAgain
 mod SealLines
+mod PlainLines
+mod HubRuns
+mod Carried
+mod LogLemmas
+mod LogRuns
+mod RuledSessions
+mod OnDisk

@@ -11,8 +11,8 @@ use Rattle.zb_model.specs.Answer.{answer}
 use Rattle.zb_model.specs.Data.{Bytes, Layer, Nwk, Aps, Task, Term}
 use Rattle.zb_model.specs.State.{NodeState, after_boot, net_of, shown}
 use Rattle.zb_model_real.specs.Real.{real}
+use Rattle.zb_record.specs.Ranges.{FitsBytes}
 use Rattle.zb_script.specs.Scripts.{Script}
-use Rattle.zb_stored_tables.specs.Stored.{IsKept}
 
 -- ---- what is sealed
 
@@ -73,11 +73,11 @@ pub record Session : Type 0 where
   pub lines : List Bytes
   pub left : List ℕ
 
--- The image holds the tables after the lines, or what was found, where the session was never open. Tables of a centre
--- keep the rules for records and the widths of a record.
+-- The image holds the tables after the lines, or what was found, where the session was never open. The values of the
+-- tables are within the widths of a record.
 abbrev pub IsLeft : Found → Option NodeState → List ℕ → Type 0
 IsLeft found None left = found_on left ≡ found
-IsLeft found (Some s) left = IsKept s × StandsAs (Some s) left
+IsLeft found (Some s) left = FitsBytes s × StandsAs (Some s) left
 
 -- each session begins on the image that the one before left
 abbrev pub AreSessions : List ℕ → List Session → Type 0

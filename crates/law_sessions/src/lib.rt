@@ -2,11 +2,16 @@
 //! function with an empty body.
 #![tactic(auto)]
 
-ghost use Rattle.std.specs.Prelude.{◌≡◌, ℕ, List, Some, Ok};
+ghost use Rattle.std.specs.Prelude.{◌≡◌, ℕ, List, [], Some, Ok};
+ghost use Rattle.law_sessions.specs.Hubs.{without_numbers};
+ghost use Rattle.law_sessions.specs.Logs.{HubHolds, IsHubOf, hub_log};
 ghost use Rattle.law_sessions.specs.Sessions.{AreSessions, NoneAgain, NoneTwice, Session, left_by_all, sealed_on, sessions_seal};
 ghost use Rattle.zb_centre_store.specs.Standing.{StandsAs, found_on};
 ghost use Rattle.zb_live.specs.Shown.{event_lines};
+ghost use Rattle.zb_live.specs.Living.{Found};
 ghost use Rattle.zb_model.specs.Answer.{Answer};
+ghost use Rattle.zb_model.specs.Play.{Schedule, groups, start};
+ghost use Rattle.zb_model.specs.Schedules.{IsSchedule};
 ghost use Rattle.zb_model.specs.Claims.{AreApart, sealed_terms};
 ghost use Rattle.zb_model.specs.Data.{Bytes};
 ghost use Rattle.zb_model.specs.State.{NodeState, after_boot, shown};
@@ -54,6 +59,27 @@ pub fn no_counter_comes_again_after_a_restore()
         → NoneTwice (sessions_seal (Ok (Some (skipped by backup))) since) }
 {}
 
+/// States that the log of a hub is the part of its centre in a run of the model, but for numbers.
+///
+/// The hub is the node `n` of a schedule `w` (`IsHubOf`): a reset and a boot begin each session, and each task is an
+/// event. A frame is put on the air from outside, and comes with the key of its own line. The log has each line that
+/// stands for a task, also the last one of a session that was killed, which may not have been answered any more.
+#[tactic(auto, using(crate::proofs::LogRuns::log_runs))]
+pub fn the_log_of_a_hub_is_a_run()
+    ensures { (w : Schedule) (n : ℕ) (found : Found) (sessions : List (List Bytes)) → IsHubOf w n found sessions
+        → without_numbers (hub_log n found sessions) ≡ without_numbers (groups real w (start w) [] 1 w.events) }
+{}
+
+/// States what holds of the run of a hub.
+///
+/// Each group is the policy's answer to its event, with the counters that it must have, and no two seals of all
+/// sessions have one key and nonce. The nodes are those that a schedule may have.
+#[tactic(auto, using(crate::proofs::LogRuns::run_holds))]
+pub fn the_run_of_a_hub_holds()
+    ensures { (w : Schedule) (n : ℕ) (found : Found) (sessions : List (List Bytes)) → IsHubOf w n found sessions
+        → IsSchedule (record w { events = [] }) → HubHolds w }
+{}
+
 /// States that the next session finds what a session left, wherever that ended or was killed.
 ///
 /// An image that represents these tables is found as these tables after a boot. The tables of a centre keep the rules
@@ -67,7 +93,7 @@ pub fn what_a_session_leaves_is_found()
 /// States that on one disk no two terms of any sessions take one counter, or have one sealing key and one nonce.
 ///
 /// Each session begins on the image that the one before left, at its end or at a crash at any moment of it.
-#[tactic(auto, using(crate::proofs::FoundAgain::disk_apart, crate::proofs::FoundAgain::disk_nonces_apart))]
+#[tactic(auto, using(crate::proofs::OnDisk::disk_apart, crate::proofs::OnDisk::disk_nonces_apart))]
 pub fn no_counter_comes_twice_on_one_disk()
     ensures counters { (image : List ℕ) (sessions : List Session) → AreSessions image sessions
         → NoneTwice (sealed_on image sessions) }
