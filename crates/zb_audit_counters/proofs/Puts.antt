@@ -69,9 +69,20 @@ layer_alike layer.Nwk layer.Aps = refl
 layer_alike layer.Aps layer.Nwk = refl
 layer_alike layer.Aps layer.Aps = refl
 
+-- a test that is made first may stand last
+first_last : (a b c : Bool) → (a && (b && c)) ≡ (b && (c && a))
+first_last true true true = refl
+first_last true true false = refl
+first_last true false c = refl
+first_last false true true = refl
+first_last false true false = refl
+first_last false false c = refl
+
 sender_alike : (s q : Sender) → is_eq (sender_cmp s q) ≡ same_sender s q
-sender_alike s q = part _ _ _ _ (layer_alike s.layer q.layer)
-    (part _ _ _ _ (sym (texts_ties s.key.0 q.key.0)) (number_alike s.eui.0 q.eui.0))
+sender_alike s q =
+    part _ _ _ _ (number_alike s.eui.0 q.eui.0)
+    (part _ _ _ _ (layer_alike s.layer q.layer) (sym (texts_ties s.key.0 q.key.0)))
+    ∙ first_last (nat_eq s.eui.0 q.eui.0) (same_layer s.layer q.layer) (bytes_eq s.key.0 q.key.0)
 
 put : {T : Type 0} (b same : Bool) (t fresh : T) (o : Option T) → b ≡ same → unwrap_or (cond b (Some t) o) fresh
     ≡ (if same then t else unwrap_or o fresh)

@@ -84,8 +84,8 @@ abbrev pub key_cmp : Key → Key → Ordering
 key_cmp a b = slice_cmp nat_cmp a.0 b.0
 
 abbrev pub sender_cmp : Sender → Sender → Ordering
-sender_cmp a b = ordering_then (layer_ord.cmp-value.it a.layer b.layer)
-    (ordering_then (key_cmp a.key b.key) (nat_cmp a.eui.0 b.eui.0))
+sender_cmp a b = ordering_then (nat_cmp a.eui.0 b.eui.0)
+    (ordering_then (layer_ord.cmp-value.it a.layer b.layer) (key_cmp a.key b.key))
 
 unfoldable pub key_in : BTreeMap Key KeyCounters → Key → KeyCounters
 key_in keys key = unwrap_or (get key_cmp keys key) fresh_key

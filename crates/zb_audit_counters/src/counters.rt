@@ -394,9 +394,9 @@ impl Counters {
                 ..
             } => {
                 let sender = Sender {
+                    eui: *sender,
                     layer: *layer,
                     key: *key,
-                    eui: *sender,
                 };
                 self.store_floor(group, sender, *value, in_block(node))
             }
@@ -479,9 +479,9 @@ fn sender_of(term: &Term) -> Sender
     ensures { result ≡ kept.sender_of term.now }
 {
     Sender {
+        eui: term.source,
         layer: term.layer,
         key: term.base,
-        eui: term.source,
     }
 }
 

@@ -7,15 +7,15 @@ use crate::outgoing::ahead;
 use crate::versioned::Versioned;
 use zb_base::{Eui, Key, Layer};
 
-/// The sender of frames at a layer under a key.
+/// The sender of frames at a layer under a key. The key stands last, since two senders mostly differ in their address.
 #[derive(Clone, Copy, PartialEq, Eq, PartialOrd, Ord)]
 pub struct Sender {
+    /// The IEEE address of the sender.
+    pub eui: Eui,
     /// The layer.
     pub layer: Layer,
     /// The base key.
     pub key: Key,
-    /// The IEEE address of the sender.
-    pub eui: Eui,
 }
 
 /// What is known of a sender that a node hears.

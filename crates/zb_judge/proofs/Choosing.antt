@@ -1,6 +1,6 @@
 -- The link row that is chosen for a frame, in the program's rows and in the model's.
 use Rattle.std.proofs.Common.{◌≡◌, ℕ, List, [], ◌∷◌, ◌++◌, map, refl, sym, ap, ◌∙◌, Bool, true, false, if◌then◌else◌, ◌&&◌, Option, Some, None}
-use Rattle.std.specs.Prelude.{filter, find, option_map, reverse}
+use Rattle.std.specs.Prelude.{filter, find, is_some, option_map, reverse}
 use mathlib.Core.List.{reverse-cons}
 use Rattle.std.proofs.lemmas.List.{map_push}
 use Rattle.zb_model.specs.Data.{Bytes}
@@ -103,3 +103,52 @@ pub chosen_none : (tools : Tools) (bytes : Bytes) (source : ℕ) (s : NodeState)
     → option_map link_key first ≡ chosen_row tools bytes source (candidates s source)
 chosen_none tools bytes source s rows first links is is_first = chosen_by tools bytes source s rows None first links
     is is_first
+
+-- what the first item of a test does where it meets another one, too
+some_same : {X : Type 0} (x y : X) → Some x ≡ Some y → x ≡ y
+some_same x y e = cc e
+
+find_both : {X : Type 0} (p q : X → Bool) (xs : List X) (r : X) → find p xs ≡ Some r → q r ≡ true
+    → find (λ x. p x && q x) xs ≡ Some r
+find_both p q [] r e meets = cc e
+find_both p q (x ∷ xs) r e meets = at_test (p x) (λ f. find_both p q xs r f meets) e
+  where
+    at_test : (b : Bool) → (find p xs ≡ Some r → find (λ y. p y && q y) xs ≡ Some r)
+        → (if b then Some x else find p xs) ≡ Some r
+        → (if b && q x then Some x else find (λ y. p y && q y) xs) ≡ Some r
+    at_test true again f = let it : q x ≡ true = ap q (some_same x r f) ∙ meets in rw it f
+    at_test false again f = again f
+
+find_neither : {X : Type 0} (p q : X → Bool) (xs : List X) → find p xs ≡ None → find (λ x. p x && q x) xs ≡ None
+find_neither p q [] e = refl
+find_neither p q (x ∷ xs) e = at_test (p x) (λ f. find_neither p q xs f) e
+  where
+    at_test : (b : Bool) → (find p xs ≡ None → find (λ y. p y && q y) xs ≡ None)
+        → (if b then Some x else find p xs) ≡ None
+        → (if b && q x then Some x else find (λ y. p y && q y) xs) ≡ None
+    at_test true again f = cc f
+    at_test false again f = again f
+
+-- the newest row in use is chosen where it opens the frame
+pub chosen_newest : (tools : Tools) (bytes : Bytes) (source : ℕ) (s : NodeState) (rows : List LinkRow) (row : LinkRow)
+    → map link_key rows ≡ s.links
+    → Some row ≡ find (λ (r : LinkRow). is_live_of source (link_key r)) (reverse rows)
+    → opens_with tools bytes source (link_key row) ≡ true
+    → Some (link_key row) ≡ chosen_row tools bytes source (candidates s source)
+chosen_newest tools bytes source s rows row links is opens = chosen_some tools bytes source s rows row links
+    (sym (find_both (λ (r : LinkRow). is_live_of source (link_key r))
+    (λ (r : LinkRow). opens_with tools bytes source (link_key r)) (reverse rows) row (sym is) opens))
+
+-- and none where no row is in use
+pub chosen_nobody : (tools : Tools) (bytes : Bytes) (source : ℕ) (s : NodeState) (rows : List LinkRow)
+    → map link_key rows ≡ s.links
+    → None ≡ find (λ (r : LinkRow). is_live_of source (link_key r)) (reverse rows)
+    → None ≡ chosen_row tools bytes source (candidates s source)
+chosen_nobody tools bytes source s rows links is = chosen_none tools bytes source s rows None links
+    (sym (find_neither (λ (r : LinkRow). is_live_of source (link_key r))
+    (λ (r : LinkRow). opens_with tools bytes source (link_key r)) (reverse rows) (sym is))) is
+
+pub shown_some : {A B : Type 0} (view : A → B) (o : Option A) (x : Option B) → option_map view o ≡ x
+    → is_some o ≡ true → is_some x ≡ true
+shown_some view None x e some = cc some
+shown_some view (Some t) x e some = ap is_some (sym e)

@@ -1,5 +1,5 @@
 //! The APS part of a delivered frame.
-ghost use Rattle.std.specs.Prelude.{◌≡◌, ◌&&◌, Ok, find, is_some, map, option_map, reverse};
+ghost use Rattle.std.specs.Prelude.{◌≡◌, ◌&&◌, IfSome, Ok, find, is_some, map, option_map, reverse};
 ghost use Rattle.std.specs.Option.{option_copied};
 ghost use Rattle.zb_aps.specs.Reading.{frame_of};
 ghost use Rattle.zb_aps.specs.Shape.{Spells};
@@ -81,25 +81,38 @@ fn first_opening<'a>(
         && opens(memo, bytes, frame, row, source))
 }
 
-/// Returns the newest row of a partner that is in use and opens the frame, else the newest that is in use.
+/// Returns the newest row of a partner that is in use and opens the frame, else the newest that is in use, and writes
+/// what its key opens the frame to into `opened`.
 ///
-/// Requires the bytes that the frame was read from.
+/// The newest row is tried first, since mostly it opens the frame, which is then opened once. Requires the bytes that
+/// the frame was read from.
 fn chosen<'a>(
     memo: &KeyMemo,
     tables: &'a Tables,
     bytes: &[u8],
     frame: &ApsFrame,
     source: Eui,
+    opened: &mut Option<Term>,
 ) -> Option<&'a LinkRow>
     requires read { frame_of bytes.now ≡ Ok frame.now }
     requires spells { Spells bytes.now frame.now }
-    ensures { option_map link_key (option_copied result)
+    ensures row { option_map link_key (option_copied result)
         ≡ chosen_row real bytes.now source.0 (candidates tables.now source.0) }
+    ensures term { IfSome result (λ row. option_map model_term opened.new
+        ≡ real.open_aps bytes.now row.now.key.0 source.0) }
 {
     let rows = tables.links();
+    let newest = first_candidate(rows, source)?;
+    *opened = open_aps(memo, bytes, frame, &newest.key, source);
+    if opened.is_some() {
+        return Some(newest);
+    }
     match first_opening(memo, rows, bytes, frame, source) {
-        Some(row) => Some(row),
-        None => first_candidate(rows, source),
+        Some(row) => {
+            *opened = open_aps(memo, bytes, frame, &row.key, source);
+            Some(row)
+        }
+        None => Some(newest),
     }
 }
 
@@ -129,7 +142,8 @@ pub fn judge_aps(
     let Some(source) = source_of(network, frame, aux) else {
         return Err(Refusal::NoKey { place });
     };
-    let Some(row) = chosen(memo, tables, bytes, part, source) else {
+    let mut opened = None;
+    let Some(row) = chosen(memo, tables, bytes, part, source, &mut opened) else {
         return Err(Refusal::NoKey { place });
     };
     if aux.counter >= u32::MAX {
@@ -141,7 +155,7 @@ pub fn judge_aps(
             floor: row.floor.kept,
         });
     }
-    let Some(term) = open_aps(memo, bytes, part, &row.key, source) else {
+    let Some(term) = opened else {
         return Err(Refusal::BadMic { place });
     };
     Ok(Unsealed { term, row: *row })
