@@ -10,3 +10,4 @@ mod LogLemmas
 mod LogRuns
 mod RuledSessions
 mod OnDisk
+mod Offered

@@ -1,3 +1,4 @@
 pub mod Sessions
 pub mod Hubs
 pub mod Logs
+pub mod Offers

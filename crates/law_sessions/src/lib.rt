@@ -2,18 +2,21 @@
 //! function with an empty body.
 #![tactic(auto)]
 
-ghost use Rattle.std.specs.Prelude.{◌≡◌, ℕ, List, [], Some, Ok};
+ghost use Rattle.std.specs.Prelude.{◌≡◌, ℕ, List, [], Option, Some, Ok};
 ghost use Rattle.law_sessions.specs.Hubs.{without_numbers};
 ghost use Rattle.law_sessions.specs.Logs.{HubHolds, IsHubOf, hub_log};
+ghost use Rattle.law_sessions.specs.Offers.{IsFree, IsUndrawn};
 ghost use Rattle.law_sessions.specs.Sessions.{AreSessions, NoneAgain, NoneTwice, Session, left_by_all, sealed_on, sessions_seal};
 ghost use Rattle.zb_centre_store.specs.Standing.{StandsAs, found_on};
 ghost use Rattle.zb_live.specs.Shown.{event_lines};
 ghost use Rattle.zb_live.specs.Living.{Found};
-ghost use Rattle.zb_model.specs.Answer.{Answer};
+ghost use Rattle.zb_model.specs.Answer.{Answer, answer, plan_of};
 ghost use Rattle.zb_model.specs.Play.{Schedule, groups, start};
+ghost use Rattle.zb_model.specs.Rules.{Setting};
 ghost use Rattle.zb_model.specs.Schedules.{IsSchedule};
+ghost use Rattle.zb_model.specs.Tools.{Tools};
 ghost use Rattle.zb_model.specs.Claims.{AreApart, sealed_terms};
-ghost use Rattle.zb_model.specs.Data.{Bytes};
+ghost use Rattle.zb_model.specs.Data.{Bytes, Received};
 ghost use Rattle.zb_model.specs.State.{NodeState, after_boot, shown};
 ghost use Rattle.zb_model_real.specs.Real.{real};
 ghost use Rattle.zb_skip.specs.Freshness.{HasUsed};
@@ -78,6 +81,17 @@ pub fn the_log_of_a_hub_is_a_run()
 pub fn the_run_of_a_hub_holds()
     ensures { (w : Schedule) (n : ℕ) (found : Found) (sessions : List (List Bytes)) → IsHubOf w n found sessions
         → IsSchedule (record w { events = [] }) → HubHolds w }
+{}
+
+/// States that an answer that draws no key is the same with any other key that may be drawn.
+///
+/// The frame's outcome neither draws the key that comes with it nor is refused for want of one, and no row of the node
+/// has the other key. So such an answer doesn't tell which key of a supply came with its frame.
+#[tactic(auto, using(crate::proofs::Offered::answer_same))]
+pub fn a_key_that_is_not_drawn_decides_nothing()
+    ensures { (tools : Tools) (c : Setting) (s : NodeState) (bytes : Bytes) (draw : Option Bytes) (key : Bytes)
+        → IsFree s key → IsUndrawn (plan_of tools c s (Received bytes draw)).outcome
+        → answer tools c s (Received bytes (Some key)) ≡ answer tools c s (Received bytes draw) }
 {}
 
 /// States that the next session finds what a session left, wherever that ended or was killed.
