@@ -1,15 +1,14 @@
 -- The centre enters a code, and a device knocks: the row of the code is the only live one of the partner then.
-use Rattle.std.proofs.Common.{◌≡◌, ℕ, Bool, true, false, not, ◌&&◌, ◌||◌, if◌then◌else◌, List, [], ◌∷◌, ◌++◌, map, filter, find, fold, flat_map, Option, Some, None, option_map, is_some, nat_eq, refl, sym, ap, ◌∙◌, subst}
+use Rattle.std.proofs.Common.{◌≡◌, ℕ, Bool, true, false, not, ◌&&◌, if◌then◌else◌, List, [], ◌∷◌, ◌++◌, map, find, Option, Some, None, option_map, is_some, nat_eq, refl, sym, ap, ◌∙◌}
 use Rattle.std.specs.List.{AllByRecursion, list_any}
-use Rattle.std.specs.Prelude.{is_none}
 use Rattle.std.proofs.lemmas.Bool.{false≢true}
-use Rattle.zb_model.specs.Data.{Bytes, Aps, Attribute, Provisional, Reason, WrongState, RowsFull, AtEvent, Move, Row, Live, DoProvision}
+use Rattle.zb_model.specs.Data.{Bytes, Attribute, Provisional, WrongState, RowsFull, Row, Live, DoProvision}
 use Rattle.zb_model.specs.Record.{attribute_byte}
-use Rattle.zb_model.specs.Rules.{Setting, Outcome, Does, Stop, unless, links_full}
-use Rattle.zb_model.specs.OwnEvents.{own, provision, provision_new}
-use Rattle.zb_model.specs.State.{LinkKey, NodeState, same_key, is_centre, is_unverified, is_verified, is_live_of, is_link, has_link, is_live, is_told, at_link, revived, new_link, with_link, with_told, told_as, may_use, current, offered, other_user, moved, applied, applied_all, next_counter}
+use Rattle.zb_model.specs.Rules.{Setting, Does, unless, links_full}
+use Rattle.zb_model.specs.OwnEvents.{own, provision}
+use Rattle.zb_model.specs.State.{LinkKey, NodeState, same_key, is_centre, is_unverified, is_live_of, is_link, has_link, is_live, is_told, at_link, revived, new_link, with_link, with_told, told_as, current, offered, other_user, applied, applied_all, next_counter}
 use Rattle.zb_model.specs.Tools.{Tools}
-use Rattle.zb_model.specs.Answer.{Answer, changes, comes_to, may_seal, out_of, reserve_of, floor_of, edits_of, answer_by, counting_of, plan_of, answer, answered}
+use Rattle.zb_model.specs.Answer.{Answer, may_seal, out_of, reserve_of, floor_of, edits_of, answer_by, counting_of, plan_of, answer, answered}
 use Rattle.law_change_fits.proofs.Parts.{same_key_is}
 use Rattle.law_change_fits.proofs.Tests.{any_from, any_map, both, neither, never, none_where}
 use Rattle.law_recovery.specs.Answering.{after_task}
@@ -19,9 +18,9 @@ use Rattle.law_key_exchange.specs.Meeting.{HasLink}
 use Rattle.law_key_exchange.specs.Obstacles.{or_else, when, why_key_in_use}
 use Rattle.law_key_exchange.proofs.Baring.{bare_net}
 use Rattle.law_key_exchange.proofs.Judged.{or_first, or_second, when_none}
-use Rattle.law_key_exchange.proofs.Rows.{Found, found_last, found_such, is_current, is_offer}
+use Rattle.law_key_exchange.proofs.Rows.{found_last, found_such, is_current, is_offer}
 use Rattle.law_readmission.specs.Entering.{IsEntered, why_no_row, why_not_entered}
-use Rattle.law_readmission.proofs.Dropping.{self, self_key}
+use Rattle.law_readmission.proofs.Dropping.{self}
 use Rattle.law_readmission.proofs.Removing.{keeps_network}
 
 -- ---- the answer

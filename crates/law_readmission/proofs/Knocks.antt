@@ -1,27 +1,27 @@
 -- A device knocks: the row of its code is its only live one of the centre, and provisional.
-use Rattle.std.proofs.Common.{◌≡◌, ℕ, Bool, true, false, not, ◌&&◌, ◌||◌, if◌then◌else◌, List, [], ◌∷◌, ◌++◌, map, filter, find, fold, flat_map, Option, Some, None, is_some, nat_eq, refl, sym, ap, ◌∙◌, subst, eqb-true}
+use Rattle.std.proofs.Common.{◌≡◌, ℕ, Bool, true, false, not, ◌&&◌, ◌||◌, if◌then◌else◌, List, [], ◌∷◌, ◌++◌, map, filter, find, flat_map, Option, Some, None, is_some, nat_eq, refl, sym, ap, ◌∙◌, subst, eqb-true}
 use Rattle.std.specs.List.{AllByRecursion, list_any}
 use Rattle.std.specs.Prelude.{is_none}
 use Rattle.std.proofs.lemmas.Bool.{false≢true, not-true}
 use Rattle.zb_model.specs.Data.{Bytes, Attribute, Provisional, Unverified, Verified, Knocked, NoKey, AtEvent, Move, Row, Became, DoKnock}
 use Rattle.zb_model.specs.Fits.{keeps_rules}
-use Rattle.zb_model.specs.Record.{attribute_byte, state_byte}
-use Rattle.zb_model.specs.Rules.{Setting, Does, found_or, centre_of, drop_link, drop_others}
+use Rattle.zb_model.specs.Record.{attribute_byte}
+use Rattle.zb_model.specs.Rules.{Setting, Does, found_or, centre_of, drop_others}
 use Rattle.zb_model.specs.OwnEvents.{knock, own}
-use Rattle.zb_model.specs.State.{LinkKey, NodeState, same_key, is_centre, is_provisional, is_unverified, is_verified, is_live_of, is_link, has_link, is_told, at_link, revived, with_link, code_row, current, offered, moved, applied, applied_all}
+use Rattle.zb_model.specs.State.{LinkKey, NodeState, same_key, is_centre, is_unverified, is_verified, is_live_of, is_link, is_told, at_link, revived, with_link, code_row, current, offered, applied, applied_all}
 use Rattle.zb_model.specs.Tools.{Tools}
 use Rattle.zb_model.specs.Answer.{Answer, Counting, changes, move_edits, comes_to, may_seal, out_of, reserve_of, floor_of, edits_of, answer_by, counting_of, plan_of, answer, answered}
 use Rattle.law_change_fits.proofs.Parts.{links_alike, rules_of, same_key_is, same_key_of}
-use Rattle.law_change_fits.proofs.Tests.{any_from, any_map, both, neither, never, none_where}
+use Rattle.law_change_fits.proofs.Tests.{both, never}
 use Rattle.law_recovery.specs.Answering.{after_task}
 use Rattle.law_recovery.proofs.Asking.{by_outcome}
 use Rattle.law_recovery.proofs.Knocking.{knocks}
 use Rattle.law_recovery.proofs.Once.{map_map}
 use Rattle.law_key_exchange.specs.Obstacles.{when}
-use Rattle.law_key_exchange.proofs.Rows.{Found, any_found, found_such, found_test, is_current, is_offer}
+use Rattle.law_key_exchange.proofs.Rows.{any_found, found_such, found_test, is_current, is_offer}
 use Rattle.law_readmission.specs.Entering.{HasKnocked, why_no_knock}
 use Rattle.law_readmission.proofs.Codes.{none_found}
-use Rattle.law_readmission.proofs.Dropping.{Kept, all_by, all_named, dropped_by, dropped_links, dropped_not, kept_by, left_by, names_it, none_of, only_one, row_by_row, same_has, self}
+use Rattle.law_readmission.proofs.Dropping.{all_by, all_named, dropped_by, dropped_links, dropped_not, kept_by, left_by, names_it, none_of, only_one, row_by_row, same_has, self}
 use Rattle.law_readmission.proofs.Removing.{drops_all}
 
 -- ---- the answer

@@ -4,3 +4,4 @@ pub mod Codes
 pub mod Knocks
 pub mod Known
 pub mod Readmitted
+pub mod Refusing

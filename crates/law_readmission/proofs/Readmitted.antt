@@ -1,8 +1,8 @@
 -- A device is let in anew in a run, event by event: what each leaves of the two nodes.
-use Rattle.std.proofs.Common.{◌≡◌, ℕ, ◌+◌, ◌<◌, ◌^◌, Bool, true, false, ◌⊎◌, inl, inr, if◌then◌else◌, List, [], ◌∷◌, ◌++◌, filter, find, fold, reverse, length, Option, Some, None, nat_eq, nat_le, refl, sym, ap, ◌∙◌, subst}
+use Rattle.std.proofs.Common.{◌≡◌, ℕ, ◌+◌, ◌<◌, ◌^◌, Bool, true, false, inl, inr, if◌then◌else◌, List, [], ◌∷◌, filter, find, reverse, length, Some, None, nat_eq, nat_le, refl, sym, ap, ◌∙◌, subst}
 use Rattle.std.proofs.lemmas.Bool.{leb-false}
 use Rattle.std.proofs.lemmas.List.Sums.{fold-append}
-use Rattle.zb_model.specs.Data.{Bytes, Aps, Task, DoKnock, DoProvision, DoRemove, HasChild, Received}
+use Rattle.zb_model.specs.Data.{Bytes, Aps, DoKnock, DoProvision, DoRemove, HasChild, Received}
 use Rattle.zb_model.specs.Play.{Schedule, Event, Own, Deliver, setting_of, supply}
 use Rattle.zb_model.specs.Readings.{air, state_of}
 use Rattle.zb_model.specs.Rules.{centre_of, spent}
@@ -10,7 +10,7 @@ use Rattle.zb_model.specs.State.{LinkKey, NetKey, NodeState, code_row, current, 
 use Rattle.zb_model.specs.Tools.{Tools}
 use Rattle.law_answer_storable.specs.Storing.{OpensAsJudged}
 use Rattle.law_key_exchange.specs.CommandFrames.{DeliversCommands}
-use Rattle.law_key_exchange.specs.Meeting.{AreDeclared, HasLink, HasNetwork, IsJoined, IsSteady}
+use Rattle.law_key_exchange.specs.Meeting.{HasLink, HasNetwork, IsJoined, IsSteady}
 use Rattle.law_key_exchange.proofs.Joining.{child_bare}
 use Rattle.law_key_exchange.proofs.Keeping.{link_left, network_left}
 use Rattle.law_recovery.specs.Answering.{after_task, frame_of}
@@ -21,12 +21,12 @@ use Rattle.law_recovery.proofs.Asking.{sends_to}
 use Rattle.law_run_steps.proofs.Others.{own-up, frame-up}
 use Rattle.law_recovery_runs.specs.Fronts.{Front, after_event, after_events}
 use Rattle.law_recovery_runs.specs.Joining.{join_events}
-use Rattle.law_recovery_runs.specs.KeyExchange.{AreMet, EndsConfirmed, HaveJoined, KeysInRange, NothingStops, eui_of, exchange_events, joined_front, joining_events}
-use Rattle.law_recovery_runs.proofs.Confirmed.{CentreActs, DeviceActs, centre_acts, device_acts, exchanged, sent_on_air}
+use Rattle.law_recovery_runs.specs.KeyExchange.{AreMet, EndsConfirmed, HaveJoined, NothingStops, eui_of, exchange_events, joined_front, joining_events}
+use Rattle.law_recovery_runs.proofs.Confirmed.{centre_acts, device_acts, exchanged, sent_on_air}
 use Rattle.law_recovery_runs.proofs.Exchanged.{turned}
-use Rattle.law_readmission.specs.Entering.{HasKnocked, IsEntered, IsRemoved, why_no_row, why_not_entered}
+use Rattle.law_readmission.specs.Entering.{HasKnocked, why_no_row, why_not_entered}
 use Rattle.law_readmission.specs.Knowing.{MeetsKey}
-use Rattle.law_readmission.specs.Readmitting.{CanReadmit, entry_events, entry_events_at, knocked_front, readmission_events}
+use Rattle.law_readmission.specs.Readmitting.{CanReadmit, entry_events_at, knocked_front, readmission_events}
 use Rattle.law_readmission.proofs.Codes.{enters}
 use Rattle.law_readmission.proofs.Knocks.{has_knocked}
 use Rattle.law_readmission.proofs.Known.{joins_with}

@@ -1,23 +1,22 @@
 -- The centre removes a device: none of its rows is live, and nothing else that rules ask for changes.
-use Rattle.std.proofs.Common.{◌≡◌, ℕ, ◌+◌, Bool, true, false, not, ◌&&◌, if◌then◌else◌, List, [], ◌∷◌, ◌++◌, map, filter, find, fold, flat_map, length, Option, Some, None, option_map, is_some, nat_eq, nat_le, refl, sym, ap, ◌∙◌, subst}
+use Rattle.std.proofs.Common.{◌≡◌, ℕ, ◌+◌, Bool, true, false, not, ◌&&◌, if◌then◌else◌, List, [], ◌∷◌, ◌++◌, map, filter, find, flat_map, length, Option, Some, None, option_map, is_some, nat_eq, nat_le, refl, sym, ap, ◌∙◌, subst}
 use Rattle.std.specs.List.{list_any}
-use Rattle.zb_model.specs.Data.{Bytes, Nwk, Aps, Term, AtEvent, Reason, NotMember, RowsFull, Move, Removed, DoRemove}
+use Rattle.zb_model.specs.Data.{Bytes, Nwk, Aps, Term, AtEvent, NotMember, RowsFull, Move, Removed, DoRemove}
 use Rattle.zb_model.specs.Fits.{most_links}
-use Rattle.zb_model.specs.Rules.{Setting, Leaving, Sending, Outcome, Does, unless, sends, short_of, spent, drop_link, drop_partner, links_full}
+use Rattle.zb_model.specs.Rules.{Setting, Leaving, Sending, Does, unless, sends, short_of, spent, drop_link, drop_partner, links_full}
 use Rattle.zb_model.specs.OwnEvents.{own, remove_device, tell_leave, tell_parent}
 use Rattle.zb_model.specs.State.{NetKey, LinkKey, NodeState, same_key, is_centre, is_live_of, has_link, is_live, may_use, current, other_user, next_at, moved, applied, applied_all, after_sealing, active_row, next_counter}
 use Rattle.zb_model.specs.Tools.{Tools}
 use Rattle.zb_model.specs.Answer.{Answer, Counting, sealed_all, changes, move_edits, comes_to, part_of, may_seal, out_of, edits_of, answer_by, counting_of, plan_of, answer, answered}
 use Rattle.law_recovery.specs.Answering.{after_task}
 use Rattle.law_recovery.proofs.Asking.{by_outcome}
-use Rattle.law_recovery.proofs.Changing.{IsMild, mild_if, reserves, Reserved, reserved_so, applied_then}
+use Rattle.law_recovery.proofs.Changing.{IsMild, mild_if, reserves, reserved_so, applied_then}
 use Rattle.law_recovery.proofs.Once.{find_map}
-use Rattle.law_key_exchange.specs.Meeting.{HasNetwork}
 use Rattle.law_key_exchange.specs.Obstacles.{or_else, when, why_key_in_use}
 use Rattle.law_key_exchange.proofs.Baring.{bare_net}
 use Rattle.law_key_exchange.proofs.Rows.{may_use_of, same_network}
 use Rattle.law_readmission.specs.Entering.{IsRemoved, KeepsNetwork, why_no_row, why_not_removed}
-use Rattle.law_readmission.proofs.Dropping.{Kept, dropped_by, dropped_links, kept_by, none_live, row_by_row, same_has, same_length, self}
+use Rattle.law_readmission.proofs.Dropping.{dropped_by, dropped_links, kept_by, none_live, row_by_row, same_has, same_length, self}
 
 -- ---- the answer
 

@@ -4,7 +4,7 @@ use Rattle.std.specs.Prelude.{ℕ, ◌≡◌, false, not, ◌&&◌, Option, Some
 use Rattle.zb_model.specs.Data.{Bytes, Aps, Knocked, Reason, NoKey, NotMember, WrongState, RowsFull}
 use Rattle.zb_model.specs.Rules.{links_full}
 use Rattle.zb_model.specs.State.{LinkKey, NodeState, code_row, current, has_link, is_live, is_verified, next_counter, offered, other_user}
-use Rattle.law_key_exchange.specs.Meeting.{HasLink, HasNetwork}
+use Rattle.law_key_exchange.specs.Meeting.{HasLink, HasNetwork, HasOffer, IsJoined, IsOffered}
 use Rattle.law_key_exchange.specs.Obstacles.{or_else, when, why_key_in_use}
 
 -- ---- the obstacles
@@ -56,3 +56,15 @@ pub record HasKnocked (t u : NodeState) (centre : ℕ) (code : LinkKey) : Type 0
   pub provisional : is_verified row.attribute ≡ false
   pub none_offered : offered u centre ≡ None
   pub nets : u.nets ≡ t.nets
+
+-- ---- what is refused
+
+-- A node has come as far as before: it has the network key, the link keys and the offers that it had.
+pub record IsSpared (s u : NodeState) : Type 0 where
+  pub network : KeepsNetwork s u
+  pub keys : (partner : ℕ) (link : Bytes) → HasLink s partner link → HasLink u partner link
+  pub offer : (partner : ℕ) (key : Bytes) → HasOffer s partner key → HasOffer u partner key
+  pub joined : (centre : ℕ) (key : Bytes) (sequence : ℕ) (link : Bytes) → IsJoined s centre key sequence link
+      → IsJoined u centre key sequence link
+  pub offered : (centre : ℕ) (key : Bytes) (sequence : ℕ) (link : Bytes) → IsOffered s centre key sequence link
+      → IsOffered u centre key sequence link

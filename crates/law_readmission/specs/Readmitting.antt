@@ -1,10 +1,10 @@
 -- A device is let in anew, as events that follow the front of a run.
-use Rattle.std.specs.Prelude.{ℕ, ◌≡◌, Bool, true, false, if◌then◌else◌, List, [], ◌∷◌, ◌++◌, Some, None}
+use Rattle.std.specs.Prelude.{ℕ, ◌≡◌, Bool, false, if◌then◌else◌, List, [], ◌∷◌, ◌++◌, Some, None}
 use Rattle.zb_model.specs.Data.{Bytes, Aps, DoKnock, DoProvision, DoRemove}
 use Rattle.zb_model.specs.Play.{Schedule, Event, Own}
 use Rattle.zb_model.specs.Readings.{state_of}
 use Rattle.zb_model.specs.Rules.{spent}
-use Rattle.zb_model.specs.State.{LinkKey, NodeState, code_row, is_live, next_counter}
+use Rattle.zb_model.specs.State.{LinkKey, code_row, is_live, next_counter}
 use Rattle.zb_model.specs.Tools.{Tools}
 use Rattle.law_key_exchange.specs.Meeting.{HasNetwork}
 use Rattle.law_recovery.specs.Rejoining.{why_not_taken}

@@ -6,8 +6,8 @@ ghost use Rattle.std.specs.Prelude.{◌≡◌, ℕ, false, length, true, Option,
 ghost use Rattle.law_answer_storable.specs.Storing.{OpensAsJudged};
 ghost use Rattle.law_key_exchange.specs.CommandFrames.{DeliversCommands};
 ghost use Rattle.law_key_exchange.specs.Meeting.{IsJoined};
-ghost use Rattle.law_readmission.specs.Entering.{HasKnocked, IsEntered, IsRemoved, why_no_knock, why_not_entered};
-ghost use Rattle.law_readmission.specs.Entering.{why_not_removed};
+ghost use Rattle.law_readmission.specs.Entering.{HasKnocked, IsEntered, IsRemoved, IsSpared, why_no_knock};
+ghost use Rattle.law_readmission.specs.Entering.{why_not_entered, why_not_removed};
 ghost use Rattle.law_readmission.specs.Knowing.{MeetsKey};
 ghost use Rattle.law_readmission.specs.Readmitting.{CanReadmit, knocked_front, readmission_events};
 ghost use Rattle.law_recovery.specs.Answering.{after_task};
@@ -17,7 +17,7 @@ ghost use Rattle.law_recovery.specs.Rejoining.{AreOfOneNetwork, answer_frame, wh
 ghost use Rattle.law_recovery_runs.specs.Fronts.{Front, after_events};
 ghost use Rattle.law_recovery_runs.specs.KeyExchange.{EndsConfirmed, NothingStops, joined_front};
 ghost use Rattle.zb_model.specs.Answer.{answer};
-ghost use Rattle.zb_model.specs.Data.{Aps, Bytes, DoKnock, DoProvision, DoRemove, Received};
+ghost use Rattle.zb_model.specs.Data.{Aps, Bytes, DoKnock, DoProvision, DoRemove, Reason, Received, Task};
 ghost use Rattle.zb_model.specs.Fits.{keeps_rules};
 ghost use Rattle.zb_model.specs.Play.{Schedule};
 ghost use Rattle.zb_model.specs.Rules.{Setting, centre_of};
@@ -84,4 +84,12 @@ pub fn a_device_is_readmitted_in_a_run()
         → NothingStops tools w (joined_front tools w (knocked_front tools w x c d key) c d) c d network sequence key
         drawn
         → EndsConfirmed w (after_events tools w x (readmission_events tools w x c d key)) c d network sequence drawn }
+{}
+
+/// States that what a node refuses leaves it as far in an exchange as it was.
+///
+/// So a frame that comes twice, or too late, or from elsewhere, and is refused, costs nothing but time.
+pub fn what_is_refused_leaves_an_exchange()
+    ensures { (tools : Tools) (c : Setting) (s : NodeState) (task : Task) (reason : Reason)
+        → (answer tools c s task).refusal ≡ Some reason → IsSpared s (after_task tools c s task) }
 {}

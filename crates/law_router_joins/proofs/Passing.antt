@@ -1,13 +1,13 @@
 -- A router takes a Tunnel of the centre, and sends what is in it; the device takes the network key from it.
-use Rattle.std.proofs.Common.{◌≡◌, ℕ, Bool, true, false, not, ◌||◌, List, [], ◌∷◌, ◌++◌, filter, Option, Some, None, nat_eq, refl, sym, ap, ◌∙◌, eq-eqb}
-use Rattle.zb_model.specs.Data.{Bytes, Nwk, Aps, AtAps, Place, Term, Move, Received}
+use Rattle.std.proofs.Common.{◌≡◌, ℕ, true, false, List, [], ◌∷◌, ◌++◌, Option, Some, None, nat_eq, refl, sym, ap, ◌∙◌, eq-eqb}
+use Rattle.zb_model.specs.Data.{Bytes, Aps, AtAps, Place, Term, Received}
 use Rattle.zb_model.specs.Fits.{keeps_rules}
 use Rattle.zb_model.specs.Frames.{plain_frame, nwk_header}
-use Rattle.zb_model.specs.State.{greatest_counter, NetKey, LinkKey, NodeState, next_counter}
+use Rattle.zb_model.specs.State.{NetKey, LinkKey, NodeState, next_counter}
 use Rattle.zb_model.specs.Tools.{Tools}
-use Rattle.zb_model.specs.Rules.{Setting, Plan, Outcome, Does, Relayed, sends, unless, centre_of, short_of, is_router, is_declared}
+use Rattle.zb_model.specs.Rules.{Setting, Plan, Outcome, Does, Relayed, sends, unless, centre_of, short_of, is_declared}
 use Rattle.zb_model.specs.Commands.{take_tunnel, take_command}
-use Rattle.zb_model.specs.Answer.{Answer, Counting, comes_to, part_of, may_seal, out_of, reason_of, refusal_of, answer_by, counting_of, plan_of, answer}
+use Rattle.zb_model.specs.Answer.{Counting, comes_to, part_of, may_seal, out_of, refusal_of, answer_by, counting_of, plan_of, answer}
 use Rattle.law_recovery.specs.Answering.{after_task, frame_of}
 use Rattle.law_recovery.specs.Joining.{AreIntroduced}
 use Rattle.law_recovery.specs.KeyFrames.{KeyFrame, KeyFrameInRange, DeliversKeys, key_bytes, key_term}
@@ -22,7 +22,7 @@ use Rattle.law_key_exchange.proofs.Offering.{heard_down}
 use Rattle.law_key_exchange.proofs.Requesting.{net_range}
 use Rattle.law_readmission.specs.Knowing.{MeetsKey}
 use Rattle.law_readmission.proofs.Known.{joins_with}
-use Rattle.law_router_joins.specs.Relaying.{AreRouted, IsRouting, why_not_relayed}
+use Rattle.law_router_joins.specs.Relaying.{AreRouted, why_not_relayed}
 use Rattle.law_router_joins.specs.RouterFrames.{DeliversRelays, relayed_frame, seen_through, tunnel, tunnel_bytes}
 
 -- ---- the Tunnel is delivered to the router

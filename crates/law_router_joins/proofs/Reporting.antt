@@ -1,26 +1,25 @@
 -- A router reports a child that joins, and the centre answers in a Tunnel.
-use Rattle.std.proofs.Common.{◌≡◌, ℕ, ◌<◌, ◌^◌, nat_lt, Bool, true, false, ◌&&◌, List, [], ◌∷◌, ◌++◌, filter, Option, Some, None, nat_eq, refl, sym, ap, ◌∙◌, eq-eqb, subst}
+use Rattle.std.proofs.Common.{◌≡◌, ℕ, ◌<◌, ◌^◌, nat_lt, Bool, true, false, List, [], ◌∷◌, filter, Option, Some, None, refl, sym, ap, ◌∙◌}
 use Rattle.std.specs.Prelude.{is_none}
 use Rattle.zb_model.specs.Data.{Bytes, Nwk, Aps, ForData, ForTransport, AtAps, AtEvent, Term, Place, Move, NotMember, CounterSpent, UpdateDevice, TransportNet, Tunnel, HasChild, Received}
 use Rattle.zb_model.specs.Fits.{keeps_rules}
 use Rattle.zb_model.specs.Frames.{secured_frame, nwk_term, aps_term, sealed_command, clear_command, low_byte}
-use Rattle.zb_model.specs.State.{greatest_counter, NetKey, LinkKey, NodeState, is_centre, may_use, active_row, usable_active, current, next_counter}
+use Rattle.zb_model.specs.State.{NetKey, LinkKey, NodeState, is_centre, may_use, active_row, usable_active, current, next_counter}
 use Rattle.zb_model.specs.Tools.{Tools}
-use Rattle.zb_model.specs.Rules.{Setting, Plan, Outcome, Stop, Does, Secret, Tunnelled, sends, unless, found_or, choose, centre_of, short_of, acts_as_router, in_rejoining, spent, both_spent}
+use Rattle.zb_model.specs.Rules.{Setting, Plan, Outcome, Stop, Does, Secret, Tunnelled, sends, unless, found_or, choose, centre_of, short_of, acts_as_router, in_rejoining, both_spent}
 use Rattle.zb_model.specs.OwnEvents.{child_of_router, own}
 use Rattle.zb_model.specs.Commands.{take_update, take_command}
-use Rattle.zb_model.specs.Judging.{candidates}
 use Rattle.zb_model.specs.Answer.{Answer, Counting, comes_to, changes, moves_of, part_of, may_seal, out_of, reason_of, refusal_of, answer_by, counting_of, plan_of, answer, answered}
 use Rattle.law_recovery.specs.Answering.{after_task, frame_of}
 use Rattle.law_recovery.specs.Rejoining.{answer_frame}
 use Rattle.law_recovery.proofs.Asking.{by_outcome}
 use Rattle.law_recovery.proofs.Candidates.{one_candidate}
-use Rattle.law_key_exchange.specs.CommandFrames.{NetFrame, net_term, sealed_content, sealed_bytes, clear_bytes}
+use Rattle.law_key_exchange.specs.CommandFrames.{net_term, sealed_content, sealed_bytes, clear_bytes}
 use Rattle.law_key_exchange.specs.Exchanging.{Seals, net_frame, seals_now, StationsInRange, NwkInRange, ApsInRange}
 use Rattle.law_key_exchange.specs.Meeting.{HasNetwork, HasLink}
 use Rattle.law_key_exchange.specs.Obstacles.{or_else, in_row, when, why_not_heard, why_not_opened, why_not_sealed}
 use Rattle.law_key_exchange.proofs.Baring.{bare, bare_after}
-use Rattle.law_key_exchange.proofs.Judged.{IsHeard, IsOpened, plan_at, plan_opened, both_terms, heard_with, delivered_sealed, refused_at, refused_opened, free_at, free_opened, or_first, or_second, when_none}
+use Rattle.law_key_exchange.proofs.Judged.{IsOpened, plan_at, plan_opened, both_terms, heard_with, delivered_sealed, refused_at, refused_opened, free_at, free_opened, or_first, or_second, when_none}
 use Rattle.law_key_exchange.proofs.Requesting.{four, heard_up, net_range}
 use Rattle.law_key_exchange.proofs.Rows.{may_use_of}
 use Rattle.law_key_exchange.proofs.Sending.{apart_spent, sealed_out}

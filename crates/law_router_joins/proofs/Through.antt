@@ -1,5 +1,5 @@
 -- A device joins through a router in a run, event by event: what each leaves of the three nodes.
-use Rattle.std.proofs.Common.{◌≡◌, ℕ, ◌+◌, ◌<◌, false, true, List, [], ◌∷◌, ◌++◌, length, Option, Some, None, option_to_list, nat_eq, refl, sym, ap, ◌∙◌, subst, arith}
+use Rattle.std.proofs.Common.{◌≡◌, ℕ, ◌+◌, ◌<◌, false, true, ◌++◌, length, Some, None, option_to_list, nat_eq, refl, sym, ap, ◌∙◌, subst, arith}
 use Rattle.std.proofs.lemmas.Bool.{leb-false}
 use Rattle.std.proofs.lemmas.List.Sums.{fold-append}
 use Rattle.zb_model.specs.Answer.{answer}
@@ -25,7 +25,7 @@ use Rattle.law_recovery.specs.Rejoining.{answer_frame, why_not_taken}
 use Rattle.law_run_steps.proofs.Others.{own-up, frame-up}
 use Rattle.law_run_steps.specs.Steps.{is_of}
 use Rattle.law_recovery_runs.specs.Fronts.{Front, after_event, after_events}
-use Rattle.law_recovery_runs.specs.KeyExchange.{AreMet, EndsConfirmed, HaveJoined, KeysInRange, NothingStops, eui_of, exchange_events}
+use Rattle.law_recovery_runs.specs.KeyExchange.{AreMet, EndsConfirmed, HaveJoined, NothingStops, eui_of, exchange_events}
 use Rattle.law_recovery_runs.proofs.Confirmed.{OnAir, centre_acts, device_acts, exchanged, sent_on_air}
 use Rattle.law_recovery_runs.proofs.Exchanged.{left-by, turned}
 use Rattle.law_readmission.specs.Knowing.{MeetsKey}
@@ -149,7 +149,8 @@ record Reported (tools : Tools) (w : Schedule) (y : Front) (c r d : ℕ) (k : Se
   heard : OnAir y frames (report_bytes tools (setting_of w c) (setting_of w r) (setting_of w d) k)
 
 reported : (tools : Tools) → OpensAsJudged tools → (w : Schedule) (x : Front) (c r d : ℕ) (rlink : Bytes)
-    → (may : MayJoinThrough w x c r d rlink) → RouteIsFree tools w x c r d rlink may
+    → (may : MayJoinThrough w x c r d rlink)
+    → RouteIsFree tools w x c r d rlink may.introduced.net.key may.introduced.net.sequence may.introduced.own
     → Reported tools w (after_event tools w x (Own r (HasChild d false))) c r d
     (seals_now (state_of x.lines r) may.introduced.net.key may.introduced.net.sequence rlink) (state_of x.lines c)
     (state_of x.lines d) (length (air x.lines) + 1)
@@ -347,7 +348,7 @@ key_range w x c r d rlink may unspent =
 
 routed : (tools : Tools) → DeliversKeys tools → DeliversRelays tools → OpensAsJudged tools
     → (w : Schedule) (x : Front) (c r d : ℕ) (rlink : Bytes) → (may : MayJoinThrough w x c r d rlink)
-    → RouteIsFree tools w x c r d rlink may
+    → RouteIsFree tools w x c r d rlink may.introduced.net.key may.introduced.net.sequence may.introduced.own
     → Routed w (routed_front tools w x c r d) c d may.introduced.net.key may.introduced.net.sequence
     may.introduced.row.key
 routed tools keys delivers opens w x c r d rlink may free =
@@ -390,7 +391,9 @@ routed tools keys delivers opens w x c r d rlink may free =
 
 pub routed_and_exchanged : (tools : Tools) → DeliversKeys tools → DeliversRelays tools → DeliversCommands tools
     → OpensAsJudged tools → (w : Schedule) (x : Front) (c r d : ℕ) (rlink drawn : Bytes)
-    → (may : MayJoinThrough w x c r d rlink) → RouteIsFree tools w x c r d rlink may → length drawn ≡ 16
+    → (may : MayJoinThrough w x c r d rlink)
+    → RouteIsFree tools w x c r d rlink may.introduced.net.key may.introduced.net.sequence may.introduced.own
+    → length drawn ≡ 16
     → NothingStops tools w (routed_front tools w x c r d) c d may.introduced.net.key may.introduced.net.sequence
     may.introduced.row.key drawn
     → EndsConfirmed w (after_events tools w x (routed_joining_events tools w x c r d)) c d may.introduced.net.key

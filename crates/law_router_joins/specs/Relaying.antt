@@ -1,7 +1,7 @@
 -- How a device joins through a router: the router reports its child, the centre answers in a Tunnel, and the router
 -- relays what is in it. What can stand in the way of each event, with the refusal that it gives, in the order in which
 -- they are tried.
-use Rattle.std.specs.Prelude.{ℕ, ◌≡◌, true, false, nat_eq, Option, None, is_none}
+use Rattle.std.specs.Prelude.{ℕ, ◌≡◌, true, false, nat_eq, Option, is_none}
 use Rattle.zb_model.specs.Data.{Bytes, Reason, NotMember}
 use Rattle.zb_model.specs.Rules.{Setting, acts_as_router, in_rejoining, is_declared, is_router, short_of}
 use Rattle.zb_model.specs.State.{NodeState, current}

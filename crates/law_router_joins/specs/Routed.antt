@@ -3,7 +3,7 @@ use Rattle.std.specs.Prelude.{ℕ, ◌≡◌, ◌+◌, false, List, [], ◌∷�
 use Rattle.zb_model.specs.Data.{Aps, Bytes, HasChild}
 use Rattle.zb_model.specs.Play.{Schedule, Event, Own, Deliver, setting_of}
 use Rattle.zb_model.specs.Readings.{air, state_of}
-use Rattle.zb_model.specs.State.{next_counter}
+use Rattle.zb_model.specs.State.{LinkKey, next_counter}
 use Rattle.zb_model.specs.Tools.{Tools}
 use Rattle.law_key_exchange.specs.Exchanging.{seals_now}
 use Rattle.law_key_exchange.specs.Meeting.{HasLink, HasNetwork}
@@ -46,13 +46,13 @@ pub record MayJoinThrough (w : Schedule) (x : Front) (c r d : ℕ) (router_link 
   pub router_size : length router_link ≡ 16
   pub meets : MeetsKey (state_of x.lines d) introduced.net.key introduced.net.sequence
 
--- Nothing is in the way of the four events. All but one are asked of the first front.
-pub record RouteIsFree (tools : Tools) (w : Schedule) (x : Front) (c r d : ℕ) (router_link : Bytes)
-    (may : MayJoinThrough w x c r d router_link) : Type 0 where
+-- Nothing is in the way of the four events, with this network key of the centre and this link key of the device. All
+-- but one are asked of the first front.
+pub record RouteIsFree (tools : Tools) (w : Schedule) (x : Front) (c r d : ℕ) (router_link key : Bytes)
+    (sequence : ℕ) (own : LinkKey) : Type 0 where
   pub report : why_no_report (state_of x.lines r) ≡ None
   pub tunnel : why_no_tunnel (state_of x.lines c) (eui_of w r) (eui_of w d)
-      (seals_now (state_of x.lines r) may.introduced.net.key may.introduced.net.sequence router_link) ≡ None
+      (seals_now (state_of x.lines r) key sequence router_link) ≡ None
   pub relayed : why_not_relayed (state_of (after_event tools w x (Own r (HasChild d false))).lines r) (eui_of w c)
-      (seals_now (state_of x.lines c) may.introduced.net.key may.introduced.net.sequence router_link) ≡ None
-  pub taken : why_not_taken (state_of x.lines d) may.introduced.own (next_counter Aps (state_of x.lines c))
-      may.introduced.net.key ≡ None
+      (seals_now (state_of x.lines c) key sequence router_link) ≡ None
+  pub taken : why_not_taken (state_of x.lines d) own (next_counter Aps (state_of x.lines c)) key ≡ None

@@ -98,8 +98,9 @@ pub fn a_device_takes_a_relayed_key()
 pub fn a_device_joins_through_a_router_in_a_run()
     ensures { (tools : Tools) → DeliversKeys tools → DeliversRelays tools → DeliversCommands tools
         → OpensAsJudged tools → (w : Schedule) (x : Front) (c r d : ℕ) (router_link drawn : Bytes)
-        → (may : MayJoinThrough w x c r d router_link) → RouteIsFree tools w x c r d router_link may
-        → length drawn ≡ 16
+        → (may : MayJoinThrough w x c r d router_link)
+        → RouteIsFree tools w x c r d router_link may.introduced.net.key may.introduced.net.sequence
+        may.introduced.own → length drawn ≡ 16
         → NothingStops tools w (routed_front tools w x c r d) c d may.introduced.net.key may.introduced.net.sequence
         may.introduced.row.key drawn
         → EndsConfirmed w (after_events tools w x (routed_joining_events tools w x c r d)) c d
