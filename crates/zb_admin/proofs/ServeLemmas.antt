@@ -115,10 +115,10 @@ module _ {D W : Type 0} (x : Outside D W) (c : Setting) (step : Step) (b : Optio
 -- the output failed after a command
 pub write_fault : {D W : Type 0} (x : Outside D W) (c : Setting) (centre : Option (Hosted CoreValue)) (old new : D)
     (before after : W) (r : Ended) → IfErr r (λ f. (f ≡ Write) × Rose (x.faults before) (x.faults after))
-    → IfErr r (IsServiceFault x c centre old before new after)
-write_fault x c centre old new before after (Ok tt) h = tt
-write_fault x c centre old new before after (Err f) h = subst (IsServiceFault x c centre old before new after)
-    (sym h.0) h.1
+    → Unrisen (x.state old).faults (x.state new).faults → IfErr r (IsServiceFault x c centre old before new after)
+write_fault x c centre old new before after (Ok tt) h same = tt
+write_fault x c centre old new before after (Err f) h same = subst (IsServiceFault x c centre old before new after)
+    (sym h.0) (h.1, same)
 
 pub command_fault : {D W : Type 0} (x : Outside D W) (c : Setting) (centre : Option (Hosted CoreValue)) (old new : D)
     (before after : W) (f : AdminFault) → IsCommandFault x.tells (x.state old) centre (x.state new) f
@@ -170,7 +170,7 @@ fault_later x c centre next old disk new before out after (BadStore at) same mor
 fault_later x c centre next old disk new before out after Worn same more on h = λ told b stood. let s =
     on told b stood in h told s.0 s.1
 fault_later x c centre next old disk new before out after Write same more on h =
-    rose_later (x.faults before) (x.faults out) (x.faults after) more h
+    (rose_later (x.faults before) (x.faults out) (x.faults after) more h.0, h.1 ∙ same)
 fault_later x c centre next old disk new before out after NoMemory same more on h = h ∙ same
 
 -- ---- the script
@@ -206,6 +206,7 @@ module _ {D W : Type 0} (x : Outside D W) (script : Script) (old : D) (before : 
     told = tt;
     told_front = none_told script.steps (x.taken before);
     faults = judge_fault new f h.faults;
+    unrisen = tt;
   }
 
   same_tables : (a b : Option NodeState) → ◌≡◌ {A = Result (Option NodeState) AdminFault} (Ok a) (Ok b) → a ≡ b
@@ -228,7 +229,8 @@ module _ {D W : Type 0} (x : Outside D W) (script : Script) (old : D) (before : 
   service_fault centre disk new after (BadStore at) count judged h = λ told. absurd (h told)
   service_fault centre disk new after Worn count judged h =
       λ told. ((tables_in centre, judged.found told), λ can. h told (tables_in centre) (judged.stands_so told can))
-  service_fault centre disk new after Write count judged h = (h, λ told. (tables_in centre, judged.found told))
+  service_fault centre disk new after Write count judged h =
+      (h.0, λ told. (tables_in centre, judged.found told), h.1 ∙ judged.unrisen)
   service_fault centre disk new after NoMemory count judged h = h ∙ judged.unrisen
 
   moments_of : (disk new : D) (after : W) (result : Ended) (standing : Option NodeState)
@@ -247,8 +249,9 @@ module _ {D W : Type 0} (x : Outside D W) (script : Script) (old : D) (before : 
       → IfErr result (IsServiceFault x (setting_for script.config) centre disk before new after)
       → OnOk result (WritesAll script.steps (core_of centre) (x.taken before) (x.taken after))
       → OnErr result (WritesFront script.steps (core_of centre) (x.taken before) (x.taken after))
+      → OnOk result (Unrisen (x.state disk).faults (x.state new).faults)
       → Serves x script old before result new after
-  opened centre disk new after (Ok tt) judged count runs faults told_all told_front = record {
+  opened centre disk new after (Ok tt) judged count runs faults told_all told_front unrisen = record {
     found = λ told. (tables_in centre, judged.found told);
     whole = λ told can standing is. run_whole x c script.steps standing disk before (Ok tt) new after refl
         (runs told standing (begun centre disk judged told can standing is));
@@ -273,8 +276,9 @@ module _ {D W : Type 0} (x : Outside D W) (script : Script) (old : D) (before : 
     told = (core_of centre, told_all);
     told_front = tt;
     faults = tt;
+    unrisen = unrisen ∙ judged.unrisen;
   }
-  opened centre disk new after (Err f) judged count runs faults told_all told_front = record {
+  opened centre disk new after (Err f) judged count runs faults told_all told_front unrisen = record {
     found = tt;
     whole = tt;
     last = tt;
@@ -296,6 +300,7 @@ module _ {D W : Type 0} (x : Outside D W) (script : Script) (old : D) (before : 
     told = tt;
     told_front = (core_of centre, told_front);
     faults = service_fault centre disk new after f count judged faults;
+    unrisen = tt;
   }
 
   -- the same of a slice of the script's commands
@@ -308,12 +313,13 @@ module _ {D W : Type 0} (x : Outside D W) (script : Script) (old : D) (before : 
       → IfErr result (IsServiceFault x (setting_for script.config) centre disk before new after)
       → OnOk result (WritesAll steps (core_of centre) (x.taken before) (x.taken after))
       → OnErr result (WritesFront steps (core_of centre) (x.taken before) (x.taken after))
+      → OnOk result (Unrisen (x.state disk).faults (x.state new).faults)
       → Serves x script old before result new after
-  opened_over centre disk new after result steps same judged count runs faults told_all told_front =
+  opened_over centre disk new after result steps same judged count runs faults told_all told_front unrisen =
       opened centre disk new after result judged count
       (λ told b stood. subst (λ (l : List Step). Runs x c l b disk before result new after) same
       (runs told b stood)) faults
       (subst (λ (l : List Step). OnOk result (WritesAll l (core_of centre) (x.taken before) (x.taken after))) same
       told_all)
       (subst (λ (l : List Step). OnErr result (WritesFront l (core_of centre) (x.taken before) (x.taken after))) same
-      told_front)
+      told_front) unrisen

@@ -61,8 +61,8 @@ pub record HasServed {D W : Type 0} (x : Outside D W) (c : Setting) (step : Step
   pub lines : OnOk result (Appends (x.taken before) (x.taken after) (page (done c step standing).lines))
   pub cut : OnErr result (EndsAt x c step standing old before new after)
 
--- When each fault of commands comes, once the store was judged. Where memory is short the disk's count of faults
--- stands.
+-- When each fault of commands comes, once the store was judged. Where the output failed or memory is short the disk's
+-- count of faults stands.
 abbrev pub IsServiceFault : {D W : Type 0} → Outside D W → Setting → Option (Hosted CoreValue) → D → W → D → W
     → AdminFault → Type 0
 IsServiceFault x c centre old before new after Disk = Rose (x.state old).faults (x.state new).faults
@@ -72,6 +72,7 @@ IsServiceFault x c centre old before new after Worn = IsTrue x.tells.content →
     → Stands c b centre (x.state old)
     → (z : Standing) × (stands (x.state new).seen ≡ Some z) × IsWornOut z
 IsServiceFault x c centre old before new after Write = Rose (x.faults before) (x.faults after)
+    × Unrisen (x.state old).faults (x.state new).faults
 IsServiceFault x c centre old before new after NoMemory = Unrisen (x.state old).faults (x.state new).faults
 
 -- ---- the whole script
@@ -95,19 +96,22 @@ IsUnopened x old before result new after =
 abbrev pub IsFound : {D W : Type 0} → Outside D W → D → Type 0
 IsFound x old = (standing : Option NodeState) × (found_on (x.state old).seen ≡ Ok standing)
 
+-- The store that was served to some command has to have a whole record written, and has no further generation.
+abbrev pub IsWornOver : {D W : Type 0} → Outside D W → D → D → Type 0
+IsWornOver x old new = CanBeServed (x.state old) → (z : Standing) × (stands (x.state new).seen ≡ Some z) × IsWornOut z
+
 -- When each fault comes. The two of a store that is no centre's come before anything is written, and the store is
--- judged good before a command finds it worn or a line can't be written. Where memory is short the disk's count of
--- faults stands.
+-- judged good before a command finds it worn or a line can't be written. Where the output failed or memory is short
+-- the disk's count of faults stands.
 abbrev pub IsAdminFault : {D W : Type 0} → Outside D W → D → W → D → W → AdminFault → Type 0
 IsAdminFault x old before new after Disk = Rose (x.state old).faults (x.state new).faults
 IsAdminFault x old before new after NoStore = IsTrue x.tells.content → (found_on (x.state old).seen ≡ Err NoStore)
     × (after ≡ before)
 IsAdminFault x old before new after (BadStore at) = IsTrue x.tells.content
     → (found_on (x.state old).seen ≡ Err (BadStore at)) × (after ≡ before)
-IsAdminFault x old before new after Worn = IsTrue x.tells.content → IsFound x old
-    × (CanBeServed (x.state old) → (z : Standing) × (stands (x.state new).seen ≡ Some z) × IsWornOut z)
+IsAdminFault x old before new after Worn = IsTrue x.tells.content → IsFound x old × IsWornOver x old new
 IsAdminFault x old before new after Write = Rose (x.faults before) (x.faults after)
-    × (IsTrue x.tells.content → IsFound x old)
+    × (IsTrue x.tells.content → IsFound x old) × Unrisen (x.state old).faults (x.state new).faults
 IsAdminFault x old before new after NoMemory = Unrisen (x.state old).faults (x.state new).faults
 
 -- A script was served.
@@ -149,3 +153,5 @@ pub record Serves {D W : Type 0} (x : Outside D W) (script : Script) (old : D) (
       ((core : Option CoreValue) × WritesFront script.steps core (x.taken before) (x.taken after))
   -- when each fault comes
   pub faults : IfErr result (IsAdminFault x old before new after)
+  -- a fault of the store is reported: at Ok no call of it failed
+  pub unrisen : OnOk result (Unrisen (x.state old).faults (x.state new).faults)

@@ -362,6 +362,7 @@ fn serve_steps<D: Disk, W: Sink>(
         (W.taken out.new)) }
     ensures faults { IfErr result (IsServiceFault (outside D.tells D.state W.taken W.faults) (setting_for config.now)
         centre.old disk.old out.old disk.new out.new) }
+    ensures unrisen { OnOk result (Unrisen (D.state disk.old).faults (D.state disk.new).faults) }
     ensures out_unrisen { result ≢ Err AdminFault.Write → Unrisen (W.faults out.old) (W.faults out.new) }
 {
     let mut page = Vec::new(alloc);

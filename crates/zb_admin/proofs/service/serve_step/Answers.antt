@@ -34,7 +34,7 @@ pub returns-in-Ok-clause-faults : goal.returns-in-Ok-clause-faults
 returns-in-Ok-clause-faults g c =
     write_fault (outside g.D.Disk.tells g.D.Disk.state g.W.Sink.taken g.W.Sink.faults) (setting_for c.args.config.now)
     c.args.centre.now c.args.disk.now c.carry_out.new.disk c.args.out.now c.write_page.new.out c.write_page.result
-    c.write_page.ensures.fault
+    c.write_page.ensures.fault c.in-Ok.ensures.unrisen
 
 pub returns-in-Ok-clause-follows : goal.returns-in-Ok-clause-follows
 returns-in-Ok-clause-follows g c = always c.write_page.result c.in-Ok.ensures.follows
