@@ -65,11 +65,38 @@ def describe(module):
     return getattr(module, 'DESCRIPTION', module.SUMMARY[:1].upper() + module.SUMMARY[1:] + '.')
 
 
+def count_of_values(parser, word):
+    """Returns how many of the words after this one are values of the option that it is, or none where it is none."""
+    name, *value = word.split('=', 1) if word.startswith('--') else [word[:2], *([word[2:]] if word[2:] else [])]
+    option = parser._option_string_actions.get(name)
+    if option is None:
+        return None
+    return 0 if value else 1 if option.nargs is None else option.nargs
+
+
+def with_options_first(parser, words):
+    """Returns the words of a command with its options first: else argparse takes no optional word after an option."""
+    options, places, at = [], [], 0
+    while at < len(words) and words[at] != '--':
+        count = count_of_values(parser, words[at])
+        if count is None:
+            places.append(words[at])
+            at += 1
+        elif at + count >= len(words):
+            return words  # a value is missing, and argparse says so
+        else:
+            options += words[at : at + 1 + count]
+            at += 1 + count
+    return options + places + words[at:]
+
+
 def run(words):
     """Runs the command of these words, and returns its exit status."""
     parser = make_parser()
-    if words and not words[0].startswith('-') and words[0] not in parsers_of(parser):
-        raise Stop(f"there is no command '{words[0]}'{suggestion(words[0], parsers_of(parser))}\n{SEE_HELP}")
+    if words and not words[0].startswith('-'):
+        if words[0] not in parsers_of(parser):
+            raise Stop(f"there is no command '{words[0]}'{suggestion(words[0], parsers_of(parser))}\n{SEE_HELP}")
+        words = [words[0], *with_options_first(parsers_of(parser)[words[0]], list(words[1:]))]
     arguments = parser.parse_args(words)
     if arguments.version:
         from .versions import describe_versions

@@ -13,13 +13,14 @@ def add_arguments(parser):
     """Adds the words of the command."""
     parser.add_argument('count', metavar='COUNT', help='the number of runs, 1 to 1000')
     parser.add_argument('start', metavar='START', nargs='?', default='0', help='the start value of the first run (0)')
+    parser.add_argument('all_jobs', metavar='JOBS', nargs='?', help='the same as --jobs, as tc has it')
     add_jobs(parser)
     add_output(parser)
 
 
 def run(arguments):
     """Runs the command, and returns the exit status."""
-    words = ['campaign', arguments.count, arguments.start, arguments.jobs]
+    words = ['campaign', arguments.count, arguments.start, arguments.all_jobs or arguments.jobs]
     with progress.shown(f'{arguments.count} runs'):
         ran = program.run_tc(words)
     status = finish(arguments, ran, read_campaign_line)

@@ -74,10 +74,11 @@ def draw(text, out):
         write_output(out, text)
         return
     try:
-        write_output(out, picture(text, kind))
+        drawn = picture(text, kind)
     except Stop as stop:
         other = '' if kind == 'svg' else '.svg, '
         raise Stop(f'{out}: {stop.message}; use {other}--from/--to, --node, or gabzetu explore', stop.status) from stop
+    write_output(out, drawn)
 
 
 def run(arguments):

@@ -5,11 +5,12 @@ import os
 import tempfile
 
 from .. import program, told
+from ..errors import MISSING, UNWRITABLE, WRONG_INPUT, Stop
 from ..formats import diagnosis
 from ..formats.causes import CAUSES
 from ..formats.grammar import Mistake, describe, read_lines
 from ..output import read_input, say, write_output
-from ..scenarios.steps import write_schedule
+from ..scenarios.steps import faults_of, write_schedule
 
 SUMMARY = 'find the mistakes of a schedule, capture, script or scenario'
 DESCRIPTION = """Finds mistakes, each with its line, its column, the word, and what is wanted there.
@@ -94,10 +95,15 @@ def report(arguments, path, found):
         say(f'gabzetu: {name}: {left} more (--all shows them)')
 
 
-def check_scenario(name, data):
-    """Checks a scenario: it stops where no schedule comes of it."""
+def check_scenario(arguments, path, data):
+    """Checks a scenario, and returns the status. It stops where no schedule comes of one whose lines are right."""
+    found, name = faults_of(data), told.base_name(path)
+    if found:
+        report(arguments, path, found)
+        return WRONG_INPUT
     write_schedule(name, data)
-    write_output(None, f'{name}: a scenario, right\n')
+    if not arguments.json:
+        write_output(None, f'{name}: a scenario, right\n')
     return 0
 
 
@@ -105,7 +111,7 @@ def check(arguments, path):
     """Checks a file, and returns the status of tc."""
     data, name = read_input(path), told.base_name(path)
     if path.endswith(SCENARIO) and not arguments.kind:
-        return check_scenario(name, data)
+        return check_scenario(arguments, path, data)
     other = diagnosis.other_kind_of(data)
     if other and not arguments.kind:
         say(f'gabzetu: {name}: this is {other}. --kind says that it is meant to be something else.')
@@ -124,6 +130,18 @@ def check(arguments, path):
     return 0
 
 
+def check_or_say(arguments, path):
+    """Checks a file, and returns the status. What keeps it from being checked is said, and the next file's turn
+    comes."""
+    try:
+        return check(arguments, path)
+    except Stop as stop:
+        if stop.status in (MISSING, UNWRITABLE):
+            raise
+        say(f'gabzetu: {stop.message}')
+        return stop.status
+
+
 def run(arguments):
     """Runs the command, and returns the exit status."""
-    return max(check(arguments, path) for path in arguments.files)
+    return max(check_or_say(arguments, path) for path in arguments.files)

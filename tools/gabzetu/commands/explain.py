@@ -13,8 +13,8 @@ DESCRIPTION = """Says what the lines of an event mean, which rule of docs/POLICY
 refusal means.
 
 The schedule has the words of the event; without it the lines show what they can. With --broken it is about a line
-that breaks a claim: LINE and CLAIM are the words of `gabzetu audit`. Without EVENT and --broken tc is asked for the
-line."""
+that breaks a claim: LINE and CLAIM are the words of `gabzetu audit`. Its whole answer, `broken LINE CLAIM`, may be
+there in place of EVENT. Without EVENT and --broken tc is asked for the line."""
 
 LONGEST = 110
 
@@ -22,7 +22,9 @@ LONGEST = 110
 def add_arguments(parser):
     """Adds the words of the command."""
     parser.add_argument('transcript', metavar='TRANSCRIPT', help='a transcript, or - for standard input')
-    parser.add_argument('event', metavar='EVENT', nargs='?', help='the number of the event; 0 is the start')
+    parser.add_argument(
+        'words', metavar='EVENT', nargs='*', help='the number of the event, 0 for the start; or `broken LINE CLAIM`'
+    )
     parser.add_argument('--broken', nargs=2, metavar=('LINE', 'CLAIM'), help='a line that breaks a claim')
     parser.add_argument('--schedule', metavar='SCHEDULE', help='the schedule of the transcript')
     parser.add_argument('--full', action='store_true', help='show long lines whole')
@@ -165,18 +167,26 @@ def ask_audit(arguments, data):
     )
 
 
+def read_words(arguments):
+    """Returns the number of the event that is asked for, or none; and the line and the claim, or none."""
+    words, is_answer = arguments.words, arguments.words[:1] == ['broken']
+    if (words and arguments.broken) or len(words) not in ([3] if is_answer else [0, 1]):
+        raise Stop('explain takes one EVENT, or `broken LINE CLAIM`, or --broken LINE CLAIM', WRONG_USE)
+    if words and not is_answer:
+        return number_of(words[0], 'EVENT'), None
+    asked = words[1:] or arguments.broken
+    return None, asked and tuple(map(number_of, asked, ['LINE', 'CLAIM']))
+
+
 def run(arguments):
     """Runs the command, and returns the exit status."""
+    event, broken_words = read_words(arguments)
     data = read_input(arguments.transcript)
     lines = stories.read_text(data.decode('ascii', 'replace'))
-    if arguments.event is not None and arguments.broken:
-        raise Stop('give either EVENT or --broken', WRONG_USE)
-    if arguments.event is not None:
-        said = explain_event(arguments, lines, number_of(arguments.event, 'EVENT'))
+    if event is not None:
+        said = explain_event(arguments, lines, event)
     else:
-        number, claim = (
-            map(number_of, arguments.broken, ['LINE', 'CLAIM']) if arguments.broken else ask_audit(arguments, data)
-        )
+        number, claim = broken_words or ask_audit(arguments, data)
         said = [] if number is None else explain_broken(arguments, lines, number, claim)
     write_output(None, ''.join(it.rstrip() + '\n' for it in said))
     return 0

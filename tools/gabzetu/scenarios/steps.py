@@ -223,9 +223,14 @@ def text_lines(data):
         yield number, text.rstrip('\r'), said.get(number)
 
 
+def faults_of(data):
+    """Returns the mistakes of the lines of a scenario that have no form."""
+    return [fault for _, _, fault in map(language.GRAMMAR.read, read_lines(data)) if fault]
+
+
 def check_words(name, data):
     """Stops with all lines of a scenario that have no form, if there are any."""
-    faults = [fault for _, _, fault in map(language.GRAMMAR.read, read_lines(data)) if fault]
+    faults = faults_of(data)
     if faults:
         raise Stop('\n'.join(f'{name}:{describe(it)}' for it in faults), WRONG_INPUT)
 

@@ -151,6 +151,11 @@ class Command(Folder):
         ran = run('play', self.write('bad', BASE + '\nkock d\n'))
         self.assertIn("bad:7:1: 'kock d': no event of this name; did you mean 'knock NAME'?", ran.said)
 
+    def test_goes_on_after_a_file_that_cannot_be_read(self):
+        ran = run('check', self.path('none'), self.folder, example('join.sched'))
+        self.assertEqual((ran.status, ran.output.count(': a schedule, right')), (66, 1))
+        self.assertIn('none: cannot be read', ran.said)
+
     def test_touches_no_store(self):
         run('check', example('admin.script'))
         self.assertEqual(os.listdir(self.folder), [])

@@ -160,7 +160,8 @@ class Explain(Folder):
         self.assertIn(
             'there is no event 18; the last one is 17', run('explain', example('join.transcript'), '18').said
         )
-        self.assertEqual(run('explain', example('join.transcript'), 'x').status, 64)
+        for words in (['x'], ['6', '7'], ['broken', '30'], ['6', '--broken', '30', '4']):
+            self.assertEqual(run('explain', example('join.transcript'), *words).status, 64)
 
 
 @needs_tc
@@ -173,6 +174,7 @@ class Broken(Folder):
         ran = run('explain', path)
         self.assertEqual((ran.status, ran.said), (0, ''))
         self.assertEqual(ran.output, run('explain', '--broken', *verdict[1:], path).output)
+        self.assertEqual(ran.output, run('explain', path, *verdict).output)
         return verdict, ran.output
 
     def test_a_nonce_comes_twice(self):

@@ -59,6 +59,18 @@ class Help(unittest.TestCase):
         self.assertEqual(run('play', '--js', 'x').status, 64)
         self.assertEqual(run().status, 64)
 
+    def test_options_may_be_anywhere(self):
+        path = example('join.transcript')
+        wanted = run('explain', path, '6', '--schedule', example('join.sched'))
+        self.assertEqual(wanted.status, 0)
+        for words in (
+            ['explain', path, '--schedule', example('join.sched'), '6'],
+            ['explain', '--schedule', example('join.sched'), path, '6'],
+            ['explain', f'--schedule={example("join.sched")}', '--', path, '6'],
+        ):
+            self.assertEqual(run(*words), wanted, words)
+        self.assertIn('--schedule: expected one argument', run('explain', path, '6', '--schedule').said)
+
     def test_without_the_program(self):
         self.assertEqual(run('help', tc='/none').status, 0)
         self.assertIn('tc: missing', run('--version', tc='/none').output)

@@ -1,4 +1,5 @@
 """Tests of scenario: the three examples, each step, and its messages. What it writes is a schedule that tc plays."""
+import json
 import os
 import re
 import unittest
@@ -138,9 +139,14 @@ class Scenario(Folder):
         path = example('first-frame-lost.scn')
         self.assertTrue(run('check', path).output.endswith('first-frame-lost.scn: a scenario, right\n'))
         ran = run('check', self.write('x.scn', 'centre hub\njion x\nroll\nlose frame\n'))
-        self.assertEqual((ran.status, ran.output), (65, ''))
-        self.assertIn("x.scn:2:1: 'jion x'", ran.said)
-        self.assertIn("x.scn:4:6: 'frame': the word 'last' belongs here ('lose last')", ran.said)
+        self.assertEqual((ran.status, ran.said), (65, ''))
+        self.assertIn("x.scn:2:1: 'jion x'", ran.output)
+        self.assertIn("x.scn:4:6: 'frame': the word 'last' belongs here ('lose last')", ran.output)
+        ran = run('check', '--json', self.path('x.scn'))
+        self.assertEqual([json.loads(it)['line'] for it in ran.output.splitlines()], [2, 4])
+
+    def test_a_scenario_without_a_centre_lacks_it_at_its_end(self):
+        self.assertIn("x.scn:2: 'end': no line declares a centre", self.said('device d\n'))
 
     def test_plain_lines_stay(self):
         text = read(example('join.sched'))
