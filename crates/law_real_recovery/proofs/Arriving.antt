@@ -65,10 +65,10 @@ command-length f r =
 
 -- ---- the term, as the program's
 
-abbrev own_term : KeyFrame → Term
+abbrev pub own_term : KeyFrame → Term
 own_term f = term_of (key_term real f)
 
-abbrev head : KeyFrame → ApsHeader
+abbrev pub head : KeyFrame → ApsHeader
 head f =
     record {
       control = 33;
@@ -82,10 +82,10 @@ head f =
     }
 
 -- with the level that counts, and as it stands on the air
-abbrev sealed_aux : KeyFrame → ApsAux
+abbrev pub sealed_aux : KeyFrame → ApsAux
 sealed_aux f = record { control = 53; counter = f.counter; source = Some (eui_of f.centre) }
 
-abbrev air_aux : KeyFrame → ApsAux
+abbrev pub air_aux : KeyFrame → ApsAux
 air_aux f = record { control = 48; counter = f.counter; source = Some (eui_of f.centre) }
 
 two-not-one : ◌≡◌ {A = ℕ} 2 1 → ⊥
@@ -140,7 +140,7 @@ is-term f r = record {
 sixteen : (f : KeyFrame) → KeyFrameInRange f → length (sealing_key (own_term f).label (own_term f).base.0) ≡ 16
 sixteen f r = length-sealing_key (own_term f).label f.link r.link
 
-abbrev sealed_of : KeyFrame → Sealed
+abbrev pub sealed_of : KeyFrame → Sealed
 sealed_of f = sealed_term (sealing_key (own_term f).label f.link) (own_term f)
 
 mic-length : (f : KeyFrame) → KeyFrameInRange f → length (sealed_of f).mic ≡ 4
@@ -152,7 +152,7 @@ unfolding sealed
 text-length f r = crypted_length (sealing_key (own_term f).label f.link) (nonce (eui_of f.centre) f.counter 53)
     (own_term f).content.items (sixteen f r)
 
-wire-length : (f : KeyFrame) → KeyFrameInRange f → length (wire (own_term f)) ≡ 54
+pub wire-length : (f : KeyFrame) → KeyFrameInRange f → length (wire (own_term f)) ≡ 54
 unfolding real
 wire-length f r =
     length-wire (own_term f) (sealing_key (own_term f).label f.link) (sealed_of f).text (sealed_of f).mic refl refl
@@ -162,7 +162,7 @@ wire-length f r =
 regroup : (hd au body mic : List ℕ) → (hd ++ au) ++ body ++ mic ≡ hd ++ ((au ++ body) ++ mic)
 regroup hd au body mic = simp append_assoc
 
-air_frame : KeyFrame → ApsFrame
+unfoldable pub air_frame : KeyFrame → ApsFrame
 air_frame f =
     record {
       header = head f;
@@ -171,7 +171,7 @@ air_frame f =
       mic = (sealed_of f).mic;
     }
 
-air-spells : (f : KeyFrame) → KeyFrameInRange f → aps_shape.Spells (wire (own_term f)) (air_frame f)
+pub air-spells : (f : KeyFrame) → KeyFrameInRange f → aps_shape.Spells (wire (own_term f)) (air_frame f)
 unfolding real air_frame
 air-spells f r = record {
   is_frame = record {

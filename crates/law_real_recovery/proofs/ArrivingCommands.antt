@@ -38,9 +38,9 @@ use Rattle.law_run_text.proofs.Ciphers.{crypted_length}
 -- ---- commands
 
 -- a command that is spelled so, and isn't long, is understood
-record IsSpelled (c : Command) : Type 0 where
-  means : real.read_command (real.spelled c) ≡ Known c
-  short : length (command (command_for c)) ≤ 34
+pub record IsSpelled (c : Command) : Type 0 where
+  pub means : real.read_command (real.spelled c) ≡ Known c
+  pub short : length (command (command_for c)) ≤ 64
 
 spelled_request : IsSpelled RequestLink
 unfolding real
@@ -103,7 +103,7 @@ spelled_confirmation status kind destination a b to =
 -- ---- a command that is sealed: with the key itself, or with the load key
 
 -- of the load key, or of the key itself: the label, the auxiliary control byte, and that byte on the air
-abbrev label_by : Bool → Label
+abbrev pub label_by : Bool → Label
 label_by true = ForLoad
 label_by false = ForData
 
@@ -115,11 +115,11 @@ abbrev air_by : Bool → ℕ
 air_by true = 56
 air_by false = 32
 
-abbrev of_load : Bool → Bytes → ℕ → ℕ → Command → LinkFrame
+abbrev pub of_load : Bool → Bytes → ℕ → ℕ → Command → LinkFrame
 of_load b link source counter c =
     record { label = label_by b; link = link; source = source; counter = counter; command = c }
 
-abbrev aps_own : LinkFrame → Term
+abbrev pub aps_own : LinkFrame → Term
 aps_own l = term_of (link_term real l)
 
 abbrev aps_head : ℕ → ApsHeader
@@ -217,7 +217,7 @@ unfolding sealed
 text-length l long = crypted_length (aps_key l) (nonce (aps_own l).source (aps_own l).counter (aps_own l).control)
     (aps_own l).content.items (key-length l long)
 
-content-length : (b : Bool) (link : Bytes) (source counter : ℕ) (c : Command) → length link ≡ 16
+pub content-length : (b : Bool) (link : Bytes) (source counter : ℕ) (c : Command) → length link ≡ 16
     → length (wire (aps_own (of_load b link source counter c))) ≡ length (command (command_for c)) + 19
 unfolding real
 content-length true link source counter c long =
@@ -323,7 +323,7 @@ opens false link source counter c long lt le s given =
     (Some (eui_of given)) (is-term false link source counter c lt le) refl long
     (omega (arith, content-length false link source counter c long, s.short)))
 
-arrives : (b : Bool) (link : Bytes) (source counter : ℕ) (c : Command) → length link ≡ 16 → counter < 4294967295
+pub arrives : (b : Bool) (link : Bytes) (source counter : ℕ) (c : Command) → length link ≡ 16 → counter < 4294967295
     → source < 2 ^ 64 → IsSpelled c → IsUnsealed real (of_load b link source counter c)
 unfolding air_frame
 arrives true link source counter c long lt le s =
@@ -478,7 +478,7 @@ net-spells f content r short = record {
   fits = omega (arith, net-length f content r, short);
 }
 
-carried : (f : NetFrame) (content : Bytes) → NetFrameInRange f → length content ≤ 101 → IsCarried real f content
+pub carried : (f : NetFrame) (content : Bytes) → NetFrameInRange f → length content ≤ 101 → IsCarried real f content
 unfolding real net_air
 carried f content r short = record {
   body = (net_sealed f content).text;
@@ -552,7 +552,7 @@ clear-spells counter c s = record {
   fits = omega (arith, s.short);
 }
 
-read_clear : (counter : ℕ) (c : Command) → IsSpelled c → IsRead real counter c
+pub read_clear : (counter : ℕ) (c : Command) → IsSpelled c → IsRead real counter c
 unfolding real clear_frame clear_head
 read_clear counter c s = record {
   part = aps_frame_shown (clear_frame counter c);
@@ -606,7 +606,7 @@ spelled_clear : (c : Command) → ClearInRange c → IsSpelled c
 spelled_clear (VerifyKey kind source hash) r = spelled_proof kind source hash r.0 r.1 r.2
 spelled_clear _ r = absurd (zero-not-one r)
 
-clear_short : (counter : ℕ) (c : Command) → IsSpelled c → length (clear_content real counter c) ≤ 101
+pub clear_short : (counter : ℕ) (c : Command) → IsSpelled c → length (clear_content real counter c) ≤ 101
 unfolding real
 clear_short counter c s = omega (arith, s.short)
 

@@ -63,7 +63,7 @@ zero_of p is s i e =
     (subst (AllByRecursion (λ (x : Station). is_centre x.role ≡ true → x.short ≡ 0)) (sym (same_stations p))
     (zero_each p.nodes is.so_far.nodes)) s i e
 
-known : (w : model.Schedule) (n other : ℕ) → Names w n → is_declared (setting_of w other) n ≡ true
+pub known : (w : model.Schedule) (n other : ℕ) → Names w n → is_declared (setting_of w other) n ≡ true
 unfolding setting_of station_of
 known w n other named =
     ap is_some (find_map (λ (p : Station). nat_eq p.eui n) without_blocks (λ p. refl) (stations w)) ∙ still

@@ -5,3 +5,6 @@ pub mod Ending
 pub mod ArrivingCommands
 pub mod Exchanged
 pub mod Joined
+pub mod LetIn
+pub mod ArrivingRelays
+pub mod Through

@@ -44,12 +44,12 @@ all_differ (m ∷ ms) pairs = both (list_any (λ (q : Station). nat_eq m.short q
     (all_apart (λ (p q : Station). nat_eq p.short q.short) (map station_for ms)) (none_like m ms pairs.0)
     (all_differ ms pairs.1)
 
-shorts_differ : (p : Schedule) → IsSchedule p → all_apart (λ (a b : Station). nat_eq a.short b.short)
+pub shorts_differ : (p : Schedule) → IsSchedule p → all_apart (λ (a b : Station). nat_eq a.short b.short)
     (stations (schedule_of p)) ≡ true
 shorts_differ p is = ap (all_apart (λ (a b : Station). nat_eq a.short b.short)) (same_stations p) ∙ all_differ p.nodes
     is.so_far.apart
 
-any_of : {X : Type 0} (test : X → Bool) (x : X) (xs : List X) → In x xs → test x ≡ true → list_any test xs ≡ true
+pub any_of : {X : Type 0} (test : X → Bool) (x : X) (xs : List X) → In x xs → test x ≡ true → list_any test xs ≡ true
 unfolding In
 any_of test x [] i e = absurd i
 any_of test x (y ∷ ys) (inl same) e = rw (ap test same ∙ e) refl
@@ -92,7 +92,7 @@ centre_known w =
     same None = refl
     same (Some p) = refl
 
-short_known : (w : model.Schedule) (c d : ℕ) (y : Declared w d) → short_of (setting_of w c) d ≡ y.station.short
+pub short_known : (w : model.Schedule) (c d : ℕ) (y : Declared w d) → short_of (setting_of w c) d ≡ y.station.short
 unfolding short_of setting_of station_of
 short_known w c d y =
     ap (short_or 0xffff)
@@ -102,7 +102,7 @@ short_known w c d y =
 same_short : ℕ → ℕ → Station → Bool
 same_short n k p = nat_eq p.eui n && nat_eq p.short k
 
-apart_by : (w : model.Schedule) (c d : ℕ) (x : Declared w c) (y : Declared w d)
+pub apart_by : (w : model.Schedule) (c d : ℕ) (x : Declared w c) (y : Declared w d)
     → all_apart (λ (a b : Station). nat_eq a.short b.short) (stations w) ≡ true → (c ≡ d → ⊥)
     → nat_eq x.station.short y.station.short ≡ true → ⊥
 unfolding same_short

@@ -1,2 +1,4 @@
 pub mod Texts
 pub mod Exchanging
+pub mod Readmitting
+pub mod Routing

@@ -6,11 +6,16 @@ ghost use Rattle.std.specs.Prelude.{◌≡◌, ℕ, ◌++◌, true, false, List}
 ghost use Rattle.law_key_exchange.specs.CommandFrames.{DeliversCommands};
 ghost use Rattle.law_recovery.specs.KeyFrames.{DeliversKeys};
 ghost use Rattle.law_recovery.specs.Rejoining.{AreOfOneNetwork};
+ghost use Rattle.law_readmission.specs.Readmitting.{knocked_front, readmission_events};
 ghost use Rattle.law_real_recovery.specs.Exchanging.{MayExchange, MayJoin};
+ghost use Rattle.law_real_recovery.specs.Readmitting.{MayReadmit};
+ghost use Rattle.law_real_recovery.specs.Routing.{MayRoute};
 ghost use Rattle.law_real_recovery.specs.Texts.{MayRejoin, first_front};
 ghost use Rattle.law_recovery_runs.specs.Fronts.{EndsRejoined, after_events, rejoin_events};
 ghost use Rattle.law_recovery_runs.specs.KeyExchange.{EndsConfirmed, NothingStops, exchange_events, joined_front};
 ghost use Rattle.law_recovery_runs.specs.KeyExchange.{joining_events};
+ghost use Rattle.law_router_joins.specs.Routed.{RouteIsFree, routed_front, routed_joining_events};
+ghost use Rattle.law_router_joins.specs.RouterFrames.{DeliversRelays};
 ghost use Rattle.law_schedules.specs.Schedules.{schedule_of};
 ghost use Rattle.zb_model.specs.Data.{Bytes};
 ghost use Rattle.zb_model.specs.Play.{Event, setting_of};
@@ -79,6 +84,53 @@ pub fn a_device_joins_and_is_confirmed_in_each_schedule()
         → (may : MayJoin (schedule_of p) (after_events real (schedule_of p) (first_front (schedule_of p)) before) c d)
         → NothingStops real (schedule_of p) (joined_front real (schedule_of p)
         (after_events real (schedule_of p) (first_front (schedule_of p)) before) c d) c d
+        may.introduced.net.key may.introduced.net.sequence may.introduced.row.key drawn
+        → EndsConfirmed (schedule_of p)
+        (after_events real (schedule_of p) (first_front (schedule_of p)) (schedule_of p).events) c d
+        may.introduced.net.key may.introduced.net.sequence drawn }
+{}
+
+/// States that a device is let in anew at the end of each schedule's run, unless one of the named obstacles holds.
+///
+/// The schedule ends with the removal where the device is live, its code, its knock, and the eight events of joining,
+/// and may have any events before them.
+pub fn a_device_is_readmitted_in_each_schedule()
+    ensures { (p : Schedule) → IsSchedule p → (before : List Event) (c d : ℕ) (network : Bytes) (sequence : ℕ)
+        (key drawn : Bytes) → (schedule_of p).events
+        ≡ before ++ readmission_events real (schedule_of p)
+        (after_events real (schedule_of p) (first_front (schedule_of p)) before) c d key
+        → MayReadmit (schedule_of p) (after_events real (schedule_of p) (first_front (schedule_of p)) before) c d
+        network sequence key
+        → NothingStops real (schedule_of p) (joined_front real (schedule_of p)
+        (knocked_front real (schedule_of p)
+        (after_events real (schedule_of p) (first_front (schedule_of p)) before) c d key) c d) c d
+        network sequence key drawn
+        → EndsConfirmed (schedule_of p)
+        (after_events real (schedule_of p) (first_front (schedule_of p)) (schedule_of p).events) c d
+        network sequence drawn }
+{}
+
+/// States that the real frames of a router's report and of a Tunnel are read, opened and understood as they were sent.
+pub fn real_frames_deliver_relays()
+    ensures { DeliversRelays real }
+{}
+
+/// States that a device joins through a router and is confirmed at the end of each schedule's run.
+///
+/// The router is a member, and none of the named obstacles holds. The schedule ends with the ten events of joining so,
+/// and may have any events before them.
+pub fn a_device_joins_through_a_router_in_each_schedule()
+    ensures { (p : Schedule) → IsSchedule p → (before : List Event) (c r d : ℕ) (router_link drawn : Bytes)
+        → (schedule_of p).events
+        ≡ before ++ routed_joining_events real (schedule_of p)
+        (after_events real (schedule_of p) (first_front (schedule_of p)) before) c r d
+        → (may : MayRoute (schedule_of p) (after_events real (schedule_of p) (first_front (schedule_of p)) before)
+        c r d router_link)
+        → RouteIsFree real (schedule_of p)
+        (after_events real (schedule_of p) (first_front (schedule_of p)) before) c r d router_link
+        may.introduced.net.key may.introduced.net.sequence may.introduced.own
+        → NothingStops real (schedule_of p) (routed_front real (schedule_of p)
+        (after_events real (schedule_of p) (first_front (schedule_of p)) before) c r d) c d
         may.introduced.net.key may.introduced.net.sequence may.introduced.row.key drawn
         → EndsConfirmed (schedule_of p)
         (after_events real (schedule_of p) (first_front (schedule_of p)) (schedule_of p).events) c d
