@@ -1,5 +1,5 @@
-mod Used
-mod SessionLemmas
+pub mod Used
+pub mod SessionLemmas
 mod Stamps
-mod FoundAgain
+pub mod FoundAgain
 mod SealLines
