@@ -1,7 +1,7 @@
-mod Used
-mod SessionLemmas
+pub mod Used
+pub mod SessionLemmas
 mod Stamps
-mod FoundAgain
+pub mod FoundAgain
 mod SealLines
 mod PlainLines
 mod HubRuns

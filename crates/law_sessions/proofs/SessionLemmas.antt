@@ -286,7 +286,7 @@ read_within content entries (Ok s) = behind_within (length content) (length entr
     (redone (version_in content) entries s).0 (redone (version_in content) entries s).1
 read_within content entries (Err left) = tt
 
-given_within : (content entries : List ℕ) → IfOk (state_given Centre content entries) IsWithinLimits
+pub given_within : (content entries : List ℕ) → IfOk (state_given Centre content entries) IsWithinLimits
 unfolding state_given
 given_within content entries = by_role (is_of_other Centre content)
   where
