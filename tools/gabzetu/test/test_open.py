@@ -5,6 +5,7 @@ import gzip
 import io
 import json
 import os
+import random
 import shutil
 import signal
 import subprocess
@@ -14,6 +15,7 @@ import unittest
 from unittest import mock
 
 from gabzetu import TOP
+from gabzetu.capture import Capture
 from gabzetu.cli import main
 from gabzetu.errors import Stop
 from gabzetu.formats import mac
@@ -335,6 +337,28 @@ class Parts(Folder):
             run('open', data('mixed.pcap'), '--keys-from', self.path('keys'), '--code', CODE, '--json')
         )
         self.assertEqual(opened_of(objects), OPENED)
+
+
+def mutated(rng, content):
+    """Returns the bytes of a capture of which some are other ones, or which ends early."""
+    content = bytearray(content)
+    for _ in range(rng.choice([1, 2, 5, 20])):
+        content[rng.randrange(rng.choice([60, len(content)]))] = rng.randrange(256)
+    return content[: rng.randrange(1, len(content))] if rng.randrange(4) == 0 else content
+
+
+@needs_scapy
+class Broken(Folder):
+    def test_broken_captures_are_read_as_far_as_they_go_or_refused(self):
+        originals = [content for content, _ in captures.every_link(packets_of('mixed.pcap')).values()]
+        originals += [captures.pcapng_of(kind, packets_of('mixed.pcap')) for kind in ('simple', 'old', 'big-endian')]
+        for seed in range(300):
+            rng = random.Random(seed)
+            with self.subTest(seed), open(self.path('broken'), 'wb') as file:
+                file.write(mutated(rng, rng.choice(originals)))
+                file.flush()
+                with contextlib.suppress(Stop):
+                    list(Capture(file.name).parts())
 
 
 class Macs(unittest.TestCase):
