@@ -1,10 +1,13 @@
-/* Proved parts of a Zigbee trust centre: the key of an install code, the keyed hash, opening and sealing frames.
+/* Proved parts of a Zigbee trust centre: the key of an install code, the keyed hash, opening and sealing frames; and
+ * the centre itself over the bytes of its store.
  *
- * Each call reads what it is given, allocates nothing and keeps nothing. It returns TC_DONE, or the number of what was
- * wrong first; then nothing was written. A buffer is a pointer and its number of bytes. What a call writes may not
- * overlap with what it reads, and no pointer may be null, also where its buffer has no bytes.
+ * Each call reads what it is given and keeps nothing. It returns TC_DONE, or the number of what was wrong first; then
+ * nothing was written, but where that number says so. A buffer is a pointer and its number of bytes. What a call writes
+ * may not overlap with anything else that it is given, and no pointer may be null, also where its buffer has no bytes.
  *
- * Calls may run side by side. Link with libtc_c.a, which needs memcpy, memmove, memset and memcmp alone.
+ * Calls may run side by side. The first five stand in libtc_c.a, take no memory from the heap, and need memcpy,
+ * memmove, memset and memcmp alone. The last one, tc_admin, stands in libtc_c_centre.a and takes memory while it runs:
+ * compile tc_heap.c with your program, or write its three functions over a heap of your own.
  */
 #ifndef TC_H
 #define TC_H
@@ -32,12 +35,33 @@ extern "C" {
 #define TC_WRONG_MIC 4   /* the MIC isn't that of a content under this key */
 #define TC_TOO_LONG 7    /* the sealed frame would have more than 127 bytes */
 
-/* of every call */
+/* of all five */
 #define TC_WRONG_ROOM 5  /* a buffer to write into has another length than is asked */
 #define TC_WRONG_KEY 6   /* a key hasn't 16 bytes */
 
+/* of tc_admin, with the numbers that the program tc has for it */
+#define TC_USAGE 2        /* `store` has room for less than 131,072 bytes, or `used->store` is more than that */
+#define TC_SHORT_ANSWER 4 /* the answer has more bytes than its room: `used->answer` says how many */
+#define TC_REFUSED 5      /* no script. `used->at` is its first bad line, `used->cause` a TC_CAUSE */
+#define TC_NO_MEMORY 6    /* there was no memory left */
+#define TC_NO_STORE 8     /* the store isn't empty, and no record stands in it */
+#define TC_LONG_INPUT 9   /* the script has more than 16,777,216 bytes */
+#define TC_BAD_STORE 11   /* what stands in the store is no record of a centre: `used->at` is the place of the fault */
+#define TC_WORN 12        /* the store can't be written any more */
+
+/* why a script was refused */
+#define TC_CAUSE_SYNTAX 1
+#define TC_CAUSE_DUPLICATE_NODE 2
+#define TC_CAUSE_BLOCK 3
+#define TC_CAUSE_UNKNOWN_NODE 4
+#define TC_CAUSE_BAD_CODE 5
+#define TC_CAUSE_BACKUP 6
+#define TC_CAUSE_TOO_MANY 7
+#define TC_CAUSE_NO_CENTRE 8
+
 #define TC_KEY_BYTES 16    /* the bytes of a key and of a keyed hash */
 #define TC_FRAME_ROOM 127  /* the bytes of the longest frame, and so of the longest content */
+#define TC_STORE_ROOM 131072 /* the bytes of the largest store */
 
 /* Writes the link key of an install code, which stands with its CRC in `code`. `key` has 16 bytes. */
 uint32_t tc_link_key(const uint8_t *code, size_t code_len, uint8_t *key, size_t key_len);
@@ -71,6 +95,25 @@ uint32_t tc_open_aps(const uint8_t *frame, size_t frame_len, const uint8_t *key,
  * encryption. */
 uint32_t tc_seal_nwk(const uint8_t *clear, size_t clear_len, const uint8_t *key, size_t key_len, uint8_t *frame,
                      size_t frame_room, size_t *len);
+
+/* What is used of the two buffers of tc_admin. */
+struct tc_used {
+    size_t store;   /* how many bytes the store has, before the call and after it; 0 is no store */
+    size_t answer;  /* how many bytes the answer has */
+    uint32_t at;    /* where something was wrong: see TC_REFUSED and TC_BAD_STORE */
+    uint32_t cause; /* why a script was refused */
+};
+
+/* The store is the first `used->store` bytes of `store`, which has room for TC_STORE_ROOM. At TC_DONE the new store
+ * stands there, and what the centre says in `answer`, with no zero behind it. Then
+ *
+ *   1. put the new store in place of the old one, so that a loss of power leaves one or the other, and sync it;
+ *   2. and only then do what the answer says: send its frames, tell its lines.
+ *
+ * Where 1 fails, forget both buffers, and read the store again. Never run two centres on one store. tc_admin serves a
+ * script of `tc admin`, and the answer is what that program writes. */
+uint32_t tc_admin(const uint8_t *script, size_t script_len, uint8_t *store, size_t store_room, uint8_t *answer,
+                  size_t answer_room, struct tc_used *used);
 
 #ifdef __cplusplus
 }

@@ -1,0 +1,4 @@
+mod Rooms
+mod CallLemmas
+mod Stores
+mod Scripts

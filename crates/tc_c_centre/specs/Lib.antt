@@ -1,0 +1,4 @@
+pub mod Outside
+pub mod Buffers
+pub mod Stores
+pub mod Scripts

@@ -1,0 +1,11 @@
+-- What a call serves over, as contracts see it.
+use Rattle.std.specs.Prelude.{ℕ, ◌≤◌, List, length}
+
+-- a disk has room for so many bytes
+abbrev pub HasRoom : List ℕ → Type 0
+HasRoom bytes = length bytes ≤ 131072
+
+-- the answer so far, and how many of its writes failed
+pub record Written : Type 0 where
+  pub text : List ℕ
+  pub faults : ℕ
