@@ -27,30 +27,39 @@ pub(crate) fn read_change(
     ensures fits { IfSome result (λ l. AllByRecursion MayStand (words l)) }
 {
     if kind == b"reserve".as_slice() {
-        read_reserve(event, node, reader)
-    } else if kind == b"floor".as_slice() {
-        read_floor(event, node, reader)
-    } else if kind == b"drop".as_slice() {
-        read_drop(event, node, reader)
-    } else if kind == b"install".as_slice() {
-        read_install(event, node, reader)
-    } else if kind == b"active".as_slice() {
-        read_active(event, node, reader)
-    } else if kind == b"start".as_slice() {
-        read_first_counter(event, node, reader)
-    } else if kind == b"row".as_slice() {
-        read_row(event, node, reader)
-    } else if kind == b"pair".as_slice() {
-        read_pair(event, node, reader)
-    } else if kind == b"state".as_slice() {
-        read_state(event, node, reader)
-    } else if kind == b"roll".as_slice() {
-        read_roll(event, node, reader)
-    } else if event == 0 {
-        read_start(kind, node, reader)
-    } else {
-        None
+        return read_reserve(event, node, reader);
     }
+    if kind == b"floor".as_slice() {
+        return read_floor(event, node, reader);
+    }
+    if kind == b"drop".as_slice() {
+        return read_drop(event, node, reader);
+    }
+    if kind == b"install".as_slice() {
+        return read_install(event, node, reader);
+    }
+    if kind == b"active".as_slice() {
+        return read_active(event, node, reader);
+    }
+    if kind == b"start".as_slice() {
+        return read_first_counter(event, node, reader);
+    }
+    if kind == b"row".as_slice() {
+        return read_row(event, node, reader);
+    }
+    if kind == b"pair".as_slice() {
+        return read_pair(event, node, reader);
+    }
+    if kind == b"state".as_slice() {
+        return read_state(event, node, reader);
+    }
+    if kind == b"roll".as_slice() {
+        return read_roll(event, node, reader);
+    }
+    if event == 0 {
+        return read_start(kind, node, reader);
+    }
+    None
 }
 
 /// Reads a reserved outgoing counter.

@@ -27,22 +27,27 @@ pub(crate) fn read_of_node(
     ensures fits { IfSome result (λ l. AllByRecursion MayStand (words l)) }
 {
     if kind == b"seal".as_slice() {
-        read_seal(event, node, reader)
-    } else if kind == b"accept".as_slice() {
-        read_accept(event, node, reader)
-    } else if kind == b"commit".as_slice() {
-        read_commit(event, node, reader)
-    } else if kind == b"refuse".as_slice() {
-        read_refuse(event, node, reader)
-    } else if kind == b"boot".as_slice() {
-        read_boot(event, node, reader)
-    } else if kind == b"down".as_slice() {
-        read_down(event, node, reader)
-    } else if kind == b"stopped".as_slice() {
-        read_stopped(event, node, reader)
-    } else {
-        read_change(event, kind, node, reader)
+        return read_seal(event, node, reader);
     }
+    if kind == b"accept".as_slice() {
+        return read_accept(event, node, reader);
+    }
+    if kind == b"commit".as_slice() {
+        return read_commit(event, node, reader);
+    }
+    if kind == b"refuse".as_slice() {
+        return read_refuse(event, node, reader);
+    }
+    if kind == b"boot".as_slice() {
+        return read_boot(event, node, reader);
+    }
+    if kind == b"down".as_slice() {
+        return read_down(event, node, reader);
+    }
+    if kind == b"stopped".as_slice() {
+        return read_stopped(event, node, reader);
+    }
+    read_change(event, kind, node, reader)
 }
 
 /// Reads a sealed layer of a frame.

@@ -20,25 +20,31 @@ pub(crate) fn read_of_nobody(event: u32, kind: &[u8], reader: &mut Words<'_>) ->
     ensures fits { IfSome result (λ l. AllByRecursion MayStand (words l)) }
 {
     if kind == b"send".as_slice() {
-        read_send(event, reader)
-    } else if kind == b"forge".as_slice() {
-        read_forge(event, reader)
-    } else if kind == b"inject".as_slice() {
-        read_inject(event, reader)
-    } else if kind == b"draw".as_slice() {
-        read_draw(event, reader)
-    } else if kind == b"live".as_slice() {
-        read_live(event, reader)
-    } else if kind == b"removed".as_slice() {
-        read_removed(event, reader)
-    } else if kind == b"told".as_slice() {
-        read_told(event, reader)
-    } else if kind == b"untold".as_slice() {
-        read_untold(event, reader)
-    } else {
-        let node = reader.name()?;
-        read_of_node(event, kind, node, reader)
+        return read_send(event, reader);
     }
+    if kind == b"forge".as_slice() {
+        return read_forge(event, reader);
+    }
+    if kind == b"inject".as_slice() {
+        return read_inject(event, reader);
+    }
+    if kind == b"draw".as_slice() {
+        return read_draw(event, reader);
+    }
+    if kind == b"live".as_slice() {
+        return read_live(event, reader);
+    }
+    if kind == b"removed".as_slice() {
+        return read_removed(event, reader);
+    }
+    if kind == b"told".as_slice() {
+        return read_told(event, reader);
+    }
+    if kind == b"untold".as_slice() {
+        return read_untold(event, reader);
+    }
+    let node = reader.name()?;
+    read_of_node(event, kind, node, reader)
 }
 
 /// Reads a frame on the air.

@@ -21,14 +21,15 @@ pub(crate) fn read_start(kind: &[u8], node: Name, reader: &mut Words<'_>) -> Opt
     ensures fits { IfSome result (λ l. AllByRecursion MayStand (words l)) }
 {
     if kind == b"node".as_slice() {
-        read_node(node, reader)
-    } else if kind == b"given".as_slice() {
-        read_given(node, reader)
-    } else if kind == b"counter".as_slice() {
-        read_counter(node, reader)
-    } else {
-        None
+        return read_node(node, reader);
     }
+    if kind == b"given".as_slice() {
+        return read_given(node, reader);
+    }
+    if kind == b"counter".as_slice() {
+        return read_counter(node, reader);
+    }
+    None
 }
 
 /// Reads a node as it is declared.
