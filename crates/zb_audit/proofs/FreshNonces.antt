@@ -31,11 +31,24 @@ stamp_cmp = stamp_ord.cmp-value.it
 pub part : (o p : Ordering) (a b : Bool) → is_eq o ≡ a → is_eq p ≡ b → is_eq (ordering_then o p) ≡ (a && b)
 part o p a b e f = then_alike o p ∙ ap (λ (x : Bool). x && is_eq p) e ∙ ap (λ (x : Bool). a && x) f
 
+-- a test that is made last may stand first
+last_first : (a b c d : Bool) → (a && (b && (c && d))) ≡ (d && (a && (b && c)))
+last_first true true true true = refl
+last_first true true true false = refl
+last_first true true false true = refl
+last_first true true false false = refl
+last_first true false c true = refl
+last_first true false c false = refl
+last_first false b c true = refl
+last_first false b c false = refl
+
 pub stamp_alike : (a b : Stamp) → is_eq (stamp_cmp a b) ≡ same_parts a b
 stamp_alike a b =
-    part _ _ _ _ (bytes_alike a.key.0 b.key.0)
-    (part _ _ _ _ (number_so a.source.0 b.source.0)
-    (part _ _ _ _ (number_so a.counter b.counter) (number_so a.control b.control)))
+    part _ _ _ _ (number_so a.source.0 b.source.0)
+    (part _ _ _ _ (number_so a.counter b.counter)
+    (part _ _ _ _ (number_so a.control b.control) (bytes_alike a.key.0 b.key.0)))
+    ∙ last_first (nat_eq a.source.0 b.source.0) (nat_eq a.counter b.counter) (nat_eq a.control b.control)
+    (bytes_eq a.key.0 b.key.0)
 
 pub stamp_turned : (a b : Stamp) → same_parts a b ≡ same_parts b a
 stamp_turned a b =

@@ -42,14 +42,24 @@ layer_turned Nwk Aps = refl
 layer_turned Aps Nwk = refl
 layer_turned Aps Aps = refl
 
+-- a test that is made first may stand last
+first_last : (a b c : Bool) → (a && (b && c)) ≡ (b && (c && a))
+first_last true true true = refl
+first_last true true false = refl
+first_last true false c = refl
+first_last false true true = refl
+first_last false true false = refl
+first_last false false c = refl
+
 channel_alike : (i j : ℕ) (t u : Term) → is_eq (channel_cmp (channel_of i t) (channel_of j u))
     ≡ (nat_eq i j && same_sender u t)
 unfolding same_sender
 channel_alike i j t u =
     part _ _ _ _ (number_so i j)
+    (part _ _ _ _ (number_so t.source.0 u.source.0 ∙ turned_number t.source.0 u.source.0)
     (part _ _ _ _ (layer_alike t.layer u.layer ∙ layer_turned t.layer u.layer)
-    (part _ _ _ _ (bytes_alike t.base.0 u.base.0 ∙ bytes_eq_sym t.base.0 u.base.0)
-    (number_so t.source.0 u.source.0 ∙ turned_number t.source.0 u.source.0)))
+    (bytes_alike t.base.0 u.base.0 ∙ bytes_eq_sym t.base.0 u.base.0))
+    ∙ first_last (nat_eq u.source.0 t.source.0) (same_layer u.layer t.layer) (bytes_eq u.base.0 t.base.0))
 
 pub none_taken : (heights : BTreeMap Channel ℕ) → heights.entries ≡ [] → (names : List Bytes)
     → AreTaken names (record { heights = heights; first = None }) []

@@ -34,10 +34,10 @@ use Rattle.zb_trace.specs.declared.line.Line.TheVariants as line
 abbrev pub stamp_of : Term → Stamp
 stamp_of t =
     record {
-      key = record { 0 = sealing_key t.label t.base.0 };
       source = t.source;
       counter = t.counter;
       control = t.control;
+      key = record { 0 = sealing_key t.label t.base.0 };
     }
 
 abbrev pub same_parts : Stamp → Stamp → Bool
@@ -55,7 +55,7 @@ pub record AreNonces (n : Nonces) (h : List Line) : Type 0 where
 -- Counters taken
 
 abbrev pub channel_of : ℕ → Term → Channel
-channel_of place t = record { place = place; layer = t.layer; base = t.base; source = t.source }
+channel_of place t = record { place = place; source = t.source; layer = t.layer; base = t.base }
 
 abbrev pub channel_cmp : Channel → Channel → Ordering
 channel_cmp = channel_ord.cmp-value.it

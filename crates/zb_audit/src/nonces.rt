@@ -15,16 +15,18 @@ use zb_seal::{Term, sealing_key};
 use zb_trace::Line;
 
 /// A sealing key and a nonce, which is a source, a counter and a control byte (05-3474-21, 4.5.2.2).
+///
+/// The key stands last, since two stamps mostly differ in a number before it.
 #[derive(Clone, Copy, Drop, PartialEq, Eq, PartialOrd, Ord)]
 pub struct Stamp {
-    /// The key that sealed.
-    pub key: Key,
     /// Who sealed.
     pub source: Eui,
     /// The frame counter.
     pub counter: u32,
     /// The security control byte.
     pub control: u8,
+    /// The key that sealed.
+    pub key: Key,
 }
 
 /// The stamps of all seals so far.
@@ -79,9 +81,9 @@ fn stamp_of(term: &Term) -> Stamp
     ensures { result ≡ standing.stamp_of term.now }
 {
     Stamp {
-        key: sealing_key(term.label, &term.base),
         source: term.source,
         counter: term.counter,
         control: term.control,
+        key: sealing_key(term.label, &term.base),
     }
 }

@@ -19,17 +19,18 @@ use zb_base::{Eui, Key, Layer, NoMemory};
 use zb_seal::Term;
 use zb_trace::Line;
 
-/// From whom, under which key and at which layer a node accepts.
+/// From whom, under which key and at which layer a node accepts. The key stands last, since two channels mostly differ
+/// in a number before it.
 #[derive(Clone, Copy, Drop, PartialEq, Eq, PartialOrd, Ord)]
 pub struct Channel {
     /// The place of the receiver's name among all names.
     pub place: usize,
+    /// The sender.
+    pub source: Eui,
     /// The layer.
     pub layer: Layer,
     /// The base key.
     pub base: Key,
-    /// The sender.
-    pub source: Eui,
 }
 
 /// The greatest counters that were accepted so far.
@@ -100,8 +101,8 @@ fn channel_of(place: usize, term: &Term) -> Channel
 {
     Channel {
         place,
+        source: term.source,
         layer: term.layer,
         base: term.base,
-        source: term.source,
     }
 }
