@@ -1,5 +1,5 @@
 -- The real frames of a router's report and of a Tunnel are read, opened and understood as they were sent.
-use Rattle.std.proofs.Common.{◌≡◌, ℕ, Bool, true, false, ◌&&◌, ◌<◌, ◌≤◌, ◌^◌, length, refl, ap, ◌∙◌, arith, length-append}
+use Rattle.std.proofs.Common.{◌≡◌, ℕ, true, false, ◌<◌, ◌≤◌, ◌^◌, length, refl, ap, arith, length-append}
 use Rattle.std.specs.Int.{w64}
 use Rattle.std.specs.Prelude.{nat_le, slice_index}
 use Rattle.zb_cmd.proofs.ReadAgain as cmd_again

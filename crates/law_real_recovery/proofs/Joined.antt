@@ -5,7 +5,7 @@ use Rattle.std.proofs.lemmas.Bool.{false≢true}
 use Rattle.std.proofs.lemmas.List.Sums.{fold-append}
 use Rattle.zb_model.specs.Data.{Bytes, Station, Aps, DoTimer, HasChild}
 use Rattle.zb_model.specs.Lines.{Line}
-use Rattle.zb_model.specs.Play.{Event, Own, setting_of, start, stations}
+use Rattle.zb_model.specs.Play.{Event, Own, setting_of, start}
 use Rattle.zb_model.specs.Readings.{state_of}
 use Rattle.zb_model.specs.State.{greatest_counter, is_centre, next_counter}
 use Rattle.law_key_exchange.specs.Meeting.{IsSteady}

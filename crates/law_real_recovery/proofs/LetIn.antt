@@ -1,14 +1,14 @@
 -- A device is let in anew at the end of a schedule's run: what the laws over runs know of its front.
-use Rattle.std.proofs.Common.{◌≡◌, ℕ, ◌<◌, ◌^◌, ◌&&◌, Bool, true, false, List, [], ◌∷◌, ◌++◌, fold, length, Some, nat_eq, refl, sym, ap, ◌∙◌, subst, eqb-true}
+use Rattle.std.proofs.Common.{◌≡◌, ℕ, ◌<◌, ◌^◌, ◌&&◌, Bool, true, false, List, [], ◌∷◌, ◌++◌, fold, length, nat_eq, sym, ap, ◌∙◌, subst, eqb-true}
 use Rattle.std.specs.List.{AllByRecursion}
 use Rattle.std.proofs.lemmas.Bool.{false≢true}
 use Rattle.std.proofs.lemmas.List.Sums.{fold-append}
-use Rattle.zb_model.specs.Data.{Bytes, Station, DoKnock, DoProvision, DoRemove, DoTimer}
+use Rattle.zb_model.specs.Data.{Bytes, Station, DoProvision, DoRemove, DoTimer}
 use Rattle.zb_model.specs.Lines.{Line}
 use Rattle.zb_model.specs.Play as model
 use Rattle.zb_model.specs.Play.{Event, Own, setting_of, start}
 use Rattle.zb_model.specs.Readings.{state_of}
-use Rattle.zb_model.specs.State.{LinkKey, NodeState, code_row, is_centre, is_live}
+use Rattle.zb_model.specs.State.{LinkKey, code_row, is_centre, is_live}
 use Rattle.law_key_exchange.specs.Meeting.{IsSteady}
 use Rattle.law_recovery_runs.specs.Fronts.{Front, after_event, after_events}
 use Rattle.law_recovery_runs.specs.KeyExchange.{AreMet, EndsConfirmed, KeysInRange, NothingStops, joined_front, joining_events}
@@ -33,7 +33,7 @@ use Rattle.law_real_recovery.proofs.Arriving.{delivers}
 use Rattle.law_real_recovery.proofs.ArrivingCommands.{delivers_commands}
 use Rattle.law_real_recovery.proofs.Ending.{left_over, front_in_range, active_among}
 use Rattle.law_real_recovery.proofs.Exchanged.{are_declared, drawn_fits, stations_fit}
-use Rattle.law_real_recovery.proofs.Networks.{Declared, declared, no_true}
+use Rattle.law_real_recovery.proofs.Networks.{declared, no_true}
 use Rattle.law_real_recovery.proofs.Whole.{NetWhole, LinkWhole, whole_in}
 use Rattle.zb_model_real.specs.Real.{real}
 use Rattle.zb_sched.specs.Schedules as sched

@@ -1,5 +1,5 @@
 -- A device joins through a router at the end of a schedule's run: what the laws over runs know of its front.
-use Rattle.std.proofs.Common.{◌≡◌, ℕ, ◌+◌, ◌<◌, ◌^◌, ◌&&◌, ◌||◌, if◌then◌else◌, Bool, true, false, List, [], ◌∷◌, ◌++◌, map, find, fold, length, Option, Some, None, option_map, is_some, nat_eq, refl, sym, ap, ◌∙◌, subst, eq-eqb, eqb-true}
+use Rattle.std.proofs.Common.{◌≡◌, ℕ, ◌+◌, ◌<◌, ◌&&◌, ◌||◌, if◌then◌else◌, Bool, true, false, List, [], ◌∷◌, ◌++◌, find, fold, length, Option, Some, None, option_map, is_some, nat_eq, refl, sym, ap, ◌∙◌, subst, eq-eqb, eqb-true}
 use Rattle.std.specs.List.{AllByRecursion, list_any}
 use Rattle.std.proofs.lemmas.Bool.{false≢true}
 use Rattle.std.proofs.lemmas.List.Sums.{fold-append}
@@ -14,7 +14,7 @@ use Rattle.zb_model.specs.State.{is_centre}
 use Rattle.law_key_exchange.specs.Meeting.{IsSteady}
 use Rattle.law_recovery.proofs.Once.{find_map}
 use Rattle.law_recovery_runs.specs.Fronts.{Front, after_event, after_events}
-use Rattle.law_recovery_runs.specs.KeyExchange.{AreMet, EndsConfirmed, KeysInRange, NothingStops, exchange_events}
+use Rattle.law_recovery_runs.specs.KeyExchange.{EndsConfirmed, KeysInRange, NothingStops, exchange_events}
 use Rattle.law_recovery_runs.proofs.Exchanged.{left-by, turned}
 use Rattle.law_router_joins.specs.Relaying.{AreRouted}
 use Rattle.law_router_joins.specs.Routed.{MayJoinThrough, RouteIsFree, routed_events, routed_front, routed_joining_events}
@@ -22,14 +22,13 @@ use Rattle.law_router_joins.proofs.Through.{routed_and_exchanged}
 use Rattle.law_real_nodes.proofs.Euis.{different}
 use Rattle.law_real_nodes.proofs.Opening.{opens_as_judged}
 use Rattle.law_run.specs.Events.{BeforeEach}
-use Rattle.law_run.proofs.Judged.{In, all-in}
+use Rattle.law_run.proofs.Judged.{all-in}
 use Rattle.law_run_ranges.specs.Ranges.{LineInRange}
 use Rattle.law_run_ranges.proofs.Runs.{in_range}
 use Rattle.law_run_text.proofs.Schedules.{schedule_in_range}
 use Rattle.law_run_text.proofs.Tools.{real_keeps}
 use Rattle.law_schedules.specs.Schedules.{schedule_of}
 use Rattle.law_schedules.proofs.Meets.{is_schedule}
-use Rattle.law_tables_suffice.specs.Along.{IsAsDeclared, IsRuled, OfNode}
 use Rattle.law_tables_suffice.proofs.Ready.{declared_along, ruled_along}
 use Rattle.law_real_recovery.specs.Routing.{MayRoute}
 use Rattle.law_real_recovery.specs.Texts.{first_front}
