@@ -24,9 +24,8 @@ pub record MayExchange (w : Schedule) (x : Front) (c d : ℕ) (key : Bytes) (seq
   pub joined : HaveJoined w x c d key sequence link
 
 -- The centre c of a schedule and a device d of it, which knocked, have power, and nothing is armed on their disks.
--- Both
--- have the link key of the device's code, and none is offered. The centre's network key is new to the device, and
--- nothing is in the way of its joining.
+-- Both have the link key of the device's code, and none is offered. The centre's network key is new to the device,
+-- and nothing is in the way of its joining.
 pub record MayJoin (w : Schedule) (x : Front) (c d : ℕ) : Type 0 where
   pub centre_named : Names w c
   pub device_named : Names w d

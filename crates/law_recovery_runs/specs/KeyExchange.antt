@@ -73,8 +73,7 @@ pub record EndsConfirmed (w : Schedule) (x : Front) (c d : ℕ) (key : Bytes) (s
     pub device_ready : IsReady x d
 
 -- A device that knocked, to which the centre's network key is new. The centre finds that key by its sequence, and
--- offers
--- the device no link key.
+-- offers the device no link key.
 pub record IsNew (w : Schedule) (x : Front) (c d : ℕ) (can : CanJoin w x c d) : Type 0 where
   pub met : AreMet w x c d
   pub network : HasNetwork (state_of x.lines c) can.introduced.net.key can.introduced.net.sequence

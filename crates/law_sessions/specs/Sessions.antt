@@ -67,8 +67,7 @@ left_by_all found (lines ∷ more) = left_by_all (left_by found lines) more
 -- ---- sessions on a disk
 
 -- A session with the image that its end, or a crash at any moment of it, left of the disk: its lines are those that
--- the
--- image holds.
+-- the image holds.
 pub record Session : Type 0 where
   pub lines : List Bytes
   pub left : List ℕ
