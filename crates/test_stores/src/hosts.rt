@@ -2,7 +2,7 @@
 ghost use Rattle.std.specs.Prelude.{◌≤◌};
 ghost use Rattle.zb_base.specs.Config.{IsConfig};
 
-use crate::support::pattern;
+use crate::support::{holds, pattern, same};
 use crate::tally::{Tally, TallyEvent};
 use arrayvec::ArrayVec;
 use std::alloc::Global;
@@ -34,21 +34,62 @@ fn alone(block: u32) -> Config
     }
 }
 
+// A host on a disk.
+fn host_on<D: Disk>(alloc: Global, disk: &mut D) -> Result<Host<Tally>, HostFault> {
+    Host::boot(alloc, &alone(1), disk)
+}
+
+// A disk with these bytes.
+fn disk_of(rt: &(impl AllocGlobal + Abort), bytes: &[u8]) -> Result<MemDisk, Fail> {
+    assert!(rt; bytes.len() <= 131_072);
+    Ok(MemDisk::new(rt.alloc(), bytes)?)
+}
+
+// The numbers below this one are reserved.
+fn limit_of(rt: &impl Abort, host: &Host<Tally>) -> u8 {
+    assert!(rt; host.is_up());
+    host.core().limit
+}
+
+// How much an event changes, and the number that goes out.
+fn handled<D: Disk>(
+    rt: &impl Abort,
+    host: &mut Host<Tally>,
+    disk: &mut D,
+    event: &TallyEvent,
+) -> Result<(usize, Option<u8>), HostFault> {
+    assert!(rt; host.is_up());
+    let (changes, out) = host.handle(disk, event)?;
+    Ok((changes.len(), out))
+}
+
+// The number with which a host seals.
+fn sealed<D: Disk>(
+    rt: &impl Abort,
+    host: &mut Host<Tally>,
+    disk: &mut D,
+) -> Result<Option<u8>, HostFault> {
+    let (_, out) = handled(rt, host, disk, &TallyEvent::Seal)?;
+    Ok(out)
+}
+
+// Whether this stands on a disk.
+fn stands(alloc: Global, disk: &mut MemDisk, record: &[u8], entries: &[u8]) -> Result<bool, Fail> {
+    let (standing, payloads) = Store::peek(alloc, disk)?;
+    Ok(standing.as_slice() == record && payloads.as_slice() == entries)
+}
+
 // Makes a store with an empty count, boots, and seals 40 times or until the disk fails. Answers how many numbers went
 // out.
 fn seal_on<D: Disk>(rt: &(impl AllocGlobal + Abort), disk: &mut D) -> Result<u8, Fail> {
     let _ = Store::format(rt.alloc(), disk, &[3, 0, 0])?;
-    let mut host: Host<Tally> = Host::boot(rt.alloc(), &alone(1), disk)?;
+    let mut host = host_on(rt.alloc(), disk)?;
     for event in 0..40u8 {
-        assert!(rt; host.is_up());
-        match host.handle(disk, &TallyEvent::Seal) {
-            Ok((changes, out)) => {
-                assert_eq!(rt; changes.len(), 1);
-                assert_eq!(rt; out, Some(event));
-            }
+        match handled(rt, &mut host, disk, &TallyEvent::Seal) {
+            Ok(done) => same(rt, &done, &(1, Some(event))),
             Err(fault) => {
-                assert!(rt; matches!(fault, HostFault::Disk { .. }));
-                assert!(rt; !host.is_up());
+                holds(rt, "a stop", matches!(fault, HostFault::Disk { .. }));
+                holds(rt, "down", !host.is_up());
                 return Ok(event);
             }
         }
@@ -74,11 +115,9 @@ fn expected(calls: u8, gate: u8) -> (u8, u8) {
 
 // Boots on a disk. The next number is the first that doesn't stand.
 fn boot_on(rt: &(impl AllocGlobal + Abort), disk: &mut MemDisk, standing: u8) -> Result<(), Fail> {
-    let mut host: Host<Tally> = Host::boot(rt.alloc(), &alone(1), disk)?;
-    assert!(rt; host.is_up());
-    assert_eq!(rt; host.core().limit, standing);
-    let (_, out) = host.handle(disk, &TallyEvent::Seal)?;
-    assert_eq!(rt; out, Some(standing));
+    let mut host = host_on(rt.alloc(), disk)?;
+    same(rt, &limit_of(rt, &host), &standing);
+    same(rt, &sealed(rt, &mut host, disk)?, &Some(standing));
     Ok(())
 }
 
@@ -88,11 +127,8 @@ fn goes_on_after_a_crash_at_each_call(rt: HostRuntime) -> Result<(), Fail> {
         let mut trail = TrailDisk::new(rt.alloc(), &[], u32::from(calls), 8_192)?;
         let out = seal_on(&rt, &mut trail)?;
         let (handed_out, standing) = expected(calls, 0xA5);
-        assert_eq!(rt; out, handed_out, "at {calls}");
-        let image = trail.bytes();
-        assert!(rt; image.len() <= 131_072);
-        let mut disk = MemDisk::new(rt.alloc(), image)?;
-        boot_on(&rt, &mut disk, standing)?;
+        assert!(rt; out == handed_out, "at {calls}");
+        boot_on(&rt, &mut disk_of(&rt, trail.bytes())?, standing)?;
     }
     Ok(())
 }
@@ -101,7 +137,7 @@ fn goes_on_after_a_crash_at_each_call(rt: HostRuntime) -> Result<(), Fail> {
 fn stopped(rt: &(impl AllocGlobal + Abort), calls: u8, torn: u8) -> Result<MemDisk, Fail> {
     let mut disk = MemDisk::new(rt.alloc(), &[])?;
     disk.arm_stop(calls, pattern(&[torn]));
-    assert_eq!(rt; seal_on(rt, &mut disk)?, expected(calls, torn).0);
+    same(rt, &seal_on(rt, &mut disk)?, &expected(calls, torn).0);
     disk.power_on();
     Ok(disk)
 }
@@ -117,23 +153,24 @@ fn goes_on_after_a_torn_write(rt: HostRuntime) -> Result<(), Fail> {
     Ok(())
 }
 
+// A boot on such a disk, stopped after so many calls, and then the boot that goes on.
+fn boot_twice(rt: &(impl AllocGlobal + Abort), calls: u8, torn: u8, stop: u8) -> Result<(), Fail> {
+    let mut disk = stopped(rt, calls, torn)?;
+    disk.arm_stop(stop, pattern(&[torn]));
+    let fails = host_on(rt.alloc(), &mut disk).is_err();
+    same(rt, &fails, &disk.is_off());
+    disk.power_on();
+    disk.disarm();
+    boot_on(rt, &mut disk, expected(calls, torn).1)
+}
+
 // The boot after a crash inside the commit of a whole record is itself stopped at each of its calls.
 #[test]
 fn goes_on_after_a_crash_of_a_boot(rt: HostRuntime) -> Result<(), Fail> {
     for calls in 134..141u8 {
         for torn in [0, 0xA5] {
             for stop in 0..4u8 {
-                let mut disk = stopped(&rt, calls, torn)?;
-                disk.arm_stop(stop, pattern(&[torn]));
-                let first: Result<Host<Tally>, HostFault> = Host::boot(
-                    rt.alloc(),
-                    &alone(1),
-                    &mut disk,
-                );
-                assert_eq!(rt; first.is_err(), disk.is_off());
-                disk.power_on();
-                disk.disarm();
-                boot_on(&rt, &mut disk, expected(calls, torn).1)?;
+                boot_twice(&rt, calls, torn, stop)?;
             }
         }
     }
@@ -158,136 +195,141 @@ fn slot(alloc: Global, generation: u64, record: &[u8], entries: &[&[u8]]) -> Res
 
 // The limit with which a host boots on these bytes, or why it doesn't.
 fn booted(rt: &(impl AllocGlobal + Abort), bytes: &[u8]) -> Result<Result<u8, HostFault>, Fail> {
-    assert!(rt; bytes.len() <= 131_072);
-    let mut disk = MemDisk::new(rt.alloc(), bytes)?;
-    let booted: Result<Host<Tally>, HostFault> = Host::boot(rt.alloc(), &alone(1), &mut disk);
-    match booted {
-        Ok(host) => {
-            assert!(rt; host.is_up());
-            Ok(Ok(host.core().limit))
-        }
+    let mut disk = disk_of(rt, bytes)?;
+    match host_on(rt.alloc(), &mut disk) {
+        Ok(host) => Ok(Ok(limit_of(rt, &host))),
         Err(HostFault::NoMemory) => Err(HostFault::NoMemory)?,
         Err(fault) => Ok(Err(fault)),
     }
 }
 
-#[test]
-fn boots_on_each_prefix(rt: HostRuntime) -> Result<(), Fail> {
-    let alloc = rt.alloc();
+// The same on a record and entries.
+fn booted_on(
+    rt: &(impl AllocGlobal + Abort),
+    record: &[u8],
+    entries: &[&[u8]],
+) -> Result<Result<u8, HostFault>, Fail> {
+    let bytes = slot(rt.alloc(), 1, record, entries)?;
+    booted(rt, bytes.as_slice())
+}
+
+// Two slots, the second one with the newer record.
+fn two_slots(alloc: Global) -> Result<Vec<u8>, Fail> {
     let mut bytes = slot(alloc, 1, &[3, 0, 7], &[&[1, 9], &[1, 12]])?;
     bytes.resize(65_536, 0)?;
     bytes.extend_from_slice(slot(alloc, 2, &[3, 0, 20], &[&[1, 30]])?.as_slice())?;
     bytes.resize(65_570, 0)?;
-    for (from, to, limit) in [
-        (0, 16, None),
-        (16, 21, Some(7)),
-        (21, 26, Some(9)),
-        (26, 40, Some(12)),
-        (65_530, 65_552, Some(12)),
-        (65_552, 65_557, Some(20)),
-        (65_557, 65_571, Some(30)),
-    ] {
+    Ok(bytes)
+}
+
+// The limit of a host on the prefixes of two slots, from a length on and up to one.
+const PREFIXES: [(usize, usize, Option<u8>); 7] = [
+    (0, 16, None),
+    (16, 21, Some(7)),
+    (21, 26, Some(9)),
+    (26, 40, Some(12)),
+    (65_530, 65_552, Some(12)),
+    (65_552, 65_557, Some(20)),
+    (65_557, 65_571, Some(30)),
+];
+
+#[test]
+fn boots_on_each_prefix(rt: HostRuntime) -> Result<(), Fail> {
+    let bytes = two_slots(rt.alloc())?;
+    for (from, to, limit) in PREFIXES {
         for len in from..to {
-            assert!(rt; len <= bytes.len());
-            let want = limit.ok_or(HostFault::NoRecord);
-            assert_eq!(rt; booted(&rt, &bytes[..len])?, want, "at {len}");
+            let found = booted(&rt, bytes.get(..len).unwrap_or(&[]))?;
+            assert!(rt; found == limit.ok_or(HostFault::NoRecord), "at {len}");
         }
     }
     Ok(())
 }
 
+// Records and entries, and the limit of a host on them, or the place of the fault.
+const STORES: [(&[u8], &[&[u8]], Result<u8, u32>); 13] = [
+    (&[], &[&[1, 9]], Err(0)),
+    (&[0xFF, 0, 7], &[&[1, 9]], Err(0)),
+    (&[2, 0, 7], &[&[1, 9]], Err(0)),
+    (&[3], &[&[1, 9]], Err(1)),
+    (&[3, 0xFF, 7], &[&[1, 9]], Err(1)),
+    (&[3, 2, 7], &[&[1, 9]], Err(1)),
+    (&[3, 0], &[&[1, 9]], Err(2)),
+    (&[3, 0, 7, 7], &[&[1, 9]], Err(3)),
+    (&[3, 0, 7], &[&[0x7F, 9]], Err(3)),
+    (&[3, 0, 7], &[&[1, 9], &[0x7F, 12]], Err(5)),
+    (&[3, 0, 7], &[&[1, 9], &[1, 12], &[0, 13]], Err(7)),
+    (&[3, 0, 7], &[&[1, 9], &[1]], Err(5)),
+    (&[3, 0, 0xFF], &[], Ok(255)),
+];
+
 #[test]
 fn refuses_other_records(rt: HostRuntime) -> Result<(), Fail> {
-    let alloc = rt.alloc();
-    let records: [(&[u8], u32); 8] = [
-        (&[], 0),
-        (&[0xFF, 0, 7], 0),
-        (&[2, 0, 7], 0),
-        (&[3], 1),
-        (&[3, 0xFF, 7], 1),
-        (&[3, 2, 7], 1),
-        (&[3, 0], 2),
-        (&[3, 0, 7, 7], 3),
-    ];
-    for (record, at) in records {
-        let bytes = slot(alloc, 1, record, &[&[1, 9]])?;
-        assert_eq!(rt;
-            booted(&rt, bytes.as_slice())?,
-            Err(HostFault::BadRecord { at })
+    for (record, entries, want) in STORES {
+        let found = booted_on(&rt, record, entries)?;
+        assert!(rt;
+            found == want.map_err(|at| HostFault::BadRecord { at }),
+            "{record:?}"
         );
     }
-    let journals: [(&[&[u8]], u32); 4] = [
-        (&[&[0x7F, 9]], 3),
-        (&[&[1, 9], &[0x7F, 12]], 5),
-        (&[&[1, 9], &[1, 12], &[0, 13]], 7),
-        (&[&[1, 9], &[1]], 5),
-    ];
-    for (entries, at) in journals {
-        let bytes = slot(alloc, 1, &[3, 0, 7], entries)?;
-        assert_eq!(rt;
-            booted(&rt, bytes.as_slice())?,
-            Err(HostFault::BadRecord { at })
-        );
+    Ok(())
+}
+
+// A store of the last generation with so many entries: it takes entries until it is full, and no record after that.
+fn wear(rt: &(impl AllocGlobal + Abort), entries: &[&[u8]]) -> Result<(), Fail> {
+    let bytes = slot(rt.alloc(), u64::MAX, &[3, 0, 0], entries)?;
+    let mut disk = disk_of(rt, bytes.as_slice())?;
+    let mut host = host_on(rt.alloc(), &mut disk)?;
+    if entries.len() == 31 {
+        same(rt, &sealed(rt, &mut host, &mut disk)?, &Some(5));
     }
-    let largest = slot(alloc, 1, &[3, 0, 0xFF], &[])?;
-    assert_eq!(rt; booted(&rt, largest.as_slice())?, Ok(255));
+    let before = disk.bytes().to_vec(rt.alloc())?;
+    let last = sealed(rt, &mut host, &mut disk).err();
+    same(rt, &last, &Some(HostFault::Worn));
+    holds(rt, "down", !host.is_up());
+    holds(rt, "the bytes before", disk.bytes() == before.as_slice());
     Ok(())
 }
 
 #[test]
 fn wears_out(rt: HostRuntime) -> Result<(), Fail> {
     let entries: [&[u8]; 32] = [&[1, 5]; 32];
-    for standing in [31, 32] {
-        let bytes = slot(rt.alloc(), u64::MAX, &[3, 0, 0], &entries[..standing])?;
-        assert!(rt; bytes.len() <= 131_072);
-        let mut disk = MemDisk::new(rt.alloc(), bytes.as_slice())?;
-        let mut host: Host<Tally> = Host::boot(rt.alloc(), &alone(1), &mut disk)?;
-        assert!(rt; host.is_up());
-        if standing == 31 {
-            let (_, out) = host.handle(&mut disk, &TallyEvent::Seal)?;
-            assert_eq!(rt; out, Some(5));
-        }
-        let before = disk.bytes().to_vec(rt.alloc())?;
-        assert!(rt; host.is_up());
-        assert_eq!(rt;
-            host.handle(&mut disk, &TallyEvent::Seal).err(),
-            Some(HostFault::Worn)
-        );
-        assert!(rt; !host.is_up());
-        assert!(rt; disk.bytes() == before.as_slice());
-    }
+    wear(&rt, &entries[..31])?;
+    wear(&rt, &entries)
+}
+
+// A boot on a record of version 1 with the limit 8, and these entries: the next number is the limit, and what is
+// stored for it is a record of version 3. What is stored after that is an entry.
+fn renew(
+    rt: &(impl AllocGlobal + Abort),
+    entries: &[&[u8]],
+    record: &[u8; 3],
+    entry: &[u8],
+) -> Result<(), Fail> {
+    let bytes = slot(rt.alloc(), 1, &[1, 0, 8], entries)?;
+    let mut disk = disk_of(rt, bytes.as_slice())?;
+    let mut host = host_on(rt.alloc(), &mut disk)?;
+    let limit = limit_of(rt, &host);
+    same(rt, &limit, &if entries.is_empty() { 8 } else { 9 });
+    let (_, none) = handled(rt, &mut host, &mut disk, &TallyEvent::Rest)?;
+    same(rt, &none, &None);
+    holds(rt, "the bytes before", disk.bytes() == bytes.as_slice());
+    same(rt, &sealed(rt, &mut host, &mut disk)?, &Some(limit));
+    holds(
+        rt,
+        "the record",
+        stands(rt.alloc(), &mut disk, record, &[])?,
+    );
+    same(rt, &sealed(rt, &mut host, &mut disk)?, &Some(record[2]));
+    holds(
+        rt,
+        "the entry",
+        stands(rt.alloc(), &mut disk, record, entry)?,
+    );
     Ok(())
 }
 
 #[test]
 fn writes_the_whole_record_over_a_first_version(rt: HostRuntime) -> Result<(), Fail> {
-    let stores: [(&[&[u8]], [u8; 3], [u8; 2]); 2] = [
-        (&[], [3, 0, 9], [1, 10]),
-        (&[&[1, 9]], [3, 0, 10], [1, 11]),
-    ];
-    for (entries, record, entry) in stores {
-        let bytes = slot(rt.alloc(), 1, &[1, 0, 8], entries)?;
-        assert!(rt; bytes.len() <= 131_072);
-        let mut disk = MemDisk::new(rt.alloc(), bytes.as_slice())?;
-        let mut host: Host<Tally> = Host::boot(rt.alloc(), &alone(1), &mut disk)?;
-        assert!(rt; host.is_up());
-        let limit = host.core().limit;
-        assert_eq!(rt; limit, if entries.is_empty() { 8 } else { 9 });
-        let (_, none) = host.handle(&mut disk, &TallyEvent::Rest)?;
-        assert_eq!(rt; none, None);
-        assert!(rt; disk.bytes() == bytes.as_slice());
-        assert!(rt; host.is_up());
-        let (_, out) = host.handle(&mut disk, &TallyEvent::Seal)?;
-        assert_eq!(rt; out, Some(limit));
-        let (standing, payloads) = Store::peek(rt.alloc(), &mut disk)?;
-        assert_eq!(rt; standing.as_slice(), record.as_slice());
-        assert!(rt; payloads.is_empty());
-        assert!(rt; host.is_up());
-        let (_, next) = host.handle(&mut disk, &TallyEvent::Seal)?;
-        assert_eq!(rt; next, Some(record[2]));
-        let (standing, payloads) = Store::peek(rt.alloc(), &mut disk)?;
-        assert_eq!(rt; standing.as_slice(), record.as_slice());
-        assert_eq!(rt; payloads.as_slice(), entry.as_slice());
-    }
-    Ok(())
+    renew(&rt, &[], &[3, 0, 9], &[1, 10])?;
+    renew(&rt, &[&[1, 9]], &[3, 0, 10], &[1, 11])
 }

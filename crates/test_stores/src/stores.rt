@@ -1,5 +1,5 @@
 //! Stores: the layout on a disk that was made, stops and faults at each device call, and bad input.
-use crate::support::pattern;
+use crate::support::{holds, pattern, same};
 use std::alloc::Global;
 use std::process::Abort;
 use std::test::Fail;
@@ -21,21 +21,29 @@ fn disk_with(
     Ok(disk)
 }
 
+// The bytes of a disk before this place.
+fn head(disk: &MemDisk, end: usize) -> &[u8] {
+    disk.bytes().get(..end).unwrap_or(&[])
+}
+
+// The head of a first slot whose record is the byte 1, without entries.
+const FIRST_SLOT: [u8; 15] = [0xA5, 1, 0, 0, 0, 0, 0, 0, 0, 1, 0, 0, 0, 1, 0];
+
 #[test]
 fn formats(rt: HostRuntime) -> Result<(), Fail> {
     let mut disk = MemDisk::new(rt.alloc(), &[])?;
     let _ = Store::format(rt.alloc(), &mut disk, &[1])?;
-    let bytes = disk.bytes();
-    assert!(rt; bytes.len() == 65_537);
-    assert_eq!(rt;
-        bytes[..15].to_vec(rt.alloc())?.as_slice(),
-        [0xA5, 1, 0, 0, 0, 0, 0, 0, 0, 1, 0, 0, 0, 1, 0].as_slice()
+    same(&rt, &disk.bytes().len(), &65_537);
+    holds(
+        &rt,
+        "the first slot",
+        head(&disk, 15) == FIRST_SLOT.as_slice(),
     );
-    assert_eq!(rt; bytes[65_536], 0);
+    same(&rt, &disk.bytes().get(65_536).copied(), &Some(0));
     let (_, record, payloads) = Store::open(rt.alloc(), &mut disk)?;
-    assert_eq!(rt; record.as_slice(), [1].as_slice());
-    assert!(rt; payloads.is_empty());
-    assert_eq!(rt; Store::standing(&mut disk), Ok((1, 0)));
+    holds(&rt, "the record", record.as_slice() == [1].as_slice());
+    holds(&rt, "no payloads", payloads.is_empty());
+    same(&rt, &Store::standing(&mut disk), &Ok((1, 0)));
     Ok(())
 }
 
@@ -80,20 +88,29 @@ fn what_is_left(disk: &mut MemDisk, done: bool, new: bool) -> Left {
     }
 }
 
+// What stands on a disk once the power is back: the record, the payloads, the generation, and how many entries.
+fn standing_on(
+    alloc: Global,
+    disk: &mut MemDisk,
+) -> Result<(Vec<u8>, Vec<u8>, (u64, u32)), StoreFault> {
+    disk.disarm();
+    disk.power_on();
+    let (record, payloads) = Store::peek(alloc, disk)?;
+    let standing = Store::standing(disk)?;
+    Ok((record, payloads, standing))
+}
+
 // A `put` of 02 03 over 01.
 fn after_put(rt: &(impl AllocGlobal + Abort), ending: Ending) -> Result<Left, Fail> {
     let mut disk = MemDisk::new(rt.alloc(), &[])?;
     let store = Store::format(rt.alloc(), &mut disk, &[1])?;
     arm(&mut disk, ending);
     let done = store.put(&mut disk, &[2, 3]).is_ok();
-    disk.disarm();
-    disk.power_on();
-    let (record, payloads) = Store::peek(rt.alloc(), &mut disk)?;
+    let (record, payloads, standing) = standing_on(rt.alloc(), &mut disk)?;
     let new = record.as_slice() == [2, 3].as_slice();
     let old = record.as_slice() == [1].as_slice();
-    let standing = if new { (2, 0) } else { (1, 0) };
-    assert!(rt; (new || old) && payloads.is_empty());
-    assert_eq!(rt; Store::standing(&mut disk), Ok(standing));
+    holds(rt, "a put", (new || old) && payloads.is_empty());
+    same(rt, &standing, &if new { (2, 0) } else { (1, 0) });
     Ok(what_is_left(&mut disk, done, new))
 }
 
@@ -122,12 +139,12 @@ fn puts_or_keeps(rt: HostRuntime) -> Result<(), Fail> {
     for (calls, row) in PUTS_STOPPED.iter().enumerate() {
         for (torn, want) in PATTERNS.iter().zip(row) {
             let left = after_put(&rt, Ending::Stop(calls as u8, torn))?;
-            assert_eq!(rt; left, *want, "after {calls}");
+            assert!(rt; left == *want, "after {calls}");
         }
     }
     for (place, want) in PUTS_FAILED.iter().enumerate() {
         let left = after_put(&rt, Ending::Fail(place as u8 + 1))?;
-        assert_eq!(rt; left, *want, "at {place}");
+        assert!(rt; left == *want, "at {place}");
     }
     Ok(())
 }
@@ -139,14 +156,15 @@ fn after_append(rt: &(impl AllocGlobal + Abort), ending: Ending) -> Result<Left,
     arm(&mut disk, ending);
     assert!(rt; store.entries() < 32);
     let done = store.append(&mut disk, &[6]).is_ok();
-    disk.disarm();
-    disk.power_on();
-    let (record, payloads) = Store::peek(rt.alloc(), &mut disk)?;
+    let (record, payloads, standing) = standing_on(rt.alloc(), &mut disk)?;
     let new = payloads.as_slice() == [4, 5, 6].as_slice();
     let old = payloads.as_slice() == [4, 5].as_slice();
-    let standing = if new { (1, 2) } else { (1, 1) };
-    assert!(rt; (new || old) && record.as_slice() == [1].as_slice());
-    assert_eq!(rt; Store::standing(&mut disk), Ok(standing));
+    holds(
+        rt,
+        "an append",
+        (new || old) && record.as_slice() == [1].as_slice(),
+    );
+    same(rt, &standing, &if new { (1, 2) } else { (1, 1) });
     Ok(what_is_left(&mut disk, done, new))
 }
 
@@ -165,12 +183,12 @@ fn appends_or_keeps(rt: HostRuntime) -> Result<(), Fail> {
     for (calls, row) in APPENDS_STOPPED.iter().enumerate() {
         for (torn, want) in PATTERNS.iter().zip(row) {
             let left = after_append(&rt, Ending::Stop(calls as u8, torn))?;
-            assert_eq!(rt; left, *want, "after {calls}");
+            assert!(rt; left == *want, "after {calls}");
         }
     }
     for (place, want) in APPENDS_FAILED.iter().enumerate() {
         let left = after_append(&rt, Ending::Fail(place as u8 + 1))?;
-        assert_eq!(rt; left, *want, "at {place}");
+        assert!(rt; left == *want, "at {place}");
     }
     Ok(())
 }
@@ -180,16 +198,13 @@ fn after_open(rt: &(impl AllocGlobal + Abort), gate: u8, ending: Ending) -> Resu
     let alloc = rt.alloc();
     let first = slot(alloc, gate, 1, 1, &[1], &[0])?;
     let second = slot(alloc, 0xA5, 2, 2, &[2, 3], &[0xA5, 1, 0, 9, 0])?;
-    let bytes = two(alloc, &first, &second)?;
-    assert!(rt; bytes.len() <= 131_072);
-    let mut disk = MemDisk::new(alloc, &bytes)?;
+    let mut disk = disk_of(rt, &two(alloc, &first, &second)?)?;
     arm(&mut disk, ending);
     let done = Store::open(alloc, &mut disk).is_ok();
-    disk.disarm();
-    disk.power_on();
-    let (record, payloads) = Store::peek(alloc, &mut disk)?;
-    assert!(rt; record.as_slice() == [2, 3].as_slice() && payloads.as_slice() == [9].as_slice());
-    assert_eq!(rt; Store::standing(&mut disk), Ok((2, 1)));
+    let (record, payloads, standing) = standing_on(alloc, &mut disk)?;
+    holds(rt, "the record", record.as_slice() == [2, 3].as_slice());
+    holds(rt, "the payloads", payloads.as_slice() == [9].as_slice());
+    same(rt, &standing, &(2, 1));
     Ok(what_is_left(&mut disk, done, true))
 }
 
@@ -207,18 +222,18 @@ fn opens_as_before(rt: HostRuntime) -> Result<(), Fail> {
     for (calls, row) in OPENS_STOPPED.iter().enumerate() {
         for (torn, want) in PATTERNS.iter().zip(row) {
             let left = after_open(&rt, 0xA5, Ending::Stop(calls as u8, torn))?;
-            assert_eq!(rt; left, *want, "after {calls}");
+            assert!(rt; left == *want, "after {calls}");
         }
     }
     for (place, want) in OPENS_FAILED.iter().enumerate() {
         let left = after_open(&rt, 0xA5, Ending::Fail(place as u8 + 1))?;
-        assert_eq!(rt; left, *want, "at {place}");
+        assert!(rt; left == *want, "at {place}");
     }
     // A gate that isn't open is never written, whatever its byte.
     for gate in [0, 7, 0xA4, 0xFF] {
         let begun = after_open(&rt, gate, Ending::Stop(0, &[]))?;
         let done = after_open(&rt, gate, Ending::Stop(1, &[]))?;
-        assert_eq!(rt; (begun, done), (Left::New, Left::Done), "at gate {gate}");
+        assert!(rt; begun == Left::New && done == Left::Done, "at gate {gate}");
     }
     Ok(())
 }
@@ -250,36 +265,50 @@ fn two(alloc: Global, first: &[u8], second: &[u8]) -> Result<Vec<u8>, Fail> {
     Ok(bytes)
 }
 
+// A disk with these bytes.
+fn disk_of(rt: &(impl AllocGlobal + Abort), bytes: &[u8]) -> Result<MemDisk, Fail> {
+    assert!(rt; bytes.len() <= 131_072);
+    Ok(MemDisk::new(rt.alloc(), bytes)?)
+}
+
+// The length of the record that `peek` finds.
+fn peeked(alloc: Global, disk: &mut MemDisk) -> Result<Option<usize>, StoreFault> {
+    match Store::peek(alloc, disk) {
+        Ok((record, _payloads)) => Ok(Some(record.len())),
+        Err(StoreFault::NoMemory) => Err(StoreFault::NoMemory),
+        Err(_) => Ok(None),
+    }
+}
+
+// How many entries the store has that `open` finds, and the length of its record.
+fn opened(alloc: Global, disk: &mut MemDisk) -> Result<Option<(u32, usize)>, StoreFault> {
+    match Store::open(alloc, disk) {
+        Ok((store, record, _payloads)) => Ok(Some((store.entries(), record.len()))),
+        Err(StoreFault::NoMemory) => Err(StoreFault::NoMemory),
+        Err(_) => Ok(None),
+    }
+}
+
 // What stands on a disk of these bytes: the generation, how many entries, and the record's length.
 fn reading(
     rt: &(impl AllocGlobal + Abort),
     bytes: &[u8],
 ) -> Result<Option<(u64, u32, usize)>, Fail> {
-    assert!(rt; bytes.len() <= 131_072);
-    let mut disk = MemDisk::new(rt.alloc(), bytes)?;
+    let mut disk = disk_of(rt, bytes)?;
     let standing = Store::standing(&mut disk);
-    let peeked = match Store::peek(rt.alloc(), &mut disk) {
-        Ok((record, _payloads)) => Some(record.len()),
-        Err(StoreFault::NoMemory) => return Err(StoreFault::NoMemory)?,
-        Err(_) => None,
-    };
-    let opened = match Store::open(rt.alloc(), &mut disk) {
-        Ok((store, record, _payloads)) => Some((store.entries(), record.len())),
-        Err(StoreFault::NoMemory) => return Err(StoreFault::NoMemory)?,
-        Err(_) => None,
-    };
-    match (standing, peeked, opened) {
-        (Ok((generation, entries)), Some(peeked), Some((counted, len))) => {
-            assert_eq!(rt; counted, entries);
-            assert_eq!(rt; peeked, len);
-            Ok(Some((generation, entries, len)))
+    let peeked = peeked(rt.alloc(), &mut disk)?;
+    let opened = opened(rt.alloc(), &mut disk)?;
+    let (generation, entries) = match standing {
+        Ok(found) => found,
+        Err(fault) => {
+            same(rt, &fault, &StoreFault::NoRecord);
+            holds(rt, "no record", peeked.is_none() && opened.is_none());
+            return Ok(None);
         }
-        (standing, peeked, opened) => {
-            assert_eq!(rt; standing, Err(StoreFault::NoRecord));
-            assert!(rt; peeked.is_none() && opened.is_none());
-            Ok(None)
-        }
-    }
+    };
+    let len = peeked.expect(rt, "a record");
+    same(rt, &opened, &Some((entries, len)));
+    Ok(Some((generation, entries, len)))
 }
 
 // What stands on the prefixes of a disk of 70,000 bytes, from each length on.
@@ -310,8 +339,8 @@ fn reads_each_prefix(rt: HostRuntime) -> Result<(), Fail> {
             }
         }
         if near {
-            assert!(rt; len <= whole.len());
-            assert_eq!(rt; reading(&rt, &whole[..len])?, want, "at {len}");
+            let found = reading(&rt, whole.get(..len).unwrap_or(&[]))?;
+            assert!(rt; found == want, "at {len}");
         }
     }
     Ok(())
@@ -367,7 +396,7 @@ fn refuses_bad_slots(rt: HostRuntime) -> Result<(), Fail> {
         let first = filled(rt.alloc(), first)?;
         let second = filled(rt.alloc(), second)?;
         let bytes = two(rt.alloc(), &first, &second)?;
-        assert_eq!(rt; reading(&rt, &bytes)?, want);
+        same(&rt, &reading(&rt, &bytes)?, &want);
     }
     Ok(())
 }
@@ -376,8 +405,12 @@ fn refuses_bad_slots(rt: HostRuntime) -> Result<(), Fail> {
 fn stops_where_the_trail_is_full(rt: HostRuntime) -> Result<(), Fail> {
     let mut disk = TrailDisk::new(rt.alloc(), &[], 8, 65_536)?;
     let store = Store::format(rt.alloc(), &mut disk, &[1])?;
-    assert_eq!(rt; store.put(&mut disk, &[2, 3]).err(), Some(StoreFault::Disk));
-    assert_eq!(rt; Store::standing(&mut disk), Ok((2, 0)));
+    same(
+        &rt,
+        &store.put(&mut disk, &[2, 3]).err(),
+        &Some(StoreFault::Disk),
+    );
+    same(&rt, &Store::standing(&mut disk), &Ok((2, 0)));
     Ok(())
 }
 
@@ -392,8 +425,8 @@ fn opens_a_file_again(rt: HostRuntime) -> Result<(), Fail> {
     }
     let mut disk = FileDisk::new(&rt, path)?;
     let (_, record, payloads) = Store::open(rt.alloc(), &mut disk)?;
-    assert_eq!(rt; record.as_slice(), [1, 2, 3].as_slice());
-    assert_eq!(rt; payloads.as_slice(), [4].as_slice());
+    holds(&rt, "the record", record.as_slice() == [1, 2, 3].as_slice());
+    holds(&rt, "the payloads", payloads.as_slice() == [4].as_slice());
     std::fs::remove_file(&rt, path)?;
     Ok(())
 }
