@@ -1,8 +1,8 @@
--- Fronts of two texts, one after the other.
-use Rattle.std.proofs.Common.{◌≡◌, ℕ, zero, suc, ◌≤◌, [], ◌∷◌, ◌++◌, take, Option, refl, ap, sym, subst, arith}
+-- Fronts of two texts, one after the other, and counts of faults of two calls.
+use Rattle.std.proofs.Common.{◌≡◌, ℕ, zero, suc, ◌≤◌, [], ◌∷◌, ◌++◌, take, Option, Result, Ok, Err, OnOk, OnErr, is_err, if◌then◌else◌, refl, ap, sym, ◌∙◌, subst, arith}
 use Rattle.std.specs.Io.KnownBytes.{Appends}
 use Rattle.std.proofs.KnownBytes.{Appends-trans}
-use Rattle.zb_base.specs.Outside.{AppendsFront, Rose}
+use Rattle.zb_base.specs.Outside.{AppendsFront, Rose, Unrisen, risen}
 use Rattle.zb_model.specs.Data.{Bytes}
 
 take_front : (xs ys : Bytes) (n : ℕ) → (m : ℕ) × (take m (xs ++ ys) ≡ take n xs)
@@ -28,3 +28,14 @@ front_behind a b c xs ys page first is second =
 
 pub rose_later : (a b c : ℕ) → a ≤ b → Rose b c → Rose a c
 rose_later a b c later rose = omega arith
+
+-- a call after one that went through: its own fault alone is counted
+pub flush_unrisen : {T E : Type 0} (r : Result T E) (old mid new : ℕ) → Unrisen old mid
+    → new ≡ (if is_err r then risen mid 1 else mid) → OnOk r (Unrisen old new)
+flush_unrisen (Ok x) old mid new same is = is ∙ same
+flush_unrisen (Err e) old mid new same is = tt
+
+pub flush_failed : {T E : Type 0} (r : Result T E) (old mid new : ℕ) → Unrisen old mid
+    → new ≡ (if is_err r then risen mid 1 else mid) → OnErr r (Rose old new)
+flush_failed (Ok x) old mid new same is = tt
+flush_failed (Err e) old mid new same is = omega (arith, same, is)

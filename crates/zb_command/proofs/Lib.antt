@@ -5,3 +5,4 @@ pub mod PlayedRuns
 pub mod Fronts
 mod PartLaws
 pub mod ServedScripts
+mod Settling

@@ -6,6 +6,7 @@ pub mod Statuses
 pub mod Outcomes
 pub mod Auditing
 pub mod Serving
+pub mod Settled
 pub mod Finishing
 pub mod Words
 pub mod Inputs

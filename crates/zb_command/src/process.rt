@@ -1,7 +1,7 @@
 //! The run of the process: the words of its command line, its standard input and its standard output.
 ghost use Rattle.std.specs.Io.KnownBytes.{Appends};
-ghost use Rattle.std.specs.Prelude.{◌≡◌, OnOk, map, string_bytes};
-ghost use Rattle.zb_base.specs.Outside.{HasCause};
+ghost use Rattle.std.specs.Prelude.{◌≡◌, ◌⊎◌, OnErr, OnOk, map, string_bytes};
+ghost use Rattle.zb_base.specs.Outside.{HasCause, Rose, Unrisen};
 ghost use Rattle.zb_command.specs.Process.{held_back, store_path};
 ghost use Rattle.zb_command.specs.Statuses.{line_of, text_of};
 
@@ -34,11 +34,29 @@ pub fn run_process<H: Env + Input + Print + StoreFiles + AllocGlobal + Threads +
     };
     let mut output = StdSink::new(writer);
     let status = run_words(rt, words.as_slice(), &mut output);
-    let told = tell(&status, &mut output);
-    if told.is_err() || output.flush().is_err() {
-        return Status::WriteFault;
+    ended(status, &mut output)
+}
+
+/// Returns the status of the process: that of the command, unless telling it failed, or handing on what is held back.
+fn ended<W: Write>(status: Status, output: &mut StdSink<W>) -> Status
+    ensures { ((result ≡ status) × Unrisen output.old output.new)
+        ⊎ ((result ≡ Status.WriteFault) × Rose output.old output.new) }
+{
+    match finish(&status, output) {
+        Ok(()) => status,
+        Err(_) => Status::WriteFault,
     }
-    status
+}
+
+/// Tells how a run ended, and hands on what is held back.
+fn finish<W: Write>(status: &Status, output: &mut StdSink<W>) -> Result<(), Failed>
+    ensures unrisen { OnOk result (Unrisen output.old output.new) }
+    ensures failed { OnErr result (Rose output.old output.new) }
+{
+    match tell(status, output) {
+        Ok(()) => output.flush(),
+        Err(_) => Err(Failed),
+    }
 }
 
 /// Returns how many bytes of output are held back: none of `admin`, whose lines go out as their commands are stored.
@@ -58,7 +76,9 @@ fn room_for(words: &[String]) -> usize
 }
 
 /// Returns how a run ended before it wrote anything, and holds nothing back.
-fn end_at_once<H: Print>(rt: &H, status: Status) -> Status {
+fn end_at_once<H: Print>(rt: &H, status: Status) -> Status
+    ensures { (result ≡ status) ⊎ (result ≡ Status.WriteFault) }
+{
     match tell(&status, &mut StdSink::new(io::writer(rt))) {
         Ok(()) => status,
         Err(_) => Status::WriteFault,

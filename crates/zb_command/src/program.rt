@@ -1,5 +1,5 @@
 //! The top call: one command over a source and a sink.
-ghost use Rattle.std.specs.Prelude.{◌≡◌, ◌≢◌, ◌⊎◌, ℕ, Some, None, IfSome, map, string_bytes};
+ghost use Rattle.std.specs.Prelude.{◌≡◌, ◌≢◌, ◌⊎◌, ℕ, Some, None, IfSome, IsTrue, map, string_bytes};
 ghost use Rattle.std.specs.Io.KnownBytes.{IsAtEnd};
 ghost use Rattle.zb_admin.specs.Serving.{outside};
 ghost use Rattle.zb_base.specs.Outside.{Rose, Unrisen};
@@ -10,6 +10,7 @@ ghost use Rattle.zb_command.specs.Finishing.{Finishes};
 ghost use Rattle.zb_command.specs.Inputs.{TakesAtMost};
 ghost use Rattle.zb_command.specs.Outcomes.{IsWritten, Made, Played, ReadsToEnd, WritesFront, WritesNothing};
 ghost use Rattle.zb_command.specs.Serving.{Serviced};
+ghost use Rattle.zb_command.specs.Settled.{AdminGives, AuditGives};
 ghost use Rattle.zb_command.specs.Words.{invocation, Fits};
 ghost use Rattle.zb_command.specs.declared.status.Cause.{Cause};
 ghost use Rattle.zb_base.specs.Limits.{first_too_long};
@@ -90,6 +91,15 @@ pub fn run<T: Threads + Sync, R: Source, W: Sink, D: Disk>(
         → invocation_of (map string_bytes words.now) ≡ Some job → wanted job (R.rest input.old) ≡ Some answer
         → (Rose (R.faults input.old) (R.faults input.new) → ⊥) → (Rose (W.faults output.old) (W.faults output.new) → ⊥)
         → (result ≡ status_of answer) ⊎ (result ≡ Status.NoMemory) }
+    // So it is of `audit` and `admin`, whose status the input and the store give.
+    ensures audit_complete { invocation_of (map string_bytes words.now) ≡ Some Auditing
+        → (Rose (R.faults input.old) (R.faults input.new) → ⊥) → (Rose (W.faults output.old) (W.faults output.new) → ⊥)
+        → IfSome (R.rest input.old) (λ bytes. AuditGives bytes result) }
+    ensures admin_complete { invocation_of (map string_bytes words.now) ≡ Some Serving → IsTrue D.tells.content
+        → (Rose (R.faults input.old) (R.faults input.new) → ⊥) → (Rose (W.faults output.old) (W.faults output.new) → ⊥)
+        → (Rose (D.state store.old).faults (D.state store.new).faults → ⊥)
+        → IfSome (R.rest input.old)
+        (λ bytes. AdminGives (outside D.tells D.state W.taken W.faults) bytes store.old store.new result) }
 {
     match read_words(words) {
         None => Status::Usage,
