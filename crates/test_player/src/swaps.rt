@@ -199,9 +199,13 @@ struct Swap {
 }
 
 impl Bench for Swap {
-    ghost use Rattle.std.specs.Prelude.{false};
+    ghost use Rattle.std.specs.Prelude.{◌&&◌, false, if◌then◌else◌, nat_eq, None};
 
     ghost still = { λ bench. false };
+
+    ghost asked = { λ bench. None };
+
+    ghost gives = { λ bench event node. if nat_eq event bench.event && nat_eq node 0 then bench.disk else None };
 
     fn swap(&mut self, event: u32, node: u8) -> Option<MemDisk> {
         if event == self.event && node == 0 {

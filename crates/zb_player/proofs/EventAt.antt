@@ -177,7 +177,7 @@ IsSeatOf known it d = (test : Station → Bool) × (first_seat test 0 known ≡ 
 no_seat : (it : Seat) → None ≡ Some it → ⊥
 no_seat it e = cc
 
-seat_of : (known : List Station) (e : Event) (it : Seat) (d : Station) → seat_for known e ≡ Some it
+pub seat_of : (known : List Station) (e : Event) (it : Seat) (d : Station) → seat_for known e ≡ Some it
     → IsSeatOf known it d
 seat_of known (said.Says name to bytes) it d e = (has_name name, e)
 seat_of known (said.Delivers frame name) it d e = (has_name name, e)
@@ -209,7 +209,7 @@ again [] i d bound = absurd (omega arith)
 again (x ∷ xs) zero d bound = refl
 again (x ∷ xs) (suc i) d bound = again xs i d (omega arith)
 
-same_index : (place index : ℕ) → place ≡ 0 + index → place ≡ index
+pub same_index : (place index : ℕ) → place ≡ 0 + index → place ≡ index
 same_index place index e = omega (arith, e)
 
 -- what is found by one test at a seat is the node there

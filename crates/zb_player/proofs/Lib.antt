@@ -12,3 +12,4 @@ pub mod CallsMade
 pub mod Whole
 pub mod Ending
 pub mod Summing
+pub mod Asking

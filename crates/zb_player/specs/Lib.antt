@@ -1,3 +1,4 @@
+pub mod Benches
 pub mod FaultTexts
 pub mod Playing
 pub mod Runs

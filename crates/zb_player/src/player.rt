@@ -2,6 +2,7 @@
 ghost use Rattle.std.specs.Prelude.{◌≡◌, ◌≢◌, ◌≤◌, ◌+◌, [], true, IfOk, OnOk, OnErr, Err, length, map};
 ghost use Rattle.zb_base.specs.Outside.{Rose, Unrisen};
 ghost use Rattle.zb_player_events.specs.Told.{lines_told};
+ghost use Rattle.zb_player.specs.Benches.{AsksFor, AsksAll};
 ghost use Rattle.zb_player.specs.Runs.{Answers, AreMade, IsFront, IsWhole, Played, PrintsAll, Sums};
 ghost use Rattle.zb_sched.specs.Schedules as sched;
 ghost use Rattle.zb_sched.specs.Valid.{IsSchedule};
@@ -44,6 +45,9 @@ pub fn play<B: Bench, W: Sink>(
         (W.taken out.old) (W.taken out.new)) }
     ensures summary { B.still bench.old ≡ true → IfOk result (Sums (sched.schedule_of schedule.now)) }
     ensures disks { B.still bench.old ≡ true → OnOk result (Played (sched.schedule_of schedule.now) disks.new.items) }
+
+    // Whatever the bench gives, it is asked once before each event of a node, and before no other.
+    ensures asked { OnOk result (AsksAll (sched.schedule_of schedule.now) (B.asked bench.old) (B.asked bench.new)) }
 
     // Whatever the disks are, a fault has its cause, and no fault of the sink is reported as out of memory.
     ensures later { W.faults out.old ≤ W.faults out.new }
@@ -105,6 +109,7 @@ fn play_onto<B: Bench, W: Sink>(
         (W.taken out.old) (W.taken out.new)) }
     ensures summary { B.still bench.old ≡ true → IfOk result (Sums (sched.schedule_of schedule.now)) }
     ensures disks { B.still bench.old ≡ true → OnOk result (Played (sched.schedule_of schedule.now) disks.new.items) }
+    ensures asked { OnOk result (AsksAll (sched.schedule_of schedule.now) (B.asked bench.old) (B.asked bench.new)) }
     ensures later { W.faults out.old ≤ W.faults out.new }
     ensures cause { result ≡ Err PlayFault.Write → Rose (W.faults out.old) (W.faults out.new) }
     ensures unrisen { result ≢ Err PlayFault.Write → Unrisen (W.faults out.old) (W.faults out.new) }
@@ -134,6 +139,8 @@ fn answer_all<'a, B: Bench, W: Sink>(
     ensures clear { OnOk result (IsClear run.new.ledger.page) }
     ensures whole { OnOk result (B.still bench.old ≡ true → Answers run.old disks.old
         (map event_of events.now) (length events.now) run.new disks.new (W.taken out.old) (W.taken out.new)) }
+    ensures asked { OnOk result (AsksFor run.old.seats 1 (map event_of events.now) (B.asked bench.old)
+        (B.asked bench.new)) }
     ensures calls { OnOk result (B.still bench.old ≡ true → AreMade disks.old run.old (map event_of events.now)
         (length events.now) disks.new) }
     ensures front { OnErr result (B.still bench.old ≡ true → PrintsAll run.old disks.old (map event_of events.now)

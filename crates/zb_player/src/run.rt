@@ -1,5 +1,5 @@
 //! A run while it goes on.
-ghost use Rattle.std.specs.Prelude.{◌≡◌, ◌≤◌, ◌+◌, ◌<◌, [], ℕ, List, Some, true, IfOk, OnOk, map};
+ghost use Rattle.std.specs.Prelude.{◌≡◌, ◌≤◌, ◌+◌, ◌<◌, [], ◌∷◌, ℕ, List, Some, true, IfOk, OnOk, map};
 ghost use Rattle.std.specs.List.{AllByRecursion};
 ghost use Rattle.std.specs.Io.KnownBytes.{append_known};
 ghost use Rattle.zb_base.specs.declared.key.Key.{Key as key};
@@ -11,6 +11,7 @@ ghost use Rattle.zb_model.specs.Play.{Disk, stations, step};
 ghost use Rattle.zb_model_real.specs.Real.{real};
 ghost use Rattle.law_schedules.specs.Schedules.{event_for, schedule_of, stations_for};
 ghost use Rattle.zb_player_events.specs.Told.{HasRoom, lines_told};
+ghost use Rattle.zb_player.specs.Benches.{Asks, AsksFor, put_at, under};
 ghost use Rattle.zb_player.specs.Playing.{AreCalledBy, FitsRun, IsEventAt, RunGoes, RunStands, step_of};
 ghost use Rattle.zb_player.specs.Runs.{text_in};
 ghost use Rattle.zb_sched.specs.Schedules as sched;
@@ -90,6 +91,14 @@ impl<'a> Run<'a> {
         requires room { HasRoom self.old.ledger }
         ensures few { OnOk result (lines_told self.new.ledger ≤ lines_told self.old.ledger + 24) }
         ensures still { B.still bench.old ≡ true → B.still bench.new ≡ true }
+        ensures asked { AsksFor self.old.seats number (event_of event.now ∷ []) (B.asked bench.old)
+            (B.asked bench.new) }
+        ensures seats { self.new.seats ≡ self.old.seats }
+        ensures swapped { OnOk result ((p : sched.Schedule) (h : List Line) (ds : List Disk) → IsSchedule p
+            → FitsRun p number (event_of event.now) → RunStands p h ds number self.old
+            (under (B.gives bench.old) (stations (schedule_of p)) number (event_of event.now) disks.old)
+            → RunGoes p (step_of p h ds number (event_for (stations_for p) (event_of event.now))) h number
+            self.old self.new disks.new) }
         ensures goes { OnOk result (B.still bench.old ≡ true → (p : sched.Schedule) (h : List Line) (ds : List Disk)
             → IsSchedule p → FitsRun p number (event_of event.now) → RunStands p h ds number self.old disks.old
             → RunGoes p (step_of p h ds number (event_for (stations_for p) (event_of event.now))) h number
@@ -117,6 +126,7 @@ impl<'a> Run<'a> {
         act: Act,
     ) -> Result<(), NoMemory>
         requires room { HasRoom self.old.ledger }
+        ensures seats { self.new.seats ≡ self.old.seats }
         ensures few { OnOk result (lines_told self.new.ledger ≤ lines_told self.old.ledger + 24) }
         ensures goes { OnOk result ((p : sched.Schedule) (h : List Line) (ds : List Disk) (event : model.Event)
             (q : station) → IsSchedule p → RunStands p h ds number self.old disks.old
@@ -139,6 +149,9 @@ impl<'a> Run<'a> {
 fn swap<B: Bench>(disks: &mut [MemDisk], bench: &mut B, number: u32, seat: Seat)
     ensures disks { B.still bench.old ≡ true → disks.new ≡ disks.old }
     ensures still { B.still bench.old ≡ true → B.still bench.new ≡ true }
+    ensures asked { seat.place < 256 → Asks (B.asked bench.old) (B.asked bench.new)
+        (record { event = number; place = seat.place } ∷ []) }
+    ensures put { seat.place < 256 → disks.new ≡ put_at seat.place disks.old (B.gives bench.old number seat.place) }
 {
     if let Ok(node) = u8::try_from(seat.place) {
         if let Some(disk) = bench.swap(number, node) {
@@ -148,7 +161,9 @@ fn swap<B: Bench>(disks: &mut [MemDisk], bench: &mut B, number: u32, seat: Seat)
 }
 
 // Puts a disk under the node at a place, if there is one.
-fn put_under(disks: &mut [MemDisk], place: usize, disk: MemDisk) {
+fn put_under(disks: &mut [MemDisk], place: usize, disk: MemDisk)
+    ensures { disks.new ≡ put_at place disks.old (Some disk) }
+{
     if place < disks.len() {
         disks[place] = disk;
     }

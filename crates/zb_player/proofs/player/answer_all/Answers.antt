@@ -1,6 +1,7 @@
 use Rattle.std.proofs.Common.{◌≡◌, ◌∙◌, map, refl, true, arith}
 use Rattle.zb_player.specs.Runs.{PrintsAll}
 use Rattle.zb_sched_line.specs.Views.{event_of}
+use Rattle.zb_player.proofs.Asking.{asks_all, asks_at_first, asks_so_far}
 use Rattle.zb_player.proofs.CallsMade.{more_made, none_made}
 use Rattle.zb_player.proofs.Looping.{cut_answers, more_answers, no_answers, stopped_answers}
 use Rattle.zb_player.proofs.Paging.{clear_of}
@@ -12,6 +13,8 @@ loop-index-init g c = record {
   clear = c.requires.clear;
   room = c.requires.room;
   still = λ s. s;
+  seats = refl;
+  asked = asks_at_first c.args.run.now.seats (g.B.Bench.asked c.args.bench.now);
   answers = λ s. no_answers c.args.events.now c.args.run.now c.args.disks.now (g.W.Sink.taken c.args.out.now)
       c.requires.fit;
   calls = λ s. none_made c.args.events.now c.args.run.now c.args.disks.now;
@@ -46,6 +49,11 @@ loop-index-preserved g c = record {
   clear = clear_of c.answer.new.self.ledger.page _ c.in_ok-hand_out.ensures.whole.1;
   room = omega (arith, c.loop-index.invariant.room, c.in_ok-answer.ensures.few);
   still = λ s. c.in_ok-answer.ensures.still (c.loop-index.invariant.still s);
+  seats = c.in_ok-answer.ensures.seats ∙ c.loop-index.invariant.seats;
+  asked = asks_so_far c.args.run.now.seats c.loop-index.run.seats c.args.events.now c.loop-index.index
+      c.index-events-index.result (g.B.Bench.asked c.args.bench.now) (g.B.Bench.asked c.loop-index.bench)
+      (g.B.Bench.asked c.answer.new.bench) (omega arith) c.index-events-index.is c.loop-index.invariant.seats
+      c.loop-index.invariant.asked c.in_ok-answer.ensures.asked;
   answers = λ s. more_answers c.args.events.now c.loop-index.index c.index-events-index.result c.args.run.now
       c.loop-index.run c.answer.new.self _
       c.args.disks.now c.loop-index.disks c.answer.new.disks
@@ -62,3 +70,9 @@ loop-index-preserved g c = record {
   later = omega (arith, c.loop-index.invariant.later, c.in_ok-hand_out.ensures.cause.later);
   unrisen = c.in_ok-hand_out.ensures.cause.unrisen ∙ c.loop-index.invariant.unrisen;
 }
+
+pub returns-clause-asked : goal.returns-clause-asked
+returns-clause-asked g c =
+    asks_all c.args.run.now.seats c.args.events.now c.loop-index.index (g.B.Bench.asked c.args.bench.now)
+    (g.B.Bench.asked c.loop-index.bench) (omega (arith, c.loop-index-test.false, c.loop-index.auto.index-end))
+    c.loop-index.invariant.asked

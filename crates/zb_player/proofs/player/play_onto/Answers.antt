@@ -13,6 +13,8 @@ use Rattle.zb_player.proofs.Ending.{are_played, disks_kept, last_text}
 use Rattle.zb_player.proofs.Paging.{clear_of, handed, handed_front, paged, still_for}
 use Rattle.zb_player.proofs.RunSteps.{on_err}
 use Rattle.zb_player.proofs.Whole.{Ended, all_answered, begin, front_end, front_last, front_middle, front_start, last, played_disks, summed, sums_up, whole_run}
+use Rattle.zb_player.specs.Benches.{Asks, questions}
+use Rattle.zb_player.proofs.Asking.{few_stations}
 use Rattle.zb_player.proofs.player.play_onto.Goals as goal
 use Rattle.zb_sched.specs.Schedules as sched
 use Rattle.zb_sched_line.specs.Said.{Event}
@@ -268,3 +270,13 @@ returns-clause-disks g c = λ s.
     (sym (length-map events event_of)) stands1
     (subst (AllByRecursion (λ (m : Medium). m.calls ≡ 6)) (sym c.deref_mut.ensures.value) c.in_ok-run.ensures.calls)
     (c.in_ok-answer_all.ensures.calls s)))
+
+pub returns-clause-asked : goal.returns-clause-asked
+returns-clause-asked g c =
+    let p = sched.schedule_of c.args.schedule.now in
+    let played = are_played c.args.schedule.now c.as_slice-events.result.now c.requires.schedule
+    c.as_slice-events.ensures in
+    subst (λ (es : List Event). Asks (g.B.Bench.asked c.args.bench.now) (g.B.Bench.asked c.answer_all.new.bench)
+    (questions (stations (schedule_of p)) 1 es)) played.events_are
+    (c.in_ok-answer_all.ensures.asked (stations (schedule_of p)) c.in_ok-run.ensures.stands.seats
+    (few_stations p c.requires.schedule))
