@@ -8,7 +8,7 @@ ghost use Rattle.zb_command.specs.Serving.{Serviced, ServesOut};
 ghost use Rattle.zb_command.specs.Statuses.{served_status};
 ghost use Rattle.zb_base.specs.Limits.{first_too_long};
 
-use crate::input::{InputFault, LONGEST, read_input};
+use crate::input::whole_input;
 use crate::status::{Cause, Status};
 use std::alloc::Global;
 use zb_admin::{AdminFault, serve};
@@ -33,12 +33,7 @@ pub(crate) fn serve_input<R: Source, W: Sink, D: Disk>(
     ensures no_read_fault { result ≢ Status.ReadFault → Unrisen (R.faults input.old) (R.faults input.new) }
     ensures no_write_fault { result ≢ Status.WriteFault → Unrisen (W.faults output.old) (W.faults output.new) }
 {
-    let bytes = match read_input(alloc, input) {
-        Ok(bytes) => bytes,
-        Err(InputFault::Read) => return Status::ReadFault,
-        Err(InputFault::TooLong) => return Status::TooLong { limit: LONGEST },
-        Err(InputFault::NoMemory) => return Status::NoMemory,
-    };
+    let bytes = whole_input!(alloc, input);
     match read(alloc, bytes.as_slice()) {
         Ok(script) => ended(serve(alloc, &script, store, output)),
         Err(OrMemory::Fault(fault)) => Status::Refused {

@@ -7,7 +7,7 @@ ghost use Rattle.zb_command.specs.Inputs.{TakesAtMost};
 ghost use Rattle.zb_command.specs.declared.audit.TextFault.TheVariants.{NoMemory as lacks};
 ghost use Rattle.zb_base.specs.Limits.{first_too_long};
 
-use crate::input::{InputFault, LONGEST, read_input};
+use crate::input::whole_input;
 use crate::status::{Cause, Status};
 use std::alloc::{AllocError, Global};
 use zb_audit::{AuditFault, Auditor, Verdict};
@@ -64,12 +64,7 @@ pub(crate) fn audit_input<R: Source, W: Sink>(
     ensures no_read_fault { result ≢ Status.ReadFault → Unrisen (R.faults input.old) (R.faults input.new) }
     ensures no_write_fault { result ≢ Status.WriteFault → Unrisen (W.faults output.old) (W.faults output.new) }
 {
-    let bytes = match read_input(alloc, input) {
-        Ok(bytes) => bytes,
-        Err(InputFault::Read) => return Status::ReadFault,
-        Err(InputFault::TooLong) => return Status::TooLong { limit: LONGEST },
-        Err(InputFault::NoMemory) => return Status::NoMemory,
-    };
+    let bytes = whole_input!(alloc, input);
     match audit_text(alloc, bytes.as_slice()) {
         Ok(verdict) => tell_verdict(alloc, &verdict, output),
         Err(TextFault::Syntax { line }) => Status::Refused {

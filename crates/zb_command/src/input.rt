@@ -31,6 +31,24 @@ impl From<AllocError> for InputFault {
     }
 }
 
+/// Gives the whole input, or returns the status of why it isn't known whole.
+macro_rules! whole_input {
+    ($alloc:expr, $input:expr) => {
+        match $crate::input::read_input($alloc, $input) {
+            Ok(bytes) => bytes,
+            Err($crate::input::InputFault::Read) => return $crate::status::Status::ReadFault,
+            Err($crate::input::InputFault::TooLong) => {
+                return $crate::status::Status::TooLong {
+                    limit: $crate::input::LONGEST,
+                };
+            }
+            Err($crate::input::InputFault::NoMemory) => return $crate::status::Status::NoMemory,
+        }
+    };
+}
+
+pub(crate) use whole_input;
+
 /// Reads on after bytes that came before, to the end of the input or until there are so many.
 pub(crate) fn read_on<R: Source>(
     input: &mut R,

@@ -11,7 +11,7 @@ ghost use Rattle.zb_sched.specs.Schedules as sched;
 ghost use Rattle.zb_sched.specs.Valid.{IsSchedule};
 ghost use Rattle.zb_base.specs.Limits.{first_too_long};
 
-use crate::input::{InputFault, LONGEST, read_input};
+use crate::input::whole_input;
 use crate::status::{Cause, Status};
 use law_real_nodes::{lines_of_each_run_agree, nodes_are_sound_in_each_run};
 use law_schedules::each_schedule_holds;
@@ -32,12 +32,7 @@ pub(crate) fn play_input<R: Source, W: Sink>(alloc: Global, input: &mut R, outpu
     ensures no_read_fault { result ≢ Status.ReadFault → Unrisen (R.faults input.old) (R.faults input.new) }
     ensures no_write_fault { result ≢ Status.WriteFault → Unrisen (W.faults output.old) (W.faults output.new) }
 {
-    let bytes = match read_input(alloc, input) {
-        Ok(bytes) => bytes,
-        Err(InputFault::Read) => return Status::ReadFault,
-        Err(InputFault::TooLong) => return Status::TooLong { limit: LONGEST },
-        Err(InputFault::NoMemory) => return Status::NoMemory,
-    };
+    let bytes = whole_input!(alloc, input);
     each_schedule_holds();
     nodes_are_sound_in_each_run();
     lines_of_each_run_agree();
