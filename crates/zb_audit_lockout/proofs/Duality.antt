@@ -1,25 +1,20 @@
--- A device comes by a drawn key exactly where it holds a key that leads to a drawn one.
+-- What comes out: the least closed set that has some keys.
 use Rattle.zb_model.specs.Lines as log
 use Rattle.zb_model.specs.Secrets as model
-use Rattle.std.proofs.Common.{◌≡◌, ◌⊎◌, ℕ, suc, List, [], ◌∷◌, length, Bool, true, false, not, ◌&&◌, inl, inr, Option, Some, None, refl, ap, sym, ◌∙◌, subst, bytes_eq}
+use Rattle.std.proofs.Common.{◌≡◌, ℕ, suc, List, [], ◌∷◌, length, Bool, true, false, ◌&&◌, inl, inr, Option, Some, None, refl, ap, sym, ◌∙◌, subst, bytes_eq}
 use Rattle.std.specs.List.{list_any, flat_map}
 use Rattle.std.specs.Option.{IfSome}
 use Rattle.zb_audit_names.specs.Secrets.{exposed, terms_in, terms_of}
-use Rattle.zb_audit_lockout.specs.Standing.{LeadsTo}
-use Rattle.zb_audit_lockout.proofs.Tests.{any_at, any_within, none_any, not_on, was_off}
 use Rattle.zb_model.specs.Data.{Bytes, Term}
-use Rattle.zb_base.specs.declared.key.Key.{Key}
 use Rattle.zb_model.specs.Secrets.{carried, holds}
 use Rattle.zb_model.specs.Tools.{Tools}
 use Rattle.zb_model_real.specs.Terms.{model_term}
 use Rattle.zb_trace.specs.declared.line.Line.{Line}
 use Rattle.zb_trace.specs.declared.line.Line.TheVariants as line
 use Rattle.zb_trace_watch.specs.Closure.{IsClosed, Passes}
-use Rattle.zb_trace_watch.specs.Sets.{is_carried}
 use Rattle.zb_trace_watch.specs.Standing.{carries, is_that}
-use Rattle.zb_trace_watch.specs.declared.holdings.Holdings.{Holdings}
 use Rattle.zb_trace_watch.proofs.Exposed.{exposed_covers, exposed_closed, exposed_least}
-use Rattle.zb_trace_watch.proofs.Truth.{and_left, and_right, both, decided, either, itself, none_left, not_both, or_left, or_right, same_bytes}
+use Rattle.zb_trace_watch.proofs.Truth.{and_left, and_right, both, either, itself, or_left, or_right, same_bytes}
 
 -- What comes out goes by the terms alone.
 
@@ -107,68 +102,3 @@ module _ (tools : Tools) (S : Bytes → Bool) where
     passes_one t (carried tools t) (λ key known there. carries_all t.base key known (or_left _ _ there)),
     closed_from ts (λ base key known there. carries_all base key known (or_right _ _ there)),
   )
-
-module _ (tools : Tools) (h : List Line) (carriers : Holdings Key) (drawn : List Bytes) (T : Bytes → Bool)
-    (carried_is : (k b : Bytes) → is_carried carriers k b ≡ list_any (carries tools b k) (terms_of h))
-    (leads : LeadsTo carriers drawn T) where
-  -- From keys that lead to no drawn one none comes out.
-
-  abbrev out : Bytes → Bool
-  out k = not (T k)
-
-  out_closed : (base key : Bytes) → out base ≡ true → list_any (carries tools base key) (terms_of h) ≡ true → out key
-      ≡ true
-  out_closed base key outside there =
-      elim (decided (T key)) [
-        | inl inside ↦ absurd
-            (not_both (T base) (leads.bases key base inside (carried_is key base ∙ there)) (was_off (T base) outside))
-        | inr it ↦ not_on (T key) it
-      ]
-
-  stays_out : (from : List Bytes) → ((k : Bytes) → holds from k ≡ true → T k ≡ false) → (k : Bytes)
-      → holds (exposed tools h from) k ≡ true → T k ≡ false
-  stays_out from none k there =
-      was_off (T k)
-      (least tools h from out (λ q start. not_on (T q) (none q start))
-      (closed_from tools out (terms_of h) out_closed) k there)
-
-  pub kept_out : (from : List Bytes) → ((k : Bytes) → holds from k ≡ true → T k ≡ false)
-      → list_any (holds (exposed tools h from)) drawn ≡ false
-  kept_out from none = none_any (holds (exposed tools h from)) drawn
-      (λ q there. by q there (decided (holds (exposed tools h from) q)))
-    where
-      by : (q : Bytes) → holds drawn q ≡ true → (holds (exposed tools h from) q ≡ true)
-          ⊎ (holds (exposed tools h from) q ≡ false) → holds (exposed tools h from) q ≡ false
-      by q there (inl it) = absurd (not_both (T q) (leads.has q there) (stays_out from none q it))
-      by q there (inr it) = it
-
-  -- From a key that leads to a drawn one that comes out.
-
-  abbrev shows : Bytes → Bool
-  shows q = list_any (holds (exposed tools h (q ∷ []))) drawn
-
-  within : (q : Bytes) (from : List Bytes) → holds (exposed tools h from) q ≡ true → (k : Bytes)
-      → holds (exposed tools h (q ∷ [])) k ≡ true → holds (exposed tools h from) k ≡ true
-  within q from there k it =
-      least tools h (q ∷ []) (holds (exposed tools h from))
-      (λ x start. ap (holds (exposed tools h from)) (same_bytes x q (none_left _ start)) ∙ there)
-      (closed tools h from) k it
-
-  shows_base : (k b : Bytes) → shows k ≡ true → is_carried carriers k b ≡ true → shows b ≡ true
-  shows_base k b shown carried_so =
-      any_within (holds (exposed tools h (k ∷ []))) (holds (exposed tools h (b ∷ []))) drawn
-      (within k (b ∷ [])
-      (closed_any tools (holds (exposed tools h (b ∷ []))) b k (terms_of h) (closed tools h (b ∷ []))
-      (covers tools h (b ∷ []) b (or_left _ _ (itself b)))
-      (sym (carried_is k b) ∙ carried_so))) shown
-
-  shows_drawn : (q : Bytes) → holds drawn q ≡ true → shows q ≡ true
-  shows_drawn q there = any_at (holds (exposed tools h (q ∷ []))) q drawn there
-      (covers tools h (q ∷ []) q (or_left _ _ (itself q)))
-
-  pub let_in : (from : List Bytes) (k : Bytes) → holds from k ≡ true → T k ≡ true
-      → list_any (holds (exposed tools h from)) drawn ≡ true
-  let_in from k there leads_there =
-      any_within (holds (exposed tools h (k ∷ []))) (holds (exposed tools h from)) drawn
-      (within k from (covers tools h from k there))
-      (leads.least shows shows_drawn shows_base k leads_there)

@@ -11,6 +11,8 @@ pub mod Recalling
 pub mod Loops
 pub mod Knowing
 pub mod Reaching
+pub mod Entering
+pub mod Telling
 pub mod Order
 pub mod Stepping
 pub mod Judging

@@ -14,7 +14,7 @@ use Rattle.zb_audit_names.specs.declared.node.Who.{Who}
 use Rattle.zb_audit_lockout.specs.Facts.{eui_of_node, partner_of}
 use Rattle.zb_audit_lockout.specs.Lockout.{drawn_in, locked, refuses_line}
 use Rattle.zb_audit_lockout.specs.Reading.{accepts}
-use Rattle.zb_audit_lockout.specs.Standing.{Admits, CarriesSome, Forges, Forgets, Holds, IsEvidence, IsHeld, IsJudged, IsPast, IsReach, IsReady, IsSafe, Judges, RaisesOne, Removes, Seals, Stands, Tells}
+use Rattle.zb_audit_lockout.specs.Standing.{Admits, CarriesSome, Draws, Forges, Forgets, Holds, IsEvidence, IsHeld, IsJudged, IsPast, IsReach, IsReady, IsSafe, Judges, Removes, Seals, Stands, Tells}
 use Rattle.zb_audit_lockout.specs.Windows.{Claim, EachAt}
 use Rattle.zb_audit_lockout.specs.declared.evidence.Evidence.{Evidence}
 use Rattle.zb_audit_lockout.specs.declared.lockout.Lockout.{Lockout}
@@ -181,7 +181,7 @@ module _ (old new : Lockout) (number : ℕ) (who : Who) (stays : Bool) (first se
 -- The other lines
 
 pub draw_judges : (old new : Lockout) (number event : ℕ) (key : Key) (who : Who) (stays : Bool) → new.past ≡ old.past
-    → RaisesOne old.reach new.reach key old.reach.windows.last → Tells old.reach new.reach stays
+    → Draws old.reach new.reach key → Tells old.reach new.reach stays
     → new.evidence ≡ old.evidence → Judges old new number (line.Draw event key) who stays
 draw_judges old new number event key who stays past one tells evidence = record {
   past = past;

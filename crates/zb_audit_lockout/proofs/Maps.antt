@@ -7,8 +7,8 @@ use Rattle.std.specs.Ordering.{is_eq, nat_cmp}
 use Rattle.std.specs.Prelude.{if◌then◌else◌}
 use Rattle.zb_base.specs.declared.address.Eui.{Eui}
 use Rattle.zb_base.specs.declared.key.Key.{Key}
-use Rattle.zb_audit_lockout.specs.Reading.{late_of, number_in, or_zero}
-use Rattle.zb_audit_lockout.specs.declared.lateness.Lateness.{Lateness}
+use Rattle.zb_audit_lockout.specs.Reading.{number_of, number_in, or_zero}
+use Rattle.zb_audit_lockout.specs.declared.numbers.Numbers.{Numbers}
 use Rattle.zb_trace_watch.specs.Sets.{eui_cmp, is_among, key_cmp, keys_of}
 use Rattle.zb_trace_watch.specs.declared.keys.Keys.{Keys}
 use Rattle.zb_trace_watch.proofs.Alike.{bytes_alike, bytes_eq_sym, list_any_alike}
@@ -41,22 +41,51 @@ taken_out old new device updates d =
     updates (record { 0 = d }) ∙ ap (λ (b : Bool). cond b None (number_in old.entries d)) (number_alike device.0 d)
 
 -- the numbers of keys
-pub raised_number : (old : Lateness) (new : BTreeMap Key ℕ) (key : Key) (number : ℕ)
-    → nat_lt (late_of old key.0) number ≡ true
+pub raised_number : (old : Numbers) (new : BTreeMap Key ℕ) (key : Key) (number : ℕ)
+    → nat_lt (number_of old key.0) number ≡ true
     → ((q : Key) → get key_cmp new q ≡ cond (is_at (key_cmp key) q) (Some number) (get key_cmp old.numbers q))
-    → (k : List ℕ) → late_of (record { numbers = new }) k
-    ≡ (if bytes_eq k key.0 && nat_lt (late_of old key.0) number then number else late_of old k)
+    → (k : List ℕ) → number_of (record { numbers = new }) k
+    ≡ (if bytes_eq k key.0 && nat_lt (number_of old key.0) number then number else number_of old k)
 raised_number old new key number below updates k =
     ap or_zero (updates (record { 0 = k }))
     ∙ (ap (λ (b : Bool). or_zero (cond b (Some number) (get key_cmp old.numbers (record { 0 = k }))))
     (bytes_alike key.0 k ∙ bytes_eq_sym key.0 k)
-    ∙ by (bytes_eq k key.0) (nat_lt (late_of old key.0) number) below)
+    ∙ by (bytes_eq k key.0) (nat_lt (number_of old key.0) number) below)
   where
     by : (a b : Bool) → b ≡ true → or_zero (cond a (Some number) (get key_cmp old.numbers (record { 0 = k })))
-        ≡ (if a && b then number else late_of old k)
+        ≡ (if a && b then number else number_of old k)
     by true true h = refl
     by false true h = refl
     by a false h = cc
+
+pub given_number : (old : Numbers) (new : BTreeMap Key ℕ) (key : Key) (number : ℕ)
+    → ((q : Key) → get key_cmp new q ≡ cond (is_at (key_cmp key) q) (Some number) (get key_cmp old.numbers q))
+    → (k : List ℕ) → number_of (record { numbers = new }) k ≡ (if bytes_eq k key.0 then number else number_of old k)
+given_number old new key number updates k =
+    ap or_zero (updates (record { 0 = k }))
+    ∙ (ap (λ (b : Bool). or_zero (cond b (Some number) (get key_cmp old.numbers (record { 0 = k }))))
+    (bytes_alike key.0 k ∙ bytes_eq_sym key.0 k)
+    ∙ by (bytes_eq k key.0))
+  where
+    by : (a : Bool) → or_zero (cond a (Some number) (get key_cmp old.numbers (record { 0 = k })))
+        ≡ (if a then number else number_of old k)
+    by true = refl
+    by false = refl
+
+pub marked_early : (old new : BTreeMap Eui ℕ) (device : Eui) (early : ℕ)
+    → ((q : Eui) → get eui_cmp new q ≡ cond (is_at (eui_cmp device) q) (Some early) (get eui_cmp old q))
+    → (d : ℕ) → or_zero (get eui_cmp new (record { 0 = d }))
+    ≡ (if nat_eq d device.0 then early else or_zero (get eui_cmp old (record { 0 = d })))
+marked_early old new device early updates d =
+    ap or_zero (updates (record { 0 = d }))
+    ∙ (ap (λ (b : Bool). or_zero (cond b (Some early) (get eui_cmp old (record { 0 = d }))))
+    (number_alike device.0 d)
+    ∙ by (nat_eq d device.0))
+  where
+    by : (a : Bool) → or_zero (cond a (Some early) (get eui_cmp old (record { 0 = d })))
+        ≡ (if a then early else or_zero (get eui_cmp old (record { 0 = d })))
+    by true = refl
+    by false = refl
 
 -- One key fewer of an owner.
 

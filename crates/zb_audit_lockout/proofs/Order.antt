@@ -1,6 +1,7 @@
 -- Devices with a number each, in the order of the numbers, and how both change.
-use Rattle.std.proofs.Common.{◌≡◌, ◌≤◌, ◌<◌, ℕ, List, length, [], ◌∷◌, Bool, true, false, cond, ◌&&◌, Option, Some, None, inl, inr, refl, arith, ap, sym, ◌∙◌, nat_eq}
+use Rattle.std.proofs.Common.{◌≡◌, ◌≤◌, ◌<◌, ℕ, List, length, [], ◌∷◌, Bool, true, false, cond, ◌||◌, ◌&&◌, Option, Some, None, inl, inr, refl, arith, ap, sym, ◌∙◌, nat_eq}
 use Rattle.std.specs.BTreeMap.{BTreeMap, get, is_at}
+use Rattle.std.specs.List.{list_any}
 use Rattle.std.specs.Map.{keys_of}
 use Rattle.std.specs.BTreeSet.{BTreeSet, contains}
 use Rattle.std.specs.Ordering.{is_eq, is_gt, nat_cmp, ordering_then}
@@ -10,7 +11,7 @@ use Rattle.std.proofs.lemmas.Bool.Decides.{leb_tells}
 use Rattle.std.proofs.lemmas.Map.Keys.{le_from_not_gt}
 use Rattle.std.specs.Prelude.{nat_le}
 use Rattle.zb_base.specs.declared.address.Eui.{Eui}
-use Rattle.zb_audit_lockout.specs.Ordered.{IsInOrder, is_number, opening_cmp}
+use Rattle.zb_audit_lockout.specs.Ordered.{IsInOrder, is_listed, is_number, opening_cmp}
 use Rattle.zb_audit_lockout.specs.Reading.{number_in, opened_by, some_by}
 use Rattle.zb_audit_lockout.specs.declared.opened.Opening.{Opening}
 use Rattle.zb_audit_lockout.proofs.Reaching.{some_key}
@@ -193,3 +194,14 @@ least_decides numbers order first number before member least = elim (leb_tells f
 pub no_keys : {K : Type 0} (xs : List K) → (0 < length xs → ⊥) → xs ≡ []
 no_keys [] none = refl
 no_keys (x ∷ xs) none = absurd (none (omega arith))
+
+-- The list has what the order has.
+pub listed_is : (numbers : BTreeMap Eui ℕ) (order : BTreeSet Opening) → IsInOrder numbers order → (n d : ℕ)
+    → is_listed n d order.keys ≡ is_number n (number_in numbers.entries d)
+listed_is numbers order before n d = alike order.keys ∙ before n d
+  where
+    alike : (os : List Opening) → is_listed n d os ≡ list_any (λ (o : Opening). is_eq (opening_cmp (at n d) o)) os
+    alike [] = refl
+    alike (o ∷ os) =
+        ap (λ (b : Bool). b || is_listed n d os) (sym (opening_alike (at n d) o))
+        ∙ ap (λ (b : Bool). is_eq (opening_cmp (at n d) o) || b) (alike os)

@@ -1,13 +1,13 @@
--- Numbers of keys that rise one by one, and with each key that is raised those of its base keys.
-use Rattle.std.proofs.Common.{◌≡◌, ◌⊎◌, ℕ, ◌+◌, ◌<◌, ◌≤◌, List, [], ◌∷◌, ◌++◌, length, Bool, true, false, true≢false, cond, ◌||◌, ◌&&◌, Option, Some, inl, inr, refl, arith, ap, sym, ◌∙◌, bytes_eq, nat_lt}
+-- Numbers of keys that rise one by one, and with each key that is raised those of the keys that it leads to.
+use Rattle.std.proofs.Common.{◌≡◌, ◌⊎◌, ℕ, ◌+◌, ◌<◌, ◌≤◌, List, [], ◌∷◌, ◌++◌, length, Bool, true, false, cond, ◌||◌, ◌&&◌, Option, Some, inl, inr, refl, arith, ap, sym, ◌∙◌, bytes_eq, nat_lt}
 use Rattle.std.specs.Prelude.{if◌then◌else◌, nat_le}
 use Rattle.std.specs.Map.{lookup}
 use Rattle.std.specs.BTreeMap.{is_at}
 use Rattle.std.proofs.lemmas.Bool.{le-leb, leb-true, ltb-true, ltb-false}
 use Rattle.zb_base.specs.declared.key.Key.{Key}
-use Rattle.zb_audit_lockout.specs.Raising.{IsRaised, Raises}
-use Rattle.zb_audit_lockout.specs.Reading.{late_of}
-use Rattle.zb_audit_lockout.specs.declared.lateness.Lateness.{Lateness}
+use Rattle.zb_audit_lockout.specs.Raising.{IsRaised}
+use Rattle.zb_audit_lockout.specs.Reading.{number_of}
+use Rattle.zb_audit_lockout.specs.declared.numbers.Numbers.{Numbers}
 use Rattle.zb_trace_watch.specs.Sets.{is_among, is_carried, key_cmp, keys_at, keys_of}
 use Rattle.zb_trace_watch.specs.declared.holdings.Holdings.{Holdings}
 use Rattle.zb_trace_watch.specs.declared.keys.Keys.{Keys}
@@ -15,25 +15,25 @@ use Rattle.zb_trace_watch.proofs.Alike.{bytes_alike}
 use Rattle.zb_trace_watch.proofs.Truth.{among_append, among_end, decided, either, itself, none_left, or_left, or_right, same_bytes}
 
 -- What is raised so far, and what is left to raise.
-pub record Raising (carriers : Holdings Key) (old now : Lateness) (start left : List Key) (number : ℕ)
+pub record Raising (leads : Holdings Key) (old now : Numbers) (start left : List Key) (number : ℕ)
     (raised : List Key) : Type 0 where
-  pub told : (k : List ℕ) → (late_of now k ≡ late_of old k) ⊎ IsRaised old now number raised k
-  pub only : (k : List ℕ) → is_among raised k ≡ true → late_of now k ≡ number
-  pub reached : (k : List ℕ) → is_among start k ≡ true → (number ≤ late_of now k) ⊎ (is_among left k ≡ true)
-  pub bases : (k b : List ℕ) → is_among raised k ≡ true → is_carried carriers k b ≡ true → (number ≤ late_of now b)
+  pub told : (k : List ℕ) → (number_of now k ≡ number_of old k) ⊎ IsRaised old now number raised k
+  pub only : (k : List ℕ) → is_among raised k ≡ true → number_of now k ≡ number
+  pub reached : (k : List ℕ) → is_among start k ≡ true → (number ≤ number_of now k) ⊎ (is_among left k ≡ true)
+  pub bases : (k b : List ℕ) → is_among raised k ≡ true → is_carried leads k b ≡ true → (number ≤ number_of now b)
       ⊎ (is_among left b ≡ true)
   pub least : (S : List ℕ → Bool) → ((k : List ℕ) → is_among start k ≡ true → S k ≡ true)
-      → ((k b : List ℕ) → S k ≡ true → is_carried carriers k b ≡ true → S b ≡ true)
+      → ((k b : List ℕ) → S k ≡ true → is_carried leads k b ≡ true → S b ≡ true)
       → ((k : List ℕ) → is_among raised k ≡ true → S k ≡ true) × ((k : List ℕ) → is_among left k ≡ true → S k ≡ true)
 
-module _ (carriers : Holdings Key) (old now new : Lateness) (start left : List Key) (number : ℕ) (raised : List Key)
+module _ (leads : Holdings Key) (old now new : Numbers) (start left : List Key) (number : ℕ) (raised : List Key)
     (key : Key)
-    (becomes : (k : List ℕ) → late_of new k ≡ (if bytes_eq k key.0 && nat_lt (late_of now key.0) number then number
-    else late_of now k))
-    (l : Raising carriers old now start (left ++ key ∷ []) number raised) where
-  others : (k : List ℕ) → bytes_eq k key.0 ≡ false → late_of new k ≡ late_of now k
-  others k not_it = becomes k ∙ ap (λ (b : Bool). if b && nat_lt (late_of now key.0) number then number
-      else late_of now k) not_it
+    (becomes : (k : List ℕ) → number_of new k ≡ (if bytes_eq k key.0 && nat_lt (number_of now key.0) number then number
+    else number_of now k))
+    (l : Raising leads old now start (left ++ key ∷ []) number raised) where
+  others : (k : List ℕ) → bytes_eq k key.0 ≡ false → number_of new k ≡ number_of now k
+  others k not_it = becomes k ∙ ap (λ (b : Bool). if b && nat_lt (number_of now key.0) number then number
+      else number_of now k) not_it
 
   -- of what was left
   was_left : (k : List ℕ) → is_among (left ++ key ∷ []) k ≡ true → (is_among left k ≡ true) ⊎ (k ≡ key.0)
@@ -43,26 +43,26 @@ module _ (carriers : Holdings Key) (old now new : Lateness) (start left : List K
         | inr last ↦ inr (same_bytes k key.0 (none_left _ last))
       ]
 
-  -- A key that is raised brings its base keys.
-  module _ (below : nat_lt (late_of now key.0) number ≡ true) where
-    here : late_of new key.0 ≡ number
-    here = becomes key.0 ∙ ap (λ (b : Bool). if b then number else late_of now key.0)
-        (ap (λ (b : Bool). b && nat_lt (late_of now key.0) number) (itself key.0) ∙ below)
+  -- A key that is raised brings the keys that it leads to.
+  module _ (below : nat_lt (number_of now key.0) number ≡ true) where
+    here : number_of new key.0 ≡ number
+    here = becomes key.0 ∙ ap (λ (b : Bool). if b then number else number_of now key.0)
+        (ap (λ (b : Bool). b && nat_lt (number_of now key.0) number) (itself key.0) ∙ below)
 
-    at_key : (k : List ℕ) → k ≡ key.0 → number ≤ late_of new k
-    at_key k is = let it : late_of new k ≡ number = ap (late_of new) is ∙ here in omega arith
+    at_key : (k : List ℕ) → k ≡ key.0 → number ≤ number_of new k
+    at_key k is = let it : number_of new k ≡ number = ap (number_of new) is ∙ here in omega arith
 
-    up : (k : List ℕ) → number ≤ late_of now k → number ≤ late_of new k
+    up : (k : List ℕ) → number ≤ number_of now k → number ≤ number_of new k
     up k high = elim (decided (bytes_eq k key.0)) [
       | inl is ↦ at_key k (same_bytes k key.0 is)
-      | inr other ↦ let it : late_of new k ≡ late_of now k = others k other in omega arith
+      | inr other ↦ let it : number_of new k ≡ number_of now k = others k other in omega arith
     ]
 
     abbrev more : List Key
-    more = keys_at key_cmp carriers key
+    more = keys_at key_cmp leads key
 
-    moved : (k : List ℕ) → (number ≤ late_of now k) ⊎ (is_among (left ++ key ∷ []) k ≡ true)
-        → (number ≤ late_of new k) ⊎ (is_among (left ++ more) k ≡ true)
+    moved : (k : List ℕ) → (number ≤ number_of now k) ⊎ (is_among (left ++ key ∷ []) k ≡ true)
+        → (number ≤ number_of new k) ⊎ (is_among (left ++ more) k ≡ true)
     moved k (inl high) = inl (up k high)
     moved k (inr there) = elim (was_left k there) [
       | inl before ↦ inr (among_append left more k ∙ or_left _ _ before)
@@ -76,20 +76,20 @@ module _ (carriers : Holdings Key) (old now new : Lateness) (start left : List K
           | inr last ↦ inr (same_bytes k key.0 (none_left _ last))
         ]
 
-    was_below : (k : List ℕ) → k ≡ key.0 → late_of old k < number
+    was_below : (k : List ℕ) → k ≡ key.0 → number_of old k < number
     was_below k is =
-        let low : late_of now key.0 < number = ltb-true (late_of now key.0) number below in
-        let same : late_of now k ≡ late_of now key.0 = ap (late_of now) is in
+        let low : number_of now key.0 < number = ltb-true (number_of now key.0) number below in
+        let same : number_of now k ≡ number_of now key.0 = ap (number_of now) is in
         elim (l.told k) [
           | inl kept ↦ omega arith
           | inr it ↦ it.was
         ]
 
-    told_now : (k : List ℕ) → (late_of new k ≡ late_of old k) ⊎ IsRaised old new number (raised ++ key ∷ []) k
+    told_now : (k : List ℕ) → (number_of new k ≡ number_of old k) ⊎ IsRaised old new number (raised ++ key ∷ []) k
     told_now k = elim (decided (bytes_eq k key.0)) [
       | inl is ↦ inr (record {
         was = was_below k (same_bytes k key.0 is);
-        is = ap (late_of new) (same_bytes k key.0 is) ∙ here;
+        is = ap (number_of new) (same_bytes k key.0 is) ∙ here;
         among = among_append raised (key ∷ []) k ∙ or_right _ _ (or_left _ _ is);
       })
       | inr other ↦ elim (l.told k) [
@@ -104,24 +104,24 @@ module _ (carriers : Holdings Key) (old now new : Lateness) (start left : List K
       ]
     ]
 
-    only_now : (k : List ℕ) → is_among (raised ++ key ∷ []) k ≡ true → late_of new k ≡ number
+    only_now : (k : List ℕ) → is_among (raised ++ key ∷ []) k ≡ true → number_of new k ≡ number
     only_now k there = elim (decided (bytes_eq k key.0)) [
-      | inl is ↦ ap (late_of new) (same_bytes k key.0 is) ∙ here
+      | inl is ↦ ap (number_of new) (same_bytes k key.0 is) ∙ here
       | inr other ↦ elim (now_raised k there) [
         | inl before ↦ others k other ∙ l.only k before
-        | inr is ↦ ap (late_of new) is ∙ here
+        | inr is ↦ ap (number_of new) is ∙ here
       ]
     ]
 
-    bases_now : (k b : List ℕ) → is_among (raised ++ key ∷ []) k ≡ true → is_carried carriers k b ≡ true
-        → (number ≤ late_of new b) ⊎ (is_among (left ++ more) b ≡ true)
+    bases_now : (k b : List ℕ) → is_among (raised ++ key ∷ []) k ≡ true → is_carried leads k b ≡ true
+        → (number ≤ number_of new b) ⊎ (is_among (left ++ more) b ≡ true)
     bases_now k b there carried = elim (now_raised k there) [
       | inl before ↦ moved b (l.bases k b before carried)
       | inr is ↦ inr
-          (among_append left more b ∙ or_right _ _ (ap (λ (q : List ℕ). is_carried carriers q b) (sym is) ∙ carried))
+          (among_append left more b ∙ or_right _ _ (ap (λ (q : List ℕ). is_carried leads q b) (sym is) ∙ carried))
     ]
 
-    pub raises_new : Raising carriers old new start (left ++ more) number (raised ++ key ∷ [])
+    pub raises_new : Raising leads old new start (left ++ more) number (raised ++ key ∷ [])
     raises_new = record {
       told = told_now;
       only = only_now;
@@ -141,28 +141,28 @@ module _ (carriers : Holdings Key) (old now new : Lateness) (start left : List K
     }
 
   -- A key whose number is as high already brings nothing.
-  module _ (high : nat_lt (late_of now key.0) number ≡ false) where
-    same : (k : List ℕ) → late_of new k ≡ late_of now k
-    same k = becomes k ∙ by (bytes_eq k key.0) (nat_lt (late_of now key.0) number) high
+  module _ (high : nat_lt (number_of now key.0) number ≡ false) where
+    same : (k : List ℕ) → number_of new k ≡ number_of now k
+    same k = becomes k ∙ by (bytes_eq k key.0) (nat_lt (number_of now key.0) number) high
       where
-        by : (a b : Bool) → b ≡ false → (if a && b then number else late_of now k) ≡ late_of now k
+        by : (a b : Bool) → b ≡ false → (if a && b then number else number_of now k) ≡ number_of now k
         by true false h = refl
         by false false h = refl
         by a true h = cc
 
-    stays : (k : List ℕ) → (number ≤ late_of now k) ⊎ (is_among (left ++ key ∷ []) k ≡ true)
-        → (number ≤ late_of new k) ⊎ (is_among left k ≡ true)
-    stays k (inl up) = let it : late_of new k ≡ late_of now k = same k in inl (omega arith)
+    stays : (k : List ℕ) → (number ≤ number_of now k) ⊎ (is_among (left ++ key ∷ []) k ≡ true)
+        → (number ≤ number_of new k) ⊎ (is_among left k ≡ true)
+    stays k (inl up) = let it : number_of new k ≡ number_of now k = same k in inl (omega arith)
     stays k (inr there) = elim (was_left k there) [
       | inl before ↦ inr before
       | inr is ↦
-          let it : late_of new k ≡ late_of now k = same k in
-          let at : late_of now k ≡ late_of now key.0 = ap (late_of now) is in
-          let up : number ≤ late_of now key.0 = ltb-false (late_of now key.0) number high in
+          let it : number_of new k ≡ number_of now k = same k in
+          let at : number_of now k ≡ number_of now key.0 = ap (number_of now) is in
+          let up : number ≤ number_of now key.0 = ltb-false (number_of now key.0) number high in
           inl (omega arith)
     ]
 
-    pub raises_old : Raising carriers old new start left number raised
+    pub raises_old : Raising leads old new start left number raised
     raises_old = record {
       told = λ k. elim (l.told k) [
         | inl kept ↦ inl (same k ∙ kept)
@@ -175,15 +175,15 @@ module _ (carriers : Holdings Key) (old now new : Lateness) (start left : List K
           l.least S first closed in (it.0, λ k there. it.1 k (among_append left (key ∷ []) k ∙ or_left _ _ there));
     }
 
--- How many base keys there are of keys whose number is lower.
+-- To how many keys those lead whose number is lower.
 
 abbrev unraised_by : Bool → Keys → ℕ
 unraised_by high keys = if high then 0 else length keys.keys.keys
 
-abbrev is_high : Lateness → ℕ → List ℕ → Bool
-is_high now number k = nat_le number (late_of now k)
+abbrev is_high : Numbers → ℕ → List ℕ → Bool
+is_high now number k = nat_le number (number_of now k)
 
-abbrev pub unraised : Lateness → ℕ → List (Key × Keys) → ℕ
+abbrev pub unraised : Numbers → ℕ → List (Key × Keys) → ℕ
 unraised now number [] = 0
 unraised now number (e ∷ es) = unraised_by (is_high now number e.0.0) e.1 + unraised now number es
 
@@ -192,7 +192,7 @@ less_or_same true b keys more = rw (more refl) (omega arith)
 less_or_same false true keys more = omega arith
 less_or_same false false keys more = omega arith
 
-module _ (now new : Lateness) (number : ℕ) (key : Key)
+module _ (now new : Numbers) (number : ℕ) (key : Key)
     (up : (k : List ℕ) → is_high now number k ≡ true → is_high new number k ≡ true) where
   pub fewer_unraised : (entries : List (Key × Keys)) → unraised new number entries ≤ unraised now number entries
   fewer_unraised [] = omega arith
@@ -236,37 +236,37 @@ module _ (now new : Lateness) (number : ℕ) (key : Key)
     raised_once [] = omega arith
     raised_once (e ∷ es) = raised_at e es (raised_once es) (is_at (key_cmp key) e.0) refl
 
-module _ (now new : Lateness) (number : ℕ) (key : Key)
-    (becomes : (k : List ℕ) → late_of new k ≡ (if bytes_eq k key.0 && nat_lt (late_of now key.0) number then number
-    else late_of now k)) where
-  rises : (k : List ℕ) → late_of now k ≤ late_of new k
-  rises k = by (bytes_eq k key.0) (nat_lt (late_of now key.0) number) refl refl
+module _ (now new : Numbers) (number : ℕ) (key : Key)
+    (becomes : (k : List ℕ) → number_of new k ≡ (if bytes_eq k key.0 && nat_lt (number_of now key.0) number then number
+    else number_of now k)) where
+  rises : (k : List ℕ) → number_of now k ≤ number_of new k
+  rises k = by (bytes_eq k key.0) (nat_lt (number_of now key.0) number) refl refl
     where
-      by : (a b : Bool) → bytes_eq k key.0 ≡ a → nat_lt (late_of now key.0) number ≡ b → late_of now k ≤ late_of new k
+      by : (a b : Bool) → bytes_eq k key.0 ≡ a → nat_lt (number_of now key.0) number ≡ b → number_of now k ≤ number_of new k
       by true true is below =
-          let it : late_of new k ≡ number = becomes k ∙ rw (is, below) refl in
-          let at : late_of now k ≡ late_of now key.0 = ap (late_of now) (same_bytes k key.0 is) in
-          let low : late_of now key.0 < number = ltb-true (late_of now key.0) number below in
+          let it : number_of new k ≡ number = becomes k ∙ rw (is, below) refl in
+          let at : number_of now k ≡ number_of now key.0 = ap (number_of now) (same_bytes k key.0 is) in
+          let low : number_of now key.0 < number = ltb-true (number_of now key.0) number below in
           omega arith
-      by false b is below = let it : late_of new k ≡ late_of now k = becomes k ∙ rw is refl in omega arith
-      by true false is below = let it : late_of new k ≡ late_of now k = becomes k ∙ rw (is, below) refl in omega arith
+      by false b is below = let it : number_of new k ≡ number_of now k = becomes k ∙ rw is refl in omega arith
+      by true false is below = let it : number_of new k ≡ number_of now k = becomes k ∙ rw (is, below) refl in omega arith
 
   pub stays_high : (k : List ℕ) → is_high now number k ≡ true → is_high new number k ≡ true
   stays_high k high =
-      let it : number ≤ late_of now k = leb-true number (late_of now k) high in
-      let up : late_of now k ≤ late_of new k = rises k in
-      le-leb number (late_of new k) (omega arith)
+      let it : number ≤ number_of now k = leb-true number (number_of now k) high in
+      let up : number_of now k ≤ number_of new k = rises k in
+      le-leb number (number_of new k) (omega arith)
 
-  pub was_low : nat_lt (late_of now key.0) number ≡ true → is_high now number key.0 ≡ false
-  was_low below = lt-low (ltb-true (late_of now key.0) number below) (decided (is_high now number key.0))
+  pub was_low : nat_lt (number_of now key.0) number ≡ true → is_high now number key.0 ≡ false
+  was_low below = lt-low (ltb-true (number_of now key.0) number below) (decided (is_high now number key.0))
     where
-      lt-low : late_of now key.0 < number → (is_high now number key.0 ≡ true) ⊎ (is_high now number key.0 ≡ false)
+      lt-low : number_of now key.0 < number → (is_high now number key.0 ≡ true) ⊎ (is_high now number key.0 ≡ false)
           → is_high now number key.0 ≡ false
       lt-low low (inr it) = it
-      lt-low low (inl it) = let high : number ≤ late_of now key.0 = leb-true number (late_of now key.0) it in absurd
+      lt-low low (inl it) = let high : number ≤ number_of now key.0 = leb-true number (number_of now key.0) it in absurd
           (omega arith)
 
-  pub is_high_now : nat_lt (late_of now key.0) number ≡ true → is_high new number key.0 ≡ true
+  pub is_high_now : nat_lt (number_of now key.0) number ≡ true → is_high new number key.0 ≡ true
   is_high_now below =
-      let it : late_of new key.0 ≡ number = becomes key.0 ∙ rw (itself key.0, below) refl in
-      le-leb number (late_of new key.0) (omega arith)
+      let it : number_of new key.0 ≡ number = becomes key.0 ∙ rw (itself key.0, below) refl in
+      le-leb number (number_of new key.0) (omega arith)

@@ -1,20 +1,21 @@
 -- The windows after one more line, and whether lockout holds with it.
-use Rattle.std.proofs.Common.{◌≡◌, ℕ, ◌+◌, ◌<◌, ◌≤◌, List, [], ◌∷◌, ◌++◌, length, Bool, true, false, not, ◌||◌, Some, inl, inr, refl, arith, ap, sym, ◌∙◌, subst, bytes_eq, append_assoc, length-append}
+use Rattle.std.proofs.Common.{◌≡◌, ◌⊎◌, ℕ, ◌+◌, ◌<◌, ◌≤◌, List, [], ◌∷◌, ◌++◌, length, Bool, true, false, not, ◌||◌, Some, inl, inr, refl, arith, ap, sym, ◌∙◌, subst, bytes_eq, append_assoc, length-append}
 use Rattle.std.specs.List.{list_any, flat_map}
-use Rattle.std.proofs.lemmas.Bool.{le-leb}
-use Rattle.std.proofs.lemmas.Bool.Decides.{leb_tells}
+use Rattle.std.specs.Prelude.{nat_le}
+use Rattle.std.proofs.lemmas.Bool.{le-leb, leb-true}
 use Rattle.zb_audit_names.specs.Naming.{declared_in}
 use Rattle.zb_audit_names.specs.Secrets.{along, ever, exposed, forged_in, terms_of}
 use Rattle.zb_audit_lockout.specs.Lockout.{admits, drawn_in, keeps_out, refuses_line, sealed_by}
-use Rattle.zb_audit_lockout.specs.Reading.{is_holder, late_by, late_of, open_at}
-use Rattle.zb_audit_lockout.specs.Standing.{IsEvidence, IsReach, IsSafe, IsUnsafe, IsWindow, LeadsTo, goes_on, late_from}
+use Rattle.zb_audit_lockout.specs.Reading.{early_of, late_by, number_of, open_at}
+use Rattle.zb_audit_lockout.specs.Standing.{IsEvidence, IsReach, IsSafe, IsUnsafe, IsWindow, goes_on}
+use Rattle.zb_audit_lockout.specs.Spreading.{has_key}
 use Rattle.zb_audit_lockout.specs.Windows.{Claim, EachAt, EachWindow, SomeWindow}
 use Rattle.zb_audit_lockout.specs.declared.evidence.Evidence.{Evidence}
 use Rattle.zb_audit_lockout.specs.declared.reach.Reach.{Reach}
 use Rattle.zb_audit_lockout.specs.declared.windows.Windows.{Windows}
-use Rattle.zb_audit_lockout.proofs.Duality.{kept_out, let_in}
+use Rattle.zb_audit_lockout.proofs.Duality.{closed, closed_any, closed_from, covers, least}
 use Rattle.zb_audit_lockout.proofs.Growing.{along_more, declared_append, forged_more}
-use Rattle.zb_audit_lockout.proofs.Tests.{not_off, not_on, off_left}
+use Rattle.zb_audit_lockout.proofs.Tests.{any_at, none_any, not_off, not_on, off_left}
 use Rattle.zb_audit_lockout.proofs.Windowing.{each_both, each_map, each_more, each_some, some_map, some_more}
 use Rattle.zb_model.specs.Data.{Bytes, Station}
 use Rattle.zb_model.specs.Secrets.{holds, same_term, well_known}
@@ -23,10 +24,10 @@ use Rattle.zb_model_real.specs.Terms.{model_term}
 use Rattle.zb_seal.specs.declared.term.Term as program
 use Rattle.zb_trace.specs.declared.line.Line.{Line}
 use Rattle.zb_trace.specs.declared.line.Line.TheVariants as line
-use Rattle.zb_trace_watch.specs.Sets.{is_carried}
+use Rattle.zb_trace_watch.specs.Sets.{is_carried, node_has}
 use Rattle.zb_trace_watch.specs.Standing.{carries}
 use Rattle.zb_trace_watch.specs.Terms.{has_term}
-use Rattle.zb_trace_watch.proofs.Truth.{both}
+use Rattle.zb_trace_watch.proofs.Truth.{both, decided}
 
 pub longer : (h : List Line) (l : Line) → length (h ++ l ∷ []) ≡ length h + 1
 longer h l = length-append h (l ∷ [])
@@ -34,15 +35,17 @@ longer h l = length-append h (l ∷ [])
 pub moved_whole : (h : List Line) (l : Line) (a b : List Line) → a ++ b ≡ h → a ++ (b ++ l ∷ []) ≡ h ++ l ∷ []
 moved_whole h l a b whole = sym (append_assoc a b (l ∷ [])) ∙ ap (λ (g : List Line). g ++ l ∷ []) whole
 
--- Where the windows stay and the keys that lead to drawn ones follow.
+-- the keys that these lines draw are those whose number is at least that one
+abbrev pub IsDrawn : Reach → ℕ → List Line → Type 0
+IsDrawn r number b = (k : Bytes) → holds (flat_map drawn_in b) k ≡ nat_le number (number_of r.drawn k)
+
+-- Where the windows stay.
 module _ (tools : Tools) (old new : Reach) (h : List Line) (l : Line) (reach : IsReach tools old h)
     (windows : new.windows ≡ old.windows)
-    (leads : (r : ℕ) (b : List Line) → r ≤ old.windows.last
-    → LeadsTo old.carriers (flat_map drawn_in b) (late_from old.late r)
-    → LeadsTo new.carriers (flat_map drawn_in (b ++ l ∷ [])) (late_from new.late r))
-    (held : (k : Bytes) (d : ℕ) → is_holder new.holders k d ≡ holds (ever (h ++ l ∷ []) d) k)
-    (carried : (k b : Bytes) → is_carried new.carriers k b ≡ list_any (carries tools b k) (terms_of (h ++ l ∷ [])))
-    (early : (k : Bytes) → late_of new.late k ≤ old.windows.last)
+    (drawn : (r : ℕ) (b : List Line) → r ≤ old.windows.last → IsDrawn old r b → IsDrawn new r (b ++ l ∷ []))
+    (held : (d : ℕ) (k : Bytes) → node_has new.held d k ≡ holds (ever (h ++ l ∷ []) d) k)
+    (carried : (b k : Bytes) → is_carried new.leads b k ≡ list_any (carries tools b k) (terms_of (h ++ l ∷ [])))
+    (early : (k : Bytes) → number_of new.drawn k ≤ old.windows.last)
     (not_admits : (d : ℕ) → admits d l ≡ false) (no_removal : (Q : Claim) → EachAt Q h l []) where
   moves : (a : List Line) (d : ℕ) (b : List Line) → IsWindow old h a d b → admits d l ≡ false
       → IsWindow new (h ++ l ∷ []) a d (b ++ l ∷ [])
@@ -55,7 +58,7 @@ module _ (tools : Tools) (old new : Reach) (h : List Line) (l : Line) (reach : I
           early = w.found.early;
         };
     low = subst (λ (x : Windows). length a ≤ x.last) (sym windows) w.low;
-    leads = leads (length a) b w.low w.leads;
+    drawn = drawn (length a) b w.low w.drawn;
   }
 
   pub ahead : EachWindow (λ a d b. admits d l ≡ false → IsWindow new (h ++ l ∷ []) a d (b ++ l ∷ [])) [] h
@@ -77,32 +80,71 @@ module _ (tools : Tools) (old new : Reach) (h : List Line) (l : Line) (reach : I
         (reach.below d number (ap (λ (x : Windows). open_at x d) (sym windows) ∙ found));
     held = held;
     carried = carried;
-    early = λ k. subst (λ (x : Windows). late_of new.late k ≤ x.last) (sym windows) (early k);
+    early = λ k. subst (λ (x : Windows). number_of new.drawn k ≤ x.last) (sym windows) (early k);
+    small = subst (λ (x : Windows). x.last < 4294967296) (sym windows) reach.small;
     last = (let same : new.windows.last ≡ old.windows.last = ap (λ (x : Windows). x.last) windows in let le :
         old.windows.last ≤ length h = reach.last in let more = longer h l in omega arith);
   }
 
--- What comes out for a device follows from who holds which key.
+-- What comes out for a device follows from what is spread, and from what is known to come out.
 module _ (tools : Tools) (new : Reach) (h : List Line) (reach : IsReach tools new h) where
-  keeps_in : IsSafe new → (a : List Line) (d : ℕ) (b : List Line) → IsWindow new h a d b → keeps_out tools a b d ≡ true
-  unfolding keeps_out
-  keeps_in safe a d b w =
-      subst (λ (g : List Line). not (list_any (holds (exposed tools g (well_known ∷ ever g d))) (flat_map drawn_in b))
-      ≡ true) (sym w.whole)
-      (not_on _
-      (kept_out tools h new.carriers (flat_map drawn_in b) (late_from new.late (length a)) reach.carried w.leads
-      (well_known ∷ ever h d) none))
-    where
-      none : (k : Bytes) → holds (well_known ∷ ever h d) k ≡ true → late_from new.late (length a) k ≡ false
-      none k there = elim (leb_tells (length a) (late_of new.late k)) [
-        | inl it ↦
-            (let low : late_of new.late k < w.found.opened = safe d w.found.opened k w.found.found
-            (ap (λ (x : Bool). bytes_eq k well_known || x) (reach.held k d) ∙ there) in
-            let le : w.found.opened ≤ length a = w.found.early in
-            let high : length a ≤ late_of new.late k = it.1 in
-            absurd (omega arith))
-        | inr it ↦ it.0
-      ]
+  abbrev drawn_out : ℕ → List Line → Bool
+  drawn_out d b = list_any (holds (exposed tools h (well_known ∷ ever h d))) (flat_map drawn_in b)
+
+  has_is : (d : ℕ) (k : Bytes) → has_key new.held d k ≡ holds (well_known ∷ ever h d) k
+  has_is d k = ap (λ (x : Bool). bytes_eq k well_known || x) (reach.held d k)
+
+  module _ (safe : IsSafe new) (a : List Line) (d : ℕ) (b : List Line) (w : IsWindow new h a d b) where
+    -- the keys that come out for a device that was removed as early
+    abbrev out : Bytes → Bool
+    out k = nat_le 4294967296 (number_of new.spread.keys k + length a)
+
+    starts : (k : Bytes) → holds (well_known ∷ ever h d) k ≡ true → out k ≡ true
+    starts k there =
+        let low : early_of new.spread d ≤ number_of new.spread.keys k = safe.spread.has d k (has_is d k ∙ there) in
+        let it : 4294967296 ≤ early_of new.spread d + w.found.opened = safe.opened d w.found.opened w.found.found in
+        let le : w.found.opened ≤ length a = w.found.early in
+        le-leb 4294967296 (number_of new.spread.keys k + length a) (omega arith)
+
+    leads_on : (base key : Bytes) → out base ≡ true → list_any (carries tools base key) (terms_of h) ≡ true → out key
+        ≡ true
+    leads_on base key there carried =
+        let it : 4294967296 ≤ number_of new.spread.keys base + length a =
+        leb-true 4294967296 (number_of new.spread.keys base + length a) there in
+        let low : number_of new.spread.keys base ≤ number_of new.spread.keys key =
+        safe.spread.carried base key (reach.carried base key ∙ carried) in
+        le-leb 4294967296 (number_of new.spread.keys key + length a) (omega arith)
+
+    none_out : (q : Bytes) → holds (flat_map drawn_in b) q ≡ true
+        → holds (exposed tools h (well_known ∷ ever h d)) q ≡ false
+    none_out q there = by (decided (holds (exposed tools h (well_known ∷ ever h d)) q))
+      where
+        by : (holds (exposed tools h (well_known ∷ ever h d)) q ≡ true)
+            ⊎ (holds (exposed tools h (well_known ∷ ever h d)) q ≡ false)
+            → holds (exposed tools h (well_known ∷ ever h d)) q ≡ false
+        by (inr it) = it
+        by (inl it) =
+            let since : length a ≤ number_of new.drawn q =
+            leb-true (length a) (number_of new.drawn q) (sym (w.drawn q) ∙ there) in
+            let early : 4294967296 ≤ number_of new.spread.keys q + length a =
+            leb-true 4294967296 (number_of new.spread.keys q + length a)
+            (least tools h (well_known ∷ ever h d) out starts (closed_from tools out (terms_of h) leads_on) q it) in
+            let low : length a ≤ new.windows.last = w.low in
+            let small : new.windows.last < 4294967296 = reach.small in
+            elim (safe.below q) [
+              | inl none ↦ (let zero_at : number_of new.spread.keys q ≡ 0 = none in absurd (omega arith))
+              | inr below ↦
+                  (let before : number_of new.spread.keys q + number_of new.drawn q < 4294967296 = below in absurd
+                  (omega arith))
+            ]
+
+    keeps_in : keeps_out tools a b d ≡ true
+    unfolding keeps_out
+    keeps_in =
+        subst (λ (g : List Line).
+        not (list_any (holds (exposed tools g (well_known ∷ ever g d))) (flat_map drawn_in b)) ≡ true) (sym w.whole)
+        (not_on (drawn_out d b)
+        (none_any (holds (exposed tools h (well_known ∷ ever h d))) (flat_map drawn_in b) none_out))
 
   lets_out : (u : IsUnsafe new) (a b : List Line) → IsWindow new h a u.device b → length a ≡ u.number
       → keeps_out tools a b u.device ≡ false
@@ -111,12 +153,17 @@ module _ (tools : Tools) (new : Reach) (h : List Line) (reach : IsReach tools ne
       subst (λ (g : List Line).
       not (list_any (holds (exposed tools g (well_known ∷ ever g u.device))) (flat_map drawn_in b)) ≡ false)
       (sym w.whole)
-      (not_off _
-      (let_in tools h new.carriers (flat_map drawn_in b) (late_from new.late (length a)) reach.carried w.leads
-      (well_known ∷ ever h u.device) u.key
-      (sym (ap (λ (x : Bool). bytes_eq u.key well_known || x) (reach.held u.key u.device)) ∙ u.has)
-      (le-leb (length a) (late_of new.late u.key)
-      (let le : u.number ≤ late_of new.late u.key = u.late in omega arith))))
+      (not_off (drawn_out u.device b)
+      (any_at (holds (exposed tools h (well_known ∷ ever h u.device))) u.key (flat_map drawn_in b)
+      (w.drawn u.key ∙ le-leb (length a) (number_of new.drawn u.key)
+      (let le : u.number ≤ number_of new.drawn u.key = u.late in omega arith))
+      (u.shown (holds (exposed tools h (well_known ∷ ever h u.device)))
+      (record {
+        has = λ k there. covers tools h (well_known ∷ ever h u.device) k (sym (has_is u.device k) ∙ there);
+        carried = λ base key there edge. closed_any tools (holds (exposed tools h (well_known ∷ ever h u.device))) base
+            key (terms_of h) (closed tools h (well_known ∷ ever h u.device)) there
+            (sym (reach.carried base key) ∙ edge);
+      }))))
 
 module _ (tools : Tools) (new : Reach) (h : List Line) (l : Line) (reach : IsReach tools new (h ++ l ∷ []))
     (ahead : EachWindow (λ a d b. admits d l ≡ false → IsWindow new (h ++ l ∷ []) a d (b ++ l ∷ [])) [] h) where

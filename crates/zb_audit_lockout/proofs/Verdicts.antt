@@ -1,10 +1,11 @@
 -- Whether lockout holds with a line that removes or admits a device, seals, forges or accepts a term.
-use Rattle.std.proofs.Common.{◌≡◌, ◌⊎◌, ℕ, ◌+◌, ◌<◌, ◌≤◌, List, [], ◌∷◌, ◌++◌, length, Bool, true, false, not, ◌||◌, ◌&&◌, Option, Some, None, inl, inr, refl, arith, ap, sym, ◌∙◌, subst, bytes_eq, nat_eq}
+use Rattle.std.proofs.Common.{◌≡◌, ◌⊎◌, ℕ, ◌+◌, ◌<◌, ◌≤◌, List, [], ◌∷◌, ◌++◌, length, Bool, true, false, not, ◌||◌, ◌&&◌, Option, Some, None, inl, inr, refl, arith, ap, sym, ◌∙◌, subst, nat_eq}
 use Rattle.std.specs.Prelude.{nat_le, if◌then◌else◌}
 use Rattle.std.specs.Map.{keys_of}
 use Rattle.std.specs.List.{list_any, flat_map}
 use Rattle.std.specs.Option.{option_or}
 use Rattle.std.proofs.lemmas.Bool.{le-leb, leb-true}
+use Rattle.std.proofs.lemmas.Bool.Decides.{leb_tells}
 use Rattle.std.proofs.lemmas.List.{append-nil}
 use Rattle.std.proofs.lemmas.List.Folds.{list_any-append}
 use Rattle.arrayvec.specs.ArrayString.{ArrayString}
@@ -20,32 +21,34 @@ use Rattle.zb_audit_names.specs.declared.node.Who.{Who}
 use Rattle.zb_audit_lockout.specs.Bags.{items_at}
 use Rattle.zb_audit_lockout.specs.Before.{before_group, holds_known}
 use Rattle.zb_audit_lockout.specs.Facts.{eui_of_node}
-use Rattle.zb_audit_lockout.specs.Lockout.{admits, drawn_in, is_aps, keeps_out, refuses_line, sealed_by}
-use Rattle.zb_audit_lockout.specs.Reading.{accepts_at, has_seal, is_foul, is_holder, is_late_seal, knows, late_by, late_of, open_at, opened_by, seals_of, some_late, some_open, term_cmp}
-use Rattle.zb_audit_lockout.specs.Standing.{Admits, Forges, IsEvidence, IsJudged, IsOpenBy, IsReach, IsReady, IsSafe, IsWindow, LeadsTo, Removes, Seals, goes_on, late_from}
+use Rattle.zb_audit_lockout.specs.Lockout.{admits, is_aps, keeps_out, refuses_line, sealed_by}
+use Rattle.zb_audit_lockout.specs.Reading.{accepts_at, early_of, has_seal, is_foul, is_late_seal, knows, late_by, number_of, open_at, opened_by, seals_of, some_late, some_open, term_cmp}
+use Rattle.zb_audit_lockout.specs.Standing.{Admits, Forges, IsBelow, IsEvidence, IsJudged, IsOpenBy, IsReach, IsReady, IsSafe, IsWindow, Removes, Seals, goes_on}
+use Rattle.zb_audit_lockout.specs.Spreading.{IsSpread}
 use Rattle.zb_audit_lockout.specs.Windows.{Claim, EachWindow, SomeWindow}
 use Rattle.zb_audit_lockout.specs.declared.bags.Bags.{Bags}
 use Rattle.zb_audit_lockout.specs.declared.evidence.Evidence.{Evidence}
 use Rattle.zb_audit_lockout.specs.declared.evidence.LateSeal.{LateSeal}
-use Rattle.zb_audit_lockout.specs.declared.lateness.Lateness.{Lateness}
+use Rattle.zb_audit_lockout.specs.declared.numbers.Numbers.{Numbers}
 use Rattle.zb_audit_lockout.specs.declared.lockout.Lockout.{Lockout}
 use Rattle.zb_audit_lockout.specs.declared.reach.Reach.{Reach}
+use Rattle.zb_audit_lockout.specs.declared.spread.Spread.{Spread}
 use Rattle.zb_audit_lockout.specs.declared.windows.Windows.{Windows}
-use Rattle.zb_audit_lockout.proofs.Judging.{carried_same, drawn_same, evidence_same, held_same}
+use Rattle.zb_audit_lockout.proofs.Judging.{carried_same, drawn_same, early_same, evidence_same, held_same}
 use Rattle.zb_audit_lockout.proofs.Knowing.{knows_is}
 use Rattle.zb_audit_lockout.proofs.Reaching.{IsOpened, one_open, opened_one, some_key, was_opened}
 use Rattle.zb_audit_lockout.proofs.Recalling.{own_is}
-use Rattle.zb_audit_lockout.proofs.Stepping.{ahead, all_refused, evidence_on, longer, moved_whole, reach_on, stays_so}
+use Rattle.zb_audit_lockout.proofs.Stepping.{IsDrawn, ahead, all_refused, evidence_on, longer, moved_whole, reach_on, stays_so}
 use Rattle.zb_audit_lockout.proofs.Tests.{both_off, left_off, not_off, not_on, off_left, off_right, or_none, right_off, was_off, was_on}
 use Rattle.zb_audit_lockout.proofs.Windowing.{each_both, each_map, each_more, each_some, some_last, some_map, some_more}
 use Rattle.zb_model.specs.Data.{Bytes}
-use Rattle.zb_model.specs.Secrets.{same_term, well_known}
+use Rattle.zb_model.specs.Secrets.{same_term}
 use Rattle.zb_model.specs.Tools.{Tools}
 use Rattle.zb_model_real.specs.Terms.{model_term}
 use Rattle.zb_seal.specs.declared.term.Term as program
 use Rattle.zb_trace.specs.declared.line.Line.{Line}
 use Rattle.zb_trace.specs.declared.line.Line.TheVariants as line
-use Rattle.zb_trace_watch.specs.Sets.{is_carried, is_node}
+use Rattle.zb_trace_watch.specs.Sets.{is_node}
 use Rattle.zb_trace_watch.specs.Terms.{has_term}
 use Rattle.zb_trace_watch.specs.declared.terms.Terms.{Terms}
 use Rattle.zb_trace_watch.specs.declared.holdings.Holdings.{Holdings}
@@ -121,6 +124,17 @@ forge_evidence tools r old new h event t reach ev forges =
     (ap (λ (s : Bags program.Term LateSeal). has_seal (items_at term_cmp s x) d number) (sym forges.sealed) ∙
     there))
 
+-- The same keys come out, and were drawn as before.
+below_kept : (old new : Reach) (k : Bytes) → number_of new.spread.keys k ≡ number_of old.spread.keys k → new.drawn
+    ≡ old.drawn → IsBelow old k → IsBelow new k
+below_kept old new k kept drawn (inl none) = inl (kept ∙ none)
+below_kept old new k kept drawn (inr low) =
+    inr
+    (let was : number_of old.spread.keys k + number_of old.drawn k < 4294967296 = low in
+    let same : number_of new.drawn k ≡ number_of old.drawn k = ap (λ (n : Numbers). number_of n k) drawn in
+    let is : number_of new.spread.keys k ≡ number_of old.spread.keys k = kept in
+    omega arith)
+
 -- A device is admitted.
 
 module _ (tools : Tools) (names : List Bytes) (old new : Lockout) (h : List Line) (event : ℕ) (device : Eui)
@@ -152,12 +166,7 @@ module _ (tools : Tools) (names : List Bytes) (old new : Lockout) (h : List Line
     whole = moved_whole h live a b w.whole;
     found = record { opened = w.found.opened; found = elsewhere d adm ∙ w.found.found; early = w.found.early };
     low = subst (λ (n : ℕ). length a ≤ n) (sym admitted.last) w.low;
-    leads =
-        subst (λ (late : Lateness). LeadsTo new.reach.carriers (flat_map drawn_in (b ++ live ∷ []))
-        (late_from late (length a))) (sym admitted.late)
-        (subst (λ (c : Holdings Key). LeadsTo c (flat_map drawn_in (b ++ live ∷ []))
-        (late_from old.reach.late (length a))) (sym admitted.carriers)
-        (drawn_same old.reach.carriers live b (late_from old.reach.late (length a)) refl w.leads));
+    drawn = drawn_same old.reach new.reach live (length a) b refl admitted.drawn w.drawn;
   }
 
   live_reach : IsReach tools new.reach (h ++ live ∷ [])
@@ -171,22 +180,27 @@ module _ (tools : Tools) (names : List Bytes) (old new : Lockout) (h : List Line
         (ready.reach.opened d number it.1);
     below = λ d number found. subst (λ (n : ℕ). number ≤ n) (sym admitted.last)
         (ready.reach.below d number (still_open d number found).1);
-    held = λ k d. ap (λ (hs : Bags Key Eui). is_holder hs k d) admitted.holders ∙ held_same tools old.reach h live
-        ready.reach (λ e. refl) k d;
-    carried = λ k b. ap (λ (c : Holdings Key). is_carried c k b) admitted.carriers ∙ carried_same tools old.reach h
-        live ready.reach refl k b;
-    early = λ k. subst (λ (n : ℕ). late_of new.reach.late k ≤ n) (sym admitted.last)
-        (subst (λ (late : Lateness). late_of late k ≤ old.reach.windows.last) (sym admitted.late)
-        (ready.reach.early k));
+    held = held_same tools old.reach new.reach h live ready.reach admitted.held (λ e. refl);
+    carried = carried_same tools old.reach new.reach h live ready.reach admitted.leads refl;
+    early = λ k. subst (λ (n : ℕ). number_of new.reach.drawn k ≤ n) (sym admitted.last)
+        (early_same old.reach new.reach admitted.drawn ready.reach.early k);
     last = (let same : new.reach.windows.last ≡ old.reach.windows.last = admitted.last in let le :
         old.reach.windows.last ≤ length h = ready.reach.last in let more = longer h live in omega arith);
+    small = subst (λ (n : ℕ). n < 4294967296) (sym admitted.last) ready.reach.small;
   }
 
   live_safe : IsSafe new.reach
-  live_safe = λ d number k found has.
-      subst (λ (late : Lateness). late_of late k < number) (sym admitted.late)
-      (ready.safe d number k (still_open d number found).1
-      (ap (λ (hs : Bags Key Eui). bytes_eq k well_known || is_holder hs k d) (sym admitted.holders) ∙ has))
+  live_safe = record {
+    spread = subst (λ (x : Spread). IsSpread new.reach.leads new.reach.held x) (sym admitted.spread)
+        (subst (λ (x : Holdings Key). IsSpread x new.reach.held old.reach.spread) (sym admitted.leads)
+        (subst (λ (x : Holdings Eui). IsSpread old.reach.leads x old.reach.spread) (sym admitted.held)
+        ready.safe.spread));
+    opened = λ d number found.
+        subst (λ (x : Spread). 4294967296 ≤ early_of x d + number) (sym admitted.spread)
+        (ready.safe.opened d number (still_open d number found).1);
+    below = λ k. below_kept old.reach new.reach k
+        (ap (λ (x : Spread). number_of x.keys k) admitted.spread) admitted.drawn (ready.safe.below k);
+  }
 
   pub live_judged : IsJudged tools new h live true
   unfolding refuses_line
@@ -244,25 +258,21 @@ module _ (tools : Tools) (names : List Bytes) (old new : Lockout) (h : List Line
         record { opened = w.found.opened; found = kept_open d w.found.opened w.found.found; early = w.found.early };
     low = (let le : length a ≤ old.reach.windows.last = w.low in let more : old.reach.windows.last
         ≤ new.reach.windows.last = low_before in omega arith);
-    leads =
-        subst (λ (late : Lateness). LeadsTo new.reach.carriers (flat_map drawn_in (b ++ gone ∷ []))
-        (late_from late (length a))) (sym removes.late)
-        (subst (λ (c : Holdings Key). LeadsTo c (flat_map drawn_in (b ++ gone ∷ []))
-        (late_from old.reach.late (length a))) (sym removes.carriers)
-        (drawn_same old.reach.carriers gone b (late_from old.reach.late (length a)) refl w.leads));
+    drawn = drawn_same old.reach new.reach gone (length a) b refl removes.drawn w.drawn;
   }
 
-  -- no key is as late as the removal
-  not_late : (k : Bytes) → late_from new.reach.late (length (h ++ gone ∷ [])) k ≡ true → ⊥
-  not_late k there =
-      let high : length (h ++ gone ∷ []) ≤ late_of new.reach.late k =
-      leb-true (length (h ++ gone ∷ [])) (late_of new.reach.late k) there in
-      let same : late_of new.reach.late k ≡ late_of old.reach.late k = ap (λ (l : Lateness). late_of l k) removes.late
-      in
-      let low : late_of old.reach.late k ≤ old.reach.windows.last = ready.reach.early k in
-      let le : old.reach.windows.last ≤ length h = ready.reach.last in
-      let more = longer h gone in
-      omega arith
+  -- no key was drawn since the removal
+  not_late : (k : Bytes) → nat_le (length (h ++ gone ∷ [])) (number_of new.reach.drawn k) ≡ false
+  not_late k = elim (leb_tells (length (h ++ gone ∷ [])) (number_of new.reach.drawn k)) [
+    | inl it ↦
+        (let high : length (h ++ gone ∷ []) ≤ number_of new.reach.drawn k = it.1 in
+        let low : number_of new.reach.drawn k ≤ old.reach.windows.last =
+        early_same old.reach new.reach removes.drawn ready.reach.early k in
+        let le : old.reach.windows.last ≤ length h = ready.reach.last in
+        let more = longer h gone in
+        absurd (omega arith))
+    | inr it ↦ it.0
+  ]
 
   gone_opened : (o : Option ℕ) → open_at old.reach.windows device.0 ≡ o
       → IsOpenBy new.reach device.0 (length (h ++ gone ∷ []))
@@ -285,11 +295,7 @@ module _ (tools : Tools) (names : List Bytes) (old new : Lockout) (h : List Line
     found = gone_opened (open_at old.reach.windows device.0) refl;
     low = (let is : new.reach.windows.last ≡ number = removes.last in let more = longer h gone in omega
         (arith, number_is, is, more));
-    leads = record {
-      has = λ k there. cc;
-      bases = λ k b there edge. absurd (not_late k there);
-      least = λ S first closed k there. absurd (not_late k there);
-    };
+    drawn = λ k. sym (not_late k);
   }
 
   gone_reach : IsReach tools new.reach (h ++ gone ∷ [])
@@ -314,36 +320,49 @@ module _ (tools : Tools) (names : List Bytes) (old new : Lockout) (h : List Line
       | inr it ↦
           (let is : m ≡ number = it.1 in let last : new.reach.windows.last ≡ number = removes.last in omega arith)
     ];
-    held = λ k d. ap (λ (hs : Bags Key Eui). is_holder hs k d) removes.holders ∙ held_same tools old.reach h gone
-        ready.reach (λ e. refl) k d;
-    carried = λ k b. ap (λ (c : Holdings Key). is_carried c k b) removes.carriers ∙ carried_same tools old.reach h
-        gone ready.reach refl k b;
+    held = held_same tools old.reach new.reach h gone ready.reach removes.held (λ e. refl);
+    carried = carried_same tools old.reach new.reach h gone ready.reach removes.leads refl;
     early = λ k.
-        (let same : late_of new.reach.late k ≡ late_of old.reach.late k = ap (λ (l : Lateness). late_of l k)
-        removes.late in
-        let low : late_of old.reach.late k ≤ old.reach.windows.last = ready.reach.early k in
+        (let low : number_of new.reach.drawn k ≤ old.reach.windows.last =
+        early_same old.reach new.reach removes.drawn ready.reach.early k in
         let more : old.reach.windows.last ≤ new.reach.windows.last = low_before in
         omega arith);
+    small = subst (λ (n : ℕ). n < 4294967296) (sym removes.last) removes.small;
     last = (let is : new.reach.windows.last ≡ number = removes.last in let more = longer h gone in omega
         (arith, number_is, is, more));
   }
 
+  gone_below : (k : Bytes) → IsBelow new.reach k
+  gone_below k = elim (removes.told k) [
+    | inl kept ↦ below_kept old.reach new.reach k kept removes.drawn (ready.safe.below k)
+    | inr it ↦ inr
+        (let is : number_of new.reach.spread.keys k + number ≡ 4294967296 = it in
+        let low : number_of new.reach.drawn k ≤ old.reach.windows.last =
+        early_same old.reach new.reach removes.drawn ready.reach.early k in
+        let le : old.reach.windows.last ≤ length h = ready.reach.last in
+        omega (arith, number_is, is, low, le))
+  ]
+
   gone_safe : IsSafe new.reach
-  gone_safe = λ d m k found has.
-      let same : late_of new.reach.late k ≡ late_of old.reach.late k = ap (λ (l : Lateness). late_of l k) removes.late
-      in
-      elim (came_open d m found) [
-        | inl before ↦
-            (let low : late_of old.reach.late k
-            < m = ready.safe d m k before
-            (ap (λ (hs : Bags Key Eui). bytes_eq k well_known || is_holder hs k d) (sym removes.holders) ∙ has) in
-            omega arith)
-        | inr it ↦
-            (let is : m ≡ number = it.1 in
-            let low : late_of old.reach.late k ≤ old.reach.windows.last = ready.reach.early k in
-            let le : old.reach.windows.last ≤ length h = ready.reach.last in
-            omega (arith, number_is, is, low, le, same))
-      ]
+  gone_safe = record {
+    spread =
+        subst (λ (x : Holdings Key). IsSpread x new.reach.held new.reach.spread) (sym removes.leads)
+        (subst (λ (x : Holdings Eui). IsSpread old.reach.leads x new.reach.spread) (sym removes.held)
+        (removes.spread ready.safe.spread));
+    opened = λ d m found. elim (came_open d m found) [
+      | inl before ↦
+          (let was : 4294967296 ≤ early_of old.reach.spread d + m = ready.safe.opened d m before in
+          let kept : early_of old.reach.spread d ≤ early_of new.reach.spread d = removes.kept d in
+          omega arith)
+      | inr it ↦
+          (let reached : 4294967296 ≤ early_of new.reach.spread device.0 + number = removes.reached in
+          let at : early_of new.reach.spread d ≡ early_of new.reach.spread device.0 =
+          ap (early_of new.reach.spread) it.0 in
+          let is : m ≡ number = it.1 in
+          omega (arith, reached, at, is))
+    ];
+    below = gone_below;
+  }
 
   pub gone_judged : IsJudged tools new h gone true
   unfolding refuses_line
@@ -536,24 +555,23 @@ module _ (tools : Tools) (names : List Bytes) (s : Lockout) (h : List Line) (eve
         | inr forged ↦ out_forged is unknown forged
       ]
 
-  accept_leads : (r : ℕ) (b : List Line) → r ≤ s.reach.windows.last → LeadsTo s.reach.carriers (flat_map drawn_in b)
-      (late_from s.reach.late r)
-      → LeadsTo s.reach.carriers (flat_map drawn_in (b ++ taken ∷ [])) (late_from s.reach.late r)
-  accept_leads r b le leads = drawn_same s.reach.carriers taken b (late_from s.reach.late r) refl leads
+  accept_drawn : (r : ℕ) (b : List Line) → r ≤ s.reach.windows.last → IsDrawn s.reach r b
+      → IsDrawn s.reach r (b ++ taken ∷ [])
+  accept_drawn r b le drawn = drawn_same s.reach s.reach taken r b refl refl drawn
 
   taken_reach : IsReach tools s.reach (h ++ taken ∷ [])
   taken_reach =
-      reach_on tools s.reach s.reach h taken ready.reach refl accept_leads
-      (held_same tools s.reach h taken ready.reach (λ e. refl))
-      (carried_same tools s.reach h taken ready.reach refl) ready.reach.early (λ d. refl) (λ Q. tt)
+      reach_on tools s.reach s.reach h taken ready.reach refl accept_drawn
+      (held_same tools s.reach s.reach h taken ready.reach refl (λ e. refl))
+      (carried_same tools s.reach s.reach h taken ready.reach refl refl) ready.reach.early (λ d. refl) (λ Q. tt)
 
   pub accept_judged : IsJudged tools s h taken (accepts_at t.layer s who.place t)
   accept_judged =
       let front : EachWindow
       (λ a d b. admits d taken ≡ false → IsWindow s.reach (h ++ taken ∷ []) a d (b ++ taken ∷ [])) [] h =
-      ahead tools s.reach s.reach h taken ready.reach refl accept_leads
-      (held_same tools s.reach h taken ready.reach (λ e. refl))
-      (carried_same tools s.reach h taken ready.reach refl) ready.reach.early (λ d. refl) (λ Q. tt) in record {
+      ahead tools s.reach s.reach h taken ready.reach refl accept_drawn
+      (held_same tools s.reach s.reach h taken ready.reach refl (λ e. refl))
+      (carried_same tools s.reach s.reach h taken ready.reach refl refl) ready.reach.early (λ d. refl) (λ Q. tt) in record {
         reach = taken_reach;
         evidence = evidence_same tools s.reach s.evidence h taken ready.reach ready.evidence refl (λ d known. refl);
         safe = λ stay. ready.safe;

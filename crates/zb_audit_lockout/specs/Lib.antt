@@ -5,5 +5,6 @@ pub mod Facts
 pub mod Bags
 pub mod Reading
 pub mod Raising
+pub mod Spreading
 pub mod Windows
 pub mod Standing

@@ -1,7 +1,8 @@
 -- Devices with a number each, in the order of the numbers.
-use Rattle.std.specs.Prelude.{◌≡◌, ℕ, Bool, false, nat_eq, Option, Some, None}
+use Rattle.std.specs.Prelude.{◌≡◌, ℕ, Bool, false, ◌&&◌, List, nat_eq, Option, Some, None}
 use Rattle.std.specs.BTreeMap.{BTreeMap, get}
 use Rattle.std.specs.BTreeSet.{BTreeSet, contains}
+use Rattle.std.specs.List.{list_any}
 use Rattle.std.specs.Ordering.{nat_cmp, ordering_then}
 use Rattle.std.specs.declared.cmp.Ordering.{Ordering}
 use Rattle.zb_base.specs.declared.address.Eui.{Eui}
@@ -20,3 +21,7 @@ is_number n (Some m) = nat_eq n m
 abbrev pub IsInOrder : BTreeMap Eui ℕ → BTreeSet Opening → Type 0
 IsInOrder numbers order = (n d : ℕ) → contains opening_cmp order (record { number = n; device = record { 0 = d } })
     ≡ is_number n (get eui_cmp numbers (record { 0 = d }))
+
+-- whether a list has the device with this number
+abbrev pub is_listed : ℕ → ℕ → List Opening → Bool
+is_listed n d list = list_any (λ (o : Opening). nat_eq n o.number && nat_eq d o.device.0) list

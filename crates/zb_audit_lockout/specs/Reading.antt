@@ -1,23 +1,21 @@
 -- What the parts of the program's value say.
-use Rattle.std.specs.Prelude.{ℕ, Bool, true, false, not, ◌&&◌, ◌||◌, List, bytes_eq, nat_eq, nat_le, Option, Some, None}
+use Rattle.std.specs.Prelude.{ℕ, ◌+◌, Bool, true, false, not, ◌&&◌, ◌||◌, List, nat_eq, nat_le, Option, Some, None}
 use Rattle.std.specs.BTreeMap.{get, is_at}
 use Rattle.std.specs.Map.{keys_of, lookup}
 use Rattle.std.specs.List.{list_any}
 use Rattle.zb_base.specs.declared.address.Eui.{Eui}
-use Rattle.zb_base.specs.declared.key.Key.{Key}
 use Rattle.std.specs.Ordering.{nat_cmp}
 use Rattle.std.specs.declared.cmp.Ordering.{Ordering}
 use Rattle.zb_base.specs.declared.label.Layer.{Layer}
 use Rattle.zb_base.specs.declared.label.Layer.TheVariants as layer
 use Rattle.zb_audit_lockout.specs.Bags.{items_at}
-use Rattle.zb_audit_lockout.specs.declared.bags.Bags.{Bags}
 use Rattle.zb_audit_lockout.specs.declared.before.Before.{Before}
 use Rattle.zb_audit_lockout.specs.declared.evidence.Evidence.{Evidence}
 use Rattle.zb_audit_lockout.specs.declared.evidence.LateSeal.{LateSeal}
-use Rattle.zb_audit_lockout.specs.declared.lateness.Lateness.{Lateness}
+use Rattle.zb_audit_lockout.specs.declared.numbers.Numbers.{Numbers}
+use Rattle.zb_audit_lockout.specs.declared.spread.Spread.{Spread}
 use Rattle.zb_audit_lockout.specs.declared.lockout.Lockout.{Lockout}
 use Rattle.zb_audit_lockout.specs.declared.windows.Windows.{Windows}
-use Rattle.zb_model.specs.Secrets.{well_known}
 use Rattle.zb_seal.specs.declared.term.Term.{Term}
 use Rattle.zb_seal.specs.contracts.term.TermOrd.TheImpl as term_ord
 use Rattle.zb_trace_watch.specs.Sets.{eui_cmp, key_cmp, keys_at, meet}
@@ -43,27 +41,21 @@ some_by numbers number devices = list_any (λ (device : Eui). opened_by (number_
 abbrev pub some_open : Windows → ℕ → List Eui → Bool
 some_open w number devices = list_any (λ (device : Eui). opened_by (open_at w device.0) number) devices
 
--- the devices that ever held a key
-abbrev pub holders_of : Bags Key Eui → List ℕ → List Eui
-holders_of holders key = items_at key_cmp holders (record { 0 = key })
-
-abbrev pub is_holder : Bags Key Eui → List ℕ → ℕ → Bool
-is_holder holders key d = list_any (λ (device : Eui). nat_eq d device.0) (holders_of holders key)
-
 -- the number of a key
 abbrev pub or_zero : Option ℕ → ℕ
 or_zero None = 0
 or_zero (Some number) = number
 
-abbrev pub late_of : Lateness → List ℕ → ℕ
-late_of l key = or_zero (get key_cmp l.numbers (record { 0 = key }))
+abbrev pub number_of : Numbers → List ℕ → ℕ
+number_of l key = or_zero (get key_cmp l.numbers (record { 0 = key }))
 
--- whether somebody who holds the key is removed by a line of at most that number; everybody holds the well-known key
-abbrev pub is_shown_to_all : Windows → ℕ → List ℕ → Bool
-is_shown_to_all w number key = bytes_eq key well_known && some_open w number (keys_of w.removals)
+-- how early a device was removed: the earlier, the greater
+abbrev pub early_of : Spread → ℕ → ℕ
+early_of s d = or_zero (get eui_cmp s.devices (record { 0 = d }))
 
-abbrev pub is_shown : Windows → Bags Key Eui → ℕ → List ℕ → Bool
-is_shown w holders number key = is_shown_to_all w number key || some_open w number (holders_of holders key)
+-- whether a key was drawn after a removal that is so early
+abbrev pub is_late : Numbers → ℕ → List ℕ → Bool
+is_late drawn early key = nat_le 4294967296 (early + number_of drawn key)
 
 -- the seals of a term by removed devices
 abbrev pub has_seal : List LateSeal → ℕ → ℕ → Bool

@@ -1,5 +1,5 @@
 -- What the program keeps, as readings of the lines so far.
-use Rattle.std.specs.Prelude.{◌≡◌, ◌<◌, ◌≤◌, ◌+◌, ◌&&◌, ◌||◌, ℕ, Bool, true, false, if◌then◌else◌, List, [], ◌∷◌, ◌++◌, length, fold, bytes_eq, nat_eq, nat_le, Option, Some, None, flat_map}
+use Rattle.std.specs.Prelude.{◌≡◌, ◌<◌, ◌≤◌, ◌+◌, ◌&&◌, ◌||◌, ℕ, Bool, true, false, ◌⊎◌, if◌then◌else◌, List, [], ◌∷◌, ◌++◌, length, fold, bytes_eq, nat_eq, nat_le, Option, Some, None, flat_map}
 use Rattle.std.specs.Option.{option_or}
 use Rattle.zb_audit_names.specs.Standing.{IsSpeaker}
 use Rattle.zb_audit_names.specs.declared.node.Who.{Who}
@@ -12,25 +12,26 @@ use Rattle.zb_audit_names.specs.Secrets.{along, ever, forged_in, terms_of}
 use Rattle.zb_audit_lockout.specs.Before.{before_group}
 use Rattle.zb_audit_lockout.specs.Facts.{Recalls}
 use Rattle.zb_audit_lockout.specs.Lockout.{admits, drawn_in, first_unlocked, keeps_out, locked, refuses_line, sealed_by}
-use Rattle.zb_audit_lockout.specs.Raising.{Raises}
-use Rattle.zb_audit_lockout.specs.Reading.{is_holder, is_late_seal, late_by, late_of, open_at, opened_by}
+use Rattle.zb_audit_lockout.specs.Ordered.{is_listed, is_number}
+use Rattle.zb_audit_lockout.specs.Reading.{early_of, is_late_seal, late_by, number_of, open_at, opened_by}
+use Rattle.zb_audit_lockout.specs.Spreading.{IsShut, IsSpread, IsSpreadBut}
 use Rattle.zb_audit_lockout.specs.Windows.{EachWindow, SomeWindow}
 use Rattle.zb_audit_lockout.specs.declared.evidence.Evidence.{Evidence}
-use Rattle.zb_audit_lockout.specs.declared.lateness.Lateness.{Lateness}
 use Rattle.zb_audit_lockout.specs.declared.lockout.Lockout.{Lockout}
+use Rattle.zb_audit_lockout.specs.declared.opened.Opening.{Opening}
 use Rattle.zb_audit_lockout.specs.declared.past.Past.{Past}
 use Rattle.zb_audit_lockout.specs.declared.reach.Reach.{Reach}
+use Rattle.zb_audit_lockout.specs.declared.spread.Spread.{Spread}
 use Rattle.zb_audit_lockout.specs.declared.windows.Windows.{Windows}
 use Rattle.zb_model.specs.Data.{Bytes}
-use Rattle.zb_model.specs.Secrets.{holds, same_term, well_known}
+use Rattle.zb_model.specs.Secrets.{holds, same_term}
 use Rattle.zb_model.specs.Tools.{Tools}
 use Rattle.zb_model_real.specs.Terms.{model_term}
 use Rattle.zb_seal.specs.declared.term.Term.{Term}
 use Rattle.zb_trace.specs.declared.line.Line.{Line}
-use Rattle.zb_trace_watch.specs.Sets.{is_carried}
+use Rattle.zb_trace_watch.specs.Sets.{is_carried, node_has}
 use Rattle.zb_trace_watch.specs.Standing.{carries, FindKeys}
 use Rattle.zb_trace_watch.specs.Terms.{has_term}
-use Rattle.zb_trace_watch.specs.declared.holdings.Holdings.{Holdings}
 
 -- The past
 
@@ -47,19 +48,7 @@ pub record Enters (tools : Tools) (names : List Bytes) (p : Past) (h : List Line
   pub before : Recalls tools names p.before [] (before_group (h ++ l ∷ []))
   pub now : Recalls tools names p.before p.group.items h
 
--- Which keys lead to a drawn one
-
--- The keys that lead to drawn ones: the least set that has these, and with a key that a term carries its base key.
-pub record LeadsTo (carriers : Holdings Key) (drawn : List Bytes) (T : List ℕ → Bool) : Type 0 where
-  pub has : (k : List ℕ) → holds drawn k ≡ true → T k ≡ true
-  pub bases : (k b : List ℕ) → T k ≡ true → is_carried carriers k b ≡ true → T b ≡ true
-  pub least : (S : List ℕ → Bool) → ((k : List ℕ) → holds drawn k ≡ true → S k ≡ true)
-      → ((k b : List ℕ) → S k ≡ true → is_carried carriers k b ≡ true → S b ≡ true) → (k : List ℕ) → T k ≡ true → S k
-      ≡ true
-
--- the keys whose number is at least that one
-abbrev pub late_from : Lateness → ℕ → List ℕ → Bool
-late_from l number k = nat_le number (late_of l k)
+-- What comes out for removed devices
 
 -- a device is removed by a line of at most that number
 pub record IsOpenBy (r : Reach) (d number : ℕ) : Type 0 where
@@ -72,79 +61,125 @@ pub record IsWindow (r : Reach) (h a : List Line) (d : ℕ) (b : List Line) : Ty
   pub whole : a ++ b ≡ h
   pub found : IsOpenBy r d (length a)
   pub low : length a ≤ r.windows.last
-  pub leads : LeadsTo r.carriers (flat_map drawn_in b) (late_from r.late (length a))
+  pub drawn : (k : List ℕ) → holds (flat_map drawn_in b) k ≡ nat_le (length a) (number_of r.drawn k)
 
 pub record IsReach (tools : Tools) (r : Reach) (h : List Line) : Type 0 where
   pub windows : EachWindow (IsWindow r h) [] h
   pub opened : (d number : ℕ) → open_at r.windows d ≡ Some number
       → SomeWindow (λ a e b. (e ≡ d) × (length a ≡ number)) [] h
   pub below : (d number : ℕ) → open_at r.windows d ≡ Some number → number ≤ r.windows.last
-  pub held : (k : List ℕ) (d : ℕ) → is_holder r.holders k d ≡ holds (ever h d) k
-  pub carried : (k b : List ℕ) → is_carried r.carriers k b ≡ list_any (carries tools b k) (terms_of h)
-  pub early : (k : List ℕ) → late_of r.late k ≤ r.windows.last
+  pub held : (d : ℕ) (k : List ℕ) → node_has r.held d k ≡ holds (ever h d) k
+  pub carried : (b k : List ℕ) → is_carried r.leads b k ≡ list_any (carries tools b k) (terms_of h)
+  pub early : (k : List ℕ) → number_of r.drawn k ≤ r.windows.last
   pub last : r.windows.last ≤ length h
+  pub small : r.windows.last < 4294967296
 
--- whether a device holds a key: everybody holds the well-known key
-abbrev pub has_key : Reach → ℕ → List ℕ → Bool
-has_key r d k = bytes_eq k well_known || is_holder r.holders k d
+-- a key comes out for no removed device, or was drawn before the removal
+abbrev pub IsBelow : Reach → List ℕ → Type 0
+IsBelow r k = (number_of r.spread.keys k ≡ 0) ⊎ (number_of r.spread.keys k + number_of r.drawn k < 4294967296)
 
--- No removed device holds a key that leads to one that was drawn since; some does.
-abbrev pub IsSafe : Reach → Type 0
-IsSafe r = (d number : ℕ) (k : List ℕ) → open_at r.windows d ≡ Some number → has_key r d k ≡ true → late_of r.late k
-    < number
+-- The keys that come out for removed devices are spread, and none of them was drawn since.
+pub record IsSafe (r : Reach) : Type 0 where
+  pub spread : IsSpread r.leads r.held r.spread
+  pub opened : (d number : ℕ) → open_at r.windows d ≡ Some number → 4294967296 ≤ early_of r.spread d + number
+  pub below : (k : List ℕ) → IsBelow r k
 
+-- A key comes out for a removed device that was drawn since.
 pub record IsUnsafe (r : Reach) : Type 0 where
   pub device : ℕ
   pub number : ℕ
   pub key : List ℕ
   pub found : open_at r.windows device ≡ Some number
-  pub has : has_key r device key ≡ true
-  pub late : number ≤ late_of r.late key
+  pub late : number ≤ number_of r.drawn key
+  pub shown : (S : List ℕ → Bool) → IsShut r.leads r.held device S → S key ≡ true
 
--- the answer is whether it is safe, where it was before
+-- the answer is whether it is safe, where it was before; whatever was before
 pub record Tells (old new : Reach) (stays : Bool) : Type 0 where
   pub safe : IsSafe old → stays ≡ true → IsSafe new
-  pub out : IsSafe old → stays ≡ false → IsUnsafe new
+  pub out : stays ≡ false → IsUnsafe new
 
--- One key is raised, and what leads to it.
-pub record RaisesOne (old new : Reach) (key : Key) (number : ℕ) : Type 0 where
+pub record IsJudgedAnew (r : Reach) (stays : Bool) : Type 0 where
+  pub safe : stays ≡ true → IsSafe r
+  pub out : stays ≡ false → IsUnsafe r
+
+-- Only what is known of keys that come out changed.
+pub record Settles (old new : Reach) : Type 0 where
   pub windows : new.windows ≡ old.windows
-  pub carriers : new.carriers ≡ old.carriers
-  pub holders : new.holders ≡ old.holders
-  pub raised : List Key
-  pub raises : Raises old.carriers old.late new.late (key ∷ []) number raised
+  pub leads : new.leads ≡ old.leads
+  pub held : new.held ≡ old.held
+  pub drawn : new.drawn ≡ old.drawn
 
--- A term carries one more key: its base key is raised to the number of that key.
+-- The answer is whether it is safe, where it was before but for a key that is still to become so early.
+pub record IsNearlySafe (r : Reach) (key : Key) (early : ℕ) : Type 0 where
+  pub spread : IsSpreadBut r.leads r.held r.spread (key ∷ []) early
+  pub opened : (d number : ℕ) → open_at r.windows d ≡ Some number → 4294967296 ≤ early_of r.spread d + number
+  pub below : (k : List ℕ) → IsBelow r k
+
+pub record Judged (old new : Reach) (key : Key) (early : ℕ) (stays : Bool) : Type 0 where
+  pub safe : IsNearlySafe old key early → stays ≡ true → IsSafe new
+  pub out : stays ≡ false → IsUnsafe new
+
+-- A removed device is entered, and the answer is whether no key that comes out for it was drawn since.
+pub record TriedOne (old new : Reach) (opening : Opening) (stays : Bool) : Type 0 where
+  pub spread : IsSpread old.leads old.held old.spread → IsSpread new.leads new.held new.spread
+  pub reached : 4294967296 ≤ early_of new.spread opening.device.0 + opening.number
+  pub kept : (e : ℕ) → early_of old.spread e ≤ early_of new.spread e
+  pub below : stays ≡ true → ((k : List ℕ) → IsBelow old k) → (k : List ℕ) → IsBelow new k
+  pub out : stays ≡ false → open_at old.windows opening.device.0 ≡ Some opening.number → IsUnsafe new
+
+-- nothing is noted yet; the list has the removed devices
+pub record IsFresh (s : Spread) : Type 0 where
+  pub devices : (d : ℕ) → early_of s d ≡ 0
+  pub keys : (k : List ℕ) → number_of s.keys k ≡ 0
+
+abbrev pub IsListed : Reach → List Opening → Type 0
+IsListed r list = (n d : ℕ) → is_listed n d list ≡ is_number n (open_at r.windows d)
+
+-- A key was drawn.
+pub record Draws (old new : Reach) (key : Key) : Type 0 where
+  pub windows : new.windows ≡ old.windows
+  pub leads : new.leads ≡ old.leads
+  pub held : new.held ≡ old.held
+  pub drawn : (k : List ℕ) → number_of new.drawn k ≡ (if bytes_eq k key.0 then old.windows.last
+      else number_of old.drawn k)
+
+-- A term carries one more key.
 pub record Carries (old new : Reach) (base key : Key) : Type 0 where
   pub windows : new.windows ≡ old.windows
-  pub holders : new.holders ≡ old.holders
-  pub carriers : (k b : List ℕ) → is_carried new.carriers k b
-      ≡ (is_carried old.carriers k b || (bytes_eq k key.0 && bytes_eq b base.0))
-  pub raised : List Key
-  pub raises : Raises new.carriers old.late new.late (base ∷ []) (late_of old.late key.0) raised
+  pub held : new.held ≡ old.held
+  pub drawn : new.drawn ≡ old.drawn
+  pub leads : (b k : List ℕ) → is_carried new.leads b k
+      ≡ (is_carried old.leads b k || (bytes_eq b base.0 && bytes_eq k key.0))
 
 -- Devices came to hold a key.
 pub record Holds (old new : Reach) (more : ℕ → List ℕ → Bool) : Type 0 where
   pub windows : new.windows ≡ old.windows
-  pub carriers : new.carriers ≡ old.carriers
-  pub late : new.late ≡ old.late
-  pub holders : (k : List ℕ) (d : ℕ) → is_holder new.holders k d ≡ (is_holder old.holders k d || more d k)
+  pub leads : new.leads ≡ old.leads
+  pub drawn : new.drawn ≡ old.drawn
+  pub held : (d : ℕ) (k : List ℕ) → node_has new.held d k ≡ (node_has old.held d k || more d k)
 
 -- A device was removed by the line of that number; a device was admitted.
 pub record Removes (old new : Reach) (d number : ℕ) : Type 0 where
   pub found : (e : ℕ) → open_at new.windows e ≡ option_or (open_at old.windows e) (if nat_eq e d then Some number
       else None)
   pub last : new.windows.last ≡ number
-  pub carriers : new.carriers ≡ old.carriers
-  pub holders : new.holders ≡ old.holders
-  pub late : new.late ≡ old.late
+  pub small : number < 4294967296
+  pub leads : new.leads ≡ old.leads
+  pub held : new.held ≡ old.held
+  pub drawn : new.drawn ≡ old.drawn
+  pub spread : IsSpread old.leads old.held old.spread → IsSpread old.leads old.held new.spread
+  pub reached : 4294967296 ≤ early_of new.spread d + number
+  pub kept : (e : ℕ) → early_of old.spread e ≤ early_of new.spread e
+  pub told : (k : List ℕ) → (number_of new.spread.keys k ≡ number_of old.spread.keys k)
+      ⊎ (number_of new.spread.keys k + number ≡ 4294967296)
 
 pub record Admits (old new : Reach) (d : ℕ) : Type 0 where
   pub found : (e : ℕ) → open_at new.windows e ≡ (if nat_eq e d then None else open_at old.windows e)
   pub last : new.windows.last ≡ old.windows.last
-  pub carriers : new.carriers ≡ old.carriers
-  pub holders : new.holders ≡ old.holders
-  pub late : new.late ≡ old.late
+  pub leads : new.leads ≡ old.leads
+  pub held : new.held ≡ old.held
+  pub drawn : new.drawn ≡ old.drawn
+  pub spread : new.spread ≡ old.spread
 
 -- a term carries a key, or none
 abbrev pub CarriesSome : Reach → Reach → Key → Option Key → Type 0

@@ -10,12 +10,13 @@ mod before;
 mod evidence;
 mod fact;
 mod groups;
-mod lateness;
 mod lockout;
+mod numbers;
 mod opened;
 mod past;
 mod reach;
 mod shown;
+mod spread;
 mod windows;
 
 pub use lockout::Lockout;

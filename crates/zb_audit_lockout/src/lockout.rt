@@ -6,7 +6,7 @@ ghost use Rattle.zb_audit_names.specs.Standing.{IsSpeaker};
 ghost use Rattle.zb_audit_lockout.specs.Lockout as of_lines;
 ghost use Rattle.zb_audit_lockout.specs.Facts.{eui_of_node};
 ghost use Rattle.zb_audit_lockout.specs.Reading.{accepts, is_foul, knows};
-ghost use Rattle.zb_audit_lockout.specs.Standing.{Admits, CarriesSome, Forges, Forgets, Holds, Judges, RaisesOne, Removes};
+ghost use Rattle.zb_audit_lockout.specs.Standing.{Admits, CarriesSome, Draws, Forges, Forgets, Holds, Judges, Removes};
 ghost use Rattle.zb_audit_lockout.specs.Standing.{Seals, Stands, Tells};
 ghost use Rattle.zb_model.specs.Data.{Bytes};
 ghost use Rattle.zb_model.specs.Tools.{Tools};
@@ -27,15 +27,16 @@ use zb_trace::Line;
 
 /// What is needed of the lines so far to tell where lockout first fails.
 ///
-/// It keeps no line. What it keeps stands in ordered maps and sets, and a line takes a few look-ups. Nothing is
-/// rebuilt when a device is removed or admitted, and no lines are gone over again: each key has one number, the
-/// greatest number of a removal after which a key was drawn to which it leads, since terms carry keys under it. So a
-/// removed device comes by a key that was drawn since exactly where a key that it ever held has a number that isn't
-/// below that of its removal.
+/// It keeps no line. What it keeps stands in ordered maps and sets, and a line takes a few look-ups. For each key that
+/// comes out for a removed device it notes how early such a device was removed. So lockout fails where a noted key is
+/// drawn, or where a key comes out for a device that was removed before the key was drawn. An admission takes no note
+/// back. Where a note then tells that lockout may fail, all of them are found anew for the devices that are removed.
 ///
-/// - A key is raised at most once for each removal after which a key is drawn to which it leads. That costs a step for
-///   each base key under which it was carried, and one for each device that held it; all removed devices hold the
-///   well-known key.
+/// - A key that comes out costs a step for each key that terms carry under it. It costs that again where it comes out
+///   for a device that was removed earlier.
+/// - A device that is removed costs a step for each key that it ever held, unless it was removed before.
+/// - After each admission all is found anew at most once. That costs as much as if the devices that are removed were
+///   removed again, one after the other.
 /// - What the lines of a group say of keys waits until the group ends. Then it is taken in once, as a watch over a
 ///   transcript takes it in.
 /// - An accepted term is looked up among the forged ones and those that removed devices sealed. Of its seals the last
@@ -44,7 +45,8 @@ use zb_trace::Line;
 ///   that accepts foul terms has such a key at hand, and its keys are gone through at most once: then lockout fails.
 ///
 /// Over honest transcripts, and over most others, the time grows with the length. Known to take longer: thousands of
-/// pairs of a removal and a draw of one key, where thousands of base keys lead to it or thousands of devices hold it.
+/// admissions, each with a draw of a key that had come out for the device, while thousands of keys come out for others;
+/// and thousands of keys that come out for thousands of removed devices, for the one that was removed last first.
 /// Memory grows with the length.
 #[derive(Drop)]
 pub struct Lockout {
@@ -130,7 +132,7 @@ impl Lockout {
                 ..
             } => self.hold(alloc, Some(*first), Some(*second), *key),
             Line::Draw { key, .. } => self.draw(alloc, *key),
-            Line::Removed { device, .. } => self.remove(*device, number),
+            Line::Removed { device, .. } => self.remove(alloc, *device, number),
             Line::Live { device, .. } => Ok(self.admit(*device)),
             Line::Seal { term, .. } => self.seal(alloc, who, term),
             Line::Forge { term, .. } => self.forge(alloc, term),
@@ -157,7 +159,7 @@ impl Lockout {
     }
 
     fn draw(&mut self, alloc: Global, key: Key) -> Result<bool, NoMemory>
-        ensures reach { OnOk result (RaisesOne self.old.reach self.new.reach key self.old.reach.windows.last) }
+        ensures reach { OnOk result (Draws self.old.reach self.new.reach key) }
         ensures tells { IfOk result (λ stays. Tells self.old.reach self.new.reach stays) }
         ensures evidence { self.new.evidence ≡ self.old.evidence }
         ensures past { self.new.past ≡ self.old.past }
@@ -166,14 +168,14 @@ impl Lockout {
         Ok(self.reach.draw(alloc, key)?)
     }
 
-    fn remove(&mut self, device: Eui, number: u32) -> Result<bool, NoMemory>
+    fn remove(&mut self, alloc: Global, device: Eui, number: u32) -> Result<bool, NoMemory>
         ensures removes { OnOk result (Removes self.old.reach self.new.reach device.0 number) }
         ensures stays { IfOk result (λ stays. stays ≡ true) }
         ensures evidence { self.new.evidence ≡ self.old.evidence }
         ensures past { self.new.past ≡ self.old.past }
         ensures first { self.new.first ≡ self.old.first }
     {
-        self.reach.windows.remove(device, number)?;
+        self.reach.remove(alloc, device, number)?;
         Ok(true)
     }
 

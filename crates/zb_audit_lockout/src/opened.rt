@@ -1,7 +1,8 @@
 //! Devices with a number each, and the least of these numbers.
-ghost use Rattle.std.specs.Prelude.{◌≡◌, ℕ, OnOk, None, Some, if◌then◌else◌, nat_eq};
+ghost use Rattle.std.specs.Prelude.{◌≡◌, ◌++◌, ℕ, IfOk, OnOk, None, Some, if◌then◌else◌, nat_eq};
 ghost use Rattle.std.specs.Map.{keys_of};
 ghost use Rattle.std.specs.Option.{option_or};
+ghost use Rattle.zb_audit_lockout.specs.Ordered.{is_listed, is_number};
 ghost use Rattle.zb_audit_lockout.specs.Reading.{number_in, some_by};
 
 use std::alloc::{AllocError, Global};
@@ -81,6 +82,15 @@ impl Opened {
         }
     }
 
+    /// Returns the devices with their numbers, the least number first.
+    pub fn list(&self, alloc: Global) -> Result<Vec<Opening>, AllocError>
+        ensures { IfOk result (λ list. (n d : ℕ) → is_listed n d list.items ≡ is_number n (number_in self.now d)) }
+    {
+        let mut list = Vec::new(alloc);
+        append_all(&self.order, &mut list)?;
+        Ok(list)
+    }
+
     /// Takes a device out.
     pub fn remove(&mut self, device: Eui)
         ensures { (d : ℕ) → number_in self.new d ≡ (if nat_eq d device.0 then None else number_in self.old d) }
@@ -99,4 +109,14 @@ impl Opened {
             None => false,
         }
     }
+}
+
+// Puts the devices of an order after those of a list.
+fn append_all(order: &BTreeSet<Opening>, list: &mut Vec<Opening>) -> Result<(), AllocError>
+    ensures { OnOk result (list.new.items ≡ list.old.items ++ order.now.keys) }
+{
+    for opening in order {
+        list.push(*opening)?;
+    }
+    Ok(())
 }

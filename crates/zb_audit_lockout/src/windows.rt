@@ -1,5 +1,5 @@
 //! Devices that were removed and weren't admitted since.
-ghost use Rattle.std.specs.Prelude.{◌≡◌, ℕ, OnOk, None, Some, if◌then◌else◌, nat_eq};
+ghost use Rattle.std.specs.Prelude.{◌≡◌, ◌<◌, ℕ, OnOk, None, Some, if◌then◌else◌, nat_eq};
 ghost use Rattle.std.specs.Map.{keys_of};
 ghost use Rattle.std.specs.Option.{option_or};
 ghost use Rattle.zb_audit_lockout.specs.Reading.{open_at, opened_by, some_open};
@@ -34,6 +34,7 @@ impl Windows {
         ensures found { OnOk result ((d : ℕ)
             → open_at self.new d ≡ option_or (open_at self.old d) (if nat_eq d device.0 then Some number else None)) }
         ensures last { OnOk result (self.new.last ≡ number) }
+        ensures small { OnOk result (number < 4294967296) }
     {
         self.removals.note(device, number)?;
         self.last = number;
@@ -64,16 +65,4 @@ impl Windows {
     {
         self.removals.any_by(number)
     }
-}
-
-/// Returns whether one of the devices is removed by a line of at most that number.
-pub fn any_among(windows: &Windows, devices: &[Eui], number: u32) -> bool
-    ensures { result ≡ some_open windows.now number devices.now }
-{
-    for device in devices {
-        if windows.is_open(device, number) {
-            return true;
-        }
-    }
-    false
 }

@@ -1,6 +1,6 @@
 use Rattle.std.proofs.Common.{◌≡◌, Bool, sym, refl, subst, true}
 use Rattle.zb_audit_lockout.specs.Facts.{eui_of_node}
-use Rattle.zb_audit_lockout.specs.Standing.{CarriesSome, Forges, Forgets, Holds, Judges, RaisesOne, Removes, Seals, Tells}
+use Rattle.zb_audit_lockout.specs.Standing.{CarriesSome, Draws, Forges, Forgets, Holds, Judges, Removes, Seals, Tells}
 use Rattle.zb_audit_lockout.specs.Reading.{accepts}
 use Rattle.zb_trace.specs.declared.line.Line.{Line}
 use Rattle.zb_carried_keys.specs.Carrying.{carried}
@@ -74,8 +74,7 @@ returns-in-Pair-clause-judges c =
 
 pub returns-in-Draw-clause-judges : goal.returns-in-Draw-clause-judges
 returns-in-Draw-clause-judges c =
-    let kept : (stays : Bool) → RaisesOne c.args.self.now.reach c.draw.new.self.reach c.in-Draw.key
-    c.args.self.now.reach.windows.last → Tells c.args.self.now.reach c.draw.new.self.reach stays
+    let kept : (stays : Bool) → Draws c.args.self.now.reach c.draw.new.self.reach c.in-Draw.key → Tells c.args.self.now.reach c.draw.new.self.reach stays
     → Judges c.args.self.now c.draw.new.self c.args.number c.args.line.now c.args.who stays =
     λ stays one tells. subst (λ (l : Line). Judges c.args.self.now c.draw.new.self c.args.number l c.args.who stays)
     (sym c.in-Draw.is)

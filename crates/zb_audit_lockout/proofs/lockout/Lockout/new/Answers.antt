@@ -7,5 +7,5 @@ returns c =
     λ tools names.
     let reach = c.new-2.ensures in
     let evidence = c.new-3.ensures in
-    new_stands tools names _ refl (c.in_ok-new.ensures tools names) reach.found reach.last reach.carriers
-    reach.holders reach.late evidence.forged evidence.sealed
+    new_stands tools names _ refl (c.in_ok-new.ensures tools names) reach.found reach.last reach.leads
+    reach.held reach.drawn reach.devices reach.keys evidence.forged evidence.sealed

@@ -1,10 +1,9 @@
-use Rattle.std.proofs.Common.{ℕ, ◌∷◌, [], ap, sym, ◌∙◌, subst}
+use Rattle.std.proofs.Common.{ap, ◌∙◌}
+use Rattle.zb_audit_names.proofs.Entries.{if_ok, on_ok}
 use Rattle.zb_base.specs.declared.key.Key.{Key}
-use Rattle.zb_audit_names.proofs.Entries.{on_ok}
-use Rattle.zb_audit_lockout.specs.Raising.{Raises}
-use Rattle.zb_audit_lockout.specs.Reading.{late_of}
-use Rattle.zb_audit_lockout.specs.Standing.{Carries, RaisesOne}
+use Rattle.zb_audit_lockout.specs.Standing.{Carries, Settles}
 use Rattle.zb_audit_lockout.specs.declared.reach.Reach.{Reach}
+use Rattle.zb_audit_lockout.proofs.Telling.{carried_tells}
 use Rattle.zb_trace_watch.specs.Sets.{is_carried}
 use Rattle.zb_trace_watch.specs.declared.holdings.Holdings.{Holdings}
 use Rattle.zb_trace_watch.proofs.Owners.{added_bytes}
@@ -15,22 +14,25 @@ returns-clause-carries c =
     let mid : Reach =
     record {
       windows = c.args.self.now.windows;
-      carriers = c.add.new.self;
-      holders = c.args.self.now.holders;
-      late = c.args.self.now.late;
+      leads = c.add.new.self;
+      held = c.args.self.now.held;
+      drawn = c.args.self.now.drawn;
+      spread = c.args.self.now.spread;
     } in
-    let read : RaisesOne mid c.raise.new.self c.args.base c.of-number.result
-    → Carries c.args.self.now c.raise.new.self c.args.base c.args.key =
-    λ one. record {
-      windows = one.windows;
-      holders = one.holders;
-      carriers = λ k b. ap (λ (h : Holdings Key). is_carried h k b) one.carriers ∙ added_bytes c.add.new.self
-          c.args.self.now.carriers c.args.key c.args.base c.in_ok-add.ensures k b;
-      raised = one.raised;
-      raises =
-          subst (λ (h : Holdings Key). Raises h c.args.self.now.late c.raise.new.self.late (c.args.base ∷ [])
-          (late_of c.args.self.now.late c.args.key.0) one.raised) (sym one.carriers)
-          (subst (λ (n : ℕ). Raises c.add.new.self c.args.self.now.late c.raise.new.self.late (c.args.base ∷ []) n
-          one.raised) c.of-number.ensures one.raises);
+    let read : Settles mid c.follow.new.self → Carries c.args.self.now c.follow.new.self c.args.base c.args.key =
+    λ s. record {
+      windows = s.windows;
+      held = s.held;
+      drawn = s.drawn;
+      leads = λ b k. ap (λ (h : Holdings Key). is_carried h b k) s.leads ∙ added_bytes c.add.new.self
+          c.args.self.now.leads c.args.base c.args.key c.in_ok-add.ensures b k;
     } in
-    on_ok c.raise.result _ _ read c.raise.ensures.raises
+    on_ok c.follow.result _ _ read c.follow.ensures.settles
+
+pub returns-clause-tells : goal.returns-clause-tells
+returns-clause-tells c =
+    if_ok c.follow.result _ _
+    (λ stays judged. carried_tells c.args.self.now c.follow.new.self c.add.new.self c.args.base c.args.key
+    c.of-early.result stays
+    (added_bytes c.add.new.self c.args.self.now.leads c.args.base c.args.key c.in_ok-add.ensures)
+    c.of-early.ensures judged) c.follow.ensures.judged

@@ -1,4 +1,4 @@
-use Rattle.zb_audit_lockout.proofs.Reaching.{both_tell, first_tells}
+use Rattle.zb_audit_lockout.proofs.Telling.{both_tell, first_tells}
 use Rattle.zb_audit_lockout.proofs.reach.Reach.hold_both.Goals as goal
 
 pub returns-then-firsts-clause-tells : goal.returns-then-firsts-clause-tells
