@@ -6,8 +6,8 @@
  * may not overlap with anything else that it is given, and no pointer may be null, also where its buffer has no bytes.
  *
  * Calls may run side by side. The first five stand in libtc_c.a, take no memory from the heap, and need memcpy,
- * memmove, memset and memcmp alone. The last one, tc_admin, stands in libtc_c_centre.a and takes memory while it runs:
- * compile tc_heap.c with your program, or write its three functions over a heap of your own.
+ * memmove, memset and memcmp alone. The last two, tc_admin and tc_live, stand in libtc_c_centre.a and take memory while
+ * they run: compile tc_heap.c with your program, or write its three functions over a heap of your own.
  */
 #ifndef TC_H
 #define TC_H
@@ -39,13 +39,13 @@ extern "C" {
 #define TC_WRONG_ROOM 5  /* a buffer to write into has another length than is asked */
 #define TC_WRONG_KEY 6   /* a key hasn't 16 bytes */
 
-/* of tc_admin, with the numbers that the program tc has for it */
+/* of tc_admin and tc_live, with the numbers that the programs tc and tc_centre have for it */
 #define TC_USAGE 2        /* `store` has room for less than 131,072 bytes, or `used->store` is more than that */
 #define TC_SHORT_ANSWER 4 /* the answer has more bytes than its room: `used->answer` says how many */
-#define TC_REFUSED 5      /* no script. `used->at` is its first bad line, `used->cause` a TC_CAUSE */
+#define TC_REFUSED 5      /* of tc_admin: no script. `used->at` is its first bad line, `used->cause` a TC_CAUSE */
 #define TC_NO_MEMORY 6    /* there was no memory left */
 #define TC_NO_STORE 8     /* the store isn't empty, and no record stands in it */
-#define TC_LONG_INPUT 9   /* the script has more than 16,777,216 bytes */
+#define TC_LONG_INPUT 9   /* the script has more than 16,777,216 bytes, or a line of a session more than 1,048,576 */
 #define TC_BAD_STORE 11   /* what stands in the store is no record of a centre: `used->at` is the place of the fault */
 #define TC_WORN 12        /* the store can't be written any more */
 
@@ -96,7 +96,7 @@ uint32_t tc_open_aps(const uint8_t *frame, size_t frame_len, const uint8_t *key,
 uint32_t tc_seal_nwk(const uint8_t *clear, size_t clear_len, const uint8_t *key, size_t key_len, uint8_t *frame,
                      size_t frame_room, size_t *len);
 
-/* What is used of the two buffers of tc_admin. */
+/* What is used of the two buffers of tc_admin and tc_live. */
 struct tc_used {
     size_t store;   /* how many bytes the store has, before the call and after it; 0 is no store */
     size_t answer;  /* how many bytes the answer has */
@@ -104,16 +104,23 @@ struct tc_used {
     uint32_t cause; /* why a script was refused */
 };
 
-/* The store is the first `used->store` bytes of `store`, which has room for TC_STORE_ROOM. At TC_DONE the new store
- * stands there, and what the centre says in `answer`, with no zero behind it. Then
+/* The two calls of the centre. The store is the first `used->store` bytes of `store`, which has room for TC_STORE_ROOM.
+ * At TC_DONE the new store stands there, and what the centre says in `answer`, with no zero behind it. Then
  *
  *   1. put the new store in place of the old one, so that a loss of power leaves one or the other, and sync it;
  *   2. and only then do what the answer says: send its frames, tell its lines.
  *
- * Where 1 fails, forget both buffers, and read the store again. Never run two centres on one store. tc_admin serves a
- * script of `tc admin`, and the answer is what that program writes. */
+ * Where 1 fails, forget both buffers, and read the store again. Never run two centres on one store.
+ *
+ * tc_admin serves a script of `tc admin`, and the answer is what that program writes. tc_live serves the lines of a
+ * session of `tc_centre`, each of which ends with a line feed. Each call is a session of its own: it begins with the
+ * header and `open`, and mostly has one event. Take 1 for both blocks of the centre, and no counter and no frame is
+ * lost by that. */
 uint32_t tc_admin(const uint8_t *script, size_t script_len, uint8_t *store, size_t store_room, uint8_t *answer,
                   size_t answer_room, struct tc_used *used);
+
+uint32_t tc_live(const uint8_t *lines, size_t lines_len, uint8_t *store, size_t store_room, uint8_t *answer,
+                 size_t answer_room, struct tc_used *used);
 
 #ifdef __cplusplus
 }

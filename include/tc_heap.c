@@ -1,4 +1,4 @@
-/* The memory that tc_admin takes: three functions over the heap of the C library. Compile this file with your
+/* The memory that tc_admin and tc_live take: three functions over the heap of the C library. Compile this file with your
  * program, or write the three over a heap of your own. A block is aligned to 16 bytes, where it has as many. */
 #include <stdbool.h>
 #include <stddef.h>

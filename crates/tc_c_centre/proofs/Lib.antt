@@ -2,3 +2,4 @@ mod Rooms
 mod CallLemmas
 mod Stores
 mod Scripts
+mod Sessions

@@ -2,3 +2,4 @@ pub mod Outside
 pub mod Buffers
 pub mod Stores
 pub mod Scripts
+pub mod Sessions
