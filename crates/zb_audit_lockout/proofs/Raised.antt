@@ -242,14 +242,16 @@ module _ (now new : Numbers) (number : ℕ) (key : Key)
   rises : (k : List ℕ) → number_of now k ≤ number_of new k
   rises k = by (bytes_eq k key.0) (nat_lt (number_of now key.0) number) refl refl
     where
-      by : (a b : Bool) → bytes_eq k key.0 ≡ a → nat_lt (number_of now key.0) number ≡ b → number_of now k ≤ number_of new k
+      by : (a b : Bool) → bytes_eq k key.0 ≡ a → nat_lt (number_of now key.0) number ≡ b
+          → number_of now k ≤ number_of new k
       by true true is below =
           let it : number_of new k ≡ number = becomes k ∙ rw (is, below) refl in
           let at : number_of now k ≡ number_of now key.0 = ap (number_of now) (same_bytes k key.0 is) in
           let low : number_of now key.0 < number = ltb-true (number_of now key.0) number below in
           omega arith
       by false b is below = let it : number_of new k ≡ number_of now k = becomes k ∙ rw is refl in omega arith
-      by true false is below = let it : number_of new k ≡ number_of now k = becomes k ∙ rw (is, below) refl in omega arith
+      by true false is below =
+          let it : number_of new k ≡ number_of now k = becomes k ∙ rw (is, below) refl in omega arith
 
   pub stays_high : (k : List ℕ) → is_high now number k ≡ true → is_high new number k ≡ true
   stays_high k high =

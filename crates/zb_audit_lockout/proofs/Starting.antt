@@ -21,7 +21,7 @@ pub new_stands : (tools : Tools) (names : List Bytes) (s : Lockout) → s.first 
     → ((t : Term) → has_term s.evidence.forged t ≡ false)
     → ((t : Term) (d number : ℕ) → late_by s.evidence d number t ≡ false) → Stands tools names s []
 unfolding first_unlocked ever terms_of
-new_stands tools names s no_first past shut last uncarried unheld undrawn unentered none_out unforged unsealed = record {
+new_stands tools names s no_first past shut last uncarried unheld undrawn unentered untold unforged unsealed = record {
   first = no_first;
   held = λ none. record {
     past = past;
@@ -43,10 +43,10 @@ new_stands tools names s no_first past shut last uncarried unheld undrawn unente
     safe = record {
       spread = record {
         has = λ d k there. (let it : early_of s.reach.spread d ≡ 0 = unentered d in omega arith);
-        carried = λ b k there. (let it : number_of s.reach.spread.keys b ≡ 0 = none_out b in omega arith);
+        carried = λ b k there. (let it : number_of s.reach.spread.keys b ≡ 0 = untold b in omega arith);
       };
       opened = λ d number found. absurd (gone (sym (shut d) ∙ found));
-      below = λ k. inl (none_out k);
+      below = λ k. inl (untold k);
     };
     locked = locked_nothing tools;
   };

@@ -250,7 +250,8 @@ all_entered old now list index done none fresh listed = record {
         ∙ itself_number number))) [
           | inl it ↦ it
           | inr left ↦ absurd
-              (not_both (is_listed number d []) (sym (ap (λ (l : List Opening). is_listed number d l) none) ∙ left) refl)
+              (not_both (is_listed number d [])
+              (sym (ap (λ (l : List Opening). is_listed number d l) none) ∙ left) refl)
         ];
     below = done.below fresh;
   };
@@ -324,7 +325,9 @@ carried_tells old new leads base key early stays leads_is early_is judged = reco
     spread = record {
       has = λ d k there. inl (safe.spread.has d k there);
       carried = λ b k there.
-          elim (either (is_carried old.leads b k) (bytes_eq b base.0 && bytes_eq k key.0) (sym (leads_is b k) ∙ there)) [
+          elim
+          (either (is_carried old.leads b k) (bytes_eq b base.0 && bytes_eq k key.0)
+          (sym (leads_is b k) ∙ there)) [
             | inl before ↦ inl (safe.spread.carried b k before)
             | inr it ↦ inr (
               or_left _ _ (and_right (bytes_eq b base.0) _ it),

@@ -571,7 +571,8 @@ module _ (tools : Tools) (names : List Bytes) (s : Lockout) (h : List Line) (eve
       (λ a d b. admits d taken ≡ false → IsWindow s.reach (h ++ taken ∷ []) a d (b ++ taken ∷ [])) [] h =
       ahead tools s.reach s.reach h taken ready.reach refl accept_drawn
       (held_same tools s.reach s.reach h taken ready.reach refl (λ e. refl))
-      (carried_same tools s.reach s.reach h taken ready.reach refl refl) ready.reach.early (λ d. refl) (λ Q. tt) in record {
+      (carried_same tools s.reach s.reach h taken ready.reach refl refl) ready.reach.early (λ d. refl)
+      (λ Q. tt) in record {
         reach = taken_reach;
         evidence = evidence_same tools s.reach s.evidence h taken ready.reach ready.evidence refl (λ d known. refl);
         safe = λ stay. ready.safe;

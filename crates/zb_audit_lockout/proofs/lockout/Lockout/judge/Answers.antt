@@ -74,7 +74,8 @@ returns-in-Pair-clause-judges c =
 
 pub returns-in-Draw-clause-judges : goal.returns-in-Draw-clause-judges
 returns-in-Draw-clause-judges c =
-    let kept : (stays : Bool) → Draws c.args.self.now.reach c.draw.new.self.reach c.in-Draw.key → Tells c.args.self.now.reach c.draw.new.self.reach stays
+    let kept : (stays : Bool) → Draws c.args.self.now.reach c.draw.new.self.reach c.in-Draw.key
+    → Tells c.args.self.now.reach c.draw.new.self.reach stays
     → Judges c.args.self.now c.draw.new.self c.args.number c.args.line.now c.args.who stays =
     λ stays one tells. subst (λ (l : Line). Judges c.args.self.now c.draw.new.self c.args.number l c.args.who stays)
     (sym c.in-Draw.is)
