@@ -64,12 +64,3 @@ pub none_any : (p : Bytes → Bool) (keys : List Bytes) → ((q : Bytes) → hol
 none_any p [] none = refl
 none_any p (k ∷ keys) none = both_off _ _ (none k (or_left _ _ (itself k)))
     (none_any p keys (λ q there. none q (or_right _ _ there)))
-
-pub any_within : (p q : Bytes → Bool) (keys : List Bytes) → ((k : Bytes) → p k ≡ true → q k ≡ true) → list_any p keys
-    ≡ true → list_any q keys ≡ true
-any_within p q [] within h = cc
-any_within p q (k ∷ keys) within h =
-    elim (either (p k) (list_any p keys) h) [
-      | inl here ↦ or_left _ _ (within k here)
-      | inr later ↦ or_right _ _ (any_within p q keys within later)
-    ]
