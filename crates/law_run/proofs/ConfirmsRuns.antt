@@ -93,7 +93,7 @@ pub answer-firm : (number n : ℕ) (h : List Line) (c : ℕ) (a : Answer) → Fi
 unfolding stored_lines
 answer-firm number n h c a f = stored-firm number n h c a.edits f
 
-group-firm : (h0 : List Line) (number n : ℕ) (h : List Line) (c : ℕ) (a : Answer) → Firm h c
+pub group-firm : (h0 : List Line) (number n : ℕ) (h : List Line) (c : ℕ) (a : Answer) → Firm h c
     → Firm (h ++ group_of h0 number n a) c
 unfolding group_of
 group-firm h0 number n h c a f =
@@ -504,11 +504,11 @@ unfolding NoSeal
 line-claims tools c h (Seal e n t) k = absurd k
 line-claims tools c h _ k = tt
 
-plain : (tools : Tools) (c : ℕ) (h ls : List Line) → AllByRecursion NoSeal ls → Each (ConfirmLine tools c) h ls
+pub plain : (tools : Tools) (c : ℕ) (h ls : List Line) → AllByRecursion NoSeal ls → Each (ConfirmLine tools c) h ls
 plain tools c h [] a = tt
 plain tools c h (l ∷ ls) a = (line-claims tools c h l a.0, plain tools c (h ++ l ∷ []) ls a.1)
 
-group-claims : (tools : Tools) → SpellsConfirm tools → (x : Setting) (h h0 : List Line) (number n c : ℕ) (task : Task)
+pub group-claims : (tools : Tools) → SpellsConfirm tools → (x : Setting) (h h0 : List Line) (number n c : ℕ) (task : Task)
     (p : Plan) → OutcomeFits x (state_of h n) task p.outcome → Firm h c → (is_centre x.me.role ≡ true → n ≡ c)
     → ((d : ℕ) → is_declared x d ≡ true → d < 2 ^ 64)
     → Each (ConfirmLine tools c) h
@@ -570,11 +570,11 @@ either P true x y p q = p
 either P false x y p q = q
 
 -- a step's lines meet the claim, and leave every verified row stored
-record StepClaims (tools : Tools) (c : ℕ) (h ls : List Line) : Type 0 where
+pub record StepClaims (tools : Tools) (c : ℕ) (h ls : List Line) : Type 0 where
   claims : Each (ConfirmLine tools c) h ls
   firm : Firm (h ++ ls) c
 
-calm-good : (tools : Tools) (c : ℕ) (h ls : List Line) → AllByRecursion NoSeal ls → AllByRecursion Calm ls → Firm h c
+pub calm-good : (tools : Tools) (c : ℕ) (h ls : List Line) → AllByRecursion NoSeal ls → AllByRecursion Calm ls → Firm h c
     → StepClaims tools c h ls
 calm-good tools c h ls a b f = record { claims = plain tools c h ls a; firm = firm-lines h c ls b f }
 
@@ -733,7 +733,7 @@ no-rows : (c : ℕ) → Firm [] c
 unfolding Firm state_of In
 no-rows c r i = absurd i
 
-start-firm : (w : Schedule) (c : ℕ) → Firm (start w) c
+pub start-firm : (w : Schedule) (c : ℕ) → Firm (start w) c
 start-firm w c = firm-lines [] c (start w) (all-map Beginning Calm begins-calm (start w) (start-begins w)) (no-rows c)
 
 -- The centre of the lines is that of the schedule

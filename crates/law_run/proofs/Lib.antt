@@ -8,10 +8,10 @@ pub mod EventStates
 pub mod Runs
 mod Finds
 pub mod FloorRows
-mod OnceLines
+pub mod OnceLines
 pub mod Sound
 pub mod Judged
-mod OnceGroups
+pub mod OnceGroups
 pub mod OnceRuns
 mod AnyLemmas
 mod Exposed
