@@ -10,7 +10,7 @@ use zb_rows::{activates, dropped_place, has_net, live_of};
 fn network_keys_that_come_again(rt: HostRuntime) -> Result<(), Fail> {
     let old = Key([0xD0; 16]);
     let mut tables = Tables::new(rt.alloc(), Role::Device)?;
-    assert!(rt; activates(&tables));
+    check!(rt; activates(&tables));
     // The first key comes, becomes active and starts.
     let mut payload = [0; 57];
     payload[..2].copy_from_slice(&[3, 5]);
@@ -19,24 +19,24 @@ fn network_keys_that_come_again(rt: HostRuntime) -> Result<(), Fail> {
     payload[20..36].fill(0xD0);
     payload[36] = 0x0E;
     payload[37..53].fill(0xD0);
-    assert!(rt; tables.redo(Version::Third, &payload).is_ok());
-    assert!(rt; has_net(&tables, &old) && !activates(&tables));
-    assert!(rt; dropped_place(&tables, &old).is_none());
+    check!(rt; tables.redo(Version::Third, &payload).is_ok());
+    check!(rt; has_net(&tables, &old) && !activates(&tables));
+    check!(rt; dropped_place(&tables, &old).is_none());
     // The second does, and the third drops the first.
     payload[2..18].fill(0xD1);
     payload[18] = 1;
     payload[20..36].fill(0xD1);
     payload[37..53].fill(0xD1);
-    assert!(rt; tables.redo(Version::Third, &payload).is_ok());
+    check!(rt; tables.redo(Version::Third, &payload).is_ok());
     let mut third = [0; 36];
     third[..2].copy_from_slice(&[2, 3]);
     third[2..18].fill(0xD0);
     third[18] = 5;
     third[19..35].fill(0xD2);
     third[35] = 2;
-    assert!(rt; tables.redo(Version::Third, &third).is_ok());
-    assert!(rt; dropped_place(&tables, &old) == Some(0));
-    assert!(rt; live_of(&tables, 0).is_none() && live_of(&tables, 2).is_some());
+    check!(rt; tables.redo(Version::Third, &third).is_ok());
+    check!(rt; dropped_place(&tables, &old) == Some(0));
+    check!(rt; live_of(&tables, 0).is_none() && live_of(&tables, 2).is_some());
     Ok(())
 }
 
@@ -58,10 +58,10 @@ fn declared_centre_reserves_its_first_block(rt: HostRuntime) -> Result<(), Fail>
         aps: 0,
     };
     let mut tables = Tables::from_declaration(rt.alloc(), &declaration)?;
-    assert!(rt; tables.redo(Version::Third, &[1, 1, 0, 4, 0, 0, 0]).is_ok());
+    check!(rt; tables.redo(Version::Third, &[1, 1, 0, 4, 0, 0, 0]).is_ok());
     let mut room = Vec::new(rt.alloc());
     room.resize(RECORD_ROOM, 0)?;
     let len = tables.record_bytes(&mut room) as usize;
-    assert!(rt; room.get(..len) == Some(&CENTRE[..]));
+    check!(rt; room.get(..len) == Some(&CENTRE[..]));
     Ok(())
 }

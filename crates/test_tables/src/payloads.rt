@@ -19,7 +19,7 @@ fn payload_of_a_reserve(rt: HostRuntime) {
     });
     let mut room = [0; 16];
     let len = change_bytes(&changes, &mut room) as usize;
-    assert!(rt; room.get(..len) == Some(&[1, 1, 0, 4, 0, 0, 0][..]));
+    check!(rt; room.get(..len) == Some(&[1, 1, 0, 4, 0, 0, 0][..]));
 }
 
 // What `fault_after` returns of a fault that has no place in the payload.
@@ -39,15 +39,15 @@ fn fault_after(alloc: Global, record: &[u8], version: Version, payload: &[u8]) -
 
 // A payload of one change, which fits, whole and cut at each byte.
 fn cut(rt: &(impl AllocGlobal + Abort), payload: &[u8]) {
-    assert!(rt; fault_after(rt.alloc(), &FULL, Version::Third, payload) == None);
+    check!(rt; fault_after(rt.alloc(), &FULL, Version::Third, payload) == None);
     for len in 1..payload.len() {
-        assert!(rt; fault_after(rt.alloc(), &FULL, Version::Third, &payload[..len]) == Some(1));
+        check!(rt; fault_after(rt.alloc(), &FULL, Version::Third, &payload[..len]) == Some(1));
     }
 }
 
 #[test]
 fn cut_payloads(rt: HostRuntime) {
-    assert!(rt; fault_after(rt.alloc(), &FULL, Version::Third, &[]) == None);
+    check!(rt; fault_after(rt.alloc(), &FULL, Version::Third, &[]) == None);
     cut(&rt, &[1, 1, 1, 9, 0, 0, 0]);
     cut(
         &rt,
@@ -115,26 +115,26 @@ fn cut_install(rt: HostRuntime) {
     payload[18] = 5;
     payload[19..35].fill(0xA3);
     payload[35] = 3;
-    assert!(rt; fault_after(rt.alloc(), &FULL, Version::Third, &payload) == None);
+    check!(rt; fault_after(rt.alloc(), &FULL, Version::Third, &payload) == None);
     for len in 1..36 {
         let fault = if len < 18 { 1 } else { 18 };
-        assert!(rt; fault_after(rt.alloc(), &FULL, Version::Third, &payload[..len]) == Some(fault));
+        check!(rt; fault_after(rt.alloc(), &FULL, Version::Third, &payload[..len]) == Some(fault));
     }
 }
 
 #[test]
 fn payloads_that_do_not_fit(rt: HostRuntime) {
     // an unknown kind, a draw, a third layer
-    assert!(rt; fault_after(rt.alloc(), &FULL, Version::Third, &[1, 0x7F]) == Some(1));
-    assert!(rt; fault_after(rt.alloc(), &FULL, Version::Third, &[1, 0x00]) == Some(1));
-    assert!(rt; fault_after(rt.alloc(), &FULL, Version::Third, &[1, 1, 2, 9, 0, 0, 0]) == Some(1));
+    check!(rt; fault_after(rt.alloc(), &FULL, Version::Third, &[1, 0x7F]) == Some(1));
+    check!(rt; fault_after(rt.alloc(), &FULL, Version::Third, &[1, 0x00]) == Some(1));
+    check!(rt; fault_after(rt.alloc(), &FULL, Version::Third, &[1, 1, 2, 9, 0, 0, 0]) == Some(1));
     // more changes than there are, and another payload after one
-    assert!(rt; fault_after(rt.alloc(), &FULL, Version::Third, &[2, 9, 0]) == Some(3));
-    assert!(rt; fault_after(rt.alloc(), &FULL, Version::Third, &[0, 1, 9, 0, 1, 9, 2]) == Some(5));
+    check!(rt; fault_after(rt.alloc(), &FULL, Version::Third, &[2, 9, 0]) == Some(3));
+    check!(rt; fault_after(rt.alloc(), &FULL, Version::Third, &[0, 1, 9, 0, 1, 9, 2]) == Some(5));
     // a lower limit, another state of the centre, a device that isn't live
-    assert!(rt; fault_after(rt.alloc(), &FULL, Version::Third, &[1, 1, 1, 1, 0, 0, 0]) == Some(1));
-    assert!(rt; fault_after(rt.alloc(), &FULL, Version::Third, &[1, 8, 1]) == Some(1));
-    assert!(rt;
+    check!(rt; fault_after(rt.alloc(), &FULL, Version::Third, &[1, 1, 1, 1, 0, 0, 0]) == Some(1));
+    check!(rt; fault_after(rt.alloc(), &FULL, Version::Third, &[1, 8, 1]) == Some(1));
+    check!(rt;
         fault_after(
             rt.alloc(),
             &FULL,
@@ -147,13 +147,13 @@ fn payloads_that_do_not_fit(rt: HostRuntime) {
         1, 5, 0xA3, 0xA3, 0xA3, 0xA3, 0xA3, 0xA3, 0xA3, 0xA3, 0xA3, 0xA3, 0xA3, 0xA3, 0xA3, 0xA3,
         0xA3, 0xA3, 3,
     ];
-    assert!(rt; fault_after(rt.alloc(), &FULL, Version::Third, &third) == Some(1));
+    check!(rt; fault_after(rt.alloc(), &FULL, Version::Third, &third) == Some(1));
     let next = [
         2, 3, 0xA2, 0xA2, 0xA2, 0xA2, 0xA2, 0xA2, 0xA2, 0xA2, 0xA2, 0xA2, 0xA2, 0xA2, 0xA2, 0xA2,
         0xA2, 0xA2, 5, 0xA3, 0xA3, 0xA3, 0xA3, 0xA3, 0xA3, 0xA3, 0xA3, 0xA3, 0xA3, 0xA3, 0xA3,
         0xA3, 0xA3, 0xA3, 0xA3, 3,
     ];
-    assert!(rt; fault_after(rt.alloc(), &FULL, Version::Third, &next) == None);
+    check!(rt; fault_after(rt.alloc(), &FULL, Version::Third, &next) == None);
 }
 
 // What is stored of it after the entries that install a third key and then reserve up to 12: all keys have that limit,
@@ -181,7 +181,7 @@ fn one_limit_behind_a_first_version(rt: HostRuntime) -> Result<(), Fail> {
     let mut room = Vec::new(rt.alloc());
     room.resize(RECORD_ROOM, 0)?;
     let len = tables.record_bytes(&mut room) as usize;
-    assert!(rt; room.get(..len) == Some(&FIRST_REDONE[..]));
+    check!(rt; room.get(..len) == Some(&FIRST_REDONE[..]));
     Ok(())
 }
 
@@ -193,8 +193,8 @@ fn counter_goes_on_behind_a_first_version(rt: HostRuntime) -> Result<(), Fail> {
     payload[..8].copy_from_slice(&[2, 1, 0, 12, 0, 0, 0, 6]);
     tables.redo(Version::First, &payload)?;
     let outgoing = tables.outgoing(Layer::Nwk, 4);
-    assert!(rt; outgoing.next == 12 && outgoing.limit == 12);
-    assert!(rt; tables.declared() == 12);
+    check!(rt; outgoing.next == 12 && outgoing.limit == 12);
+    check!(rt; tables.declared() == 12);
     Ok(())
 }
 
@@ -210,11 +210,11 @@ fn entries_at_fault_behind_a_first_version(rt: HostRuntime) {
     ];
     // a NWK limit needs no active key there, and isn't lowered
     let reserve = [1, 1, 0, 8, 0, 0, 0];
-    assert!(rt; fault_after(rt.alloc(), &FIRST, Version::First, &reserve) == None);
-    assert!(rt; fault_after(rt.alloc(), &FIRST, Version::Second, &reserve) == Some(1));
-    assert!(rt; fault_after(rt.alloc(), &FIRST, Version::First, &[1, 1, 0, 7, 0, 0, 0]) == Some(1));
+    check!(rt; fault_after(rt.alloc(), &FIRST, Version::First, &reserve) == None);
+    check!(rt; fault_after(rt.alloc(), &FIRST, Version::Second, &reserve) == Some(1));
+    check!(rt; fault_after(rt.alloc(), &FIRST, Version::First, &[1, 1, 0, 7, 0, 0, 0]) == Some(1));
     // a start, and a pair, which fits after a later version
-    assert!(rt; fault_after(rt.alloc(), &FIRST, Version::First, &start) == Some(7));
-    assert!(rt; fault_after(rt.alloc(), &FIRST, Version::First, &pair) == Some(1));
-    assert!(rt; fault_after(rt.alloc(), &FIRST, Version::Third, &pair) == None);
+    check!(rt; fault_after(rt.alloc(), &FIRST, Version::First, &start) == Some(7));
+    check!(rt; fault_after(rt.alloc(), &FIRST, Version::First, &pair) == Some(1));
+    check!(rt; fault_after(rt.alloc(), &FIRST, Version::Third, &pair) == None);
 }

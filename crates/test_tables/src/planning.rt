@@ -85,34 +85,34 @@ fn fill_nets(tables: &mut Tables) -> bool {
 #[test]
 fn full_tables_are_refused_more(rt: HostRuntime) -> Result<(), Fail> {
     let mut device = Tables::new(rt.alloc(), Role::Device)?;
-    assert!(rt; fill_links(&mut device, 64) && fill_nets(&mut device));
+    check!(rt; fill_links(&mut device, 64) && fill_nets(&mut device));
     let new = Key([0xEE; 16]);
-    assert!(rt; offer(&device, Eui(99), &row_key(99)).err() == Some(KeyError::RowsFull));
-    assert!(rt; partner(&device, Eui(99), &row_key(99)).err() == Some(KeyError::RowsFull));
-    assert!(rt; device.nets().len() == 256);
-    assert!(rt;
+    check!(rt; offer(&device, Eui(99), &row_key(99)).err() == Some(KeyError::RowsFull));
+    check!(rt; partner(&device, Eui(99), &row_key(99)).err() == Some(KeyError::RowsFull));
+    check!(rt; device.nets().len() == 256);
+    check!(rt;
         install_net(&device, &Key([7; 16]), 5).err() == Some(KeyError::KeyOld { place: 7 })
     );
-    assert!(rt; install_net(&device, &new, 5).err() == Some(KeyError::KeyOld { place: 0xEE }));
+    check!(rt; install_net(&device, &new, 5).err() == Some(KeyError::KeyOld { place: 0xEE }));
     let mut other = [0xEE; 16];
     other[0] = 1;
-    assert!(rt; install_net(&device, &Key(other), 5).err() == Some(KeyError::KeysFull));
+    check!(rt; install_net(&device, &Key(other), 5).err() == Some(KeyError::KeysFull));
     match start_of(&device, &Key(other)) {
-        Some(answer) => assert!(rt; answer.err() == Some(KeyError::KeysFull)),
-        None => assert!(rt; false),
+        Some(answer) => check!(rt; answer.err() == Some(KeyError::KeysFull)),
+        None => check!(rt; false),
     }
     let mut centre = Tables::new(rt.alloc(), Role::Centre)?;
-    assert!(rt; fill_links(&mut centre, 1024));
-    assert!(rt; provision_refusal(&centre, Eui(5000), &new) == Some(KeyError::RowsFull));
+    check!(rt; fill_links(&mut centre, 1024));
+    check!(rt; provision_refusal(&centre, Eui(5000), &new) == Some(KeyError::RowsFull));
     for number in 2..=257u16 {
         let mut payload = [0; 34];
         payload[..3].copy_from_slice(&[1, 0x0F, 1]);
         payload[10..12].copy_from_slice(&number.to_le_bytes());
-        assert!(rt; pair(&centre, Eui(1), Eui(number as u64), &new).is_ok());
-        assert!(rt; centre.redo(Version::Third, &payload).is_ok());
+        check!(rt; pair(&centre, Eui(1), Eui(number as u64), &new).is_ok());
+        check!(rt; centre.redo(Version::Third, &payload).is_ok());
     }
-    assert!(rt; pair(&centre, Eui(2), Eui(3), &new).err() == Some(KeyError::RowsFull));
-    assert!(rt; centre.pairs().len() == 256);
+    check!(rt; pair(&centre, Eui(2), Eui(3), &new).err() == Some(KeyError::RowsFull));
+    check!(rt; centre.pairs().len() == 256);
     Ok(())
 }
 
@@ -138,38 +138,38 @@ fn link_keys_that_are_known_or_come_again(rt: HostRuntime) -> Result<(), Fail> {
     let centre = Eui(1);
     let (key, other) = (row_key(1), row_key(2));
     let mut device = Tables::new(rt.alloc(), Role::Device)?;
-    assert!(rt; verify(&device, centre, &[0; 16]).err() == Some(KeyError::NoRow));
-    assert!(rt;
+    check!(rt; verify(&device, centre, &[0; 16]).err() == Some(KeyError::NoRow));
+    check!(rt;
         told(
             offer(&device, centre, &key),
             &[row(key, Attribute::Unverified)]
         )
     );
-    assert!(rt; device.redo(Version::Third, &row_payload(1, 1)).is_ok());
-    assert!(rt; told(offer(&device, centre, &key), &[]));
+    check!(rt; device.redo(Version::Third, &row_payload(1, 1)).is_ok());
+    check!(rt; told(offer(&device, centre, &key), &[]));
     let gone = Change::DropLink {
         partner: centre,
         key,
     };
-    assert!(rt;
+    check!(rt;
         told(
             offer(&device, centre, &other),
             &[gone, row(other, Attribute::Unverified)]
         )
     );
-    assert!(rt;
+    check!(rt;
         told(
             partner(&device, centre, &other),
             &[gone, row(other, Attribute::Verified)]
         )
     );
-    assert!(rt; told(partner(&device, centre, &key), &[]));
+    check!(rt; told(partner(&device, centre, &key), &[]));
     let in_use = KeyError::KeyInUse { partner: centre };
-    assert!(rt; offer(&device, Eui(2), &key).err() == Some(in_use));
-    assert!(rt; partner(&device, Eui(2), &key).err() == Some(in_use));
-    assert!(rt; provision_refusal(&device, Eui(2), &key) == Some(in_use));
-    assert!(rt; verify(&device, centre, &[0; 16]).err() == Some(KeyError::WrongHash));
-    assert!(rt; drop_partner(&device, centre).as_slice() == [gone].as_slice());
+    check!(rt; offer(&device, Eui(2), &key).err() == Some(in_use));
+    check!(rt; partner(&device, Eui(2), &key).err() == Some(in_use));
+    check!(rt; provision_refusal(&device, Eui(2), &key) == Some(in_use));
+    check!(rt; verify(&device, centre, &[0; 16]).err() == Some(KeyError::WrongHash));
+    check!(rt; drop_partner(&device, centre).as_slice() == [gone].as_slice());
     // The row has a floor, goes, and comes again with its floor.
     let mut payload = [0; 56];
     payload[..4].copy_from_slice(&[2, 2, 1, 1]);
@@ -177,15 +177,15 @@ fn link_keys_that_are_known_or_come_again(rt: HostRuntime) -> Result<(), Fail> {
     payload[27] = 8;
     payload[31..33].copy_from_slice(&[4, 1]);
     payload[40] = 1;
-    assert!(rt; device.redo(Version::Third, &payload).is_ok());
-    assert!(rt;
+    check!(rt; device.redo(Version::Third, &payload).is_ok());
+    check!(rt;
         told(
             offer(&device, centre, &key),
             &[row(key, Attribute::Unverified)]
         )
     );
-    assert!(rt; device.redo(Version::Third, &row_payload(1, 1)).is_ok());
-    assert!(rt; device.links().len() == 1 && device.links()[0].floor.stored == 8);
+    check!(rt; device.redo(Version::Third, &row_payload(1, 1)).is_ok());
+    check!(rt; device.links().len() == 1 && device.links()[0].floor.stored == 8);
     Ok(())
 }
 
@@ -229,34 +229,34 @@ fn network_key_comes_and_is_switched_to(rt: HostRuntime) -> Result<(), Fail> {
         rollover: Rollover::Idle,
     };
     let mut centre = Tables::new(rt.alloc(), Role::Centre)?;
-    assert!(rt; centre.redo(Version::Third, &first_key_payload()).is_ok());
-    assert!(rt; told(install_net(&centre, &first, 0), &[]));
-    assert!(rt; told(switch(&centre, 0), &[]));
-    assert!(rt; switch(&centre, 9).err() == Some(KeyError::NoRow));
-    assert!(rt; told(install_net(&centre, &second, 1), &[install]));
+    check!(rt; centre.redo(Version::Third, &first_key_payload()).is_ok());
+    check!(rt; told(install_net(&centre, &first, 0), &[]));
+    check!(rt; told(switch(&centre, 0), &[]));
+    check!(rt; switch(&centre, 9).err() == Some(KeyError::NoRow));
+    check!(rt; told(install_net(&centre, &second, 1), &[install]));
     match start_of(&centre, &second) {
-        Some(answer) => assert!(rt; told(answer, &[install, sending])),
-        None => assert!(rt; false),
+        Some(answer) => check!(rt; told(answer, &[install, sending])),
+        None => check!(rt; false),
     }
-    assert!(rt; centre.redo(Version::Third, &row_payload(1, 0)).is_ok());
-    assert!(rt; centre.redo(Version::Third, &rollover_payload()).is_ok());
-    assert!(rt; again_of(&centre, Eui(1)).is_none());
-    assert!(rt;
+    check!(rt; centre.redo(Version::Third, &row_payload(1, 0)).is_ok());
+    check!(rt; centre.redo(Version::Third, &rollover_payload()).is_ok());
+    check!(rt; again_of(&centre, Eui(1)).is_none());
+    check!(rt;
         centre
             .redo(Version::Third, &[1, 0x0A, 1, 0, 0, 0, 0, 0, 0, 0])
             .is_ok()
     );
     let device = Eui(1);
     match again_of(&centre, device) {
-        Some(changes) => assert!(rt; changes.as_slice() == [Change::Untold { device }].as_slice()),
-        None => assert!(rt; false),
+        Some(changes) => check!(rt; changes.as_slice() == [Change::Untold { device }].as_slice()),
+        None => check!(rt; false),
     }
     let active = Change::Active { key: second };
     let start = Change::Start {
         key: second,
         value: 0,
     };
-    assert!(rt; finish(&centre).as_slice() == [active, start, idle].as_slice());
-    assert!(rt; told(switch(&centre, 1), &[active, start]));
+    check!(rt; finish(&centre).as_slice() == [active, start, idle].as_slice());
+    check!(rt; told(switch(&centre, 1), &[active, start]));
     Ok(())
 }

@@ -70,7 +70,7 @@ fn record_comes_back(rt: HostRuntime) -> Result<(), Fail> {
     let mut room = Vec::new(rt.alloc());
     room.resize(RECORD_ROOM, 0)?;
     let len = tables.record_bytes(&mut room) as usize;
-    assert!(rt; room.get(..len) == Some(&FULL[..]));
+    check!(rt; room.get(..len) == Some(&FULL[..]));
     Ok(())
 }
 
@@ -83,14 +83,14 @@ fn record_of_a_new_device(rt: HostRuntime) -> Result<(), Fail> {
     let record = [
         3, 2, 0, 0, 0, 0, 0, 0, 0, 0, 0, 0, 0, 0, 0xFF, 0xFF, 0, 0, 0, 0,
     ];
-    assert!(rt; room.get(..len) == Some(&record[..]));
+    check!(rt; room.get(..len) == Some(&record[..]));
     Ok(())
 }
 
 #[test]
 fn cut_records(rt: HostRuntime) {
     for len in 0..235 {
-        assert!(rt; fault_of(rt.alloc(), &FULL[..len]) == Some(field_at(len as u32)));
+        check!(rt; fault_of(rt.alloc(), &FULL[..len]) == Some(field_at(len as u32)));
     }
 }
 
@@ -98,7 +98,7 @@ fn cut_records(rt: HostRuntime) {
 fn bytes_behind_a_record(rt: HostRuntime) {
     let mut bytes = [0; 236];
     bytes[..235].copy_from_slice(&FULL);
-    assert!(rt; fault_of(rt.alloc(), &bytes) == Some(235));
+    check!(rt; fault_of(rt.alloc(), &bytes) == Some(235));
 }
 
 #[test]
@@ -108,7 +108,7 @@ fn broken_rules(rt: HostRuntime) {
         if let Some(changed) = bytes.get_mut(at) {
             *changed = byte;
         }
-        assert!(rt; fault_of(rt.alloc(), &bytes) == Some(fault), "{why}");
+        crate::holds(&rt, why, fault_of(rt.alloc(), &bytes) == Some(fault));
     }
 }
 
@@ -116,10 +116,10 @@ fn broken_rules(rt: HostRuntime) {
 fn equal_keys(rt: HostRuntime) {
     let mut bytes = FULL;
     bytes[60..76].fill(0xA1);
-    assert!(rt; fault_of(rt.alloc(), &bytes) == Some(60));
+    check!(rt; fault_of(rt.alloc(), &bytes) == Some(60));
     let mut bytes = FULL;
     bytes[178..194].fill(0xB1);
-    assert!(rt; fault_of(rt.alloc(), &bytes) == Some(178));
+    check!(rt; fault_of(rt.alloc(), &bytes) == Some(178));
 }
 
 #[test]
@@ -130,10 +130,10 @@ fn second_pair_of_two_devices(rt: HostRuntime) {
     bytes[235..251].copy_from_slice(&FULL[202..218]);
     bytes[251..267].fill(0xC1);
     bytes[267] = 1;
-    assert!(rt; fault_of(rt.alloc(), &bytes) == Some(243));
+    check!(rt; fault_of(rt.alloc(), &bytes) == Some(243));
     // of another device it stands
     bytes[243] = 0x13;
-    assert!(rt; fault_of(rt.alloc(), &bytes) == None);
+    check!(rt; fault_of(rt.alloc(), &bytes) == None);
 }
 
 #[test]
@@ -150,7 +150,7 @@ fn bytes_that_are_all_ones(rt: HostRuntime) {
             14 | 15 => Some(14),
             _ => None,
         };
-        assert!(rt; fault_of(rt.alloc(), &bytes) == fault);
+        check!(rt; fault_of(rt.alloc(), &bytes) == fault);
     }
 }
 
@@ -162,11 +162,11 @@ fn first_version_has_one_limit(rt: HostRuntime) -> Result<(), Fail> {
     bytes[32..].copy_from_slice(&[0, 1, 0, 0, 0]);
     let tables = Tables::from_record(rt.alloc(), &bytes)?;
     let outgoing = tables.outgoing(Layer::Nwk, 4);
-    assert!(rt; outgoing.next == 8 && outgoing.limit == 8);
-    assert!(rt; tables.declared() == 8);
+    check!(rt; outgoing.next == 8 && outgoing.limit == 8);
+    check!(rt; tables.declared() == 8);
     let mut room = Vec::new(rt.alloc());
     room.resize(RECORD_ROOM, 0)?;
     let len = tables.record_bytes(&mut room) as usize;
-    assert!(rt; len == 43 && room[0] == 3);
+    check!(rt; len == 43 && room[0] == 3);
     Ok(())
 }
