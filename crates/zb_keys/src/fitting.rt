@@ -1,5 +1,5 @@
 //! Whether a change that is read from a disk fits: it may be made, and the rules for records stand after it.
-ghost use Rattle.std.specs.Prelude.{◌≡◌, ◌&&◌, ◌||◌, not, filter, option_map, find, is_none, is_some, length, nat_eq, nat_le, nat_lt};
+ghost use Rattle.std.specs.Prelude.{◌≡◌, ◌&&◌, ◌||◌, not, filter, option_map, find, is_none, length, nat_eq, nat_le, nat_lt};
 ghost use Rattle.std.specs.List.{list_any};
 ghost use Rattle.std.specs.Option.{option_copied};
 ghost use Rattle.zb_node_types.specs.Changes.{edit, is_sending, model_state, model_layer, model_attribute};
@@ -7,9 +7,9 @@ ghost use Rattle.law_change_fits.specs.Fitting.{leaves_rules, move_leaves, floor
 ghost use Rattle.zb_record.specs.RowViews.{net_key, link_key, heard_floor};
 ghost use Rattle.zb_keys.specs.Tables.{state_of, IsSound};
 ghost use Rattle.zb_record.specs.Headings.{active_bytes};
-ghost use Rattle.zb_model.specs.Data.{Reserve, Floor, Row};
+ghost use Rattle.zb_model.specs.Data.{Nwk, Reserve, Floor, Row};
 ghost use Rattle.zb_model.specs.Fits.{fits, may_change, live_net, live_link, row_is_live, net_stored, net_limit, link_stored, is_fresh, most_nets, most_links, most_pairs, most_senders};
-ghost use Rattle.zb_model.specs.State.{active_row, has_link, is_active_key, is_centre, is_link, is_live, live_nets, net_of, pair_of, same_key};
+ghost use Rattle.zb_model.specs.State.{has_link, is_active_key, is_centre, is_link, is_live, live_nets, net_of, pair_of, same_key};
 
 use crate::contents::Contents;
 use crate::reading::floor_of;
@@ -142,17 +142,18 @@ impl Contents {
         ensures { result ≡ may_change (Reserve (model_layer layer) limit) (state_of self.now) }
     {
         match layer {
-            Layer::Nwk => self.has_active() && self.outgoing_nwk(1).limit <= limit,
+            Layer::Nwk => self.may_reserve_nwk(limit),
             Layer::Aps => self.aps_limit <= limit,
         }
     }
 
-    /// Returns whether there is an active network key.
-    fn has_active(&self) -> bool
-        ensures { result ≡ is_some (active_row (state_of self.now)) }
+    /// Returns whether there is an active network key, and a limit isn't below its own.
+    #[tactic(auto, unfolding(zb_model::specs::State::stored_limit))]
+    fn may_reserve_nwk(&self, limit: u32) -> bool
+        ensures { result ≡ may_change (Reserve Nwk limit) (state_of self.now) }
     {
         match self.active_row() {
-            Some(_) => true,
+            Some(row) => row.limit <= limit,
             None => false,
         }
     }
@@ -162,9 +163,7 @@ impl Contents {
         ensures { result ≡ may_change (Floor (model_layer layer) key.now.0 sender.0 value) (state_of self.now) }
     {
         match layer {
-            Layer::Nwk => {
-                self.has_live_net(key) && stored_in(self.net_row(key), sender) <= value
-            }
+            Layer::Nwk => may_store_in(self.net_row(key), sender, value),
             Layer::Aps => self.has_live_link(sender, key) && self.link_stored(sender, key) <= value,
         }
     }
@@ -357,13 +356,15 @@ fn is_live_row(row: Option<&NetRow>) -> bool
     }
 }
 
-/// Returns the stored floor of a sender under a network key that was looked for.
-fn stored_in(row: Option<&NetRow>, sender: Eui) -> u32
-    ensures { result ≡ net_stored sender.0 (option_map net_key (option_copied row.entry)) }
+/// Returns whether a network key that was looked for is in use, and a sender's stored floor under it isn't above a
+/// value.
+fn may_store_in(row: Option<&NetRow>, sender: Eui, value: u32) -> bool
+    ensures { result ≡ (row_is_live (option_map net_key (option_copied row.entry))
+        && nat_le (net_stored sender.0 (option_map net_key (option_copied row.entry))) value) }
 {
     match row {
-        Some(row) => floor_of(row, sender).stored,
-        None => 0,
+        Some(row) => row.live && floor_of(row, sender).stored <= value,
+        None => false,
     }
 }
 
