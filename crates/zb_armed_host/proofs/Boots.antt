@@ -194,9 +194,9 @@ has_fallen_at_boot words s w a old m (Disk changes) seen fallen down of_fault st
 has_fallen_at_boot words s w a old m NoMemory seen fallen down of_fault stopped is did only cause =
     absurd (subst IsLack cause tt)
 has_fallen_at_boot words s w a old m NoRecord seen fallen down of_fault stopped is did only cause =
-    absurd (subst IsThere (sym (armed_stands s a old down.rest) ∙ of_fault refl) tt)
+    absurd (subst IsThere (sym (armed_stands s a old down.rest) ∙ of_fault.0 refl) tt)
 has_fallen_at_boot words s w a old m (BadRecord at) seen fallen down of_fault stopped is did only cause =
-    let (r, there, wrong) = of_fault refl in
+    let (r, there, wrong) = of_fault.0 refl in
     let same = same_standing r s (armed_medium a old).bytes there (armed_stands s a old down.rest) in
     absurd (subst IsGood
     (sym down.gives_it ∙ sym (ap (λ (x : Standing). words.restored x.content (concat x.payloads)) same) ∙ wrong)

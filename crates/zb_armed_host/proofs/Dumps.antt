@@ -59,7 +59,8 @@ pub unopened : {T : Type 0} (s : Standing) (m : Medium) (new : View) (fault : St
     → IsReadFault memory_tells (memory_view m) new fault → ⊥
 unopened s m new store.Disk whole quiet lacks reads of_fault =
     false≢true (sym (on m quiet) ∙ sym (off_now m.arming) ∙ reads.refusal refl refl)
-unopened s m new store.NoRecord whole quiet lacks reads of_fault = subst IsThere (sym whole.stands ∙ of_fault refl) tt
+unopened s m new store.NoRecord whole quiet lacks reads of_fault =
+    subst IsThere (sym whole.stands ∙ of_fault.0 refl) tt
 unopened s m new (store.TooLarge len) whole quiet lacks reads of_fault = of_fault
 unopened s m new store.NoMemory whole quiet lacks reads of_fault = false≢true (sym lacks)
 unopened s m new store.Worn whole quiet lacks reads of_fault = of_fault
@@ -105,7 +106,7 @@ pub none_then : {T : Type 0} (restored : Restoring) (m : Medium) (new : View) (r
     → IsReadFault memory_tells (memory_view m) new fault → IsRecordOf restored m None room
 none_then restored m new room store.Disk lacks reads of_fault = inl (sym (off_now m.arming) ∙ reads.refusal refl refl)
 none_then restored m new room store.NoRecord lacks reads of_fault =
-    inr (subst (λ (found : Option Standing). IsRecordOn restored found None room) (sym (of_fault refl)) tt)
+    inr (subst (λ (found : Option Standing). IsRecordOn restored found None room) (sym (of_fault.0 refl)) tt)
 none_then restored m new room (store.TooLarge len) lacks reads of_fault = absurd of_fault
 none_then restored m new room store.NoMemory lacks reads of_fault = absurd (false≢true (sym lacks))
 none_then restored m new room store.Worn lacks reads of_fault = absurd of_fault

@@ -83,9 +83,9 @@ pub boot_fault : (tells : Telling) (old new : View) (f : HostFault) → host.IsB
 unfolding restored
 boot_fault tells old new (Disk changes) h = h.0
 boot_fault tells old new NoMemory h = h
-boot_fault tells old new NoRecord h = h
+boot_fault tells old new NoRecord h = h.0
 boot_fault tells old new (BadRecord at) h = λ told. let found =
-    h told in (found.0, found.1, bad_found at (state_given Centre found.0.content (concat found.0.payloads)) found.2)
+    h.0 told in (found.0, found.1, bad_found at (state_given Centre found.0.content (concat found.0.payloads)) found.2)
 boot_fault tells old new Worn h = absurd h
 
 module _ (tells : Telling) (config : Config) (old new : View) (centre : Hosted CoreValue) where

@@ -28,7 +28,7 @@ put_faults store content old new (Err Disk) small fault = fault
 put_faults store content old new (Err NoRecord) small fault = fault
 put_faults store content old new (Err (TooLarge len)) small fault = omega (arith, fault.1)
 put_faults store content old new (Err NoMemory) small fault = fault
-put_faults store content old new (Err Worn) small fault = (refl, fault.1)
+put_faults store content old new (Err Worn) small fault = (refl, fault.1, fault.2)
 
 pub append_faults : (store : Place) (payload : List ℕ) (old new : View) (r : Result Place StoreFault) → length payload
     ≤ 481
@@ -235,7 +235,7 @@ unstored whole store o old new Disk is fault = fault
 unstored whole store o old new NoRecord is fault = absurd fault
 unstored whole store o old new (TooLarge len) is fault = absurd fault
 unstored whole store o old new NoMemory is fault = absurd fault
-unstored whole store o old new Worn is fault = (fault.0, (store, is, fault.1))
+unstored whole store o old new Worn is fault = (fault.0, (store, is, fault.1), fault.2)
 
 -- the fault as it is told
 pub named : (f : CommitFault) (changes : ArrayVec Change 16 (Unit {0})) → (told_fault f changes ≡ disk_of changes)

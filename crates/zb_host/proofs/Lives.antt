@@ -149,9 +149,9 @@ spared : {C D : Type 0} (words : Words C D) (booted : List ℕ) (es : List Event
     (words.state new) fault → IsSpared fault
 spared words booted es old new (Disk changes) told left is = tt
 spared words booted es old new NoMemory told left is = tt
-spared words booted es old new NoRecord told left is = subst IsSome (sym left.1.1.stands ∙ is told) tt
+spared words booted es old new NoRecord told left is = subst IsSome (sym left.1.1.stands ∙ is.0 told) tt
 spared words booted es old new (BadRecord at) told left is =
-    let found = is told in
+    let found = is.0 told in
     not_bad words.restored left.1.0 found.0 left.0 at
     (same_standing left.1.0 found.0 (words.state old).seen left.1.1.stands found.1) left.1.2 found.2
 spared words booted es old new Worn told left is = is

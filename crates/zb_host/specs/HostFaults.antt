@@ -1,4 +1,4 @@
--- When each fault of a host comes.
+-- When each fault of a host comes. At any but the disk's own its count of faults stands: no call failed.
 use Rattle.std.specs.Prelude.{◌≡◌, [], Bool, true, Option, Some, None, IsTrue}
 use Rattle.std.specs.List.{concat}
 use Rattle.zb_base.specs.Outside.{Rose, Unrisen}
@@ -23,22 +23,23 @@ IsHandleFault whole store old new NoMemory = ⊥
 IsHandleFault whole store old new NoRecord = ⊥
 IsHandleFault whole store old new (BadRecord at) = ⊥
 IsHandleFault whole store old new Worn = (whole ≡ true)
-    × ((p : Place) × (store ≡ Some p) × (p.generation ≡ 18446744073709551615))
+    × ((p : Place) × (store ≡ Some p) × (p.generation ≡ 18446744073709551615)) × Unrisen old.faults new.faults
 
--- of `boot`: the disk, out of memory, where the count of faults stands, no open slot, or what stands gives no core
+-- of `boot`: the disk, out of memory, no open slot, or what stands gives no core
 abbrev pub IsBootFault : Telling → Restoring → View → View → HostFault → Type 0
 IsBootFault tells restored old new (Disk changes) = Rose old.faults new.faults × (changes.items ≡ [])
 IsBootFault tells restored old new NoMemory = Unrisen old.faults new.faults
-IsBootFault tells restored old new NoRecord = IsTrue tells.content → stands old.seen ≡ None
-IsBootFault tells restored old new (BadRecord at) = IsTrue tells.content → (s : Standing) × (stands old.seen ≡ Some s)
-    × (restored s.content (concat s.payloads) ≡ bad at)
+IsBootFault tells restored old new NoRecord = (IsTrue tells.content → stands old.seen ≡ None)
+    × Unrisen old.faults new.faults
+IsBootFault tells restored old new (BadRecord at) = (IsTrue tells.content → (s : Standing)
+    × (stands old.seen ≡ Some s) × (restored s.content (concat s.payloads) ≡ bad at)) × Unrisen old.faults new.faults
 IsBootFault tells restored old new Worn = ⊥
 
 -- of changes that weren't stored: the same
 abbrev pub IsUnstored : Bool → Option Place → View → View → CommitFault → Type 0
 IsUnstored whole store old new commit.Disk = Rose old.faults new.faults
 IsUnstored whole store old new commit.Worn = (whole ≡ true)
-    × ((p : Place) × (store ≡ Some p) × (p.generation ≡ 18446744073709551615))
+    × ((p : Place) × (store ≡ Some p) × (p.generation ≡ 18446744073709551615)) × Unrisen old.faults new.faults
 
 -- why changes weren't stored whose commit failed
 abbrev pub commit_fault : StoreFault → CommitFault

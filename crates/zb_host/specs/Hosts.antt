@@ -85,13 +85,15 @@ abbrev pub HasStopped : Telling → Restoring → Bool → Standing → List ℕ
 HasStopped tells restored whole s content payload old new = CommitStop tells whole s content payload old new
     × Gives restored (next_standing whole s content payload) content
 
--- of a commit: the disk, where its count of faults rose, or the last generation where the whole record is written
+-- of a commit: the disk, where its count of faults rose, or the last generation where the whole record is written,
+-- and then the count stands
 abbrev pub IsCommitFault : Bool → Place → View → View → StoreFault → Type 0
 IsCommitFault whole store old new Disk = Rose old.faults new.faults
 IsCommitFault whole store old new NoRecord = ⊥
 IsCommitFault whole store old new (TooLarge len) = ⊥
 IsCommitFault whole store old new NoMemory = ⊥
 IsCommitFault whole store old new Worn = (whole ≡ true) × (store.generation ≡ 18446744073709551615)
+    × Unrisen old.faults new.faults
 
 -- a record or a payload is stored
 pub record IsCommit (tells : Telling) (whole : Bool) (content payload : List ℕ) (store : Place) (old new : View)

@@ -217,6 +217,10 @@ impl<C: Core> Host<C> {
             → stands (D.state disk.old).seen ≡ Some s
             → C.is_booted config.now s.content (concat s.payloads) h.core) }
 
+        // Whatever the disk tells, it is one with which a node of this configuration boots on some record.
+        ensures configured { IfOk result (λ h. (content : List ℕ) × (payloads : List ℕ)
+            × C.is_booted config.now content payloads h.core) }
+
         // Where no slot stands open the disk is left as it was. Where what stands gives no core the calls are made.
         ensures no_record { IfErr result (λ e. e ≡ HostFault.NoRecord
             → IsStill (D.state disk.old) (D.state disk.new)) }

@@ -1,4 +1,4 @@
--- When each fault of a store comes.
+-- When each fault of a store comes. At any but the disk's own its count of faults stands: no call failed.
 use Rattle.std.specs.Prelude.{ℕ, ◌<◌, ◌≤◌, ◌≡◌, ◌≢◌, List, length, None, true, IsTrue, Result, OnOk, IfErr, IsErrOf}
 use Rattle.zb_base.specs.Outside.{Rose, Unrisen}
 use Rattle.zb_disk.specs.View.{Telling, View, IsStill}
@@ -13,6 +13,7 @@ abbrev pub IsAppendFault : List ℕ → View → View → StoreFault → Type 0
 IsAppendFault payload old new Disk = Rose old.faults new.faults
 IsAppendFault payload old new NoRecord = ⊥
 IsAppendFault payload old new (TooLarge len) = (len ≡ length payload) × (payload_room < length payload)
+    × Unrisen old.faults new.faults
 IsAppendFault payload old new NoMemory = ⊥
 IsAppendFault payload old new Worn = ⊥
 
@@ -21,21 +22,24 @@ abbrev pub IsPutFault : Place → List ℕ → View → View → StoreFault → 
 IsPutFault store content old new Disk = Rose old.faults new.faults
 IsPutFault store content old new NoRecord = ⊥
 IsPutFault store content old new (TooLarge len) = (len ≡ length content) × (record_room < length content)
+    × Unrisen old.faults new.faults
 IsPutFault store content old new NoMemory = ⊥
 IsPutFault store content old new Worn = (length content ≤ record_room) × (store.generation ≡ 18446744073709551615)
+    × Unrisen old.faults new.faults
 
--- of `format`: the disk, too large a record, or out of memory, and then the count of faults stands
+-- of `format`: the disk, too large a record, or out of memory
 abbrev pub IsFormatFault : List ℕ → View → View → StoreFault → Type 0
 IsFormatFault content old new Disk = Rose old.faults new.faults
 IsFormatFault content old new NoRecord = ⊥
 IsFormatFault content old new (TooLarge len) = (len ≡ length content) × (record_room < length content)
+    × Unrisen old.faults new.faults
 IsFormatFault content old new NoMemory = Unrisen old.faults new.faults
 IsFormatFault content old new Worn = ⊥
 
--- of the calls that read: the disk, no open slot, or out of memory, likewise
+-- of the calls that read: the disk, no open slot, or out of memory
 abbrev pub IsReadFault : Telling → View → View → StoreFault → Type 0
 IsReadFault tells old new Disk = Rose old.faults new.faults
-IsReadFault tells old new NoRecord = IsTrue tells.content → stands old.seen ≡ None
+IsReadFault tells old new NoRecord = (IsTrue tells.content → stands old.seen ≡ None) × Unrisen old.faults new.faults
 IsReadFault tells old new (TooLarge len) = ⊥
 IsReadFault tells old new NoMemory = Unrisen old.faults new.faults
 IsReadFault tells old new Worn = ⊥
@@ -43,12 +47,13 @@ IsReadFault tells old new Worn = ⊥
 -- of `standing`, which takes no memory
 abbrev pub IsStandingFault : Telling → View → View → StoreFault → Type 0
 IsStandingFault tells old new Disk = Rose old.faults new.faults
-IsStandingFault tells old new NoRecord = IsTrue tells.content → stands old.seen ≡ None
+IsStandingFault tells old new NoRecord = (IsTrue tells.content → stands old.seen ≡ None)
+    × Unrisen old.faults new.faults
 IsStandingFault tells old new (TooLarge len) = ⊥
 IsStandingFault tells old new NoMemory = ⊥
 IsStandingFault tells old new Worn = ⊥
 
--- of a read into memory: the disk, or out of memory, likewise
+-- of a read into memory: the disk, or out of memory
 abbrev pub IsBytesFault : View → View → StoreFault → Type 0
 IsBytesFault old new Disk = Rose old.faults new.faults
 IsBytesFault old new NoRecord = ⊥

@@ -8,3 +8,6 @@ returns-in-Ok-restore-clause-step g c = record {
   moments = c.in-Ok-open.ensures.moments;
   faults = tt;
 }
+
+pub returns-in-Ok-restore-clause-configured : goal.returns-in-Ok-restore-clause-configured
+returns-in-Ok-restore-clause-configured g c = (_, _, c.in-Ok-restore.ensures.booted)
