@@ -274,6 +274,33 @@ pub closed_frame : (addrs : List (Short × Eui)) (keys : List Key) (nwk : Findin
 closed_frame addrs keys nwk (Err fault) e = refl
 closed_frame addrs keys nwk (Ok f) e = closed_below addrs keys nwk f e
 
+closed_before : (number : ℕ) (fresh : List Key) (x : Finding) → is_closed (tried number fresh x) ≡ true → is_closed x
+    ≡ true
+closed_before number fresh Malformed e = e
+closed_before number fresh NotSecured e = e
+closed_before number fresh NoSource e = e
+closed_before number fresh (Closed s source) e = refl
+closed_before number fresh (Opened key term) e = e
+
+-- A frame whose NWK layer stays closed shows what it showed.
+pub still_closed : (known : ℕ) (addrs : List (Short × Eui)) (keys : List Key) (bytes : List ℕ) (seen : Shown) → known
+    ≤ length keys
+    → seen ≡ frame_shown addrs (take known keys) bytes → is_closed (tried known (drop known keys) seen.nwk) ≡ true
+    → whole (tried known (drop known keys) seen.nwk) seen.below ≡ frame_shown addrs keys bytes
+unfolding frame_shown
+still_closed known addrs keys bytes seen within is closed =
+    let first = take known keys in
+    let r = frame_of bytes in
+    let nwk_is : seen.nwk ≡ found_nwk first bytes =
+    ap (λ (s : Shown). s.nwk) (is ∙ shown_parts addrs first (found_nwk first bytes) r) in
+    let was : is_closed (found_nwk first bytes) ≡ true =
+    ap is_closed (sym nwk_is) ∙ closed_before known (drop known keys) seen.nwk closed in
+    let below_is : seen.below ≡ None =
+    ap (λ (s : Shown). s.below) (is ∙ closed_frame addrs first (found_nwk first bytes) r was) in
+    ap (whole (tried known (drop known keys) seen.nwk)) below_is
+    ∙ sym (closed_frame addrs keys (tried known (drop known keys) seen.nwk) r closed)
+    ∙ frame_anew known addrs keys bytes seen within is
+
 -- What is below the NWK layer, where no Tunnel was known in it.
 pub below_anew : (o : Option (List ℕ)) (known : ℕ) (keys : List Key) (given : Option Eui) (seen : Below)
     (aps : Finding) (inner : Option Finding)

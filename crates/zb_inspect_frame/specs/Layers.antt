@@ -43,6 +43,14 @@ tried number keys NotSecured = NotSecured
 tried number keys NoSource = NoSource
 tried number keys (Opened key term) = Opened key term
 
+-- a closed layer that was unsealed under the key of a number
+abbrev pub opened_as : Finding → ℕ → Key → Finding
+opened_as (Closed s source) number key = Opened number (term_of s key source)
+opened_as Malformed number key = Malformed
+opened_as NotSecured number key = NotSecured
+opened_as NoSource number key = NoSource
+opened_as (Opened other term) number key = Opened other term
+
 -- the NWK layer of a frame, and the APS layer of a payload
 unfoldable pub found_nwk : List Key → List ℕ → Finding
 found_nwk keys bytes = tried 0 keys (looked (seen_nwk bytes) None)

@@ -82,3 +82,7 @@ payload_in nwk (Ok frame) = data_in nwk frame
 abbrev pub given_in : List (Short × Eui) → Result NwkFrame NwkError → Option Eui
 given_in addrs (Err fault) = None
 given_in addrs (Ok frame) = source_known addrs frame.header
+
+-- the same with the NWK layer made another one
+abbrev pub with_nwk : (Finding → Finding) → Shown → Shown
+with_nwk f seen = record { nwk = f seen.nwk; below = seen.below }

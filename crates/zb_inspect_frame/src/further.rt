@@ -5,51 +5,76 @@ ghost use Rattle.std.specs.Option.{option_map};
 ghost use Rattle.zb_aps.specs.Reading as reading;
 ghost use Rattle.zb_nwk.specs.Reading as nwk_reading;
 ghost use Rattle.zb_inspect_frame.specs.Layers.{found_aps, tried};
-ghost use Rattle.zb_inspect_frame.specs.Shows.{payload_in, given_in, tunnelled, below, frame_shown};
+ghost use Rattle.zb_inspect_frame.specs.Shows.{payload_in, given_in, tunnelled, below, frame_shown, with_nwk};
 
 use crate::addresses::Addresses;
-use crate::layer::{Finding, try_keys};
+use crate::layer::{Finding, is_closed, try_keys};
 use crate::shown::{Below, Shown, data_in, find_inner, show_under, source_known, tunnelled_in};
+use std::mem;
 use zb_base::Frame;
 use zb_seal::SealingKeys;
 
-/// Shows a frame under all keys, where `seen` is what it shows under the first `known` of them.
+/// Shows a frame under all keys, where it is known what it shows under the first `known` of them.
 ///
 /// Requires fewer than 2^32 keys, since each has its number in 32 bits.
-#[tactic(auto, using(crate::proofs::MoreKeys::frame_anew))]
 pub fn show_more(
     addrs: &Addresses<'_>,
     keys: &[SealingKeys],
     known: u32,
     frame: &Frame,
-    seen: Shown,
-) -> Shown
+    seen: &mut Shown,
+)
     requires within { known ≤ length keys.now }
     requires fits { length keys.now < 2 ^ 32 }
-    requires before { seen ≡ frame_shown addrs.now (take known keys.now) frame.now.items }
-    ensures { result ≡ frame_shown addrs.now keys.now frame.now.items }
+    requires before { seen.old ≡ frame_shown addrs.now (take known keys.now) frame.now.items }
+    ensures { seen.new ≡ frame_shown addrs.now keys.now frame.now.items }
 {
-    let Shown { nwk, below } = seen;
-    let nwk = try_further(keys, known, nwk);
+    try_further(keys, known, &mut seen.nwk);
+    if is_closed(&seen.nwk) {
+        return;
+    }
+    show_below(addrs, keys, known, frame, seen);
+}
+
+/// Shows what is below the NWK layer of a frame under all keys, where it is known under the first `known` of them.
+#[tactic(auto, using(crate::proofs::MoreKeys::frame_anew))]
+fn show_below(
+    addrs: &Addresses<'_>,
+    keys: &[SealingKeys],
+    known: u32,
+    frame: &Frame,
+    seen: &mut Shown,
+)
+    requires within { known ≤ length keys.now }
+    requires fits { length keys.now < 2 ^ 32 }
+    requires before { seen.old ≡ with_nwk (tried known (drop known keys.now))
+        (frame_shown addrs.now (take known keys.now) frame.now.items) }
+    ensures { seen.new ≡ frame_shown addrs.now keys.now frame.now.items }
+{
+    let nothing = Shown {
+        nwk: Finding::Malformed,
+        below: None,
+    };
+    let Shown { nwk, below } = mem::replace(seen, nothing);
     match below {
-        None => show_under(addrs, keys, nwk, frame),
+        None => *seen = show_under(addrs, keys, nwk, frame),
         Some(below) => {
             let below = look_further(addrs, keys, known, frame, &nwk, below);
-            Shown {
+            *seen = Shown {
                 nwk,
                 below: Some(below),
-            }
+            };
         }
     }
 }
 
 /// Tries the keys after the first `known` on a layer.
-fn try_further(keys: &[SealingKeys], known: u32, finding: Finding) -> Finding
+fn try_further(keys: &[SealingKeys], known: u32, finding: &mut Finding)
     requires within { known ≤ length keys.now }
     requires fits { length keys.now < 2 ^ 32 }
-    ensures { result ≡ tried known (drop known keys.now) finding }
+    ensures { finding.new ≡ tried known (drop known keys.now) finding.old }
 {
-    try_keys(finding, known, &keys[known as usize..])
+    try_keys(finding, known, &keys[known as usize..]);
 }
 
 /// Shows the payload of a data frame under all keys, where it was known under the first `known`.
@@ -70,11 +95,11 @@ fn look_further(
     ensures { IfSome (payload_in nwk.now (nwk_reading.frame_of frame.now.items))
         (λ payload. result ≡ below keys.now (given_in addrs.now (nwk_reading.frame_of frame.now.items)) payload) }
 {
-    let Below { aps, inner } = seen;
-    let aps = try_further(keys, known, aps);
+    let Below { mut aps, inner } = seen;
+    try_further(keys, known, &mut aps);
     match inner {
-        Some(inner) => {
-            let inner = try_further(keys, known, inner);
+        Some(mut inner) => {
+            try_further(keys, known, &mut inner);
             Below {
                 aps,
                 inner: Some(inner),

@@ -1,10 +1,13 @@
 //! One layer of a frame, and the keys that are tried on it.
-ghost use Rattle.std.specs.Prelude.{◌≡◌, ◌<◌, ◌≤◌, ◌+◌, ◌^◌, length, IfSome};
+ghost use Rattle.std.specs.Prelude.{◌≡◌, ◌<◌, ◌≤◌, ◌+◌, ◌^◌, length, IfNone, IfSome};
 ghost use Rattle.std.specs.Option.{option_copied};
-ghost use Rattle.zb_inspect_frame.specs.Layers.{looked, tried, opened_by, clear as clear_of, is_closed as closed};
+ghost use Rattle.zb_inspect_frame.specs.Layers.{looked, tried, opened_as, opened_by, clear as clear_of, is_closed as closed};
+ghost use Rattle.zb_inspect_frame.specs.declared.layer.Finding.TheVariants.{Closed, Opened};
+ghost use Rattle.zb_seal.specs.Opening.{term_of};
 ghost use Rattle.zb_base.specs.Limits.{longest_frame};
 
-use zb_base::{Eui, Frame};
+use std::mem;
+use zb_base::{Eui, Frame, Key};
 use zb_seal::{Envelope, OpenError, SealingKeys, Term};
 
 /// What is found at one layer of a frame.
@@ -49,39 +52,68 @@ pub(crate) fn look(seen: Result<Envelope, OpenError>, given: Option<Eui>) -> Fin
 }
 
 /// Tries keys, one after the other, on a layer that no key before them opened; there are `number` of those.
-pub(crate) fn try_keys(finding: Finding, number: u32, keys: &[SealingKeys]) -> Finding
+pub(crate) fn try_keys(finding: &mut Finding, number: u32, keys: &[SealingKeys])
     requires { number + length keys.now < 2 ^ 32 }
-    ensures { result ≡ tried number keys.now finding }
+    ensures { finding.new ≡ tried number keys.now finding.old }
 {
-    match finding {
-        Finding::Closed { envelope, source } => open_first(envelope, source, number, keys),
-        other => other,
+    match unseal(finding, number, keys) {
+        Some((place, base)) => open_as(finding, place, &base),
+        None => {}
     }
 }
 
-#[tactic(auto, using(crate::proofs::Trying::opens_here, crate::proofs::Trying::opens_later))]
-fn open_first(envelope: Envelope, source: Eui, number: u32, keys: &[SealingKeys]) -> Finding
+/// Unseals a closed layer under the first of these keys that opens it, and returns the number and the base of that.
+fn unseal(finding: &mut Finding, number: u32, keys: &[SealingKeys]) -> Option<(u32, Key)>
     requires { number + length keys.now < 2 ^ 32 }
-    ensures { result ≡ opened_by envelope source number keys.now }
+    ensures opened { IfSome result (λ r. tried number keys.now finding.old ≡ opened_as finding.new r.0 r.1) }
+    ensures closed { IfNone result (finding.new ≡ tried number keys.now finding.old) }
 {
-    let mut closed = envelope;
+    match finding {
+        Finding::Closed { envelope, source } => unseal_first(envelope, *source, number, keys),
+        Finding::Malformed => None,
+        Finding::NotSecured => None,
+        Finding::NoSource => None,
+        Finding::Opened { .. } => None,
+    }
+}
+
+/// Unseals an envelope under the first of these keys that opens it, and returns the number and the base of that.
+fn unseal_first(
+    envelope: &mut Envelope,
+    source: Eui,
+    number: u32,
+    keys: &[SealingKeys],
+) -> Option<(u32, Key)>
+    requires { number + length keys.now < 2 ^ 32 }
+    ensures opened { IfSome result (λ r. opened_by envelope.old source number keys.now
+        ≡ Opened r.0 (term_of envelope.new r.1 source)) }
+    ensures closed { IfNone result (opened_by envelope.old source number keys.now ≡ Closed envelope.old source) }
+    ensures kept { IfNone result (envelope.new ≡ envelope.old) }
+{
     let mut place = number;
     for sealing_keys in keys {
         place += 1;
-        let cipher = sealing_keys.of(closed.label);
-        match closed.unseal(cipher, source) {
-            Ok(()) => {
-                return Finding::Opened {
-                    key: place,
-                    term: closed.into_term(sealing_keys.base(), source),
-                };
-            }
+        let cipher = sealing_keys.of(envelope.label);
+        match envelope.unseal(cipher, source) {
+            Ok(()) => return Some((place, *sealing_keys.base())),
             Err(_) => {}
         }
     }
-    Finding::Closed {
-        envelope: closed,
-        source,
+    None
+}
+
+/// Makes an opened layer of a closed one that was unsealed.
+fn open_as(finding: &mut Finding, place: u32, base: &Key)
+    ensures { finding.new ≡ opened_as finding.old place base.now }
+{
+    match mem::replace(finding, Finding::Malformed) {
+        Finding::Closed { envelope, source } => {
+            *finding = Finding::Opened {
+                key: place,
+                term: envelope.into_term(base, source),
+            };
+        }
+        other => *finding = other,
     }
 }
 

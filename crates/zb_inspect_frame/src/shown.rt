@@ -82,7 +82,9 @@ fn find_nwk(keys: &[SealingKeys], bytes: &[u8], frame: &NwkFrame) -> Finding
     requires spells { SpellsNwk bytes.now frame.now }
     ensures { result ≡ tried 0 keys.now (looked (nwk_envelope frame.now frame.now.aux) None) }
 {
-    try_keys(look(look_nwk(bytes, frame), None), 0, keys)
+    let mut nwk = look(look_nwk(bytes, frame), None);
+    try_keys(&mut nwk, 0, keys);
+    nwk
 }
 
 /// Returns the envelope of a NWK frame that was read.
@@ -102,7 +104,9 @@ fn find_aps(keys: &[SealingKeys], given: Option<Eui>, bytes: &[u8], frame: &ApsF
     requires spells { SpellsAps bytes.now frame.now }
     ensures { result ≡ tried 0 keys.now (looked (aps_envelope frame.now frame.now.aux) given) }
 {
-    try_keys(look(envelope_aps(bytes, frame), given), 0, keys)
+    let mut aps = look(envelope_aps(bytes, frame), given);
+    try_keys(&mut aps, 0, keys);
+    aps
 }
 
 fn look_below(addrs: &Addresses<'_>, keys: &[SealingKeys], nwk: Finding, frame: &NwkFrame) -> Shown
@@ -178,7 +182,9 @@ fn find_inner_aps(keys: &[SealingKeys], given: Option<Eui>, bytes: &[u8]) -> Fin
     requires { length keys.now < 2 ^ 32 }
     ensures { result ≡ found_aps keys.now given bytes.now }
 {
-    try_keys(look(look_aps(bytes), given), 0, keys)
+    let mut inner = look(look_aps(bytes), given);
+    try_keys(&mut inner, 0, keys);
+    inner
 }
 
 /// Returns the frame in a Tunnel, where a payload is an APS command that is one and is known in clear.

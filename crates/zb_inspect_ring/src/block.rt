@@ -15,8 +15,8 @@ use std::mem;
 use zb_base::{Frame, Key, NoMemory};
 use zb_capture::{FrameRun, Frames};
 use zb_inspect_frame::{
-    Addresses, Carried, Finding, Shown, carried_keys, is_settled, is_unopened, put_frames,
-    put_unopened, show, show_more,
+    Addresses, Carried, Shown, carried_keys, is_settled, is_unopened, put_frames, put_unopened,
+    show, show_more,
 };
 use zb_seal::SealingKeys;
 
@@ -212,12 +212,7 @@ fn refresh(addrs: &Addresses<'_>, keys: &[SealingKeys], known: u32, frame: &Fram
     if is_settled(seen) {
         return;
     }
-    let nothing = Shown {
-        nwk: Finding::Malformed,
-        below: None,
-    };
-    let before = mem::replace(seen, nothing);
-    *seen = show_more(addrs, keys, known, frame, before);
+    show_more(addrs, keys, known, frame, seen);
 }
 
 /// Keeps what the frames of a block show at the first look, and adds the keys that their opened contents carry.

@@ -8,5 +8,5 @@ pub returns-in-None : goal.returns-in-None
 returns-in-None c =
     let r = nwk_reading.frame_of c.args.frame.now.items in
     below_anew (payload_in c.args.nwk.now r) c.args.known c.args.keys.now (given_in c.args.addrs.now r) c.args.seen
-    c.try_further-aps.result c.look_inner-inner.result c.requires.within c.try_further-aps.ensures c.requires.before
+    c.try_further.new.finding c.look_inner-inner.result c.requires.within c.try_further.ensures c.requires.before
     c.look_inner-inner.ensures

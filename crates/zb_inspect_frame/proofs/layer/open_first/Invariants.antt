@@ -1,9 +1,0 @@
-use Rattle.std.proofs.Common.{◌≡◌, ◌+◌, drop}
-use Rattle.zb_inspect_frame.specs.Layers.{opened_by}
-use Rattle.zb_inspect_frame.proofs.layer.open_first.Given as goal
-
-abbrev pub invariant-loop-sealing_keys : goal.invariant-loop-sealing_keys
-invariant-loop-sealing_keys l =
-    (opened_by l.closed l.source l.place (drop l.sealing_keys-index l.keys)
-    ≡ opened_by l.initial.closed l.source l.number l.keys)
-    × (l.place ≡ l.number + l.sealing_keys-index)
