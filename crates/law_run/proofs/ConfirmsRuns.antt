@@ -508,9 +508,9 @@ pub plain : (tools : Tools) (c : ℕ) (h ls : List Line) → AllByRecursion NoSe
 plain tools c h [] a = tt
 plain tools c h (l ∷ ls) a = (line-claims tools c h l a.0, plain tools c (h ++ l ∷ []) ls a.1)
 
-pub group-claims : (tools : Tools) → SpellsConfirm tools → (x : Setting) (h h0 : List Line) (number n c : ℕ) (task : Task)
-    (p : Plan) → OutcomeFits x (state_of h n) task p.outcome → Firm h c → (is_centre x.me.role ≡ true → n ≡ c)
-    → ((d : ℕ) → is_declared x d ≡ true → d < 2 ^ 64)
+pub group-claims : (tools : Tools) → SpellsConfirm tools → (x : Setting) (h h0 : List Line) (number n c : ℕ)
+    (task : Task) (p : Plan) → OutcomeFits x (state_of h n) task p.outcome → Firm h c
+    → (is_centre x.me.role ≡ true → n ≡ c) → ((d : ℕ) → is_declared x d ≡ true → d < 2 ^ 64)
     → Each (ConfirmLine tools c) h
     (group_of h0 number n (answer_by tools x (state_of h n) (counting_of x (state_of h n) p) p))
 unfolding group_of told_lines answer_by out_of
@@ -574,8 +574,8 @@ pub record StepClaims (tools : Tools) (c : ℕ) (h ls : List Line) : Type 0 wher
   claims : Each (ConfirmLine tools c) h ls
   firm : Firm (h ++ ls) c
 
-pub calm-good : (tools : Tools) (c : ℕ) (h ls : List Line) → AllByRecursion NoSeal ls → AllByRecursion Calm ls → Firm h c
-    → StepClaims tools c h ls
+pub calm-good : (tools : Tools) (c : ℕ) (h ls : List Line) → AllByRecursion NoSeal ls → AllByRecursion Calm ls
+    → Firm h c → StepClaims tools c h ls
 calm-good tools c h ls a b f = record { claims = plain tools c h ls a; firm = firm-lines h c ls b f }
 
 answer-good : (tools : Tools) → SpellsConfirm tools → (x : Setting) (h : List Line) (disks : List Disk)

@@ -1,5 +1,5 @@
 -- Items that are found in lists: what is found, and that in a list of items apart each is found.
-use Rattle.std.proofs.Common.{◌≡◌, Bool, true, false, cond, List, [], ◌∷◌, ◌++◌, map, Option, Some, None, option_map, find, sym, subst, ◌⊎◌, inl, inr, ⊎_elim}
+use Rattle.std.proofs.Common.{◌≡◌, Bool, true, false, cond, List, [], ◌∷◌, ◌++◌, map, Option, Some, None, option_map, find, sym, subst}
 use Rattle.law_run.proofs.Basics.{find-map}
 
 unfoldable pub HoldsOf : {X : Type 0} → (X → Type 0) → Option X → Type 0

@@ -6,7 +6,7 @@ pub mod Groups
 pub mod GroupSeals
 pub mod EventStates
 pub mod Runs
-mod Finds
+pub mod Finds
 pub mod FloorRows
 pub mod OnceLines
 pub mod Sound

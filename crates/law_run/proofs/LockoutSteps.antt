@@ -1,5 +1,5 @@
 -- The invariants of lockout over single lines, one lemma a kind of line.
-use Rattle.std.proofs.Common.{◌≡◌, ℕ, Bool, true, false, cond, ◌&&◌, ◌||◌, List, [], ◌∷◌, ◌++◌, slice_get, Some, flat_map, nat_eq, refl, sym, ◌∙◌, subst, eqb-true, eq-eqb, ◌⊎◌, inl, inr, ⊎_elim}
+use Rattle.std.proofs.Common.{◌≡◌, ℕ, Bool, true, false, cond, ◌&&◌, ◌||◌, List, [], ◌∷◌, ◌++◌, slice_get, Some, flat_map, nat_eq, refl, sym, ◌∙◌, subst, eqb-true, ◌⊎◌, inl, inr, ⊎_elim}
 use Rattle.std.proofs.lemmas.Bool.{false≢true, and_parts, or_cases}
 use Rattle.zb_model.specs.Data.{Bytes, Attribute, Term, Draw, Install, Row, Pair, Live, Removed, Moved}
 use Rattle.zb_model.specs.Lines.{Line, Declared, GivenNet, GivenLink, Changed, Seal, Forge}

@@ -9,7 +9,7 @@ use Rattle.zb_model.specs.Data.{Bytes, Role, Centre, Router, Device, State, Fres
 use Rattle.zb_model.specs.State.{SenderFloor, NetKey, LinkKey, PairKey, NodeState, same_key, booted_floor, booted_net, booted_link, after_boot, shown_net, shown}
 use Rattle.zb_model.specs.Fits.{all_apart, keys_differ}
 use Rattle.zb_model.specs.Record.{role_byte, state_byte, attribute_byte, worth, place_from, net_bytes, sender_bytes, floors_bytes, link_bytes, pair_bytes, record_of}
-use Rattle.law_run.specs.Records.{Taking, follow, chosen, a_byte, some_bytes, a_number, so_many, role_of_byte, state_of_byte, attribute_of_byte, yes_or_no, only, two_flags, three_flags, net_at, sender_at, floors_at, with_floors, link_at, pair_at, active_at, record_at, whole, state_in}
+use Rattle.law_run.specs.Records.{Taking, follow, ◌>>=◌, give, chosen, a_byte, some_bytes, a_number, so_many, role_of_byte, state_of_byte, attribute_of_byte, yes_or_no, only, two_flags, three_flags, net_at, sender_at, floors_at, with_floors, link_at, pair_at, active_at, record_at, whole, state_in}
 use Rattle.law_run.proofs.Basics.{same_key-refl, append-nil'}
 use Rattle.law_run.proofs.RecordLaws.{bare, booted_row, place_by, spelled, record-bytes, map-map}
 
@@ -551,7 +551,154 @@ active-back place nets o a e = active-by place nets o a (nat_eq place 65535) ref
 
 -- The whole record
 
--- what a reading of a whole record finds
+-- a byte that represents one of a few values
+value : (A B : Type 0) (of : ℕ → Option A) (spell : A → ℕ) → ((b : ℕ) (x : A) → of b ≡ Some x → b ≡ spell x)
+    → (bytes : Bytes) (next : A → Taking B) (y : B) (rest : Bytes) → Small bytes
+    → follow (a_byte bytes) (λ b mid. follow (chosen (of b) mid) next) ≡ Some (y, rest)
+    → Step A B (λ x. one (spell x)) (Any A) bytes next y rest
+value A B of spell back bytes next y rest s e =
+    elim (step ℕ B a_byte one (Any ℕ) byte-back bytes _ y rest s e) [
+      | Went b_v b_m b_t b_s b_h b_l ↦
+          elim (pick A B (of b_v) b_m next y rest b_l) [
+            | Picked x_v x_i x_l ↦ Went x_v b_m (b_t ∙ ap (λ b. b ∷ b_m) (back b_v x_v x_i)) b_s tt x_l
+          ]
+    ]
+
+-- a number of the width
+number : (B : Type 0) (w : Width) → Spells w → (bytes : Bytes) (next : ℕ → Taking B) (y : B) (rest : Bytes)
+    → Small bytes → follow (a_number w bytes) next ≡ Some (y, rest)
+    → Step ℕ B (to_le_bytes w) (Any ℕ) bytes next y rest
+number B w sp bytes next y rest s e =
+    step ℕ B (a_number w) (to_le_bytes w) (Any ℕ) (number-back w sp) bytes next y rest s e
+
+-- a list after its count
+abbrev counted_bytes : (A : Type 0) → (A → Bytes) → List A → Bytes
+counted_bytes A spell xs = to_le_bytes w16 (length xs) ++ flat_map spell xs
+
+counted : (A B : Type 0) (read : Taking A) (spell : A → Bytes) (P : A → Type 0) → Back A read spell P
+    → (bytes : Bytes) (next : List A → Taking B) (y : B) (rest : Bytes) → Small bytes
+    → follow (a_number w16 bytes) (λ n mid. follow (so_many read n mid) next) ≡ Some (y, rest)
+    → Step (List A) B (counted_bytes A spell) (AllByRecursion P) bytes next y rest
+counted A B read spell P back bytes next y rest s e =
+    elim (number B w16 spells16 bytes _ y rest s e) [
+      | Went n_v n_m n_t n_s n_h n_l ↦
+          elim (step (List A) B (so_many read n_v) (flat_map spell) (λ ys. (length ys ≡ n_v) × AllByRecursion P ys)
+          (many-of A read spell P back n_v) n_m next y rest n_s n_l) [
+            | Went xs_v xs_m xs_t xs_s xs_h xs_l ↦
+                Went xs_v xs_m
+                (n_t ∙ ap (λ l. to_le_bytes w16 n_v ++ l) xs_t
+                ∙ ap (λ n. to_le_bytes w16 n ++ (flat_map spell xs_v ++ xs_m)) (sym xs_h.0)
+                ∙ sym (append_assoc (to_le_bytes w16 (length xs_v)) (flat_map spell xs_v) xs_m)) xs_s xs_h.1 xs_l
+          ]
+    ]
+
+-- The link rows and the pairs, with the state as it was read before them
+
+abbrev linked : NodeState → List LinkKey → List PairKey → NodeState
+linked s links pairs = record s { links = links; pairs = pairs }
+
+abbrev links_from : NodeState → Taking NodeState
+links_from s = do
+  link_count ← a_number w16
+  links ← so_many link_at link_count
+  pair_count ← a_number w16
+  pairs ← so_many pair_at pair_count
+  give (linked s links pairs)
+
+record LinksRead (before : NodeState) (bytes : Bytes) (s : NodeState) (rest : Bytes) : Type 0 where
+  links : List LinkKey
+  pairs : List PairKey
+  state : linked before links pairs ≡ s
+  text : bytes ≡ counted_bytes LinkKey link_bytes links ++ (counted_bytes PairKey pair_bytes pairs ++ rest)
+  fixed : AllByRecursion FixedLink links
+
+links-read : (before : NodeState) (bytes : Bytes) (s : NodeState) (rest : Bytes) → Small bytes
+    → links_from before bytes ≡ Some (s, rest) → LinksRead before bytes s rest
+links-read before bytes s rest small e =
+    elim (counted LinkKey NodeState link_at link_bytes FixedLink link-back bytes _ s rest small e) [
+      | Went links_v links_m links_t links_s links_h links_l ↦
+          elim (counted PairKey NodeState pair_at pair_bytes (Any PairKey) pair-back links_m _ s rest links_s
+          links_l) [
+            | Went pairs_v pairs_m pairs_t pairs_s pairs_h pairs_l ↦
+                let both = some-same (NodeState × Bytes) (linked before links_v pairs_v, pairs_m) (s, rest) pairs_l in
+                record {
+                  links = links_v;
+                  pairs = pairs_v;
+                  state = ap (λ (p : NodeState × Bytes). p.0) both;
+                  text = links_t ∙ ap (λ l. counted_bytes LinkKey link_bytes links_v ++ l)
+                      (pairs_t ∙ ap (λ (p : NodeState × Bytes). counted_bytes PairKey pair_bytes pairs_v ++ p.1) both);
+                  fixed = links_h;
+                }
+          ]
+    ]
+
+-- The network rows, with the place of the active one, and what stands after them
+
+abbrev netted : NodeState → List NetKey → Option Bytes → NodeState
+netted s nets active = record s { nets = nets; active = active }
+
+abbrev nets_from : NodeState → Taking NodeState
+nets_from s = do
+  net_count ← a_number w16
+  place ← a_number w16
+  rows ← so_many net_at net_count
+  nets ← with_floors rows
+  active ← chosen (active_at place nets)
+  links_from (netted s nets active)
+
+record NetsRead (before : NodeState) (bytes : Bytes) (s : NodeState) (rest : Bytes) : Type 0 where
+  place : ℕ
+  nets : List NetKey
+  active : Option Bytes
+  active_is : active_at place nets ≡ Some active
+  booted : AllByRecursion (λ r. booted_row r ≡ r) nets
+  more : Bytes
+  behind : LinksRead (netted before nets active) more s rest
+  text : bytes
+      ≡ to_le_bytes w16 (length nets)
+      ++ (to_le_bytes w16 place ++ (flat_map net_bytes nets ++ (live_floors nets ++ more)))
+
+nets-text : (bytes m1 m2 m3 m4 N N' P R R' F : Bytes) → bytes ≡ N ++ m1 → N ≡ N' → m1 ≡ P ++ m2 → m2 ≡ R ++ m3
+    → R ≡ R' → m3 ≡ F ++ m4 → bytes ≡ N' ++ (P ++ (R' ++ (F ++ m4)))
+nets-text bytes m1 m2 m3 m4 N N' P R R' F e1 e2 e3 e4 e5 e6 = cc
+
+nets-read : (before : NodeState) (bytes : Bytes) (s : NodeState) (rest : Bytes) → Small bytes
+    → nets_from before bytes ≡ Some (s, rest) → NetsRead before bytes s rest
+nets-read before bytes s rest small e =
+    elim (number NodeState w16 spells16 bytes _ s rest small e) [
+      | Went n_v n_m n_t n_s n_h n_l ↦
+          elim (number NodeState w16 spells16 n_m _ s rest n_s n_l) [
+            | Went place_v place_m place_t place_s place_h place_l ↦
+                elim (step (List NetKey) NodeState (so_many net_at n_v) (flat_map net_bytes)
+                (λ ys. (length ys ≡ n_v) × AllByRecursion IsBare ys)
+                (many-of NetKey net_at net_bytes IsBare net-back n_v) place_m _ s rest place_s place_l) [
+                  | Went rows_v rows_m rows_t rows_s rows_h rows_l ↦
+                      elim (step (List NetKey) NodeState (with_floors rows_v) live_floors (FloorsOf rows_v)
+                      (with-back rows_v rows_h.1) rows_m _ s rest rows_s rows_l) [
+                        | Went nets_v nets_m nets_t nets_s nets_h nets_l ↦
+                            elim (pick (Option Bytes) NodeState (active_at place_v nets_v) nets_m _ s rest nets_l) [
+                              | Picked active_v active_i active_l ↦
+                                  record {
+                                    place = place_v;
+                                    nets = nets_v;
+                                    active = active_v;
+                                    active_is = active_i;
+                                    booted = nets_h.fixed;
+                                    more = nets_m;
+                                    behind = links-read (netted before nets_v active_v) nets_m s rest nets_s active_l;
+                                    text = nets-text bytes n_m place_m rows_m nets_m (to_le_bytes w16 n_v)
+                                        (to_le_bytes w16 (length nets_v)) (to_le_bytes w16 place_v)
+                                        (flat_map net_bytes rows_v) (flat_map net_bytes nets_v) (live_floors nets_v)
+                                        n_t (ap (to_le_bytes w16) (sym (nets_h.count ∙ rows_h.0))) place_t rows_t
+                                        (sym nets_h.rows) nets_t;
+                                  }
+                            ]
+                      ]
+                ]
+          ]
+    ]
+
+-- What a reading of a whole record finds.
 record Found (bytes : Bytes) (s : NodeState) (rest : Bytes) : Type 0 where
   place : ℕ
   text : bytes ≡ spelled s place ++ rest
@@ -560,165 +707,87 @@ record Found (bytes : Bytes) (s : NodeState) (rest : Bytes) : Type 0 where
   nets : AllByRecursion (λ r. booted_row r ≡ r) s.nets
   links : AllByRecursion FixedLink s.links
 
-chain : (bytes m1 m2 m3 m4 m5 m6 m7 m8 m9 m10 m11 m12 m13 rest D A C C' P N N' F G G' L H H' Q : Bytes)
-    (v ro d st g roll w : ℕ)
-    → bytes ≡ v ∷ m1 → v ≡ 3 → m1 ≡ ro ∷ m2 → ro ≡ d → m2 ≡ st ∷ m3 → st ≡ g → m3 ≡ D ++ m4 → m4 ≡ A ++ m5 → m5 ≡ roll
-    ∷ m6 → roll ≡ w → m6 ≡ C ++ m7 → C ≡ C' → m7 ≡ P ++ m8 → m8 ≡ N ++ m9 → N ≡ N' → m9 ≡ F ++ m10
-    → m10 ≡ G ++ m11 → G ≡ G' → m11 ≡ L ++ m12 → m12 ≡ H ++ m13 → H ≡ H' → m13 ≡ Q ++ rest
-    → bytes ≡ 3 ∷ d ∷ g ∷ (D ++ (A ++ (w ∷ (C' ++ (P ++ (N' ++ (F ++ (G' ++ (L ++ (H' ++ (Q ++ rest)))))))))))
-chain bytes m1 m2 m3 m4 m5 m6 m7 m8 m9 m10 m11 m12 m13 rest D A C C' P N N' F G G' L H H' Q v ro d st g roll w e1 e2
-    e3 e4 e5 e6 e7 e8 e9 e10 e11 e12 e13 e14 e15 e16 e17 e18 e19 e20 e21 e22 = cc
+-- the state of what stands before the network rows
+abbrev headed : Role → State → ℕ → ℕ → Bool → NodeState
+headed role state declared aps sending =
+    record {
+      role = role;
+      state = state;
+      declared = declared;
+      aps_limit = aps;
+      aps_next = aps;
+      sending = sending;
+      nets = [];
+      active = None;
+      links = [];
+      pairs = [];
+    }
 
-regroup : (D A C P N F G L H Q rest : Bytes) (w : ℕ) → D
-    ++ (A ++ (w ∷ (C ++ (P ++ (N ++ (F ++ (G ++ (L ++ (H ++ (Q ++ rest))))))))))
-    ≡ (D ++ (A ++ (w ∷ (C ++ (P ++ (N ++ (F ++ (G ++ (L ++ (H ++ Q)))))))))) ++ rest
-regroup D A C P N F G L H Q rest w =
-    sym (append_assoc D (A ++ (w ∷ (C ++ (P ++ (N ++ (F ++ (G ++ (L ++ (H ++ Q))))))))) rest ∙ ap (λ x. D ++ x)
-    (append_assoc A (w ∷ (C ++ (P ++ (N ++ (F ++ (G ++ (L ++ (H ++ Q)))))))) rest ∙ ap (λ x. A ++ (w ∷ x)) (
-    append_assoc C (P ++ (N ++ (F ++ (G ++ (L ++ (H ++ Q)))))) rest ∙ ap (λ x. C ++ x)
-    (append_assoc P (N ++ (F ++ (G ++ (L ++ (H ++ Q))))) rest ∙ ap (λ x. P ++ x)
-    (append_assoc N (F ++ (G ++ (L ++ (H ++ Q)))) rest ∙ ap (λ x. N ++ x) (
-    append_assoc F (G ++ (L ++ (H ++ Q))) rest ∙ ap (λ x. F ++ x)
-    (append_assoc G (L ++ (H ++ Q)) rest ∙ ap (λ x. G ++ x)
-    (append_assoc L (H ++ Q) rest ∙ ap (λ x. L ++ x) (append_assoc H Q rest)))))))))
+head-text : (bytes m1 m2 m3 m4 m5 m6 D A more : Bytes) (v d g w : ℕ) → bytes ≡ v ∷ m1 → m1 ≡ d ∷ m2 → m2 ≡ g ∷ m3
+    → m3 ≡ D ++ m4 → m4 ≡ A ++ m5 → m5 ≡ w ∷ m6 → m6 ≡ more → bytes ≡ v ∷ d ∷ g ∷ (D ++ (A ++ (w ∷ more)))
+head-text bytes m1 m2 m3 m4 m5 m6 D A more v d g w e1 e2 e3 e4 e5 e6 e7 = cc
+
+regroup : (D A N P R F L K Q rest : Bytes) (w : ℕ)
+    → D ++ (A ++ (w ∷ (N ++ (P ++ (R ++ (F ++ ((L ++ K) ++ (Q ++ rest))))))))
+    ≡ (D ++ (A ++ (w ∷ (N ++ (P ++ (R ++ (F ++ (L ++ (K ++ Q))))))))) ++ rest
+regroup D A N P R F L K Q rest w =
+    sym (append_assoc D (A ++ (w ∷ (N ++ (P ++ (R ++ (F ++ (L ++ (K ++ Q)))))))) rest ∙ ap (λ x. D ++ x)
+    (append_assoc A (w ∷ (N ++ (P ++ (R ++ (F ++ (L ++ (K ++ Q))))))) rest ∙ ap (λ x. A ++ (w ∷ x))
+    (append_assoc N (P ++ (R ++ (F ++ (L ++ (K ++ Q))))) rest ∙ ap (λ x. N ++ x)
+    (append_assoc P (R ++ (F ++ (L ++ (K ++ Q)))) rest ∙ ap (λ x. P ++ x)
+    (append_assoc R (F ++ (L ++ (K ++ Q))) rest ∙ ap (λ x. R ++ x)
+    (append_assoc F (L ++ (K ++ Q)) rest ∙ ap (λ x. F ++ x)
+    (append_assoc L (K ++ Q) rest ∙ ap (λ x. L ++ x) (append_assoc K Q rest)
+    ∙ sym (append_assoc L K (Q ++ rest)))))))))
+
+-- what stands behind the head is spelled after it
+whole-text : (bytes more : Bytes) (s : NodeState) (rest : Bytes) (role : Role) (state : State) (declared aps : ℕ)
+    (sending : Bool) → bytes ≡ 3 ∷ role_byte role ∷ state_byte state
+    ∷ (to_le_bytes w32 declared ++ (to_le_bytes w32 aps ++ (worth 1 sending ∷ more)))
+    → NetsRead (headed role state declared aps sending) more s rest → Found bytes s rest
+whole-text bytes more s rest role state declared aps sending e n =
+    let l = n.behind in
+    subst (λ x. Found bytes x rest) l.state (record {
+      place = n.place;
+      text =
+          e ∙ ap (λ x. 3 ∷ role_byte role ∷ state_byte state ∷ x)
+          (ap (λ x. to_le_bytes w32 declared ++ (to_le_bytes w32 aps ++ (worth 1 sending ∷ x)))
+          (n.text ∙ ap (λ x. to_le_bytes w16 (length n.nets)
+          ++ (to_le_bytes w16 n.place ++ (flat_map net_bytes n.nets ++ (live_floors n.nets ++ x)))) l.text)
+          ∙ regroup (to_le_bytes w32 declared) (to_le_bytes w32 aps) (to_le_bytes w16 (length n.nets))
+          (to_le_bytes w16 n.place) (flat_map net_bytes n.nets) (live_floors n.nets)
+          (to_le_bytes w16 (length l.links)) (flat_map link_bytes l.links) (counted_bytes PairKey pair_bytes l.pairs)
+          rest (worth 1 sending));
+      active = n.active_is;
+      aps = refl;
+      nets = n.booted;
+      links = l.fixed;
+    })
 
 found : (bytes : Bytes) (s : NodeState) (rest : Bytes) → Small bytes → record_at bytes ≡ Some (s, rest)
     → Found bytes s rest
 unfolding record_at
 found bytes s rest small e =
-    elim (step ℕ NodeState a_byte one (Any ℕ) byte-back bytes _ s rest small e) [
+    elim (value (Unit {0}) NodeState (only 3) (λ v. 3) (only-back 3) bytes _ s rest small e) [
       | Went v_v v_m v_t v_s v_h v_l ↦
-          elim (pick (Unit {0}) NodeState (only 3 v_v) v_m _ s rest v_l) [
-            | Picked three_v three_i three_l ↦
-                elim (step ℕ NodeState a_byte one (Any ℕ) byte-back v_m _ s rest v_s three_l) [
-                  | Went ro_v ro_m ro_t ro_s ro_h ro_l ↦
-                      elim (pick Role NodeState (role_of_byte ro_v) ro_m _ s rest ro_l) [
-                        | Picked role_v role_i role_l ↦
-                            elim (step ℕ NodeState a_byte one (Any ℕ) byte-back ro_m _ s rest ro_s role_l) [
-                              | Went st_v st_m st_t st_s st_h st_l ↦
-                                  elim (pick State NodeState (state_of_byte st_v) st_m _ s rest st_l) [
-                                    | Picked state_v state_i state_l ↦
-                                        elim (step ℕ NodeState (a_number w32) (to_le_bytes w32) (Any ℕ)
-                                        (number-back w32 spells32) st_m _ s rest st_s state_l) [
-                                          | Went declared_v declared_m declared_t declared_s declared_h declared_l ↦
-                                              elim (step ℕ NodeState (a_number w32) (to_le_bytes w32) (Any ℕ)
-                                              (number-back w32 spells32) declared_m _ s rest declared_s
-                                              declared_l) [
-                                                | Went aps_v aps_m aps_t aps_s aps_h aps_l ↦
-                                                    elim (step ℕ NodeState a_byte one (Any ℕ) byte-back aps_m _ s rest
-                                                    aps_s aps_l) [
-                                                      | Went roll_v roll_m roll_t roll_s roll_h roll_l ↦
-                                                          elim (pick Bool NodeState (yes_or_no roll_v) roll_m _ s rest
-                                                          roll_l) [
-                                                            | Picked sending_v sending_i sending_l ↦
-                                                                elim (step ℕ NodeState (a_number w16)
-                                                                (to_le_bytes w16) (Any ℕ)
-                                                                (number-back w16 spells16) roll_m _ s rest roll_s
-                                                                sending_l) [
-                                                                  | Went nc_v nc_m nc_t nc_s nc_h nc_l ↦
-                                                                      elim (step ℕ NodeState (a_number w16)
-                                                                      (to_le_bytes w16) (Any ℕ)
-                                                                      (number-back w16 spells16) nc_m _ s rest
-                                                                      nc_s nc_l) [
-                                                                        | Went place_v place_m place_t place_s place_h
-                                                                            place_l ↦
-                                                                            elim (step (List NetKey) NodeState
-                                                                            (so_many net_at nc_v)
-                                                                            (flat_map net_bytes)
-                                                                            (λ ys. (length ys ≡ nc_v)
-                                                                            × AllByRecursion IsBare ys)
-                                                                            (many-of NetKey net_at net_bytes
-                                                                            IsBare net-back nc_v) place_m _ s rest
-                                                                            place_s place_l) [
-                                                                              | Went rows_v rows_m rows_t rows_s
-                                                                                  rows_h rows_l ↦
-                                                                                  elim (step (List NetKey) NodeState
-                                                                                  (with_floors rows_v) live_floors
-                                                                                  (FloorsOf rows_v)
-                                                                                  (with-back rows_v rows_h.1)
-                                                                                  rows_m _ s rest rows_s rows_l) [
-                                                                                    | Went nets_v nets_m nets_t nets_s
-                                                                                        nets_h nets_l ↦
-                                                                                        elim (pick (Option Bytes)
-                                                                                        NodeState
-                                                                                        (active_at place_v nets_v)
-                                                                                        nets_m _ s rest nets_l) [
-                                                                                          | Picked active_v active_i
-                                                                                              active_l ↦
-                                                                                              elim (step ℕ NodeState
-                                                                                              (a_number w16)
-                                                                                              (to_le_bytes w16)
-                                                                                              (Any ℕ)
-                                                                                              (number-back w16
-                                                                                              spells16) nets_m _ s
-                                                                                              rest nets_s
-                                                                                              active_l) [
-                                                                                                | Went lc_v lc_m lc_t
-                                                                                                    lc_s lc_h lc_l ↦
-                                                                                                    elim (step
-                                                                                                    (List LinkKey)
-                                                                                                    NodeState
-                                                                                                    (so_many
-                                                                                                    link_at lc_v)
-                                                                                                    (flat_map
-                                                                                                    link_bytes)
-                                                                                                    (λ ys. (length
-                                                                                                    ys ≡ lc_v)
-                                                                                                    × AllByRecursion
-                                                                                                    FixedLink ys)
-                                                                                                    (many-of
-                                                                                                    LinkKey
-                                                                                                    link_at
-                                                                                                    link_bytes
-                                                                                                    FixedLink
-                                                                                                    link-back
-                                                                                                    lc_v) lc_m _ s
-                                                                                                    rest lc_s
-                                                                                                    lc_l) [
-                                                                                                      | Went links_v
-                                                                                                          links_m
-                                                                                                          links_t
-                                                                                                          links_s
-                                                                                                          links_h
-                                                                                                          links_l ↦
-                                                                                                          elim (step ℕ
-                                                                                                          NodeState
-                                                                                                          (a_number
-                                                                                                          w16) (to_le_bytes w16) (Any ℕ) (number-back w16 spells16) links_m _ s rest links_s links_l) [
-                                                                                                            | Went pc_v pc_m pc_t pc_s pc_h pc_l ↦
-                                                                                                                elim (step (List PairKey) NodeState (so_many pair_at pc_v) (flat_map pair_bytes) (λ ys. (length ys ≡ pc_v) × AllByRecursion (Any PairKey) ys) (many-of PairKey pair_at pair_bytes (Any PairKey) pair-back pc_v) pc_m _ s rest pc_s pc_l) [
-                                                                                                                  | Went pairs_v pairs_m pairs_t pairs_s pairs_h pairs_l ↦
-                                                                                                                      subst (λ (p : NodeState × Bytes). Found bytes p.0 p.1)
-                                                                                                                      (some-same (NodeState × Bytes) (record { role = role_v; state = state_v; declared = declared_v; aps_limit = aps_v; aps_next = aps_v; sending = sending_v; nets = nets_v; active = active_v; links = links_v; pairs = pairs_v }, pairs_m) (s, rest) pairs_l)
-                                                                                                                      (record {
-                                                                                                                        place = place_v;
-                                                                                                                        text =
-                                                                                                                            chain bytes v_m ro_m st_m declared_m aps_m roll_m nc_m place_m rows_m nets_m lc_m links_m pc_m pairs_m
-                                                                                                                            (to_le_bytes w32 declared_v) (to_le_bytes w32 aps_v) (to_le_bytes w16 nc_v) (to_le_bytes w16 (length nets_v)) (to_le_bytes w16 place_v) (flat_map net_bytes rows_v) (flat_map net_bytes nets_v) (live_floors nets_v)
-                                                                                                                            (to_le_bytes w16 lc_v) (to_le_bytes w16 (length links_v)) (flat_map link_bytes links_v) (to_le_bytes w16 pc_v) (to_le_bytes w16 (length pairs_v)) (flat_map pair_bytes pairs_v)
-                                                                                                                            v_v ro_v (role_byte role_v) st_v (state_byte state_v) roll_v (worth 1 sending_v)
-                                                                                                                            v_t (only-back 3 v_v three_v three_i) ro_t (role-back ro_v role_v role_i) st_t (state-back st_v state_v state_i) declared_t aps_t roll_t (roll-back roll_v sending_v sending_i)
-                                                                                                                            nc_t (ap (to_le_bytes w16) (sym (nets_h.count ∙ rows_h.0))) place_t rows_t (sym nets_h.rows) nets_t lc_t (ap (to_le_bytes w16) (sym links_h.0)) links_t pc_t (ap (to_le_bytes w16) (sym pairs_h.0)) pairs_t
-                                                                                                                            ∙ ap (λ x. 3 ∷ role_byte role_v ∷ state_byte state_v ∷ x) (regroup (to_le_bytes w32 declared_v) (to_le_bytes w32 aps_v) (to_le_bytes w16 (length nets_v)) (to_le_bytes w16 place_v) (flat_map net_bytes nets_v) (live_floors nets_v)
-                                                                                                                            (to_le_bytes w16 (length links_v)) (flat_map link_bytes links_v) (to_le_bytes w16 (length pairs_v)) (flat_map pair_bytes pairs_v) pairs_m (worth 1 sending_v));
-                                                                                                                        active = active_i;
-                                                                                                                        aps = refl;
-                                                                                                                        nets = nets_h.fixed;
-                                                                                                                        links = links_h.1;
-                                                                                                                      })
-                                                                                                                ]
-                                                                                                          ]
-                                                                                                    ]
-                                                                                              ]
-                                                                                        ]
-                                                                                  ]
-                                                                            ]
-                                                                      ]
-                                                                ]
-                                                          ]
-                                                    ]
-                                              ]
-                                        ]
+          elim (value Role NodeState role_of_byte role_byte role-back v_m _ s rest v_s v_l) [
+            | Went role_v role_m role_t role_s role_h role_l ↦
+                elim (value State NodeState state_of_byte state_byte state-back role_m _ s rest role_s role_l) [
+                  | Went state_v state_m state_t state_s state_h state_l ↦
+                      elim (number NodeState w32 spells32 state_m _ s rest state_s state_l) [
+                        | Went declared_v declared_m declared_t declared_s declared_h declared_l ↦
+                            elim (number NodeState w32 spells32 declared_m _ s rest declared_s declared_l) [
+                              | Went aps_v aps_m aps_t aps_s aps_h aps_l ↦
+                                  elim (value Bool NodeState yes_or_no (worth 1) roll-back aps_m _ s rest aps_s
+                                  aps_l) [
+                                    | Went roll_v roll_m roll_t roll_s roll_h roll_l ↦
+                                        whole-text bytes roll_m s rest role_v state_v declared_v aps_v roll_v
+                                        (head-text bytes v_m role_m state_m declared_m aps_m roll_m
+                                        (to_le_bytes w32 declared_v) (to_le_bytes w32 aps_v) roll_m 3
+                                        (role_byte role_v) (state_byte state_v) (worth 1 roll_v) v_t role_t state_t
+                                        declared_t aps_t roll_t refl)
+                                        (nets-read (headed role_v state_v declared_v aps_v roll_v) roll_m s rest
+                                        roll_s roll_l)
                                   ]
                             ]
                       ]

@@ -2,11 +2,10 @@
 use Rattle.std.proofs.Common.{◌≡◌, ℕ, ◌<◌, ◌+◌, ◌^◌, Bool, true, false, cond, List, [], ◌∷◌, ◌++◌, map, length, Option, Some, None, option_map, find, is_some, nat_eq, flat_map, refl, ap, ◌∙◌, subst, eqb-true, le_refl}
 use Rattle.std.proofs.lemmas.Bool.{false≢true}
 use Rattle.std.specs.List.{AllByRecursion}
-use Rattle.zb_model.specs.Data.{Bytes, nobody, Layer, Nwk, Aps, Station, Task, Received, DoRoll, Reason, Down, WrongState}
+use Rattle.zb_model.specs.Data.{Bytes, Layer, Nwk, Aps, Station, Task, Received, DoRoll, Reason, Down, WrongState}
 use Rattle.zb_model.specs.Lines.{Line, Declared, Counter, Boot, DownReset}
 use Rattle.zb_model.specs.Tools.{Tools}
-use Rattle.zb_model.specs.Rules.{Setting, Plan, centre_of, eui_or, is_declared, station_of}
-use Rattle.zb_model.specs.State.{is_centre}
+use Rattle.zb_model.specs.Rules.{Setting, Plan, centre_of, is_declared, station_of}
 use Rattle.zb_model.specs.Answer.{Answer, answer_by, plan_of, counting_of}
 use Rattle.zb_model.specs.Readings.{state_of, is_up}
 use Rattle.zb_model.specs.Play.{Schedule, Node, Event, Own, RollOver, Deliver, Reset, PowerOn, ShowRecord, ArmStop, ArmFail, InjectBytes, ForgeNet, ForgeNetAps, ForgeOpen, Step, Disk, stations, setting_of, station_or, without_blocks, net_line, link_line, limit_line, start, disk_of, with_disk, falls, calls_for, leaves_both, BootCalls, group_of, cut_of, fallen_line, answer_step, boot_step, refused_step, answer_counted, task_step, deliver_step, frame_at, supply, forged, forged_net, forged_both, forged_open, step_by, step, groups}

@@ -24,18 +24,20 @@ use Rattle.law_tables_suffice.proofs.Ready.{declared_along, ruled_along}
 use Rattle.law_run_steps.specs.Steps.{is_of}
 use Rattle.law_answer_storable.specs.Storing.{OpensAsJudged}
 use Rattle.law_run_counters.specs.Counted.{IsCounted}
-use Rattle.law_run_readings.specs.LastLines.{active, flat, limit, limit_from, limit_of_key, next, sealed_of_key, sealed_since, stored, last_said, given_in, active_in, counter_in, reserve_in, floor_in, declared}
-use Rattle.law_run_readings.specs.Agreeing.{Agrees, AgreeFrom, floor_at}
+use Rattle.law_run_readings.specs.LastLines.{active, flat, limit, limit_from, limit_of_key, next, sealed_of_key, sealed_since, last_said, given_in, active_in, counter_in, reserve_in, floor_in, declared}
+use Rattle.law_run_readings.specs.Agreeing.{Agrees, AgreeFrom}
 use Rattle.law_run_readings.proofs.Rows.{row_at}
 use Rattle.law_run_readings.proofs.SaidRows.{RowIs}
 use Rattle.law_run_readings.proofs.Steps.{Said, Recalls}
 use Rattle.law_run_readings.proofs.Lines.{alike_recalls, said_of, was_active, RecallsAt, flat_snoc}
 use Rattle.law_run_readings.proofs.Events.{AnswersFit, IsReady, active_said, answers_fit, event_changes, step_recalls}
 use Rattle.law_run_readings.proofs.Joining.{Joins, joins_group, joins_said, start_joins}
+use Rattle.law_run_readings.proofs.ToldGroups.{ToldAt, told_begins, told_devices, told_group, told_links, told_start}
 use Rattle.law_run_readings.proofs.OwnLines.{keys_said, links_said, lives_said, nets_said, role_said, rolling_said, rows_said}
 use Rattle.law_run_readings.proofs.Starting.{has_eui, start_even, start_recalls}
 use Rattle.law_run_readings.proofs.Evens.{Even, EvenRow, EvenAps, IfRow}
-use Rattle.law_run_readings.proofs.Along.{Evens, EvensAt, own_evens, other_evens, of_node, to_node}
+use Rattle.law_run_readings.proofs.Kept.{start_kept}
+use Rattle.law_run_readings.proofs.Along.{Evens, EvensAt, floors_said, own_evens, other_evens, of_node, to_node}
 
 -- ---- what is carried along a run
 
@@ -45,6 +47,7 @@ pub record Stands (tools : Tools) (w : Schedule) (before : List (List Line)) : T
   pub grounded : Grounded (flat before)
   pub inv : Inv tools (flat before)
   pub joins : (n : ℕ) → Names w n → Joins (flat before) n
+  pub tells : (n : ℕ) → Names w n → ToldAt (flat before) n []
 
 -- the node of an event is ready
 ready_node : (w : Schedule) (h : List Line) (event : Event) → OfNode (λ n. IsRuled (state_of h n) (setting_of w n) n)
@@ -68,13 +71,13 @@ ready_node w h event ruled declared = by_event event ruled declared
         command) r d = tt
     by_event (Rattle.zb_model.specs.Play.Event.ForgeOpen to from source label base aps_counter command) r d = tt
 
-ready_fits : (tools : Tools) → OpensAsJudged tools → (w : Schedule) (before : List (List Line))
+ready_fits : (tools : Tools) → Opens tools → OpensAsJudged tools → (w : Schedule) (before : List (List Line))
     → Stands tools w before → (event : Event) → NamesNode w event → OfNode (IsReady w (flat before)) event
     → OfNode (AnswersFit tools w before) event
-ready_fits tools opens w before s event named ready = by_event event named ready
+ready_fits tools opens judged w before s event named ready = by_event event named ready
   where
     one : (n : ℕ) → Names w n → IsReady w (flat before) n → AnswersFit tools w before n
-    one n its r = answers_fit tools opens w before n r (s.grounded.active n) (s.said n its)
+    one n its r = answers_fit tools opens judged w before n r (s.grounded.active n) (s.said n its)
 
     by_event : (event : Event) → NamesNode w event → OfNode (IsReady w (flat before)) event
         → OfNode (AnswersFit tools w before) event
@@ -102,7 +105,7 @@ stands_more tools opens judged w i before disks number event named ready s =
     let ls = (step tools w h disks number event).lines in
     let all = before ++ ls ∷ [] in
     let same : h ++ ls ≡ flat all = sym (flat_snoc before ls) in
-    let fits = ready_fits tools judged w before s event named ready in
+    let fits = ready_fits tools opens judged w before s event named ready in
     let counted : IsCounted w h (step tools w h [] number event).lines =
     subst (λ g. IsCounted w h g.lines) (step-is tools w h [] number event)
     (event-counted tools opens w h number event s.grounded.bridged) in
@@ -117,6 +120,9 @@ stands_more tools opens judged w i before disks number event named ready s =
       joins = λ n its. subst (λ x. Joins x n) same
           (joins_group before [] ls n (event_changes tools w before n disks number event fits)
           (subst (λ x. Joins x n) (sym (append-nil' h)) (s.joins n its)));
+      tells = λ n its. subst (λ x. ToldAt x n []) same
+          (told_group before [] ls n (event_changes tools w before n disks number event fits)
+          (told_begins (h ++ []) ls n (subst (λ x. ToldAt x n []) (sym (append-nil' h)) (s.tells n its))));
     }
   where
     by_node : (n : ℕ) → Names w n → (b : Bool) → is_of n event ≡ b
@@ -150,10 +156,15 @@ start_stands tools w differ =
     record {
       said = λ n named. found_as n w.nodes named (λ m found is. start_recalls w differ n m found is);
       evens = λ n named. found_as n w.nodes named (λ m found is. let e = start_even w differ n m found is in
-          subst (λ x. EvensAt x n) same (λ on. record { nwk = λ key none. e.0 key; aps = λ none. e.1 }));
+          subst (λ x. EvensAt x n) same (λ on. record {
+            nwk = λ key none. e.0 key;
+            aps = λ none. e.1;
+            memory = λ layer key sender. start_kept w n layer key sender;
+          }));
       grounded = subst Grounded same (start-grounded w);
       inv = subst (Inv tools) same (start-inv tools w);
       joins = λ n named. subst (λ x. Joins x n) same (start_joins w n);
+      tells = λ n named. subst (λ x. ToldAt x n []) same (told_start w n);
     }
 
 -- ---- what is said is what the state says
@@ -288,13 +299,6 @@ unfolding next_counter
 nexts_are before n is on same evens Nwk = nwk_next before n is on same evens (nwk_limit before n is on same)
 nexts_are before n is on same evens Aps = aps_next_is before n is evens
 
-floors_are : (before : List (List Line)) (n : ℕ) → Recalls (said_at before n) (state_of (flat before) n)
-    → (layer : Layer) (key : Bytes) (sender : ℕ) → stored (flat before) n layer key sender
-    ≡ floor_at layer key sender (state_of (flat before) n)
-unfolding stored
-floors_are before n is Nwk key sender = sym (is.net_floors key sender)
-floors_are before n is Aps key sender = sym (is.link_floors key sender)
-
 pub stands_agree : (tools : Tools) (w : Schedule) (before : List (List Line)) → Stands tools w before → (n : ℕ)
     → Names w n → Agrees before n
 stands_agree tools w before s n named =
@@ -305,12 +309,15 @@ stands_agree tools w before s n named =
       active_is = same;
       limits = limits_are before n is on same;
       nexts = λ up. nexts_are before n is on same (s.evens n named up);
-      floors = floors_are before n is;
+      floors = floors_said before n (s.said n named);
+      memory = λ up layer key sender. sym ((s.evens n named up).memory layer key sender);
       networks = sym (keys_said (flat before) n);
       network = λ key. sym (nets_said (flat before) n key);
       rows = sym (rows_said (flat before) n);
       row = λ partner key. sym (links_said (flat before) n partner key);
       lives = lives_said (flat before) n;
+      told = λ device. told_devices (flat before) n device (s.tells n named);
+      told_rows = λ partner key. told_links (flat before) n partner key (s.tells n named);
       role_is = role_said (flat before) n;
       state_is = joins_said (flat before) n (s.joins n named);
       rolling = sym (rolling_said (flat before) n);

@@ -1,5 +1,5 @@
 -- What the lines of a run say of its nodes is what their states say, before each event and at the end.
-use Rattle.std.proofs.Common.{◌≡◌, ℕ, ◌+◌, Bool, true, false, cond, List, [], ◌∷◌, ◌++◌, map, length, Option, Some, None, nat_eq, refl, sym, ap, ◌∙◌, subst, append_assoc, eqb-true}
+use Rattle.std.proofs.Common.{◌≡◌, ℕ, unwrap_or, ◌+◌, Bool, true, false, cond, List, [], ◌∷◌, ◌++◌, map, length, Option, Some, None, nat_eq, refl, sym, ap, ◌∙◌, subst, append_assoc, eqb-true}
 use Rattle.std.specs.List.{AllByRecursion}
 use Rattle.std.proofs.lemmas.Bool.{false≢true}
 use Rattle.std.proofs.lemmas.List.Sums.{fold-append}
@@ -11,7 +11,7 @@ use Rattle.zb_model.specs.Answer.{Answer}
 use Rattle.zb_model.specs.Readings.{speaker, state_of, is_up, power_line, air}
 use Rattle.zb_model.specs.Record.{record_of}
 use Rattle.zb_model.specs.Schedules.{Names, NamesNode}
-use Rattle.zb_model.specs.Play.{Schedule, Event, Own, RollOver, Deliver, Reset, PowerOn, ShowRecord, ArmStop, ArmFail, InjectBytes, ForgeNet, ForgeNetAps, ForgeOpen, Step, Disk, Armed, NotArmed, StopAfter, FailAt, Calls, BootCalls, disk_of, with_disk, falls, stands, calls_for, leaves_both, commit_lines, refuse_lines, send_lines, stored_lines, told_lines, group_of, cut_of, fallen_line, answer_step, boot_step, refused_step, task_step, deliver_step, frame_at, supply, forged_net, forged_both, forged_open, step_by, step}
+use Rattle.zb_model.specs.Play.{Schedule, Event, Own, RollOver, Deliver, Reset, PowerOn, ShowRecord, ArmStop, ArmFail, InjectBytes, ForgeNet, ForgeNetAps, ForgeOpen, Step, Disk, Armed, NotArmed, StopAfter, FailAt, Calls, BootCalls, setting_of, disk_of, with_disk, falls, stands, calls_for, leaves_both, commit_lines, refuse_lines, send_lines, stored_lines, told_lines, group_of, cut_of, fallen_line, answer_step, boot_step, refused_step, task_step, deliver_step, frame_at, supply, forged_net, forged_both, forged_open, step_by, step}
 use Rattle.zb_model.specs.Answer.{counting_of}
 use Rattle.law_run.proofs.Basics.{append-nil', state-snoc, nat_eq-refl}
 use Rattle.law_run.proofs.EventStates.{answer_to}
@@ -21,10 +21,14 @@ use Rattle.law_tables_suffice.specs.Along.{OfNode}
 use Rattle.law_run_steps.proofs.Spared.{spared}
 use Rattle.law_run_steps.specs.Conditions.{Condition}
 use Rattle.law_run_steps.specs.Steps.{is_of}
-use Rattle.law_run_readings.specs.LastLines.{active, flat, limit, limit_from, limit_of_key, next, sealed_of_key, sealed_since, sealed_in, stored, last_said, given_in, active_in, declared}
-use Rattle.law_run_readings.proofs.Lines.{RecallsAt, FitsChanges, sealed_snoc}
+use Rattle.law_run_readings.specs.Agreeing.{floor_at, memory_at}
+use Rattle.law_run_readings.specs.LastLines.{active, flat, floor_in, kept, limit, limit_from, limit_of_key, next, sealed_of_key, sealed_since, sealed_in, stored, last_said, given_in, active_in, declared}
+use Rattle.law_run_readings.proofs.Kept.{Mute, boot_kept, group_kept, mute_kept}
+use Rattle.law_run_readings.proofs.Lines.{RecallsAt, FitsChanges, said_of, sealed_snoc}
+use Rattle.law_run_readings.proofs.Memory.{NoBoot}
+use Rattle.law_run_readings.proofs.Steps.{Recalls, Said}
 use Rattle.law_run_readings.proofs.Events.{AnswersFit, active_said, group_changes}
-use Rattle.law_run_readings.proofs.Evens.{Even, EvenAps, NoBoot, SealsOf, boot_even, boot_aps, evens_more, aps_more, none_sealed, nwk_unreserved, aps_unreserved}
+use Rattle.law_run_readings.proofs.Evens.{AllOwn, Even, EvenAps, SealsOf, boot_even, boot_aps, evens_more, aps_more, none_sealed, nwk_unreserved, aps_unreserved}
 
 -- ---- power
 
@@ -60,23 +64,28 @@ cut_down h armed calls number n a e =
 
 -- ---- what holds of a node with power
 
--- Where no counter was taken since its last boot, the next one is the limit.
+-- Where no counter was taken since its last boot, the next one is the limit; and the floors in memory are as said.
 pub record Evens (h : List Line) (n : ℕ) : Type 0 where
   pub nwk : (key : Bytes) → sealed_since n Nwk key h ≡ None → Even key (state_of h n)
   pub aps : sealed_since n Aps [] h ≡ None → EvenAps (state_of h n)
+  pub memory : (layer : Layer) (key : Bytes) (sender : ℕ) → memory_at layer key sender (state_of h n)
+      ≡ kept h n layer key sender
 
 abbrev pub EvensAt : List Line → ℕ → Type 0
 EvensAt h n = is_up h n ≡ true → Evens h n
 
 -- lines that change nothing of it
 same_evens : (h k : List Line) (n : ℕ) → state_of k n ≡ state_of h n
-    → ((layer : Layer) (key : Bytes) → sealed_since n layer key k ≡ sealed_since n layer key h) → is_up k n
-    ≡ is_up h n → EvensAt h n → EvensAt k n
-same_evens h k n state sealed up e on =
+    → ((layer : Layer) (key : Bytes) → sealed_since n layer key k ≡ sealed_since n layer key h)
+    → ((layer : Layer) (key : Bytes) (sender : ℕ) → kept k n layer key sender ≡ kept h n layer key sender)
+    → is_up k n ≡ is_up h n → EvensAt h n → EvensAt k n
+same_evens h k n state sealed floors up e on =
     let was = e (sym up ∙ on) in
     record {
       nwk = λ key none. subst (Even key) (sym state) (was.nwk key (sym (sealed Nwk key) ∙ none));
       aps = λ none. subst EvenAps (sym state) (was.aps (sym (sealed Aps []) ∙ none));
+      memory = λ layer key sender. ap (memory_at layer key sender) state ∙ was.memory layer key sender ∙ sym
+          (floors layer key sender);
     }
 
 refused_evens : (h : List Line) (number n m : ℕ) (place : Place) (reason : Reason) → EvensAt h m
@@ -86,7 +95,9 @@ refused_evens h number n m place reason e =
     same_evens h (h ++ Refuse number n place reason ∷ []) m
     (state-snoc h (Refuse number n place reason) m ∙ by_state (nat_eq n m))
     (λ layer key. sealed_snoc m layer key h (Refuse number n place reason) ∙ by_sealed (nat_eq n m)
-    (sealed_since m layer key h)) (refused_up h number n m place reason) e
+    (sealed_since m layer key h))
+    (λ layer key sender. mute_kept layer key sender m h (Refuse number n place reason ∷ [])
+    (λ own. (λ o. refl, refl), tt)) (refused_up h number n m place reason) e
   where
     by_state : (b : Bool) → cond b (state_of h m) (state_of h m) ≡ state_of h m
     by_state true = refl
@@ -101,7 +112,9 @@ unfolding Rattle.zb_model.specs.Readings.heard_line speaker Rattle.zb_model.spec
 dump_evens h number n m bytes e =
     same_evens h (h ++ Dump number n bytes ∷ []) m (state-snoc h (Dump number n bytes) m ∙ by_state (nat_eq n m))
     (λ layer key. sealed_snoc m layer key h (Dump number n bytes) ∙ by_sealed (nat_eq n m)
-    (sealed_since m layer key h)) (power_snoc h (Dump number n bytes) m ∙ by_up (nat_eq n m)) e
+    (sealed_since m layer key h))
+    (λ layer key sender. mute_kept layer key sender m h (Dump number n bytes ∷ [])
+    (λ own. (λ o. refl, refl), tt)) (power_snoc h (Dump number n bytes) m ∙ by_up (nat_eq n m)) e
   where
     by_state : (b : Bool) → cond b (state_of h m) (state_of h m) ≡ state_of h m
     by_state true = refl
@@ -118,15 +131,36 @@ dump_evens h number n m bytes e =
 nothing_evens : (h : List Line) (m : ℕ) → EvensAt h m → EvensAt (h ++ []) m
 nothing_evens h m e = subst (λ x. EvensAt x m) (sym (append-nil' h)) e
 
-boot_evens : (h : List Line) (number n : ℕ) → EvensAt (h ++ Boot number n ∷ []) n
+-- what lines say of the stored floors
+abbrev FloorsSaid : List Line → ℕ → Type 0
+FloorsSaid h n = (layer : Layer) (key : Bytes) (sender : ℕ) → stored h n layer key sender
+    ≡ floor_at layer key sender (state_of h n)
+
+floors_by : (h : List Line) (n : ℕ) (x : Said) → Recalls x (state_of h n)
+    → ((layer : Layer) (key : Bytes) (sender : ℕ) → x.floor layer key sender
+    ≡ last_said n (floor_in layer key sender) h)
+    → FloorsSaid h n
+unfolding stored
+floors_by h n x is same Nwk key sender = ap (λ o. unwrap_or o 0) (sym (same Nwk key sender)) ∙ sym
+    (is.net_floors key sender)
+floors_by h n x is same Aps key sender = ap (λ o. unwrap_or o 0) (sym (same Aps key sender)) ∙ sym
+    (is.link_floors key sender)
+
+pub floors_said : (before : List (List Line)) (n : ℕ) → RecallsAt before [] n → FloorsSaid (flat before) n
+floors_said before n is =
+    subst (λ x. FloorsSaid x n) (append-nil' (flat before))
+    (floors_by (flat before ++ []) n (said_of before [] n) is (λ layer key sender. refl))
+
+boot_evens : (h : List Line) (number n : ℕ) → FloorsSaid h n → EvensAt (h ++ Boot number n ∷ []) n
 unfolding Rattle.zb_model.specs.Readings.heard_line speaker Rattle.zb_model.specs.Readings.after
-boot_evens h number n on =
+boot_evens h number n floors on =
     let state_is =
     state-snoc h (Boot number n) n ∙ ap
     (λ b. cond b (Rattle.zb_model.specs.State.after_boot (state_of h n)) (state_of h n)) (nat_eq-refl n) in
     record {
       nwk = λ key none. subst (Even key) (sym state_is) (boot_even key (state_of h n));
       aps = λ none. subst EvenAps (sym state_is) (boot_aps (state_of h n));
+      memory = λ layer key sender. boot_kept layer key sender h number n (floors layer key sender);
     }
 
 down_evens : (h : List Line) (n : ℕ) → is_up h n ≡ false → EvensAt h n
@@ -214,8 +248,10 @@ some_key (Some a) key e = ap Some (Rattle.law_run.proofs.Basics.same_key-eq a ke
 
 group_evens : (w : Schedule) (before : List (List Line)) (n : ℕ) (g : List Line) → RecallsAt before [] n
     → FitsChanges before n [] g → IsCounted w (flat before) g → AllByRecursion NoBoot g → AllByRecursion (SealsOf n) g
+    → ((layer : Layer) (key : Bytes) (sender : ℕ) → memory_at layer key sender (state_of (flat before ++ g) n)
+    ≡ kept (flat before ++ g) n layer key sender)
     → Evens (flat before) n → Evens (flat before ++ g) n
-group_evens w before n g said fits counted free own was = record {
+group_evens w before n g said fits counted free own floors was = record {
   nwk = λ key none.
       let p = none_sealed n Nwk key (flat before) g free none in
       evens_more before n key [] g fits
@@ -227,6 +263,7 @@ group_evens w before n g said fits counted free own was = record {
       let p = none_sealed n Aps [] (flat before) g free none in
       aps_more before n [] g fits (aps_unreserved w (flat before) n g counted own p.1) p.1
       (subst (λ x. EvenAps (state_of x n)) (sym (append-nil' (flat before))) (was.aps p.0));
+  memory = floors;
 }
 
 -- ---- the event's own node
@@ -272,8 +309,12 @@ task_evens tools w before ds number n task said fits counted e =
     calls = calls_for h n a.edits
 
     whole : IsCounted w h (group_of h number n a) → is_up h n ≡ true → Evens (h ++ group_of h number n a) n
-    whole c up = group_evens w before n (group_of h number n a) said (group_changes before h number n n a (fits task))
-        c (unboot_group h number n a) (of_group h number n a) (e up)
+    whole c up =
+        group_evens w before n (group_of h number n a) said
+        (group_changes before h number n n a (fits task).edits ((fits task).tells number)) c
+        (unboot_group h number n a) (of_group h number n a)
+        (λ layer key sender. group_kept layer key sender (setting_of w n).me.in_block h h number n a (fits task).floors
+        (unboot_group h number n a) ((fits task).takes number) ((e up).memory layer key sender)) (e up)
 
     answered : IsCounted w h (group_of h number n a) → is_up h n ≡ true
         → EvensAt (h ++ (answer_step h ds number n a).lines) n
@@ -316,9 +357,9 @@ reset_evens h ds number n e =
     (power_snoc h (DownReset number n) n ∙ ap (λ b. cond b false (is_up h n)) (nat_eq-refl n)))
     (λ down. refused_evens h number n n AtEvent Down e)
 
-power_evens : (h : List Line) (ds : List Disk) (number n : ℕ) → EvensAt h n
+power_evens : (h : List Line) (ds : List Disk) (number n : ℕ) → FloorsSaid h n → EvensAt h n
     → EvensAt (h ++ (cond (is_up h n) (refused_step ds number n WrongState) (boot_step ds number n)).lines) n
-power_evens h ds number n e =
+power_evens h ds number n floors e =
     either_evens h n (is_up h n) (refused_step ds number n WrongState) (boot_step ds number n)
     (λ up. refused_evens h number n n AtEvent WrongState e)
     (λ down. either_evens h n (falls (disk_of ds n).armed (BootCalls (disk_of ds n).both_open))
@@ -336,7 +377,7 @@ power_evens h ds number n e =
     })
     (λ fell. down_evens (h ++ fallen_line (disk_of ds n).armed number n) n
     (fallen_down h (disk_of ds n).armed (BootCalls (disk_of ds n).both_open) number n fell))
-    (λ missed. boot_evens h number n))
+    (λ missed. boot_evens h number n floors))
 
 abbrev CountedStep : Tools → Schedule → List Line → ℕ → Event → Type 0
 CountedStep tools w h number event = IsCounted w h (step tools w h [] number event).lines
@@ -354,7 +395,8 @@ own_evens tools w before ds number (RollOver n) counted said fits e =
 own_evens tools w before ds number (Deliver frame n) counted said fits e = deliver_evens tools w before ds number n
     (frame_at (flat before) frame) said fits counted e
 own_evens tools w before ds number (Reset n) counted said fits e = reset_evens (flat before) ds number n e
-own_evens tools w before ds number (PowerOn n) counted said fits e = power_evens (flat before) ds number n e
+own_evens tools w before ds number (PowerOn n) counted said fits e = power_evens (flat before) ds number n
+    (floors_said before n said) e
 own_evens tools w before ds number (ShowRecord n) counted said fits e =
     dump_evens (flat before) number n n (record_of (state_of (flat before) n)) e
 own_evens tools w before ds number (ArmStop n calls torn) counted said fits e = nothing_evens (flat before) n e
@@ -367,8 +409,10 @@ own_evens tools w before ds number (ForgeOpen to from source label base aps_coun
 
 -- ---- other nodes
 
--- a line that is no seal or boot of the node
+-- a line that is no seal, boot, change or accepted counter of the node
 abbrev Deaf : ℕ → Line → Type 0
+Deaf m (Changed e n edit) = nat_eq n m ≡ false
+Deaf m (Accept e n t) = nat_eq n m ≡ false
 Deaf m (Seal e n t) = nat_eq n m ≡ false
 Deaf m (Boot e n) = nat_eq n m ≡ false
 Deaf m _ = Unit {0}
@@ -407,17 +451,32 @@ deaf_lines m layer key h (l ∷ ls) d =
     ap (sealed_since m layer key) (sym (append_assoc h (l ∷ []) ls)) ∙ deaf_lines m layer key (h ++ l ∷ []) ls d.1
     ∙ sealed_snoc m layer key h l ∙ deaf_line m layer key (sealed_since m layer key h) l d.0
 
+deaf_own : (layer : Layer) (key : Bytes) (sender m : ℕ) (l : Line) → Deaf m l → nat_eq (speaker l) m ≡ true
+    → Mute layer key sender l
+unfolding speaker
+deaf_own layer key sender m (Changed e n edit) d own = absurd (false≢true (sym d ∙ own))
+deaf_own layer key sender m (Accept e n t) d own = absurd (false≢true (sym d ∙ own))
+deaf_own layer key sender m (Boot e n) d own = absurd (false≢true (sym d ∙ own))
+deaf_own layer key sender m _ d own = (λ o. refl, refl)
+
+deaf_mute : (layer : Layer) (key : Bytes) (sender m : ℕ) (ls : List Line) → AllByRecursion (Deaf m) ls
+    → AllOwn (Mute layer key sender) m ls
+deaf_mute layer key sender m [] d = tt
+deaf_mute layer key sender m (l ∷ ls) d = (deaf_own layer key sender m l d.0, deaf_mute layer key sender m ls d.1)
+
 deaf_commit : (m number n : ℕ) (es : List Edit) → AllByRecursion (Deaf m) (commit_lines number n es)
 deaf_commit m number n [] = tt
 deaf_commit m number n (e ∷ es) = (tt, tt)
 
-deaf_changes : (m number n : ℕ) (es : List Edit) → AllByRecursion (Deaf m) (map (Changed number n) es)
-deaf_changes m number n [] = tt
-deaf_changes m number n (e ∷ es) = (tt, deaf_changes m number n es)
+deaf_changes : (m number n : ℕ) (es : List Edit) → nat_eq n m ≡ false
+    → AllByRecursion (Deaf m) (map (Changed number n) es)
+deaf_changes m number n [] other = tt
+deaf_changes m number n (e ∷ es) other = (other, deaf_changes m number n es other)
 
-deaf_accepts : (m number n : ℕ) (ts : List Term) → AllByRecursion (Deaf m) (map (Accept number n) ts)
-deaf_accepts m number n [] = tt
-deaf_accepts m number n (t ∷ ts) = (tt, deaf_accepts m number n ts)
+deaf_accepts : (m number n : ℕ) (ts : List Term) → nat_eq n m ≡ false
+    → AllByRecursion (Deaf m) (map (Accept number n) ts)
+deaf_accepts m number n [] other = tt
+deaf_accepts m number n (t ∷ ts) other = (other, deaf_accepts m number n ts other)
 
 deaf_seals : (m number n : ℕ) (ts : List Term) → nat_eq n m ≡ false → AllByRecursion (Deaf m) (map (Seal number n) ts)
 deaf_seals m number n [] other = tt
@@ -438,29 +497,30 @@ deaf_fallen m NotArmed number n = tt
 deaf_fallen m (StopAfter calls torn) number n = (tt, tt)
 deaf_fallen m (FailAt call) number n = (tt, tt)
 
-deaf_stored : (m number n : ℕ) (a : Answer) → AllByRecursion (Deaf m) (stored_lines number n a)
+deaf_stored : (m number n : ℕ) (a : Answer) → nat_eq n m ≡ false
+    → AllByRecursion (Deaf m) (stored_lines number n a)
 unfolding stored_lines
-deaf_stored m number n a = all-append (Deaf m) (map (Changed number n) a.edits) (commit_lines number n a.edits)
-    (deaf_changes m number n a.edits) (deaf_commit m number n a.edits)
+deaf_stored m number n a other = all-append (Deaf m) (map (Changed number n) a.edits) (commit_lines number n a.edits)
+    (deaf_changes m number n a.edits other) (deaf_commit m number n a.edits)
 
 deaf_group : (m : ℕ) (h0 : List Line) (number n : ℕ) (a : Answer) → nat_eq n m ≡ false
     → AllByRecursion (Deaf m) (group_of h0 number n a)
 unfolding group_of told_lines
 deaf_group m h0 number n a other =
-    all-append (Deaf m) (stored_lines number n a) _ (deaf_stored m number n a)
-    (all-append (Deaf m) (map (Accept number n) a.accepts) _ (deaf_accepts m number n a.accepts)
+    all-append (Deaf m) (stored_lines number n a) _ (deaf_stored m number n a other)
+    (all-append (Deaf m) (map (Accept number n) a.accepts) _ (deaf_accepts m number n a.accepts other)
     (all-append (Deaf m) (refuse_lines number n a.place a.refusal) _ (deaf_refuse m number n a.place a.refusal)
     (all-append (Deaf m) (map (Seal number n) a.seals) _ (deaf_seals m number n a.seals other)
     (deaf_send m number (Some n) (length (air h0) + 1) a.frame))))
 
-deaf_cut : (m : ℕ) (armed : Armed) (calls : Calls) (number n : ℕ) (a : Answer)
+deaf_cut : (m : ℕ) (armed : Armed) (calls : Calls) (number n : ℕ) (a : Answer) → nat_eq n m ≡ false
     → AllByRecursion (Deaf m) (cut_of armed calls number n a)
 unfolding cut_of
-deaf_cut m armed calls number n a = all-append (Deaf m) (cond (stands armed calls) (stored_lines number n a) [])
+deaf_cut m armed calls number n a other = all-append (Deaf m) (cond (stands armed calls) (stored_lines number n a) [])
     (fallen_line armed number n) (by_test (stands armed calls)) (deaf_fallen m armed number n)
   where
     by_test : (b : Bool) → AllByRecursion (Deaf m) (cond b (stored_lines number n a) [])
-    by_test true = deaf_stored m number n a
+    by_test true = deaf_stored m number n a other
     by_test false = tt
 
 either_deaf : (m : ℕ) (b : Bool) (x y : Step) → AllByRecursion (Deaf m) x.lines → AllByRecursion (Deaf m) y.lines
@@ -481,7 +541,7 @@ deaf_task tools w m h ds number n task other =
       disks = with_disk ds n (record { armed = NotArmed; both_open = leaves_both (disk_of ds n).armed calls });
     })
     (record { lines = group_of h number n a; disks = ds })
-    (deaf_cut m (disk_of ds n).armed calls number n a) (deaf_group m h number n a other))
+    (deaf_cut m (disk_of ds n).armed calls number n a other) (deaf_group m h number n a other))
     (tt, tt)
 
 deaf_deliver : (tools : Tools) (w : Schedule) (m : ℕ) (h : List Line) (ds : List Disk) (number n : ℕ)
@@ -533,6 +593,9 @@ other_evens tools w h ds number event m other e =
     same_evens h (h ++ (step tools w h ds number event).lines) m (ap (λ (x : Condition). x.state) same)
     (λ layer key. deaf_lines m layer key h (step tools w h ds number event).lines
     (deaf_event tools w m h ds number event other))
+    (λ layer key sender. mute_kept layer key sender m h (step tools w h ds number event).lines
+    (deaf_mute layer key sender m (step tools w h ds number event).lines
+    (deaf_event tools w m h ds number event other)))
     (ap (λ (x : Condition). x.up) same) e
 
 -- what holds of an event's node

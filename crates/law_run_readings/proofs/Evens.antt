@@ -11,6 +11,7 @@ use Rattle.law_run.proofs.Basics.{append-nil', find-map, same_key-eq, same_key-r
 use Rattle.law_run.proofs.Nets.{at_key}
 use Rattle.law_run_counters.specs.Counted.{IsCounted, TakesCounter, reserve_there, reserve_called, reserve_line}
 use Rattle.law_run_readings.specs.LastLines.{flat, is_under, sealed_in, sealed_since}
+use Rattle.law_run_readings.proofs.Memory.{NoBoot}
 use Rattle.law_run_readings.proofs.Rows.{row_at, other_row, new_row_other, new_row_own}
 use Rattle.law_run_readings.proofs.Steps.{FitsReserve}
 use Rattle.law_run_readings.proofs.Lines.{was_active, FitsChange, FitsChanges, sealed_snoc, heard_as}
@@ -275,7 +276,7 @@ evens_more before n key front (l ∷ ls) fits none free e =
     subst (λ x. Even key (state_of (flat before ++ x) n)) (append_assoc front (l ∷ []) ls)
     (evens_more before n key (front ++ l ∷ []) ls fits.1 (λ w. (none w).1) free.1
     (one_state (Even key) n (flat before) front l
-    (λ own. line_even (was_active before n) key l (state_of (flat before ++ front) n) (fits.0 own)
+    (λ own. line_even (was_active before n) key l (state_of (flat before ++ front) n) (fits.0 own).0
     (λ w. (none w).0 own) (free.0 own) e) e))
 
 pub aps_more : (before : List (List Line)) (n : ℕ) (front ls : List Line) → FitsChanges before n front ls
@@ -287,14 +288,10 @@ aps_more before n front (l ∷ ls) fits none free e =
     subst (λ x. EvenAps (state_of (flat before ++ x) n)) (append_assoc front (l ∷ []) ls)
     (aps_more before n (front ++ l ∷ []) ls fits.1 none.1 free.1
     (one_state EvenAps n (flat before) front l
-    (λ own. line_aps (was_active before n) l (state_of (flat before ++ front) n) (fits.0 own) (none.0 own)
+    (λ own. line_aps (was_active before n) l (state_of (flat before ++ front) n) (fits.0 own).0 (none.0 own)
     (free.0 own) e) e))
 
 -- ---- what is not sealed
-
-abbrev pub NoBoot : Line → Type 0
-NoBoot (Boot e n) = ⊥
-NoBoot _ = Unit {0}
 
 abbrev is_none : Option ℕ → Type 0
 is_none None = Unit {0}

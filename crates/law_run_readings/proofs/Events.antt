@@ -15,8 +15,14 @@ use Rattle.law_run.proofs.Basics.{append-nil'}
 use Rattle.law_run.proofs.Counters.{LineFits}
 use Rattle.law_run.proofs.EventStates.{answer_to}
 use Rattle.law_run.proofs.FreshLines.{all-append, Inv}
+use Rattle.law_run.proofs.Judged.{plan-accepts}
+use Rattle.law_run.proofs.OnceGroups.{group-accepts}
+use Rattle.law_run.proofs.OnceLines.{AcceptFits}
+use Rattle.law_run.specs.Opening.{Opens}
 use Rattle.law_run.proofs.Runs.{step-fits}
 use Rattle.law_run.proofs.Sound.{sound}
+use Rattle.law_run_counters.specs.Floors.{FloorOf}
+use Rattle.law_run_counters.proofs.Floors.{answer-floors}
 use Rattle.law_run_counters.proofs.Shown.{plan-fits}
 use Rattle.law_run_counters.proofs.ActiveRows.{moves-fit}
 use Rattle.law_run_counters.proofs.Started.{ActiveStarted}
@@ -25,11 +31,12 @@ use Rattle.law_answer_storable.specs.Storing.{OpensAsJudged}
 use Rattle.law_answer_storable.proofs.Answers.{all_stored}
 use Rattle.law_run_readings.specs.LastLines.{active, flat}
 use Rattle.law_run_readings.proofs.Edits.{FitEdits, answer_fits}
+use Rattle.law_run_readings.proofs.ToldEdits.{TellAll, answer_tells}
 use Rattle.law_run_readings.proofs.Lines.{RecallsAt, was_active, FitsChanges, NoChange, unchanged, changes_append, own_changes, others_changes, lines_more, group_more}
 
 -- ---- lines without a change
 
-commit_plain : (number n : ℕ) (es : List Edit) → AllByRecursion NoChange (commit_lines number n es)
+pub commit_plain : (number n : ℕ) (es : List Edit) → AllByRecursion NoChange (commit_lines number n es)
 unfolding NoChange
 commit_plain number n [] = tt
 commit_plain number n (e ∷ es) = (tt, tt)
@@ -56,7 +63,7 @@ unfolding NoChange
 send_plain number n frame None = tt
 send_plain number n frame (Some b) = (tt, tt)
 
-told_plain : (number n frame : ℕ) (a : Answer) → AllByRecursion NoChange (told_lines number n frame a)
+pub told_plain : (number n frame : ℕ) (a : Answer) → AllByRecursion NoChange (told_lines number n frame a)
 unfolding told_lines
 told_plain number n frame a =
     all-append NoChange (map (Accept number n) a.accepts) _ (accepts_plain number n a.accepts)
@@ -74,39 +81,40 @@ fallen_plain (FailAt call) number n = (tt, tt)
 
 changed : (before : List (List Line)) (number n m : ℕ) (es : List Edit)
     → FitEdits (was_active before n) es (state_of (flat before ++ []) n)
-    → FitsChanges before m [] (map (Changed number n) es)
-changed before number n m es fits = by_node (nat_eq n m) refl
+    → TellAll number n es (state_of (flat before ++ []) n) → FitsChanges before m [] (map (Changed number n) es)
+changed before number n m es fits tell = by_node (nat_eq n m) refl
   where
     by_node : (b : Bool) → nat_eq n m ≡ b → FitsChanges before m [] (map (Changed number n) es)
     by_node true e = subst (λ k. FitsChanges before k [] (map (Changed number n) es)) (eqb-true n m e)
-        (own_changes before number n [] es fits)
+        (own_changes before number n [] es fits tell)
     by_node false e = others_changes before number n m [] es e
 
 stored_changes : (before : List (List Line)) (number n m : ℕ) (a : Answer)
     → FitEdits (was_active before n) a.edits (state_of (flat before ++ []) n)
-    → FitsChanges before m [] (stored_lines number n a)
+    → TellAll number n a.edits (state_of (flat before ++ []) n) → FitsChanges before m [] (stored_lines number n a)
 unfolding stored_lines
-stored_changes before number n m a fits =
+stored_changes before number n m a fits tell =
     changes_append before m [] (map (Changed number n) a.edits) (commit_lines number n a.edits)
-    (changed before number n m a.edits fits)
+    (changed before number n m a.edits fits tell)
     (unchanged before m (map (Changed number n) a.edits) (commit_lines number n a.edits)
     (commit_plain number n a.edits))
 
 pub group_changes : (before : List (List Line)) (h0 : List Line) (number n m : ℕ) (a : Answer)
     → FitEdits (was_active before n) a.edits (state_of (flat before ++ []) n)
-    → FitsChanges before m [] (group_of h0 number n a)
+    → TellAll number n a.edits (state_of (flat before ++ []) n) → FitsChanges before m [] (group_of h0 number n a)
 unfolding group_of
-group_changes before h0 number n m a fits =
+group_changes before h0 number n m a fits tell =
     changes_append before m [] (stored_lines number n a) (told_lines number n (length (air h0) + 1) a)
-    (stored_changes before number n m a fits)
+    (stored_changes before number n m a fits tell)
     (unchanged before m (stored_lines number n a) (told_lines number n (length (air h0) + 1) a)
     (told_plain number n (length (air h0) + 1) a))
 
 cut_changes : (before : List (List Line)) (armed : Armed) (calls : Calls) (number n m : ℕ) (a : Answer)
     → FitEdits (was_active before n) a.edits (state_of (flat before ++ []) n)
+    → TellAll number n a.edits (state_of (flat before ++ []) n)
     → FitsChanges before m [] (cut_of armed calls number n a)
 unfolding cut_of
-cut_changes before armed calls number n m a fits =
+cut_changes before armed calls number n m a fits tell =
     changes_append before m [] some (fallen_line armed number n) (by_test (stands armed calls))
     (unchanged before m some (fallen_line armed number n) (fallen_plain armed number n))
   where
@@ -114,7 +122,7 @@ cut_changes before armed calls number n m a fits =
     some = cond (stands armed calls) (stored_lines number n a) []
 
     by_test : (b : Bool) → FitsChanges before m [] (cond b (stored_lines number n a) [])
-    by_test true = stored_changes before number n m a fits
+    by_test true = stored_changes before number n m a fits tell
     by_test false = tt
 
 -- ---- events
@@ -130,9 +138,21 @@ unfolding NoChange
 refused_changes before m disks number n reason = unchanged before m [] (refused_step disks number n reason).lines
     (tt, tt)
 
+-- The changes of an answer fit the state and tell of devices as they must; its group accepts what isn't below the
+-- floors, and stores each floor for that.
+pub record AnswerFits (tools : Tools) (w : Schedule) (before : List (List Line)) (n : ℕ) (task : Task) : Type 0 where
+  pub edits : FitEdits (was_active before n) (answer_to tools w (flat before) n task).edits
+      (state_of (flat before ++ []) n)
+  pub tells : (number : ℕ) → TellAll number n (answer_to tools w (flat before) n task).edits
+      (state_of (flat before ++ []) n)
+  pub takes : (number : ℕ)
+      → Each AcceptFits (flat before) (group_of (flat before) number n (answer_to tools w (flat before) n task))
+  pub floors : AllByRecursion
+      (FloorOf (setting_of w n).me.in_block (answer_to tools w (flat before) n task).accepts)
+      (answer_to tools w (flat before) n task).edits
+
 abbrev pub AnswersFit : Tools → Schedule → List (List Line) → ℕ → Type 0
-AnswersFit tools w before n = (task : Task)
-    → FitEdits (was_active before n) (answer_to tools w (flat before) n task).edits (state_of (flat before ++ []) n)
+AnswersFit tools w before n = (task : Task) → AnswerFits tools w before n task
 
 answer_changes : (tools : Tools) (w : Schedule) (before : List (List Line)) (m : ℕ) (disks : List Disk) (number n : ℕ)
     (task : Task) → AnswersFit tools w before n
@@ -144,8 +164,9 @@ answer_changes tools w before m disks number n task fits =
       disks = with_disk disks n (record { armed = NotArmed; both_open = leaves_both (disk_of disks n).armed calls });
     })
     (record { lines = group_of (flat before) number n a; disks = disks })
-    (cut_changes before (disk_of disks n).armed calls number n m a (fits task))
-    (group_changes before (flat before) number n m a (fits task))
+    (cut_changes before (disk_of disks n).armed calls number n m a (fits task).edits
+    ((fits task).tells number))
+    (group_changes before (flat before) number n m a (fits task).edits ((fits task).tells number))
   where
     a : Answer
     a = answer_to tools w (flat before) n task
@@ -210,17 +231,17 @@ event_changes tools w before m disks number (Reset n) fits =
 event_changes tools w before m disks number (PowerOn n) fits =
     either before m (is_up (flat before) n) (refused_step disks number n WrongState) (boot_step disks number n)
     (refused_changes before m disks number n WrongState) (boot_changes before m disks number n)
-event_changes tools w before m disks number (ShowRecord n) fits = (λ e. tt, tt)
+event_changes tools w before m disks number (ShowRecord n) fits = (λ e. (tt, tt), tt)
 event_changes tools w before m disks number (ArmStop n calls torn) fits = tt
 event_changes tools w before m disks number (ArmFail n call) fits = tt
-event_changes tools w before m disks number (InjectBytes bytes) fits = (λ e. tt, tt)
+event_changes tools w before m disks number (InjectBytes bytes) fits = (λ e. (tt, tt), tt)
 event_changes tools w before m disks number (ForgeNet to from source key sequence counter content) fits =
-    (λ e. tt, (λ e. tt, tt))
+    (λ e. (tt, tt), (λ e. (tt, tt), tt))
 event_changes tools w before m disks number
     (ForgeNetAps to from source key sequence counter label base aps_counter command) fits =
-    (λ e. tt, (λ e. tt, (λ e. tt, tt)))
+    (λ e. (tt, tt), (λ e. (tt, tt), (λ e. (tt, tt), tt)))
 event_changes tools w before m disks number (ForgeOpen to from source label base aps_counter command) fits =
-    (λ e. tt, (λ e. tt, tt))
+    (λ e. (tt, tt), (λ e. (tt, tt), tt))
 
 -- ---- the answers of an event's node fit
 
@@ -236,11 +257,11 @@ active_said before n is =
     ap (λ x. active x n) (sym (append-nil' (flat before))) ∙ sym is.active ∙ ap (λ x. (state_of x n).active)
     (append-nil' (flat before))
 
-pub answers_fit : (tools : Tools) → OpensAsJudged tools → (w : Schedule) (before : List (List Line)) (n : ℕ)
-    → IsReady w (flat before) n → ActiveStarted (state_of (flat before) n) → RecallsAt before [] n
-    → AnswersFit tools w before n
+changes_fit : (tools : Tools) → OpensAsJudged tools → (w : Schedule) (before : List (List Line)) (n : ℕ)
+    → IsReady w (flat before) n → ActiveStarted (state_of (flat before) n) → RecallsAt before [] n → (task : Task)
+    → FitEdits (was_active before n) (answer_to tools w (flat before) n task).edits (state_of (flat before ++ []) n)
 unfolding answer answer_by
-answers_fit tools opens w before n ready started is task =
+changes_fit tools opens w before n ready started is task =
     let s = state_of (flat before) n in
     let p = plan_of tools (setting_of w n) s task in
     subst (λ x. FitEdits (was_active before n) (answer_to tools w (flat before) n task).edits x)
@@ -249,6 +270,36 @@ answers_fit tools opens w before n ready started is task =
     (λ key. ap (λ o. is_active_key o key) (active_said before n is)) started (sound (flat before) n)
     (moves-fit s p.outcome (plan-fits tools (setting_of w n) s task))
     (all_stored tools opens (setting_of w n) s task ready.ruled ready.declared.role ready.declared.in_block))
+
+floors_fit : (tools : Tools) → Opens tools → (w : Schedule) (h : List Line) (n : ℕ) (task : Task)
+    → AllByRecursion (FloorOf (setting_of w n).me.in_block (answer_to tools w h n task).accepts)
+    (answer_to tools w h n task).edits
+unfolding answer
+floors_fit tools opens w h n task = answer-floors tools opens (setting_of w n) h n task
+
+tells_fit : (tools : Tools) → Opens tools → (w : Schedule) (h : List Line) (n : ℕ) (task : Task)
+    → (state_of h n).role ≡ (setting_of w n).me.role → (number : ℕ)
+    → TellAll number n (answer_to tools w h n task).edits (state_of h n)
+unfolding answer
+tells_fit tools opens w h n task role number =
+    answer_tells tools opens (setting_of w n) (state_of h n) task (sound h n) role number n
+
+pub answers_fit : (tools : Tools) → Opens tools → OpensAsJudged tools → (w : Schedule) (before : List (List Line))
+    (n : ℕ) → IsReady w (flat before) n → ActiveStarted (state_of (flat before) n) → RecallsAt before [] n
+    → AnswersFit tools w before n
+answers_fit tools opens judged w before n ready started is task =
+    let s = state_of (flat before) n in
+    record {
+      edits = changes_fit tools judged w before n ready started is task;
+      tells = λ number.
+          subst (λ x. TellAll number n (answer_to tools w (flat before) n task).edits x)
+          (ap (λ x. state_of x n) (sym (append-nil' (flat before))))
+          (tells_fit tools opens w (flat before) n task ready.declared.role number);
+      takes = λ number. group-accepts tools (setting_of w n) (flat before) (flat before) number n
+          (plan_of tools (setting_of w n) s task) ready.declared.in_block
+          (plan-accepts tools opens (setting_of w n) s (sound (flat before) n) task);
+      floors = floors_fit tools opens w (flat before) n task;
+    }
 
 -- ---- a step more
 

@@ -4,7 +4,7 @@ use Rattle.std.proofs.Common.{◌≡◌, ℕ, Bool, true, false, cond, List, [],
 use Rattle.std.specs.List.{AllByRecursion}
 use Rattle.std.specs.Option.{option_or}
 use Rattle.zb_model.specs.Data.{Bytes, Role, Layer, Nwk, Aps, Station, Term, Move, Fresh, Draw, Became, Reserve, Floor, Start, Moved}
-use Rattle.zb_model.specs.Lines.{Line, Declared, GivenNet, GivenLink, Counter, Changed, Accept, Seal, Boot}
+use Rattle.zb_model.specs.Lines.{Line, Declared, Counter, Changed, Accept, Seal}
 use Rattle.zb_model.specs.State.{NodeState, after_accepting, after_boot, after_hearing, after_sealing, applied, moved, sealed_at, with_declared, with_given_link, with_given_net}
 use Rattle.zb_model.specs.Readings.{after, heard_line, speaker, state_of}
 use Rattle.zb_model.specs.Rules.{centre_of}
@@ -12,7 +12,7 @@ use Rattle.zb_model.specs.Play.{Schedule, Node, stations, net_line, link_line, l
 use Rattle.law_run.proofs.Basics.{append-nil', state-snoc}
 use Rattle.law_run.proofs.FreshLines.{all-append}
 use Rattle.law_run_readings.specs.LastLines.{flat, last_said, said_by}
-use Rattle.law_run_readings.specs.RowLines.{joining, role, state_in}
+use Rattle.law_run_readings.specs.RowLines.{joining, state_in}
 use Rattle.law_run_readings.proofs.Lines.{FitsChange, FitsChanges, last_snoc}
 use Rattle.law_run_readings.proofs.OwnLines.{role_said}
 
@@ -124,7 +124,7 @@ joins_group before front (l ∷ ls) n fits is =
     (joins_group before (front ++ l ∷ []) ls n fits.1
     (subst (λ x. Joins x n) (append_assoc (flat before) front (l ∷ []))
     (joins_more (flat before ++ front) l n
-    (λ own. undeclared _ l (state_of (flat before ++ front) n) (fits.0 own)) is)))
+    (λ own. undeclared _ l (state_of (flat before ++ front) n) (fits.0 own).0) is)))
 
 -- ---- the start
 

@@ -1,6 +1,6 @@
 -- What lines say of the stored floors stays where rows change in other things.
-use Rattle.std.proofs.Common.{◌≡◌, ℕ, ◌≤◌, max, Bool, true, false, cond, ◌&&◌, ◌||◌, List, [], ◌∷◌, ◌++◌, map, Option, Some, None, option_map, find, nat_eq, refl, sym, ap, ◌∙◌, subst, arith, eqb-true}
-use Rattle.std.proofs.lemmas.Bool.{false≢true, and_parts}
+use Rattle.std.proofs.Common.{◌≡◌, ℕ, ◌≤◌, max, Bool, true, false, cond, ◌&&◌, List, [], ◌∷◌, ◌++◌, map, Option, Some, None, option_map, find, nat_eq, refl, sym, ap, ◌∙◌, subst, arith, eqb-true}
+use Rattle.std.proofs.lemmas.Bool.{and_parts}
 use Rattle.zb_model.specs.Data.{Bytes, Attribute}
 use Rattle.zb_model.specs.State.{SenderFloor, NetKey, LinkKey, same_key, at_net, at_link, is_link, has_net, has_link, is_live_of, new_net, new_link, net_floor, link_floor, net_kept, booted_net, booted_floor, revived, with_link, told_as, with_told, floor_of_sender, sender_floor}
 use Rattle.zb_model.specs.Fits.{net_stored, link_stored}
@@ -210,24 +210,17 @@ with_told_stored partner told p key links =
     (only_link (told_as told) (is_live_of partner) (plain_link (told_as told) (λ r. refl) (λ r. refl) (λ r. refl))) p
     key links
 
--- a floor of a partner's key
-raised_link : (v : ℕ) (from : ℕ) (k : Bytes) (p : ℕ) (key : Bytes) (links : List LinkKey) → (o : Option LinkKey)
-    → link_at p key links ≡ o → (link_at from k links ≡ None → ⊥) → link_stored (link_at from k links) ≤ v
-    → link_stored (option_map (λ (r : LinkKey). cond (is_link from k r) (link_floor v r) r) o)
-    ≡ cond (same_key k key && nat_eq from p) v (link_stored o)
-raised_link v from k p key links None e there below = by_test (same_key k key) refl (nat_eq from p) refl
-  where
-    by_test : (b : Bool) → same_key k key ≡ b → (d : Bool) → nat_eq from p ≡ d → 0 ≡ cond (b && d) v 0
-    by_test true f true g =
-        absurd (there
-        (ap (λ x. link_at x k links) (eqb-true from p g) ∙ ap (λ x. link_at p x links) (same_key-eq k key f) ∙ e))
-    by_test true f false g = refl
-    by_test false f d g = refl
-raised_link v from k p key links (Some r) e there below = ap (λ b. link_stored (Some (cond b (link_floor v r) r)))
-    test_is ∙ by_test (same_key k key) refl (nat_eq from p) refl
+-- of the row of a partner and a key, whether it is another's is a question of the partner and the key
+pub link_asks : (from : ℕ) (k : Bytes) (p : ℕ) (key : Bytes) (r : LinkKey) → is_link p key r ≡ true
+    → is_link from k r ≡ (same_key k key && nat_eq from p)
+link_asks from k p key r e =
+    ap (λ x. nat_eq x from && same_key r.key k) (eqb-true r.partner p is.0) ∙ ap
+    (λ x. nat_eq p from && same_key x k) (same_key-eq r.key key is.1)
+    ∙ ap (λ b. b && same_key key k) (swap p from) ∙ ap (λ b. nat_eq from p && b) (turn key k) ∙ flip
+    (nat_eq from p) (same_key k key)
   where
     is : (nat_eq r.partner p ≡ true) × (same_key r.key key ≡ true)
-    is = and_parts (nat_eq r.partner p) (same_key r.key key) (found_link p key links r e)
+    is = and_parts (nat_eq r.partner p) (same_key r.key key) e
 
     turn : (a b : Bytes) → same_key a b ≡ same_key b a
     turn a b = by_turn (same_key a b) refl (same_key b a) refl
@@ -253,13 +246,22 @@ raised_link v from k p key links (Some r) e there below = ap (λ b. link_stored 
     flip false true = refl
     flip false false = refl
 
-    test_is : is_link from k r ≡ (same_key k key && nat_eq from p)
-    test_is =
-        ap (λ x. nat_eq x from && same_key r.key k) (eqb-true r.partner p is.0) ∙ ap
-        (λ x. nat_eq p from && same_key x k) (same_key-eq r.key key is.1)
-        ∙ ap (λ b. b && same_key key k) (swap p from) ∙ ap (λ b. nat_eq from p && b) (turn key k) ∙ flip
-        (nat_eq from p) (same_key k key)
-
+-- a floor of a partner's key
+raised_link : (v : ℕ) (from : ℕ) (k : Bytes) (p : ℕ) (key : Bytes) (links : List LinkKey) → (o : Option LinkKey)
+    → link_at p key links ≡ o → (link_at from k links ≡ None → ⊥) → link_stored (link_at from k links) ≤ v
+    → link_stored (option_map (λ (r : LinkKey). cond (is_link from k r) (link_floor v r) r) o)
+    ≡ cond (same_key k key && nat_eq from p) v (link_stored o)
+raised_link v from k p key links None e there below = by_test (same_key k key) refl (nat_eq from p) refl
+  where
+    by_test : (b : Bool) → same_key k key ≡ b → (d : Bool) → nat_eq from p ≡ d → 0 ≡ cond (b && d) v 0
+    by_test true f true g =
+        absurd (there
+        (ap (λ x. link_at x k links) (eqb-true from p g) ∙ ap (λ x. link_at p x links) (same_key-eq k key f) ∙ e))
+    by_test true f false g = refl
+    by_test false f d g = refl
+raised_link v from k p key links (Some r) e there below = ap (λ b. link_stored (Some (cond b (link_floor v r) r)))
+    (link_asks from k p key r (found_link p key links r e)) ∙ by_test (same_key k key) refl (nat_eq from p) refl
+  where
     by_test : (b : Bool) → same_key k key ≡ b → (d : Bool) → nat_eq from p ≡ d
         → link_stored (Some (cond (b && d) (link_floor v r) r)) ≡ cond (b && d) v (link_stored (Some r))
     by_test true f true g =

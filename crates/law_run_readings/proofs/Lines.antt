@@ -13,6 +13,8 @@ use Rattle.law_run.proofs.Counters.{LineFits, StateFits}
 use Rattle.law_run.proofs.Groups.{changed-line}
 use Rattle.law_run_readings.specs.LastLines.{said_by, last_said, given_in, active_in, active, counter_in, reserve_in, limit_in, limit_from, flat, sealed_in, sealed_since, floor_in}
 use Rattle.law_run_readings.proofs.SaidRows.{RowIs}
+use Rattle.law_run_readings.proofs.Telling.{TellsLine, tells_more}
+use Rattle.law_run_readings.proofs.ToldEdits.{TellAll}
 use Rattle.law_run_readings.proofs.Rows.{row_at}
 use Rattle.law_run_readings.proofs.Steps.{Said, Recalls, with_line, FitsEdit, FitsLine, line_says}
 use Rattle.law_run_readings.proofs.Edits.{FitEdits}
@@ -192,7 +194,8 @@ both_fit was (End events seals accepts refusals ideal private) s c f = tt
 abbrev pub FitsChanges : List (List Line) → ℕ → List Line → List Line → Type 0
 FitsChanges before n front [] = Unit {0}
 FitsChanges before n front (l ∷ ls) =
-    (nat_eq (speaker l) n ≡ true → FitsChange (was_active before n) l (state_of (flat before ++ front) n))
+    (nat_eq (speaker l) n ≡ true → FitsChange (was_active before n) l (state_of (flat before ++ front) n)
+    × TellsLine l (state_of (flat before ++ front) n) ls)
     × FitsChanges before n (front ++ l ∷ []) ls
 
 own_fits : (h front : List Line) (l : Line) (n : ℕ) → nat_eq (speaker l) n ≡ true → LineFits (h ++ front) l
@@ -208,7 +211,7 @@ lines_more before front (l ∷ ls) n changes fits is =
     (lines_more before (front ++ l ∷ []) ls n changes.1
     (subst (λ x. Each LineFits x ls) (append_assoc (flat before) front (l ∷ [])) fits.1)
     (line_more before front l n
-    (λ e. both_fit (was_active before n) l (state_of (flat before ++ front) n) (changes.0 e)
+    (λ e. both_fit (was_active before n) l (state_of (flat before ++ front) n) (changes.0 e).0
     (own_fits (flat before) front l n e fits.0)) is))
 
 -- ---- the next group
@@ -280,11 +283,19 @@ none_changes was (Counter n layer v) s c = absurd c
 none_changes was (Changed e n edit) s c = absurd c
 none_changes was _ s c = tt
 
+none_tells : (l : Line) (s : NodeState) (later : List Line) → NoChange l → TellsLine l s later
+unfolding NoChange
+none_tells (Changed e n edit) s later c = absurd c
+none_tells _ s later c = tt
+
 pub unchanged : (before : List (List Line)) (n : ℕ) (front ls : List Line) → AllByRecursion NoChange ls
     → FitsChanges before n front ls
 unchanged before n front [] a = tt
 unchanged before n front (l ∷ ls) a = (
-  λ e. none_changes (was_active before n) l (state_of (flat before ++ front) n) a.0,
+  λ e. (
+    none_changes (was_active before n) l (state_of (flat before ++ front) n) a.0,
+    none_tells l (state_of (flat before ++ front) n) ls a.0,
+  ),
   unchanged before n (front ++ l ∷ []) ls a.1,
 )
 
@@ -292,19 +303,21 @@ pub changes_append : (before : List (List Line)) (n : ℕ) (front xs ys : List L
     → FitsChanges before n (front ++ xs) ys → FitsChanges before n front (xs ++ ys)
 changes_append before n front [] ys a b = subst (λ x. FitsChanges before n x ys) (append-nil' front) b
 changes_append before n front (x ∷ xs) ys a b = (
-  a.0,
+  λ own. ((a.0 own).0, tells_more x (state_of (flat before ++ front) n) xs ys (a.0 own).1),
   changes_append before n (front ++ x ∷ []) xs ys a.1
       (subst (λ z. FitsChanges before n z ys) (sym (append_assoc front (x ∷ []) xs)) b),
 )
 
 pub own_changes : (before : List (List Line)) (number n : ℕ) (front : List Line) (es : List Edit)
     → FitEdits (was_active before n) es (state_of (flat before ++ front) n)
+    → TellAll number n es (state_of (flat before ++ front) n)
     → FitsChanges before n front (map (Changed number n) es)
-own_changes before number n front [] fits = tt
-own_changes before number n front (e ∷ es) fits = (
-  λ own. fits.0,
+own_changes before number n front [] fits tell = tt
+own_changes before number n front (e ∷ es) fits tell = (
+  λ own. (fits.0, tell.0),
   own_changes before number n (front ++ Changed number n e ∷ []) es
-      (subst (FitEdits (was_active before n) es) (sym state_is) fits.1),
+      (subst (FitEdits (was_active before n) es) (sym state_is) fits.1)
+      (subst (TellAll number n es) (sym state_is) tell.1),
 )
   where
     state_is : state_of (flat before ++ (front ++ Changed number n e ∷ [])) n

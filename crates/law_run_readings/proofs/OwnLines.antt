@@ -1,6 +1,6 @@
 -- Each line of a node says of its rows what the node's state has after it.
 use Rattle.std.proofs.Common.{◌≡◌, ◌+◌, ℕ, max, map, Bool, true, false, cond, List, [], ◌∷◌, None, ◌||◌, ◌&&◌, Option, Some, fold, nat_eq, refl, sym, ap, ◌∙◌, unwrap_or}
-use Rattle.std.specs.List.{AllByRecursion, list_any}
+use Rattle.std.specs.List.{list_any}
 use Rattle.std.specs.Option.{option_or}
 use Rattle.zb_model.specs.Data.{Role, Move, Draw, Bytes, Layer, Nwk, Aps, Term, Provisional, DropNet, DropLink, Install, Row, Live, Roll, Told, Untold, Reserve, Floor, Start, Moved, Device}
 use Rattle.zb_model.specs.Lines.{Line, GivenNet, GivenLink, Counter, Changed, Accept, Seal, Boot}
@@ -353,3 +353,6 @@ pub role_said : (h : List Line) (n : ℕ) → role h n ≡ (state_of h n).role
 unfolding role last_said state_of
 role_said h n = last_own n role_in h None Device ∙ sym
     (along (λ (s : NodeState). s.role) role_after role_line h n (new_node Device))
+
+-- what the law of rows stands on
+pub ruleset rows_decide = (rolling_said, keys_said, nets_said, rows_said, links_said, lives_said, role_said)

@@ -104,6 +104,15 @@ above_none of (g ∷ gs) a = by_test (nat_eq g.sender of) refl (above_none of gs
     by_test true e more = absurd (lt_irrefl of (omega (arith, a.0, eqb-true g.sender of e)))
     by_test false e more = more
 
+pub above_from : (sender : ℕ) (f : SenderFloor) (fs : List SenderFloor) → sender < f.sender
+    → AllByRecursion (λ (g : SenderFloor). f.sender < g.sender) fs → find (of_sender sender) (f ∷ fs) ≡ None
+above_from sender f fs lt sorted =
+    above_none sender (f ∷ fs) (
+      lt,
+      all-map (λ (g : SenderFloor). f.sender < g.sender) (λ (g : SenderFloor). sender < g.sender)
+          (λ g p. lt_trans lt p) fs sorted,
+    )
+
 pub placed : (sender value of : ℕ) (fs : List SenderFloor) → Sorted fs → Places sender value of fs
 unfolding Sorted
 placed sender value of [] s = by_test (nat_eq sender of)
@@ -130,12 +139,7 @@ placed sender value of (f ∷ fs) s = by_tests (nat_lt sender f.sender) refl (na
         ≡ cond b (max found value) found
     before lt true e =
         let gone : find (of_sender of) (f ∷ fs) ≡ None =
-        above_none of (f ∷ fs)
-        (subst (λ m. AllByRecursion (λ (g : SenderFloor). m < g.sender) (f ∷ fs)) (eqb-true sender of e) (
-          lt,
-          all-map (λ (g : SenderFloor). f.sender < g.sender) (λ (g : SenderFloor). sender < g.sender)
-              (λ g p. lt_trans lt p) fs s.0,
-        )) in
+        subst (λ m. find (of_sender m) (f ∷ fs) ≡ None) (eqb-true sender of e) (above_from sender f fs lt s.0) in
         let zero_is : found ≡ 0 = ap (λ o. (floor_of_sender of o).stored) gone in
         omega (arith, zero_is)
     before lt false e = refl

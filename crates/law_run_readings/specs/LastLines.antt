@@ -1,8 +1,8 @@
 -- What lines say of a node as they stand: of each thing the last line that speaks of it decides.
 use Rattle.std.specs.Prelude.{ℕ, ◌+◌, Bool, true, if◌then◌else◌, ◌&&◌, List, [], ◌∷◌, ◌++◌, fold, Option, Some, None, nat_eq, flat_map, unwrap_or}
 use Rattle.std.specs.Option.{option_or}
-use Rattle.zb_model.specs.Data.{Bytes, Layer, Nwk, Aps, Active, Reserve, Floor, Start, Moved}
-use Rattle.zb_model.specs.Lines.{Line, GivenNet, Counter, Changed, Seal, Boot}
+use Rattle.zb_model.specs.Data.{Bytes, Layer, Nwk, Aps, Term, Active, Reserve, Floor, Start, Moved}
+use Rattle.zb_model.specs.Lines.{Line, GivenNet, Counter, Changed, Accept, Seal, Boot}
 use Rattle.zb_model.specs.State.{same_key, same_layer, is_active_key}
 use Rattle.zb_model.specs.Readings.{speaker}
 
@@ -94,3 +94,20 @@ floor_in layer key sender _ = None
 
 unfoldable pub stored : List Line → ℕ → Layer → Bytes → ℕ → ℕ
 stored h n layer key sender = unwrap_or (last_said n (floor_in layer key sender) h) 0
+
+-- The floor in memory of a sender under a base key: after the last counter of it that was accepted since the last
+-- boot, or else the stored floor.
+abbrev pub is_from : Layer → Bytes → ℕ → Term → Bool
+is_from layer key sender t = same_layer t.layer layer && (same_key t.base key && nat_eq t.source sender)
+
+abbrev pub accepted_in : Layer → Bytes → ℕ → Option ℕ → Line → Option ℕ
+accepted_in layer key sender found (Boot e n) = None
+accepted_in layer key sender found (Accept e n t) = if is_from layer key sender t then Some (t.counter + 1) else found
+accepted_in layer key sender found _ = found
+
+unfoldable pub accepted_since : ℕ → Layer → Bytes → ℕ → List Line → Option ℕ
+accepted_since n layer key sender h = fold
+    (λ found l. if nat_eq (speaker l) n then accepted_in layer key sender found l else found) None h
+
+unfoldable pub kept : List Line → ℕ → Layer → Bytes → ℕ → ℕ
+kept h n layer key sender = unwrap_or (accepted_since n layer key sender h) (stored h n layer key sender)

@@ -2,7 +2,7 @@
 -- thing the last line of the node that speaks of it decides.
 use Rattle.std.specs.Prelude.{ℕ, Bool, true, false, if◌then◌else◌, ◌&&◌, List, [], ◌∷◌, ◌++◌, fold, find, map, Option, Some, None, nat_eq, option_map, unwrap_or}
 use Rattle.std.specs.List.{list_any}
-use Rattle.zb_model.specs.Data.{Attribute, Became, Bytes, Device, DropLink, DropNet, Fresh, Install, Joined, Moved, Provisional, Role, Roll, Row, State}
+use Rattle.zb_model.specs.Data.{Attribute, Became, Bytes, Device, DropLink, DropNet, Fresh, Install, Joined, Live, Moved, Provisional, Role, Roll, Row, State, Told, Untold}
 use Rattle.zb_model.specs.Lines.{Changed, Declared, GivenLink, GivenNet, Line}
 use Rattle.zb_model.specs.Readings.{speaker}
 use Rattle.zb_model.specs.State.{LinkKey, NetKey, NodeState, is_centre, is_link, same_key}
@@ -81,6 +81,26 @@ unfoldable pub live : List Line → ℕ → ℕ → Bool
 live h n device = list_any (λ (r : ℕ × Bytes). is_live_row (said_own (link_says r.0 r.1) None h n)
     && nat_eq r.0 device) (said_own names_row [] h n)
 
+-- Whether a device was told of a rollover: by the last of the device's `told`, `untold` and `live` lines and of the
+-- `roll` lines with which a rollover begins.
+abbrev pub tells : ℕ → Line → Bool → Bool
+tells device (Changed e n (Moved (Told d))) found = if nat_eq d device then true else found
+tells device (Changed e n (Moved (Untold d))) found = if nat_eq d device then false else found
+tells device (Changed e n (Moved (Live d))) found = if nat_eq d device then false else found
+tells device (Changed e n (Moved (Roll sending))) found = if sending then false else found
+tells device _ found = found
+
+unfoldable pub told : List Line → ℕ → ℕ → Bool
+told h n device = said_own (tells device) false h n
+
+-- Of live devices whether the centre told them, and of a link row whether it is marked so: a dropped one isn't.
+unfoldable pub told_live : List Line → ℕ → ℕ → Bool
+told_live h n device = live h n device && told h n device
+
+unfoldable pub told_row : List Line → ℕ → ℕ → Bytes → Option Bool
+told_row h n partner key = option_map (λ (x : LinkSaid). x.live && told h n partner)
+    (said_own (link_says partner key) None h n)
+
 -- the role, by the line that declares the node
 abbrev pub role_in : Line → Option Role
 role_in (Declared p) = Some p.role
@@ -115,3 +135,6 @@ link_of_state partner key s = option_map link_said (find (is_link partner key) s
 
 abbrev pub rows_of : NodeState → List (ℕ × Bytes)
 rows_of s = map (λ (r : LinkKey). (r.partner, r.key)) s.links
+
+abbrev pub told_of_state : ℕ → Bytes → NodeState → Option Bool
+told_of_state partner key s = option_map (λ (r : LinkKey). r.told) (find (is_link partner key) s.links)

@@ -19,8 +19,9 @@ ghost use Rattle.law_answer_storable.specs.Storing.{OpensAsJudged};
 
 /// States that the lines of a run, after its start and after each whole group, say what the states of its nodes say.
 ///
-/// The last line that speaks of a thing decides: of the active network key, of the stored limits, of the stored
-/// floors, and where the node has power of the next counters. No two nodes of the schedule have one EUI.
+/// The last line that speaks of a thing decides: of the active network key, of the stored limits and floors, of the
+/// network and link rows, and of whom the centre told of a rollover. Where the node has power it decides the next
+/// counters and the floors in memory too. No two nodes of the schedule have one EUI.
 #[tactic(auto, using(crate::proofs::Agreed::run_agrees))]
 pub fn lines_of_a_run_say_what_its_states_say()
     ensures { (tools : Tools) → Opens tools → OpensAsJudged tools → (w : Schedule) → IsSchedule w
@@ -32,7 +33,7 @@ pub fn lines_of_a_run_say_what_its_states_say()
 /// It holds of any lines and any node: which network keys have rows, in which order, and whether each is live; which
 /// link rows there are, in which order, the attribute of each, and whether it is live; so also whether a device is
 /// live; the node's role; whether a rollover goes on.
-#[tactic(auto, using(crate::proofs::OwnLines::rolling_said, crate::proofs::OwnLines::keys_said, crate::proofs::OwnLines::nets_said, crate::proofs::OwnLines::rows_said, crate::proofs::OwnLines::links_said, crate::proofs::OwnLines::lives_said, crate::proofs::OwnLines::role_said))]
+#[tactic(auto, using(crate::proofs::OwnLines::rows_decide))]
 pub fn the_last_line_about_a_row_decides()
     ensures rolling { (h : List Line) (n : ℕ) → (state_of h n).sending ≡ said_own rolls false h n }
     ensures order { (h : List Line) (n : ℕ) → keys_of (state_of h n) ≡ said_own names_key [] h n }

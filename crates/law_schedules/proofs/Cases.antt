@@ -37,21 +37,26 @@ x text = pairs_of (codes text)
 abbrev text : List ℕ
 text =
     codes "# each form of line\n"
-    ++ (codes "node r router 00124B0000000003 2B3C 5 2\n" ++ (codes "node c centre 00124B0000000001 0000 16 4\n"
-    ++ (codes "node d device 00124B0000000002 1A2B 8 3\n" ++ (codes "node e device 00124B0000000004 5E6F 4 1\n"
-    ++ (codes "code d 83FED3407A939723A5C639B26916D505C3B5\n" ++ (codes "netkey c 000102030405060708090A0B0C0D0E0F 6\n"
+    ++ (codes "node r router 00124B0000000003 2B3C 5 2\n"
+    ++ (codes "node c centre 00124B0000000001 0000 16 4\n"
+    ++ (codes "node d device 00124B0000000002 1A2B 8 3\n"
+    ++ (codes "node e device 00124B0000000004 5E6F 4 1\n"
+    ++ (codes "code d 83FED3407A939723A5C639B26916D505C3B5\n"
+    ++ (codes "netkey c 000102030405060708090A0B0C0D0E0F 6\n"
     ++ (codes "netkey r 000102030405060708090A0B0C0D0E0F 7\n"
-    ++ (codes "counter c nwk 7\n" ++ (codes "counter d aps 9\n"
-    ++ (codes "draw A0A1A2A3A4A5A6A7A8A9AAABACADAEAF\n" ++ (codes "draw 303132333435363738393A3B3C3D3E3F\n"
-    ++ (codes
-    "provision d 83FED3407A939723A5C639B26916D505C3B5\nknock d\nchild c d join\nchild r e rejoin\ndeliver 3 d\ntimer d\ntimer c\n"
-    ++ (codes
-    "say d FFFF 0102\nrejoin d\nagain d\nroll\nswitch\nremove d via r\nreset d\nboot e\ndump r\nstop d 3 A5\nfail e 4\ninject 00FF\n"
+    ++ (codes "counter c nwk 7\n"
+    ++ (codes "counter d aps 9\n"
+    ++ (codes "draw A0A1A2A3A4A5A6A7A8A9AAABACADAEAF\n"
+    ++ (codes "draw 303132333435363738393A3B3C3D3E3F\n"
+    ++ (codes "provision d 83FED3407A939723A5C639B26916D505C3B5\nknock d\nchild c d join\nchild r e rejoin\n"
+    ++ (codes "deliver 3 d\ntimer d\ntimer c\n"
+    ++ (codes "say d FFFF 0102\nrejoin d\nagain d\nroll\nswitch\nremove d via r\nreset d\nboot e\ndump r\n"
+    ++ (codes "stop d 3 A5\nfail e 4\ninject 00FF\n"
     ++ (codes "forge 1A2B 0000 00124B0000000001 net 000102030405060708090A0B0C0D0E0F 6 50 0001\n"
-    ++ (codes
-    "forge 0000 1A2B 00124B0000000002 net 000102030405060708090A0B0C0D0E0F 6 51 aps load A0A1A2A3A4A5A6A7A8A9AAABACADAEAF 52 0804\n"
+    ++ (codes "forge 0000 1A2B 00124B0000000002 net 000102030405060708090A0B0C0D0E0F 6 51 aps load "
+    ++ (codes "A0A1A2A3A4A5A6A7A8A9AAABACADAEAF 52 0804\n"
     ++ (codes "forge 1A2B 0000 00124B0000000001 open aps transport A0A1A2A3A4A5A6A7A8A9AAABACADAEAF 53 0901\n"
-    ++ codes "ask d e\nshare e d\ntell d e 55\n"))))))))))))))))
+    ++ codes "ask d e\nshare e d\ntell d e 55\n")))))))))))))))))))
 
 -- EUIs of the four nodes
 abbrev r : ℕ
