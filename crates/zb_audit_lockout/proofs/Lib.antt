@@ -5,7 +5,9 @@ pub mod Windowing
 pub mod Locking
 pub mod Duality
 pub mod Maps
+pub mod Left
 pub mod Raised
+pub mod Clearing
 pub mod Grouping
 pub mod Recalling
 pub mod Loops
@@ -13,7 +15,9 @@ pub mod Knowing
 pub mod Reaching
 pub mod Entering
 pub mod Telling
+pub mod Checking
 pub mod Order
+pub mod Unmarking
 pub mod Stepping
 pub mod Judging
 pub mod Verdicts

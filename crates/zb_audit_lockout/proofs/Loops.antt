@@ -13,8 +13,8 @@ pub any_next : {A : Type 0} (test : A → Bool) (xs : List A) (i : ℕ) (d : A) 
 any_next {A} test xs i d lt is =
     sym (ap (list_any test) (drop_more xs i d lt) ∙ ap (λ (b : Bool). b || list_any test (drop (i + 1) xs)) is)
 
-pub any_get : {A : Type 0} (test : A → Bool) (xs : List A) (i : ℕ) (d : A) → i < length xs → test (get_or xs i d) ≡ true
-    → list_any test xs ≡ true
+pub any_get : {A : Type 0} (test : A → Bool) (xs : List A) (i : ℕ) (d : A) → i < length xs
+    → test (get_or xs i d) ≡ true → list_any test xs ≡ true
 any_get test [] i d lt is = absurd (omega arith)
 any_get test (x ∷ xs) zero d lt is = or_left _ _ is
 any_get test (x ∷ xs) (suc i) d lt is = or_right (test x) _ (any_get test xs i d (omega arith) is)

@@ -87,6 +87,35 @@ marked_early old new device early updates d =
     by true = refl
     by false = refl
 
+pub cleared_number : (old : Numbers) (new : BTreeMap Key ℕ) (key : Key)
+    → ((q : Key) → get key_cmp new q ≡ cond (is_at (key_cmp key) q) None (get key_cmp old.numbers q))
+    → (k : List ℕ) → number_of (record { numbers = new }) k ≡ (if bytes_eq k key.0 then 0 else number_of old k)
+cleared_number old new key updates k =
+    ap or_zero (updates (record { 0 = k }))
+    ∙ (ap (λ (b : Bool). or_zero (cond b None (get key_cmp old.numbers (record { 0 = k }))))
+    (bytes_alike key.0 k ∙ bytes_eq_sym key.0 k)
+    ∙ by (bytes_eq k key.0))
+  where
+    by : (a : Bool) → or_zero (cond a None (get key_cmp old.numbers (record { 0 = k })))
+        ≡ (if a then 0 else number_of old k)
+    by true = refl
+    by false = refl
+
+pub unmarked_early : (old new : BTreeMap Eui ℕ) (device : Eui)
+    → ((q : Eui) → get eui_cmp new q ≡ cond (is_at (eui_cmp device) q) None (get eui_cmp old q))
+    → (d : ℕ) → or_zero (get eui_cmp new (record { 0 = d }))
+    ≡ (if nat_eq d device.0 then 0 else or_zero (get eui_cmp old (record { 0 = d })))
+unmarked_early old new device updates d =
+    ap or_zero (updates (record { 0 = d }))
+    ∙ (ap (λ (b : Bool). or_zero (cond b None (get eui_cmp old (record { 0 = d }))))
+    (number_alike device.0 d)
+    ∙ by (nat_eq d device.0))
+  where
+    by : (a : Bool) → or_zero (cond a None (get eui_cmp old (record { 0 = d })))
+        ≡ (if a then 0 else or_zero (get eui_cmp old (record { 0 = d })))
+    by true = refl
+    by false = refl
+
 -- One key fewer of an owner.
 
 without : (was : Bool) (a : Bool) → cond a false was ≡ (was && not a)

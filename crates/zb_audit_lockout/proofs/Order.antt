@@ -147,7 +147,7 @@ none_by numbers number above (e ∷ ds) = both_off _ _ (not_by (number_in number
       | inr it ↦ it.0
     ]
 
-was_number : (n : ℕ) (o : Option ℕ) → is_number n o ≡ true → o ≡ Some n
+pub was_number : (n : ℕ) (o : Option ℕ) → is_number n o ≡ true → o ≡ Some n
 was_number n None is = cc
 was_number n (Some m) is = ap Some (sym (same_number n m is))
 
@@ -195,13 +195,66 @@ pub no_keys : {K : Type 0} (xs : List K) → (0 < length xs → ⊥) → xs ≡ 
 no_keys [] none = refl
 no_keys (x ∷ xs) none = absurd (none (omega arith))
 
+-- A list of openings as a test in the order.
+pub listed_alike : (n d : ℕ) (os : List Opening) → is_listed n d os
+    ≡ list_any (λ (o : Opening). is_eq (opening_cmp (at n d) o)) os
+listed_alike n d [] = refl
+listed_alike n d (o ∷ os) =
+    ap (λ (b : Bool). b || is_listed n d os) (sym (opening_alike (at n d) o))
+    ∙ ap (λ (b : Bool). is_eq (opening_cmp (at n d) o) || b) (listed_alike n d os)
+
 -- The list has what the order has.
 pub listed_is : (numbers : BTreeMap Eui ℕ) (order : BTreeSet Opening) → IsInOrder numbers order → (n d : ℕ)
     → is_listed n d order.keys ≡ is_number n (number_in numbers.entries d)
-listed_is numbers order before n d = alike order.keys ∙ before n d
+listed_is numbers order before n d = listed_alike n d order.keys ∙ before n d
+
+-- A device comes into a set with its number, where it has one.
+pub noted_open : (was now : BTreeSet Opening) (device : Eui) (number : ℕ) (numbers : List (Eui × ℕ))
+    → number_in numbers device.0 ≡ Some number → Adds was now number device true → (n d : ℕ)
+    → contains opening_cmp now (at n d)
+    ≡ (contains opening_cmp was (at n d) || (nat_eq d device.0 && is_number n (number_in numbers d)))
+noted_open was now device number numbers there adds n d =
+    adds_at was now number device true adds n d
+    ∙ (ap (λ (b : Bool). cond (nat_eq number n && b) true (contains opening_cmp was (at n d)))
+    (turned_number device.0 d) ∙ by (nat_eq d device.0) refl)
   where
-    alike : (os : List Opening) → is_listed n d os ≡ list_any (λ (o : Opening). is_eq (opening_cmp (at n d) o)) os
-    alike [] = refl
-    alike (o ∷ os) =
-        ap (λ (b : Bool). b || is_listed n d os) (sym (opening_alike (at n d) o))
-        ∙ ap (λ (b : Bool). is_eq (opening_cmp (at n d) o) || b) (alike os)
+    here : (a x : Bool) → cond (a && true) true x ≡ (x || a)
+    here true true = refl
+    here true false = refl
+    here false true = refl
+    here false false = refl
+
+    there_not : (a x : Bool) → cond (a && false) true x ≡ (x || false)
+    there_not true true = refl
+    there_not true false = refl
+    there_not false true = refl
+    there_not false false = refl
+
+    by : (b : Bool) → nat_eq d device.0 ≡ b
+        → cond (nat_eq number n && b) true (contains opening_cmp was (at n d))
+        ≡ (contains opening_cmp was (at n d) || (b && is_number n (number_in numbers d)))
+    by true same =
+        here (nat_eq number n) (contains opening_cmp was (at n d))
+        ∙ ap (λ (b : Bool). contains opening_cmp was (at n d) || b)
+        (turned_number number n
+        ∙ sym (ap (is_number n) (ap (number_in numbers) (same_number d device.0 same) ∙ there)))
+    by false same = there_not (nat_eq number n) (contains opening_cmp was (at n d))
+
+pub noted_none : (was : BTreeSet Opening) (device : Eui) (numbers : List (Eui × ℕ))
+    → number_in numbers device.0 ≡ None → (n d : ℕ)
+    → contains opening_cmp was (at n d)
+    ≡ (contains opening_cmp was (at n d) || (nat_eq d device.0 && is_number n (number_in numbers d)))
+noted_none was device numbers none n d = by (nat_eq d device.0) refl
+  where
+    with_none : (x : Bool) → x ≡ (x || false)
+    with_none true = refl
+    with_none false = refl
+
+    by : (b : Bool) → nat_eq d device.0 ≡ b
+        → contains opening_cmp was (at n d)
+        ≡ (contains opening_cmp was (at n d) || (b && is_number n (number_in numbers d)))
+    by true same =
+        with_none (contains opening_cmp was (at n d))
+        ∙ ap (λ (o : Option ℕ). contains opening_cmp was (at n d) || is_number n o)
+        (sym (ap (number_in numbers) (same_number d device.0 same) ∙ none))
+    by false same = with_none (contains opening_cmp was (at n d))

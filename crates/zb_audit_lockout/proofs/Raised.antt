@@ -1,17 +1,13 @@
 -- Numbers of keys that rise one by one, and with each key that is raised those of the keys that it leads to.
-use Rattle.std.proofs.Common.{◌≡◌, ◌⊎◌, ℕ, ◌+◌, ◌<◌, ◌≤◌, List, [], ◌∷◌, ◌++◌, length, Bool, true, false, cond, ◌||◌, ◌&&◌, Option, Some, inl, inr, refl, arith, ap, sym, ◌∙◌, bytes_eq, nat_lt}
+use Rattle.std.proofs.Common.{◌≡◌, ◌⊎◌, ℕ, ◌+◌, ◌<◌, ◌≤◌, List, [], ◌∷◌, ◌++◌, Bool, true, false, ◌||◌, ◌&&◌, inl, inr, refl, arith, ap, sym, ◌∙◌, bytes_eq, nat_lt}
 use Rattle.std.specs.Prelude.{if◌then◌else◌, nat_le}
-use Rattle.std.specs.Map.{lookup}
-use Rattle.std.specs.BTreeMap.{is_at}
 use Rattle.std.proofs.lemmas.Bool.{le-leb, leb-true, ltb-true, ltb-false}
 use Rattle.zb_base.specs.declared.key.Key.{Key}
 use Rattle.zb_audit_lockout.specs.Raising.{IsRaised}
 use Rattle.zb_audit_lockout.specs.Reading.{number_of}
 use Rattle.zb_audit_lockout.specs.declared.numbers.Numbers.{Numbers}
-use Rattle.zb_trace_watch.specs.Sets.{is_among, is_carried, key_cmp, keys_at, keys_of}
+use Rattle.zb_trace_watch.specs.Sets.{is_among, is_carried, key_cmp, keys_at}
 use Rattle.zb_trace_watch.specs.declared.holdings.Holdings.{Holdings}
-use Rattle.zb_trace_watch.specs.declared.keys.Keys.{Keys}
-use Rattle.zb_trace_watch.proofs.Alike.{bytes_alike}
 use Rattle.zb_trace_watch.proofs.Truth.{among_append, among_end, decided, either, itself, none_left, or_left, or_right, same_bytes}
 
 -- What is raised so far, and what is left to raise.
@@ -71,7 +67,8 @@ module _ (leads : Holdings Key) (old now new : Numbers) (start left : List Key) 
 
     now_raised : (k : List ℕ) → is_among (raised ++ key ∷ []) k ≡ true → (is_among raised k ≡ true) ⊎ (k ≡ key.0)
     now_raised k there =
-        elim (either (is_among raised k) (bytes_eq k key.0 || false) (sym (among_append raised (key ∷ []) k) ∙ there)) [
+        elim (either (is_among raised k) (bytes_eq k key.0 || false)
+        (sym (among_append raised (key ∷ []) k) ∙ there)) [
           | inl before ↦ inl before
           | inr last ↦ inr (same_bytes k key.0 (none_left _ last))
         ]
@@ -175,66 +172,10 @@ module _ (leads : Holdings Key) (old now new : Numbers) (start left : List Key) 
           l.least S first closed in (it.0, λ k there. it.1 k (among_append left (key ∷ []) k ∙ or_left _ _ there));
     }
 
--- To how many keys those lead whose number is lower.
+-- A key whose number is as high already.
 
-abbrev unraised_by : Bool → Keys → ℕ
-unraised_by high keys = if high then 0 else length keys.keys.keys
-
-abbrev is_high : Numbers → ℕ → List ℕ → Bool
+abbrev pub is_high : Numbers → ℕ → List ℕ → Bool
 is_high now number k = nat_le number (number_of now k)
-
-abbrev pub unraised : Numbers → ℕ → List (Key × Keys) → ℕ
-unraised now number [] = 0
-unraised now number (e ∷ es) = unraised_by (is_high now number e.0.0) e.1 + unraised now number es
-
-less_or_same : (a b : Bool) (keys : Keys) → (a ≡ true → b ≡ true) → unraised_by b keys ≤ unraised_by a keys
-less_or_same true b keys more = rw (more refl) (omega arith)
-less_or_same false true keys more = omega arith
-less_or_same false false keys more = omega arith
-
-module _ (now new : Numbers) (number : ℕ) (key : Key)
-    (up : (k : List ℕ) → is_high now number k ≡ true → is_high new number k ≡ true) where
-  pub fewer_unraised : (entries : List (Key × Keys)) → unraised new number entries ≤ unraised now number entries
-  fewer_unraised [] = omega arith
-  fewer_unraised (e ∷ es) =
-      omega (
-        arith,
-        less_or_same (is_high now number e.0.0) (is_high new number e.0.0) e.1 (up e.0.0),
-        fewer_unraised es,
-      )
-
-  abbrev found : List (Key × Keys) → Option Keys
-  found entries = lookup (is_at (key_cmp key)) entries
-
-  raised_here : (a b : Bool) (keys : Keys) → a ≡ false → b ≡ true → unraised_by b keys + length keys.keys.keys
-      ≤ unraised_by a keys
-  raised_here a b keys e f = rw (e, f) (omega arith)
-
-  module _ (low : is_high now number key.0 ≡ false) (high : is_high new number key.0 ≡ true) where
-    raised_at : (e : Key × Keys) (es : List (Key × Keys)) → unraised new number es + length (keys_of (found es))
-        ≤ unraised now number es
-        → (b : Bool) → is_at (key_cmp key) e.0 ≡ b
-        → (unraised_by (is_high new number e.0.0) e.1 + unraised new number es) + length
-        (keys_of (cond b (Some e.1) (found es))) ≤ unraised_by (is_high now number e.0.0) e.1 + unraised now
-        number es
-    raised_at e es later true is =
-        let same : e.0.0 ≡ key.0 = sym (same_bytes key.0 e.0.0 (sym (bytes_alike key.0 e.0.0) ∙ is)) in
-        let it : unraised_by (is_high new number e.0.0) e.1 + length e.1.keys.keys
-        ≤ unraised_by (is_high now number e.0.0) e.1 =
-        raised_here (is_high now number e.0.0) (is_high new number e.0.0) e.1 (ap (is_high now number) same ∙ low)
-        (ap (is_high new number) same ∙ high) in
-        let rest : unraised new number es ≤ unraised now number es = fewer_unraised es in
-        omega arith
-    raised_at e es later false is =
-        let it : unraised_by (is_high new number e.0.0) e.1 ≤ unraised_by (is_high now number e.0.0) e.1 =
-        less_or_same (is_high now number e.0.0) (is_high new number e.0.0) e.1 (up e.0.0) in
-        omega arith
-
-    pub raised_once : (entries : List (Key × Keys))
-        → unraised new number entries + length (keys_of (lookup (is_at (key_cmp key)) entries))
-        ≤ unraised now number entries
-    raised_once [] = omega arith
-    raised_once (e ∷ es) = raised_at e es (raised_once es) (is_at (key_cmp key) e.0) refl
 
 module _ (now new : Numbers) (number : ℕ) (key : Key)
     (becomes : (k : List ℕ) → number_of new k ≡ (if bytes_eq k key.0 && nat_lt (number_of now key.0) number then number
@@ -265,8 +206,9 @@ module _ (now new : Numbers) (number : ℕ) (key : Key)
       lt-low : number_of now key.0 < number → (is_high now number key.0 ≡ true) ⊎ (is_high now number key.0 ≡ false)
           → is_high now number key.0 ≡ false
       lt-low low (inr it) = it
-      lt-low low (inl it) = let high : number ≤ number_of now key.0 = leb-true number (number_of now key.0) it in absurd
-          (omega arith)
+      lt-low low (inl it) =
+          let high : number ≤ number_of now key.0 = leb-true number (number_of now key.0) it in
+          absurd (omega arith)
 
   pub is_high_now : nat_lt (number_of now key.0) number ≡ true → is_high new number key.0 ≡ true
   is_high_now below =

@@ -41,6 +41,10 @@ new_stands tools names s no_first past shut last uncarried unheld undrawn unente
       early = λ t d number there. absurd (not_both (late_by s.evidence d number t) there (unsealed t d number));
     };
     safe = record {
+      back = record {
+        bases = λ b k there. absurd (not_both (is_carried s.reach.leads b k) there (uncarried b k));
+        holders = λ d k there. absurd (not_both (node_has s.reach.held d k) there (unheld d k));
+      };
       spread = record {
         has = λ d k there. (let it : early_of s.reach.spread d ≡ 0 = unentered d in omega arith);
         carried = λ b k there. (let it : number_of s.reach.spread.keys b ≡ 0 = untold b in omega arith);

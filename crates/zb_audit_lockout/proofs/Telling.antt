@@ -1,32 +1,32 @@
 -- Whether keys come out for removed devices that were drawn since.
-use Rattle.std.proofs.Common.{◌≡◌, ◌⊎◌, ℕ, ◌+◌, ◌<◌, ◌≤◌, List, [], ◌∷◌, length, drop, get_or, Bool, true, false, not, ◌||◌, ◌&&◌, Option, Some, None, inl, inr, refl, arith, ap, sym, ◌∙◌, subst, bytes_eq, nat_eq}
+use Rattle.std.proofs.Common.{◌≡◌, ◌⊎◌, ℕ, ◌+◌, ◌<◌, ◌≤◌, List, [], ◌∷◌, Bool, true, false, not, ◌||◌, ◌&&◌, Some, None, inl, inr, refl, arith, ap, sym, ◌∙◌, subst, bytes_eq, nat_eq}
 use Rattle.std.specs.Prelude.{if◌then◌else◌}
 use Rattle.std.specs.BTreeMap.{BTreeMap, get}
 use Rattle.std.specs.List.{list_any}
 use Rattle.std.specs.Option.{option_or}
 use Rattle.std.proofs.lemmas.Bool.{leb-true}
-use Rattle.std.proofs.lemmas.List.{drop_more}
 use Rattle.std.proofs.lemmas.Bool.Decides.{leb_tells}
 use Rattle.zb_base.specs.declared.address.Eui.{Eui}
 use Rattle.zb_base.specs.declared.key.Key.{Key}
-use Rattle.zb_audit_lockout.specs.Ordered.{is_listed, is_number}
+use Rattle.zb_audit_lockout.specs.Backing.{IsBack, Notes, is_holder}
 use Rattle.zb_audit_lockout.specs.Raising.{Raises}
 use Rattle.zb_audit_lockout.specs.Reading.{early_of, is_late, number_of, open_at, or_zero}
-use Rattle.zb_audit_lockout.specs.Spreading.{Enters, IsShut, IsSpread}
-use Rattle.zb_audit_lockout.specs.Standing.{Holds, IsBelow, IsFresh, IsJudgedAnew, IsListed, IsUnsafe, Judged, Removes, Settles, Tells, TriedOne}
+use Rattle.zb_audit_lockout.specs.Spreading.{Enters, IsShut}
+use Rattle.zb_audit_lockout.specs.Standing.{Checked, Holds, IsBelow, IsNearlySafe, IsSafe, IsSafeBut}
+use Rattle.zb_audit_lockout.specs.Standing.{IsUnsafe, Judged, Removes, Tells, TriedOne}
+use Rattle.zb_audit_lockout.specs.declared.back.Back.{Back}
 use Rattle.zb_audit_lockout.specs.declared.numbers.Numbers.{Numbers}
 use Rattle.zb_audit_lockout.specs.declared.opened.Opening.{Opening}
 use Rattle.zb_audit_lockout.specs.declared.reach.Reach.{Reach}
 use Rattle.zb_audit_lockout.specs.declared.spread.Spread.{Spread}
 use Rattle.zb_audit_lockout.specs.declared.windows.Windows.{Windows}
 use Rattle.zb_audit_lockout.proofs.Entering.{raised_spread}
-use Rattle.zb_audit_lockout.proofs.Loops.{any_get}
 use Rattle.zb_audit_lockout.proofs.Tests.{left_off, right_off, was_off, was_on}
 use Rattle.zb_model.specs.Data.{Bytes}
 use Rattle.zb_model.specs.Secrets.{well_known}
 use Rattle.zb_trace_watch.specs.Sets.{eui_cmp, is_among, is_carried, node_has}
 use Rattle.zb_trace_watch.specs.declared.holdings.Holdings.{Holdings}
-use Rattle.zb_trace_watch.proofs.Truth.{and_left, and_right, both, decided, either, itself, itself_number, not_both, or_left, or_right, same_bytes, same_number}
+use Rattle.zb_trace_watch.proofs.Truth.{and_left, and_right, both, decided, either, itself, not_both, or_left, or_right, same_bytes, same_number}
 
 -- Late keys of a list
 
@@ -52,12 +52,23 @@ one_so P (key ∷ keys) some =
       | inr later ↦ let it = one_so P keys later in record { key = it.key; among = or_right _ _ it.among; so = it.so }
     ]
 
-in_time : (drawn : Numbers) (early : ℕ) (k : Bytes) → is_late drawn early k ≡ false
+pub in_time : (drawn : Numbers) (early : ℕ) (k : Bytes) → is_late drawn early k ≡ false
     → early + number_of drawn k < 4294967296
 in_time drawn early k not_late = elim (leb_tells 4294967296 (early + number_of drawn k)) [
   | inl it ↦ absurd (not_both (is_late drawn early k) it.0 not_late)
   | inr it ↦ it.1
 ]
+
+-- The same keys come out, and were drawn as before.
+pub below_kept : (old new : Reach) (k : Bytes) → number_of new.spread.keys k ≡ number_of old.spread.keys k
+    → new.drawn ≡ old.drawn → IsBelow old k → IsBelow new k
+below_kept old new k kept drawn (inl none) = inl (kept ∙ none)
+below_kept old new k kept drawn (inr low) =
+    inr
+    (let was : number_of old.spread.keys k + number_of old.drawn k < 4294967296 = low in
+    let same : number_of new.drawn k ≡ number_of old.drawn k = ap (λ (n : Numbers). number_of n k) drawn in
+    let is : number_of new.spread.keys k ≡ number_of old.spread.keys k = kept in
+    omega arith)
 
 below_told : (r new : Reach) (early : ℕ) (raised : List Key) → new.drawn ≡ r.drawn
     → list_any (λ (key : Key). is_late r.drawn early key.0) raised ≡ false
@@ -70,52 +81,68 @@ below_told r new early raised same none k (inr it) below =
     let is : number_of new.spread.keys k ≡ early = it.0 in
     let drawn : number_of new.drawn k ≡ number_of r.drawn k = ap (λ (n : Numbers). number_of n k) same in
     omega arith)
-below_told r new early raised same none k (inl kept) (inl none_at) = inl (kept ∙ none_at)
-below_told r new early raised same none k (inl kept) (inr low) =
-    inr
-    (let was : number_of r.spread.keys k + number_of r.drawn k < 4294967296 = low in
-    let is : number_of new.spread.keys k ≡ number_of r.spread.keys k = kept in
-    let drawn : number_of new.drawn k ≡ number_of r.drawn k = ap (λ (n : Numbers). number_of n k) same in
-    omega arith)
+below_told r new early raised same none k (inl kept) below = below_kept r new k kept same below
 
--- A key is raised, and none of those that are raised with it is late.
-pub follows : (old : Reach) (spread : Spread) (key : Key) (early : ℕ) (raised : List Key)
-    → Raises old.leads old.spread.keys spread.keys (key ∷ []) early raised → spread.devices ≡ old.spread.devices
-    → list_any (λ (k : Key). is_late old.drawn early k.0) raised ≡ false
-    → Judged old (record {
+-- A key is raised to a level, and what is raised with it is still to be checked.
+raised_but : (old : Reach) (spread : Spread) (key : Key) (early level : ℕ) (raised : List Key) → early ≤ level
+    → Raises old.leads old.spread.keys spread.keys (key ∷ []) level raised → spread.devices ≡ old.spread.devices
+    → IsNearlySafe old key early
+    → IsSafeBut (record {
       windows = old.windows;
       leads = old.leads;
       held = old.held;
+      back = old.back;
       drawn = old.drawn;
       spread = spread;
-    }) key early true
-follows old spread key early raised raises devices none = record {
-  safe = λ nearly stays. record {
-    spread = raised_spread old.leads old.held old.spread spread (key ∷ []) early raised same raises nearly.spread;
-    opened = λ d number found.
-        (let is : early_of spread d ≡ early_of old.spread d = same d in let it : 4294967296
-        ≤ early_of old.spread d + number = nearly.opened d number found in omega arith);
-    below = λ k.
-        below_told old (record {
-          windows = old.windows;
-          leads = old.leads;
-          held = old.held;
-          drawn = old.drawn;
-          spread = spread;
-        }) early raised refl none k
-        (elim (raises.told k) [ inl kept ↦ inl kept | inr it ↦ inr (it.is, it.among) ])
-        (nearly.below k);
-  };
-  out = λ out. cc;
+    }) raised
+raised_but old spread key early level raised high raises devices nearly = record {
+  back = nearly.back;
+  spread = raised_spread old.leads old.held old.spread spread (key ∷ []) level raised same raises
+      (record {
+        has = λ d k there. elim (nearly.spread.has d k there) [
+          | inl le ↦ inl le
+          | inr it ↦ inr (it.0, (let low : early_of old.spread d ≤ early = it.1 in omega (arith, low, high)))
+        ];
+        carried = λ b k there. elim (nearly.spread.carried b k there) [
+          | inl le ↦ inl le
+          | inr it ↦ inr (it.0, (let low : number_of old.spread.keys b ≤ early = it.1 in omega (arith, low, high)))
+        ];
+      });
+  opened = λ d number found.
+      (let is : early_of spread d ≡ early_of old.spread d = same d in let it : 4294967296
+      ≤ early_of old.spread d + number = nearly.opened d number found in omega (arith, is, it));
+  below = λ k. elim (raises.told k) [
+    | inl kept ↦ inl (below_kept old (record {
+      windows = old.windows;
+      leads = old.leads;
+      held = old.held;
+      back = old.back;
+      drawn = old.drawn;
+      spread = spread;
+    }) k kept refl (nearly.below k))
+    | inr it ↦ inr it.among
+  ];
 }
   where
     same : (e : ℕ) → early_of spread e ≡ early_of old.spread e
     same e = ap (λ (m : BTreeMap Eui ℕ). or_zero (get eui_cmp m (record { 0 = e }))) devices
 
-pub judged_anew : (old new : Reach) (key : Key) (early : ℕ) (stays : Bool) → IsJudgedAnew new stays
-    → Judged old new key early stays
-judged_anew old new key early stays anew =
-    record { safe = λ nearly stay. anew.safe stay; out = λ out. anew.out out }
+pub followed : (old new : Reach) (spread : Spread) (key : Key) (early level : ℕ) (raised : List Key) (stays : Bool)
+    → early ≤ level → Raises old.leads old.spread.keys spread.keys (key ∷ []) level raised
+    → spread.devices ≡ old.spread.devices
+    → Checked (record {
+      windows = old.windows;
+      leads = old.leads;
+      held = old.held;
+      back = old.back;
+      drawn = old.drawn;
+      spread = spread;
+    }) new raised stays → Judged old new key early stays
+followed old new spread key early level raised stays high raises devices all = record {
+  safe = λ nearly stay.
+      all.safe (raised_but old spread key early level raised high raises devices nearly) stay;
+  out = all.out;
+}
 
 -- A device is entered.
 pub tries : (old : Reach) (spread : Spread) (opening : Opening) (early : ℕ) (raised : List Key) (stays : Bool)
@@ -126,6 +153,7 @@ pub tries : (old : Reach) (spread : Spread) (opening : Opening) (early : ℕ) (r
       windows = old.windows;
       leads = old.leads;
       held = old.held;
+      back = old.back;
       drawn = old.drawn;
       spread = spread;
     }) opening stays
@@ -133,14 +161,15 @@ tries old spread opening early raised stays early_is enters stays_is = record {
   spread = enters.spread;
   reached = (let it : early ≤ early_of spread opening.device.0 = enters.reached in omega (arith, it, early_is));
   kept = enters.kept;
-  below = λ stay before k.
+  below = λ stay k before.
       below_told old (record {
         windows = old.windows;
         leads = old.leads;
         held = old.held;
+        back = old.back;
         drawn = old.drawn;
         spread = spread;
-      }) early raised refl (was_off _ (sym stays_is ∙ stay)) k (enters.told k) (before k);
+      }) early raised refl (was_off _ (sym stays_is ∙ stay)) k (enters.told k) before;
   out = λ out found.
       let it = one_so (is_late old.drawn early) raised (was_on _ (sym stays_is ∙ out)) in
       record {
@@ -162,6 +191,7 @@ pub removed_so : (old : Reach) (windows : Windows) (spread : Spread) (d number e
       windows = windows;
       leads = old.leads;
       held = old.held;
+      back = old.back;
       drawn = old.drawn;
       spread = spread;
     }) d number
@@ -171,6 +201,7 @@ removed_so old windows spread d number early raised found last small early_is en
   small = small;
   leads = refl;
   held = refl;
+  back = refl;
   drawn = refl;
   spread = enters.spread;
   reached = (let it : early ≤ early_of spread d = enters.reached in omega (arith, it, early_is));
@@ -181,147 +212,82 @@ removed_so old windows spread d number early raised found last small early_is en
   ];
 }
 
--- All removed devices are entered anew.
-
--- What stands once some of the devices are entered.
-pub record Entering (old now : Reach) (list : List Opening) (index : ℕ) : Type 0 where
-  pub settles : Settles old now
-  pub spread : IsFresh old.spread → IsSpread now.leads now.held now.spread
-  pub below : IsFresh old.spread → (k : Bytes) → IsBelow now k
-  pub done : (n d : ℕ) → is_listed n d list ≡ true → (4294967296 ≤ early_of now.spread d + n)
-      ⊎ (is_listed n d (drop index list) ≡ true)
-
-pub nothing_entered : (r : Reach) (list : List Opening) → Entering r r list 0
-nothing_entered r list = record {
-  settles = record { windows = refl; leads = refl; held = refl; drawn = refl };
-  spread = λ fresh. record {
-    has = λ d k there. (let it : early_of r.spread d ≡ 0 = fresh.devices d in omega arith);
-    carried = λ b k there. (let it : number_of r.spread.keys b ≡ 0 = fresh.keys b in omega arith);
-  };
-  below = λ fresh k. inl (fresh.keys k);
-  done = λ n d there. inr there;
-}
-
-pub settled_more : (old mid new : Reach) → Settles old mid → Settles mid new → Settles old new
-settled_more old mid new a b = record {
-  windows = b.windows ∙ a.windows;
-  leads = b.leads ∙ a.leads;
-  held = b.held ∙ a.held;
-  drawn = b.drawn ∙ a.drawn;
-}
-
-pub one_entered : (old mid new : Reach) (list : List Opening) (index : ℕ) (e : Opening) (stays : Bool)
-    → index < length list → Entering old mid list index → Settles mid new
-    → TriedOne mid new (get_or list index e) stays → stays ≡ true → Entering old new list (index + 1)
-one_entered old mid new list index e stays lt before settles tried stay =
-    let opening : Opening = get_or list index e in record {
-      settles = settled_more old mid new before.settles settles;
-      spread = λ fresh. tried.spread (before.spread fresh);
-      below = λ fresh. tried.below stay (before.below fresh);
-      done = λ n d there. elim (before.done n d there) [
-        | inl it ↦ inl
-            (let kept : early_of mid.spread d ≤ early_of new.spread d = tried.kept d in let was : 4294967296
-            ≤ early_of mid.spread d + n = it in omega arith)
-        | inr left ↦ elim
-            (either (nat_eq n opening.number && nat_eq d opening.device.0) (is_listed n d (drop (index + 1) list))
-            (sym (ap (is_listed n d) (drop_more list index e lt)) ∙ left)) [
-              | inl here ↦ inl
-                  (let number : n ≡ opening.number = same_number n opening.number (and_left _ _ here) in
-                  let reached : 4294967296 ≤ early_of new.spread opening.device.0 + opening.number = tried.reached in
-                  let at : early_of new.spread d ≡ early_of new.spread opening.device.0 =
-                  ap (early_of new.spread)
-                  (same_number d opening.device.0 (and_right (nat_eq n opening.number) _ here)) in
-                  omega (arith, number, reached, at))
-              | inr later ↦ inr later
-            ]
-      ];
-    }
-
-pub all_entered : (old now : Reach) (list : List Opening) (index : ℕ) → Entering old now list index
-    → drop index list ≡ [] → IsFresh old.spread → IsListed old list → IsJudgedAnew now true
-all_entered old now list index done none fresh listed = record {
-  safe = λ stay. record {
-    spread = done.spread fresh;
-    opened = λ d number found.
-        elim
-        (done.done number d
-        (listed number d
-        ∙ (ap (is_number number) (ap (λ (w : Windows). open_at w d) (sym done.settles.windows) ∙ found)
-        ∙ itself_number number))) [
-          | inl it ↦ it
-          | inr left ↦ absurd
-              (not_both (is_listed number d [])
-              (sym (ap (λ (l : List Opening). is_listed number d l) none) ∙ left) refl)
-        ];
-    below = done.below fresh;
-  };
-  out = λ out. cc;
-}
-
-was_number : (n : ℕ) (o : Option ℕ) → is_number n o ≡ true → o ≡ Some n
-was_number n None is = cc
-was_number n (Some m) is = ap Some (sym (same_number n m is))
-
-pub one_fails : (old mid new : Reach) (list : List Opening) (index : ℕ) (e : Opening) (stays : Bool)
-    → index < length list → Entering old mid list index → TriedOne mid new (get_or list index e) stays → stays ≡ false
-    → IsListed old list → IsJudgedAnew new false
-one_fails old mid new list index e stays lt before tried fails listed =
-    let opening : Opening = get_or list index e in record {
-      safe = λ stay. cc;
-      out = λ out. tried.out fails
-          (ap (λ (w : Windows). open_at w opening.device.0) before.settles.windows
-          ∙ was_number opening.number (open_at old.windows opening.device.0)
-          (sym (listed opening.number opening.device.0)
-          ∙ any_get (λ (o : Opening). nat_eq opening.number o.number && nat_eq opening.device.0 o.device.0) list index e
-          lt (both _ _ (itself_number opening.number) (itself_number opening.device.0))));
-    }
-
 -- What the answer tells of a line.
 
-pub drawn_tells : (old : Reach) (drawn : Numbers) (key : Key) → number_of old.spread.keys key.0 ≡ 0
+-- A key was drawn, and is still to be checked.
+drawn_but : (old : Reach) (drawn : Numbers) (key : Key)
     → ((k : Bytes) → number_of drawn k ≡ (if bytes_eq k key.0 then old.windows.last else number_of old.drawn k))
-    → Tells old (record {
+    → IsSafe old
+    → IsSafeBut (record {
       windows = old.windows;
       leads = old.leads;
       held = old.held;
+      back = old.back;
       drawn = drawn;
       spread = old.spread;
-    }) true
-drawn_tells old drawn key none drawn_is = record {
-  safe = λ safe stay. record {
-    spread = safe.spread;
-    opened = safe.opened;
-    below = λ k. elim (decided (bytes_eq k key.0)) [
-      | inl is ↦ inl (ap (number_of old.spread.keys) (same_bytes k key.0 is) ∙ none)
-      | inr other ↦ elim (safe.below k) [
-        | inl zero_at ↦ inl zero_at
-        | inr low ↦ inr
-            (let was : number_of old.spread.keys k + number_of old.drawn k < 4294967296 = low in
-            let same : number_of drawn k ≡ number_of old.drawn k = drawn_is k ∙ ap
-            (λ (b : Bool). if b then old.windows.last else number_of old.drawn k) other in
-            omega arith)
-      ]
-    ];
-  };
-  out = λ out. cc;
+    }) (key ∷ [])
+drawn_but old drawn key drawn_is safe = record {
+  back = safe.back;
+  spread = safe.spread;
+  opened = safe.opened;
+  below = λ k. elim (decided (bytes_eq k key.0)) [
+    | inl is ↦ inr (or_left _ _ is)
+    | inr other ↦ inl (elim (safe.below k) [
+      | inl zero_at ↦ inl zero_at
+      | inr low ↦ inr
+          (let was : number_of old.spread.keys k + number_of old.drawn k < 4294967296 = low in
+          let same : number_of drawn k ≡ number_of old.drawn k = drawn_is k ∙ ap
+          (λ (b : Bool). if b then old.windows.last else number_of old.drawn k) other in
+          omega arith)
+    ])
+  ];
 }
 
-pub anew_tells : (old new : Reach) (stays : Bool) → IsJudgedAnew new stays → Tells old new stays
-anew_tells old new stays anew = record { safe = λ safe stay. anew.safe stay; out = anew.out }
+pub drawn_tells : (old new : Reach) (drawn : Numbers) (key : Key) (stays : Bool)
+    → ((k : Bytes) → number_of drawn k ≡ (if bytes_eq k key.0 then old.windows.last else number_of old.drawn k))
+    → Checked (record {
+      windows = old.windows;
+      leads = old.leads;
+      held = old.held;
+      back = old.back;
+      drawn = drawn;
+      spread = old.spread;
+    }) new (key ∷ []) stays → Tells old new stays
+drawn_tells old new drawn key stays drawn_is checked = record {
+  safe = λ safe stay. checked.safe (drawn_but old drawn key drawn_is safe) stay;
+  out = checked.out;
+}
 
-pub carried_tells : (old : Reach) (new : Reach) (leads : Holdings Key) (base key : Key) (early : ℕ) (stays : Bool)
+pub carried_tells : (old : Reach) (new : Reach) (leads bases : Holdings Key) (base key : Key) (early : ℕ)
+    (stays : Bool)
     → ((b k : Bytes) → is_carried leads b k
     ≡ (is_carried old.leads b k || (bytes_eq b base.0 && bytes_eq k key.0)))
+    → ((k b : Bytes) → is_carried bases k b
+    ≡ (is_carried old.back.bases k b || (bytes_eq k key.0 && bytes_eq b base.0)))
     → early ≡ number_of old.spread.keys base.0
     → Judged (record {
       windows = old.windows;
       leads = leads;
       held = old.held;
+      back = record { bases = bases; holders = old.back.holders };
       drawn = old.drawn;
       spread = old.spread;
     }) new key early stays → Tells old new stays
-carried_tells old new leads base key early stays leads_is early_is judged = record {
+carried_tells old new leads bases base key early stays leads_is bases_is early_is judged = record {
   safe = λ safe stay. judged.safe (record {
+    back = record {
+      bases = λ b k there.
+          let found : (is_carried old.back.bases k b || (bytes_eq k key.0 && bytes_eq b base.0)) ≡ true =
+          elim
+          (either (is_carried old.leads b k) (bytes_eq b base.0 && bytes_eq k key.0)
+          (sym (leads_is b k) ∙ there)) [
+            | inl before ↦ or_left _ _ (safe.back.bases b k before)
+            | inr it ↦ or_right (is_carried old.back.bases k b) _
+                (both _ _ (and_right (bytes_eq b base.0) _ it) (and_left _ _ it))
+          ] in
+          bases_is k b ∙ found;
+      holders = λ d k there. safe.back.holders d k there;
+    };
     spread = record {
       has = λ d k there. inl (safe.spread.has d k there);
       carried = λ b k there.
@@ -343,19 +309,45 @@ carried_tells old new leads base key early stays leads_is early_is judged = reco
   out = judged.out;
 }
 
-pub held_tells : (old : Reach) (new : Reach) (held : Holdings Eui) (device : Eui) (key : Key) (early : ℕ) (stays : Bool)
+-- A device came to hold a key, and is found from it.
+held_back : (old : Reach) (held : Holdings Eui) (back : Back) (device : Eui) (key : Key)
     → ((d : ℕ) (k : Bytes) → node_has held d k
     ≡ (node_has old.held d k || (nat_eq d device.0 && bytes_eq k key.0)))
-    → early ≡ early_of old.spread device.0
+    → Notes old.held old.back back device.0 key.0 → IsBack old.leads old.held old.back
+    → IsBack old.leads held back
+held_back old held back device key held_is notes before = record {
+  bases = λ b k there. ap (λ (h : Holdings Key). is_carried h k b) notes.bases ∙ before.bases b k there;
+  holders = λ d k there.
+      elim (either (node_has old.held d k) (nat_eq d device.0 && bytes_eq k key.0) (sym (held_is d k) ∙ there)) [
+        | inl had ↦ notes.kept k d (before.holders d k had)
+        | inr it ↦
+            ap (λ (x : Bytes). is_holder back x d) (same_bytes k key.0 (and_right (nat_eq d device.0) _ it))
+            ∙ (ap (is_holder back key.0) (same_number d device.0 (and_left _ _ it)) ∙ now)
+      ];
+}
+  where
+    now : is_holder back key.0 device.0 ≡ true
+    now = elim notes.noted [
+      | inl had ↦ notes.kept key.0 device.0 (before.holders device.0 key.0 had)
+      | inr it ↦ it
+    ]
+
+pub held_tells : (old : Reach) (new : Reach) (held : Holdings Eui) (back : Back) (device : Eui) (key : Key)
+    (early : ℕ) (stays : Bool)
+    → ((d : ℕ) (k : Bytes) → node_has held d k
+    ≡ (node_has old.held d k || (nat_eq d device.0 && bytes_eq k key.0)))
+    → Notes old.held old.back back device.0 key.0 → early ≡ early_of old.spread device.0
     → Judged (record {
       windows = old.windows;
       leads = old.leads;
       held = held;
+      back = back;
       drawn = old.drawn;
       spread = old.spread;
     }) new key early stays → Tells old new stays
-held_tells old new held device key early stays held_is early_is judged = record {
+held_tells old new held back device key early stays held_is notes early_is judged = record {
   safe = λ safe stay. judged.safe (record {
+    back = held_back old held back device key held_is notes safe.back;
     spread = record {
       has = λ d k there. elim (either (bytes_eq k well_known) (node_has held d k) there) [
         | inl everybody ↦ inl (safe.spread.has d k (or_left _ _ everybody))

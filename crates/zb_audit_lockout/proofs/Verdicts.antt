@@ -18,6 +18,7 @@ use Rattle.zb_audit_names.specs.Naming.{declared_in, is_of, place_in}
 use Rattle.zb_audit_names.specs.Secrets.{along, forged_in}
 use Rattle.zb_audit_names.specs.Standing.{IsSpeaker}
 use Rattle.zb_audit_names.specs.declared.node.Who.{Who}
+use Rattle.zb_audit_lockout.specs.Backing.{IsBack}
 use Rattle.zb_audit_lockout.specs.Bags.{items_at}
 use Rattle.zb_audit_lockout.specs.Before.{before_group, holds_known}
 use Rattle.zb_audit_lockout.specs.Facts.{eui_of_node}
@@ -26,10 +27,10 @@ use Rattle.zb_audit_lockout.specs.Reading.{accepts_at, early_of, has_seal, is_fo
 use Rattle.zb_audit_lockout.specs.Standing.{Admits, Forges, IsBelow, IsEvidence, IsJudged, IsOpenBy, IsReach, IsReady, IsSafe, IsWindow, Removes, Seals, goes_on}
 use Rattle.zb_audit_lockout.specs.Spreading.{IsSpread}
 use Rattle.zb_audit_lockout.specs.Windows.{Claim, EachWindow, SomeWindow}
+use Rattle.zb_audit_lockout.specs.declared.back.Back.{Back}
 use Rattle.zb_audit_lockout.specs.declared.bags.Bags.{Bags}
 use Rattle.zb_audit_lockout.specs.declared.evidence.Evidence.{Evidence}
 use Rattle.zb_audit_lockout.specs.declared.evidence.LateSeal.{LateSeal}
-use Rattle.zb_audit_lockout.specs.declared.numbers.Numbers.{Numbers}
 use Rattle.zb_audit_lockout.specs.declared.lockout.Lockout.{Lockout}
 use Rattle.zb_audit_lockout.specs.declared.reach.Reach.{Reach}
 use Rattle.zb_audit_lockout.specs.declared.spread.Spread.{Spread}
@@ -39,6 +40,7 @@ use Rattle.zb_audit_lockout.proofs.Knowing.{knows_is}
 use Rattle.zb_audit_lockout.proofs.Reaching.{IsOpened, one_open, opened_one, some_key, was_opened}
 use Rattle.zb_audit_lockout.proofs.Recalling.{own_is}
 use Rattle.zb_audit_lockout.proofs.Stepping.{IsDrawn, ahead, all_refused, evidence_on, longer, moved_whole, reach_on, stays_so}
+use Rattle.zb_audit_lockout.proofs.Telling.{below_kept}
 use Rattle.zb_audit_lockout.proofs.Tests.{both_off, left_off, not_off, not_on, off_left, off_right, or_none, right_off, was_off, was_on}
 use Rattle.zb_audit_lockout.proofs.Windowing.{each_both, each_map, each_more, each_some, some_last, some_map, some_more}
 use Rattle.zb_model.specs.Data.{Bytes}
@@ -124,17 +126,6 @@ forge_evidence tools r old new h event t reach ev forges =
     (ap (λ (s : Bags program.Term LateSeal). has_seal (items_at term_cmp s x) d number) (sym forges.sealed) ∙
     there))
 
--- The same keys come out, and were drawn as before.
-below_kept : (old new : Reach) (k : Bytes) → number_of new.spread.keys k ≡ number_of old.spread.keys k → new.drawn
-    ≡ old.drawn → IsBelow old k → IsBelow new k
-below_kept old new k kept drawn (inl none) = inl (kept ∙ none)
-below_kept old new k kept drawn (inr low) =
-    inr
-    (let was : number_of old.spread.keys k + number_of old.drawn k < 4294967296 = low in
-    let same : number_of new.drawn k ≡ number_of old.drawn k = ap (λ (n : Numbers). number_of n k) drawn in
-    let is : number_of new.spread.keys k ≡ number_of old.spread.keys k = kept in
-    omega arith)
-
 -- A device is admitted.
 
 module _ (tools : Tools) (names : List Bytes) (old new : Lockout) (h : List Line) (event : ℕ) (device : Eui)
@@ -191,6 +182,10 @@ module _ (tools : Tools) (names : List Bytes) (old new : Lockout) (h : List Line
 
   live_safe : IsSafe new.reach
   live_safe = record {
+    back = subst (λ (x : Back). IsBack new.reach.leads new.reach.held x) (sym admitted.back)
+        (subst (λ (x : Holdings Key). IsBack x new.reach.held old.reach.back) (sym admitted.leads)
+        (subst (λ (x : Holdings Eui). IsBack old.reach.leads x old.reach.back) (sym admitted.held)
+        ready.safe.back));
     spread = subst (λ (x : Spread). IsSpread new.reach.leads new.reach.held x) (sym admitted.spread)
         (subst (λ (x : Holdings Key). IsSpread x new.reach.held old.reach.spread) (sym admitted.leads)
         (subst (λ (x : Holdings Eui). IsSpread old.reach.leads x old.reach.spread) (sym admitted.held)
@@ -345,6 +340,10 @@ module _ (tools : Tools) (names : List Bytes) (old new : Lockout) (h : List Line
 
   gone_safe : IsSafe new.reach
   gone_safe = record {
+    back = subst (λ (x : Back). IsBack new.reach.leads new.reach.held x) (sym removes.back)
+        (subst (λ (x : Holdings Key). IsBack x new.reach.held old.reach.back) (sym removes.leads)
+        (subst (λ (x : Holdings Eui). IsBack old.reach.leads x old.reach.back) (sym removes.held)
+        ready.safe.back));
     spread =
         subst (λ (x : Holdings Key). IsSpread x new.reach.held new.reach.spread) (sym removes.leads)
         (subst (λ (x : Holdings Eui). IsSpread old.reach.leads x new.reach.spread) (sym removes.held)

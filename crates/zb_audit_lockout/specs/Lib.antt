@@ -3,8 +3,10 @@ pub mod Ordered
 pub mod Lockout
 pub mod Facts
 pub mod Bags
+pub mod Backing
 pub mod Reading
 pub mod Raising
 pub mod Spreading
+pub mod Withdrawing
 pub mod Windows
 pub mod Standing

@@ -12,6 +12,9 @@ use Rattle.zb_trace_watch.specs.Sets.{eui_cmp}
 abbrev pub opening_cmp : Opening → Opening → Ordering
 opening_cmp a b = ordering_then (nat_cmp a.number b.number) (nat_cmp a.device.0 b.device.0)
 
+abbrev pub opening_at : ℕ → ℕ → Opening
+opening_at n d = record { number = n; device = record { 0 = d } }
+
 -- whether there is a number, and it is this one
 abbrev pub is_number : ℕ → Option ℕ → Bool
 is_number n None = false

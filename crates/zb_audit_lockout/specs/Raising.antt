@@ -1,4 +1,4 @@
--- What becomes of the numbers of keys as some are raised.
+-- What becomes of the numbers of keys as some are raised, and as some are taken away.
 use Rattle.std.specs.Prelude.{◌≡◌, ◌<◌, ◌≤◌, ◌⊎◌, ℕ, List, Bool, true}
 use Rattle.zb_base.specs.declared.key.Key.{Key}
 use Rattle.zb_audit_lockout.specs.Reading.{number_of}
@@ -22,3 +22,11 @@ pub record Raises (leads : Holdings Key) (old new : Numbers) (keys : List Key) (
   pub least : (S : List ℕ → Bool) → ((k : List ℕ) → is_among keys k ≡ true → S k ≡ true)
       → ((b k : List ℕ) → S b ≡ true → is_carried leads b k ≡ true → S k ≡ true)
       → (k : List ℕ) → is_among raised k ≡ true → S k ≡ true
+
+-- The numbers of keys are taken away, and with that of a key those of all keys under which terms carry it.
+pub record Clears (bases : Holdings Key) (old new : Numbers) (keys cleared : List Key) : Type 0 where
+  pub told : (k : List ℕ) → (number_of new k ≡ number_of old k)
+      ⊎ ((number_of new k ≡ 0) × (is_among cleared k ≡ true))
+  pub only : (k : List ℕ) → is_among cleared k ≡ true → number_of new k ≡ 0
+  pub reached : (k : List ℕ) → is_among keys k ≡ true → number_of new k ≡ 0
+  pub carried : (k b : List ℕ) → is_among cleared k ≡ true → is_carried bases k b ≡ true → number_of new b ≡ 0

@@ -9,10 +9,11 @@ use Rattle.zb_base.specs.declared.address.Eui.{Eui}
 use Rattle.zb_audit_names.specs.Groups.{event_of}
 use Rattle.zb_audit_names.specs.Naming.{declared_in}
 use Rattle.zb_audit_names.specs.Secrets.{along, ever, forged_in, terms_of}
+use Rattle.zb_audit_lockout.specs.Backing.{IsBack}
 use Rattle.zb_audit_lockout.specs.Before.{before_group}
 use Rattle.zb_audit_lockout.specs.Facts.{Recalls}
 use Rattle.zb_audit_lockout.specs.Lockout.{admits, drawn_in, first_unlocked, keeps_out, locked, refuses_line, sealed_by}
-use Rattle.zb_audit_lockout.specs.Ordered.{is_listed, is_number}
+use Rattle.zb_audit_lockout.specs.Ordered.{is_listed}
 use Rattle.zb_audit_lockout.specs.Reading.{early_of, is_late_seal, late_by, number_of, open_at, opened_by}
 use Rattle.zb_audit_lockout.specs.Spreading.{IsShut, IsSpread, IsSpreadBut}
 use Rattle.zb_audit_lockout.specs.Windows.{EachWindow, SomeWindow}
@@ -21,7 +22,6 @@ use Rattle.zb_audit_lockout.specs.declared.lockout.Lockout.{Lockout}
 use Rattle.zb_audit_lockout.specs.declared.opened.Opening.{Opening}
 use Rattle.zb_audit_lockout.specs.declared.past.Past.{Past}
 use Rattle.zb_audit_lockout.specs.declared.reach.Reach.{Reach}
-use Rattle.zb_audit_lockout.specs.declared.spread.Spread.{Spread}
 use Rattle.zb_audit_lockout.specs.declared.windows.Windows.{Windows}
 use Rattle.zb_model.specs.Data.{Bytes}
 use Rattle.zb_model.specs.Secrets.{holds, same_term}
@@ -29,7 +29,7 @@ use Rattle.zb_model.specs.Tools.{Tools}
 use Rattle.zb_model_real.specs.Terms.{model_term}
 use Rattle.zb_seal.specs.declared.term.Term.{Term}
 use Rattle.zb_trace.specs.declared.line.Line.{Line}
-use Rattle.zb_trace_watch.specs.Sets.{is_carried, node_has}
+use Rattle.zb_trace_watch.specs.Sets.{is_among, is_carried, node_has}
 use Rattle.zb_trace_watch.specs.Standing.{carries, FindKeys}
 use Rattle.zb_trace_watch.specs.Terms.{has_term}
 
@@ -80,6 +80,7 @@ IsBelow r k = (number_of r.spread.keys k ≡ 0) ⊎ (number_of r.spread.keys k +
 
 -- The keys that come out for removed devices are spread, and none of them was drawn since.
 pub record IsSafe (r : Reach) : Type 0 where
+  pub back : IsBack r.leads r.held r.back
   pub spread : IsSpread r.leads r.held r.spread
   pub opened : (d number : ℕ) → open_at r.windows d ≡ Some number → 4294967296 ≤ early_of r.spread d + number
   pub below : (k : List ℕ) → IsBelow r k
@@ -98,19 +99,17 @@ pub record Tells (old new : Reach) (stays : Bool) : Type 0 where
   pub safe : IsSafe old → stays ≡ true → IsSafe new
   pub out : stays ≡ false → IsUnsafe new
 
-pub record IsJudgedAnew (r : Reach) (stays : Bool) : Type 0 where
-  pub safe : stays ≡ true → IsSafe r
-  pub out : stays ≡ false → IsUnsafe r
-
 -- Only what is known of keys that come out changed.
 pub record Settles (old new : Reach) : Type 0 where
   pub windows : new.windows ≡ old.windows
   pub leads : new.leads ≡ old.leads
   pub held : new.held ≡ old.held
+  pub back : new.back ≡ old.back
   pub drawn : new.drawn ≡ old.drawn
 
 -- The answer is whether it is safe, where it was before but for a key that is still to become so early.
 pub record IsNearlySafe (r : Reach) (key : Key) (early : ℕ) : Type 0 where
+  pub back : IsBack r.leads r.held r.back
   pub spread : IsSpreadBut r.leads r.held r.spread (key ∷ []) early
   pub opened : (d number : ℕ) → open_at r.windows d ≡ Some number → 4294967296 ≤ early_of r.spread d + number
   pub below : (k : List ℕ) → IsBelow r k
@@ -119,21 +118,44 @@ pub record Judged (old new : Reach) (key : Key) (early : ℕ) (stays : Bool) : T
   pub safe : IsNearlySafe old key early → stays ≡ true → IsSafe new
   pub out : stays ≡ false → IsUnsafe new
 
+-- It is safe but for keys that are still to be checked.
+pub record IsSafeBut (r : Reach) (keys : List Key) : Type 0 where
+  pub back : IsBack r.leads r.held r.back
+  pub spread : IsSpread r.leads r.held r.spread
+  pub opened : (d number : ℕ) → open_at r.windows d ≡ Some number → 4294967296 ≤ early_of r.spread d + number
+  pub below : (k : List ℕ) → IsBelow r k ⊎ (is_among keys k ≡ true)
+
+-- Keys are checked.
+pub record Checked (old new : Reach) (keys : List Key) (stays : Bool) : Type 0 where
+  pub safe : IsSafeBut old keys → stays ≡ true → IsSafe new
+  pub out : stays ≡ false → IsUnsafe new
+
+-- Keys and all that leads to them no longer come out; the list has the devices that are to be entered again.
+pub record TakenBack (old new : Reach) (keys : List Key) (list : List Opening) : Type 0 where
+  pub spread : IsBack old.leads old.held old.back → IsSpread old.leads old.held old.spread
+      → IsSpread old.leads old.held new.spread
+  pub zero : (k : List ℕ) → is_among keys k ≡ true → number_of new.spread.keys k ≡ 0
+  pub told : (k : List ℕ) → (number_of new.spread.keys k ≡ number_of old.spread.keys k)
+      ⊎ (number_of new.spread.keys k ≡ 0)
+  pub devices : (d : ℕ) → (early_of new.spread d ≡ early_of old.spread d)
+      ⊎ ((n : ℕ) → open_at old.windows d ≡ Some n → is_listed n d list ≡ true)
+  pub found : (n d : ℕ) → is_listed n d list ≡ true → open_at old.windows d ≡ Some n
+
 -- A removed device is entered, and the answer is whether no key that comes out for it was drawn since.
 pub record TriedOne (old new : Reach) (opening : Opening) (stays : Bool) : Type 0 where
   pub spread : IsSpread old.leads old.held old.spread → IsSpread new.leads new.held new.spread
   pub reached : 4294967296 ≤ early_of new.spread opening.device.0 + opening.number
   pub kept : (e : ℕ) → early_of old.spread e ≤ early_of new.spread e
-  pub below : stays ≡ true → ((k : List ℕ) → IsBelow old k) → (k : List ℕ) → IsBelow new k
+  pub below : stays ≡ true → (k : List ℕ) → IsBelow old k → IsBelow new k
   pub out : stays ≡ false → open_at old.windows opening.device.0 ≡ Some opening.number → IsUnsafe new
 
--- nothing is noted yet; the list has the removed devices
-pub record IsFresh (s : Spread) : Type 0 where
-  pub devices : (d : ℕ) → early_of s d ≡ 0
-  pub keys : (k : List ℕ) → number_of s.keys k ≡ 0
-
-abbrev pub IsListed : Reach → List Opening → Type 0
-IsListed r list = (n d : ℕ) → is_listed n d list ≡ is_number n (open_at r.windows d)
+-- The same of all devices of a list.
+pub record EnteredAll (old new : Reach) (list : List Opening) (stays : Bool) : Type 0 where
+  pub spread : stays ≡ true → IsSpread old.leads old.held old.spread → IsSpread new.leads new.held new.spread
+  pub reached : stays ≡ true → (n d : ℕ) → is_listed n d list ≡ true → 4294967296 ≤ early_of new.spread d + n
+  pub kept : stays ≡ true → (e : ℕ) → early_of old.spread e ≤ early_of new.spread e
+  pub below : stays ≡ true → (k : List ℕ) → IsBelow old k → IsBelow new k
+  pub out : stays ≡ false → ((n d : ℕ) → is_listed n d list ≡ true → open_at old.windows d ≡ Some n) → IsUnsafe new
 
 -- A key was drawn.
 pub record Draws (old new : Reach) (key : Key) : Type 0 where
@@ -166,6 +188,7 @@ pub record Removes (old new : Reach) (d number : ℕ) : Type 0 where
   pub small : number < 4294967296
   pub leads : new.leads ≡ old.leads
   pub held : new.held ≡ old.held
+  pub back : new.back ≡ old.back
   pub drawn : new.drawn ≡ old.drawn
   pub spread : IsSpread old.leads old.held old.spread → IsSpread old.leads old.held new.spread
   pub reached : 4294967296 ≤ early_of new.spread d + number
@@ -178,6 +201,7 @@ pub record Admits (old new : Reach) (d : ℕ) : Type 0 where
   pub last : new.windows.last ≡ old.windows.last
   pub leads : new.leads ≡ old.leads
   pub held : new.held ≡ old.held
+  pub back : new.back ≡ old.back
   pub drawn : new.drawn ≡ old.drawn
   pub spread : new.spread ≡ old.spread
 

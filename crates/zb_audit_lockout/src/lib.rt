@@ -5,11 +5,13 @@
 //! forged. `Lockout` keeps what this needs of the lines so far, and no line.
 #![tactic(auto)]
 
+mod back;
 mod bags;
 mod before;
 mod evidence;
 mod fact;
 mod groups;
+mod levels;
 mod lockout;
 mod numbers;
 mod opened;

@@ -28,15 +28,16 @@ use zb_trace::Line;
 /// What is needed of the lines so far to tell where lockout first fails.
 ///
 /// It keeps no line. What it keeps stands in ordered maps and sets, and a line takes a few look-ups. For each key that
-/// comes out for a removed device it notes how early such a device was removed. So lockout fails where a noted key is
-/// drawn, or where a key comes out for a device that was removed before the key was drawn. An admission takes no note
-/// back. Where a note then tells that lockout may fail, all of them are found anew for the devices that are removed.
+/// comes out for a removed device it notes how early such a device was removed. So lockout can only fail where a noted
+/// key is drawn, or where a key comes out for a device that was removed before the key was drawn. An admission takes
+/// no note back. Where a note then tells that lockout may fail, what leads to its key is taken back, and the devices
+/// among that which are still removed are entered again.
 ///
 /// - A key that comes out costs a step for each key that terms carry under it. It costs that again where it comes out
-///   for a device that was removed earlier.
-/// - A device that is removed costs a step for each key that it ever held, unless it was removed before.
-/// - After each admission all is found anew at most once. That costs as much as if the devices that are removed were
-///   removed again, one after the other.
+///   for a device that was removed earlier. So that this is rare, a key is noted as earlier than it need be.
+/// - A device that is removed costs a step for each key that it ever held, unless it is noted as removed already.
+/// - A key that is taken back costs a step for each key under which terms carry it, and for each device that held it.
+///   A line takes each key back at most once, one that names a pair of devices twice.
 /// - What the lines of a group say of keys waits until the group ends. Then it is taken in once, as a watch over a
 ///   transcript takes it in.
 /// - An accepted term is looked up among the forged ones and those that removed devices sealed. Of its seals the last
@@ -45,9 +46,8 @@ use zb_trace::Line;
 ///   that accepts foul terms has such a key at hand, and its keys are gone through at most once: then lockout fails.
 ///
 /// Over honest transcripts, and over most others, the time grows with the length. Known to take longer: thousands of
-/// admissions, each with a draw of a key that had come out for the device, while thousands of keys come out for others;
-/// and thousands of keys that come out for thousands of removed devices, for the one that was removed last first.
-/// Memory grows with the length.
+/// times a device is removed and admitted and a key that had come out for it is drawn, while thousands of keys come
+/// out for it or lead to that key. Memory grows with the length.
 #[derive(Drop)]
 pub struct Lockout {
     /// The number of the first line with which lockout fails.

@@ -1,6 +1,6 @@
 //! Numbers of keys.
 ghost use Rattle.std.specs.Prelude.{◌≡◌, ◌&&◌, ℕ, List, IfOk, OnOk, bytes_eq, nat_lt, if◌then◌else◌};
-ghost use Rattle.zb_audit_lockout.specs.Raising.{Raises};
+ghost use Rattle.zb_audit_lockout.specs.Raising.{Clears, Raises};
 ghost use Rattle.zb_audit_lockout.specs.Reading.{number_of};
 
 use std::alloc::{AllocError, Global};
@@ -48,7 +48,8 @@ impl Numbers {
     fn raise_one(&mut self, key: Key, number: u64) -> Result<bool, AllocError>
         ensures rises { IfOk result (λ rises. rises ≡ nat_lt (number_of self.old key.0) number) }
         ensures numbers { OnOk result ((k : List ℕ) → number_of self.new k
-            ≡ (if bytes_eq k key.0 && nat_lt (number_of self.old key.0) number then number else number_of self.old k)) }
+            ≡ (if bytes_eq k key.0 && nat_lt (number_of self.old key.0) number then number
+            else number_of self.old k)) }
     {
         if self.of(&key) < number {
             self.numbers.insert(key, number)?;
@@ -76,5 +77,35 @@ impl Numbers {
             }
         }
         Ok(raised)
+    }
+
+    /// Takes the number of a key away, and returns whether it had one.
+    fn clear_one(&mut self, key: &Key) -> bool
+        ensures clears { result ≡ nat_lt 0 (number_of self.old key.now.0) }
+        ensures numbers { (k : List ℕ) → number_of self.new k
+            ≡ (if bytes_eq k key.now.0 then 0 else number_of self.old k) }
+    {
+        let had = self.of(key) > 0;
+        self.numbers.remove(key);
+        had
+    }
+
+    /// Takes the numbers of keys away, and those of all keys that lead to them; answers the keys that had one.
+    pub fn clear(
+        &mut self,
+        alloc: Global,
+        bases: &Holdings<Key>,
+        mut keys: Vec<Key>,
+    ) -> Result<Vec<Key>, AllocError>
+        ensures { IfOk result (λ cleared. Clears bases.now self.old self.new keys.items cleared.items) }
+    {
+        let mut cleared = Vec::new(alloc);
+        while let Some(key) = keys.pop() {
+            if self.clear_one(&key) {
+                bases.append_to(&key, &mut keys)?;
+                cleared.push(key)?;
+            }
+        }
+        Ok(cleared)
     }
 }

@@ -111,8 +111,8 @@ impl Opened {
     }
 }
 
-// Puts the devices of an order after those of a list.
-fn append_all(order: &BTreeSet<Opening>, list: &mut Vec<Opening>) -> Result<(), AllocError>
+/// Puts the devices of an order after those of a list.
+pub fn append_all(order: &BTreeSet<Opening>, list: &mut Vec<Opening>) -> Result<(), AllocError>
     ensures { OnOk result (list.new.items ≡ list.old.items ++ order.now.keys) }
 {
     for opening in order {

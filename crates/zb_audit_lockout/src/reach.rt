@@ -1,11 +1,15 @@
 //! Whether keys come out for removed devices that were drawn after the removal.
-ghost use Rattle.std.specs.Prelude.{◌≡◌, ◌||◌, ◌&&◌, ℕ, List, None, false, IfOk, OnOk, bytes_eq, nat_eq};
+ghost use Rattle.std.specs.Prelude.{◌≡◌, ◌≤◌, ◌||◌, ◌&&◌, ◌⊎◌, ℕ, List, None, true, false, bytes_eq, nat_eq};
+ghost use Rattle.std.specs.Prelude.{IfOk, OnOk};
 ghost use Rattle.std.specs.List.{list_any};
 ghost use Rattle.zb_base.specs.declared.key.Key.{Key as AnyKey};
 ghost use Rattle.zb_audit_lockout.specs.Reading.{early_of, is_late, number_of, open_at};
-ghost use Rattle.zb_audit_lockout.specs.Standing.{Carries, Draws, Holds, IsFresh, IsJudgedAnew, IsListed, Judged, Removes, Settles, Tells, TriedOne};
-ghost use Rattle.zb_trace_watch.specs.Sets.{is_carried, is_node, node_has};
+ghost use Rattle.zb_audit_lockout.specs.Standing.{Carries, Checked, Draws, EnteredAll, Holds, Judged};
+ghost use Rattle.zb_audit_lockout.specs.Standing.{Removes, Settles, TakenBack, Tells, TriedOne};
+ghost use Rattle.zb_trace_watch.specs.Sets.{is_among, is_carried, is_node, node_has};
 
+use crate::back::Back;
+use crate::levels::level_above;
 use crate::numbers::Numbers;
 use crate::opened::Opening;
 use crate::spread::{Spread, earliness};
@@ -23,6 +27,8 @@ pub struct Reach {
     pub leads: Holdings<Key>,
     /// The keys that each device ever held.
     pub held: Holdings<Eui>,
+    /// For each key, the keys and the devices that lead to it.
+    pub back: Back,
     /// For each key, the number of the last removal before it was drawn last.
     pub drawn: Numbers,
     /// Which keys come out for removed devices.
@@ -44,6 +50,7 @@ impl Reach {
             windows: Windows::new(alloc),
             leads: Holdings::new(alloc),
             held: Holdings::new(alloc),
+            back: Back::new(alloc),
             drawn: Numbers::new(alloc),
             spread: Spread::new(alloc),
         }
@@ -56,13 +63,10 @@ impl Reach {
     {
         let last = u64::from(self.windows.last);
         self.drawn.set(key, last)?;
-        let early = self.spread.keys.of(&key);
-        if early == 0 {
-            Ok(true)
-        } else {
-            let stays = self.settle(alloc)?;
-            Ok(stays)
-        }
+        let mut keys = Vec::new(alloc);
+        keys.push(key)?;
+        let stays = self.check(alloc, &keys)?;
+        Ok(stays)
     }
 
     /// Notes that a term under a base key carries a key, and returns whether drawn keys stay out of reach.
@@ -71,6 +75,7 @@ impl Reach {
         ensures tells { IfOk result (λ stays. Tells self.old self.new stays) }
     {
         self.leads.add(alloc, base, key)?;
+        self.back.bases.add(alloc, key, base)?;
         let early = self.spread.keys.of(&base);
         self.follow(alloc, key, early)
     }
@@ -90,6 +95,7 @@ impl Reach {
         ensures holds { OnOk result (Holds self.old self.new (λ d k. nat_eq d device.0 && bytes_eq k key.0)) }
         ensures tells { IfOk result (λ stays. Tells self.old self.new stays) }
     {
+        self.back.hold(alloc, &self.held, device, key)?;
         self.held.add(alloc, device, key)?;
         let early = self.spread.of(&device);
         self.follow(alloc, key, early)
@@ -128,32 +134,99 @@ impl Reach {
         ensures settles { OnOk result (Settles self.old self.new) }
         ensures judged { IfOk result (λ stays. Judged self.old self.new key early stays) }
     {
-        let raised = self.spread.follow(alloc, &self.leads, key, early)?;
-        let late = self.any_late(&raised, early);
-        if late {
-            let stays = self.settle(alloc)?;
-            Ok(stays)
+        let level = self.level(alloc, key, early)?;
+        let raised = self.spread.follow(alloc, &self.leads, key, level)?;
+        let stays = self.check(alloc, &raised)?;
+        Ok(stays)
+    }
+
+    // Returns how far to raise a key that is to become so early: so far that it needn't be raised again soon.
+    fn level(&self, alloc: Global, key: Key, early: u64) -> Result<u64, AllocError>
+        ensures { IfOk result (λ level. early ≤ level) }
+    {
+        if self.spread.keys.of(&key) < early {
+            let level = level_above(
+                alloc,
+                &self.leads,
+                &self.spread.keys,
+                &self.drawn,
+                key,
+                early,
+            )?;
+            Ok(level)
         } else {
-            Ok(true)
+            Ok(early)
         }
     }
 
-    // Finds anew which keys come out for the devices that are removed, and tells whether one was drawn since.
-    fn settle(&mut self, alloc: Global) -> Result<bool, AllocError>
+    // Checks keys, and tells whether none was drawn after the removal of a device for which it comes out.
+    fn check(&mut self, alloc: Global, keys: &[Key]) -> Result<bool, AllocError>
         ensures settles { OnOk result (Settles self.old self.new) }
-        ensures judged { IfOk result (λ stays. IsJudgedAnew self.new stays) }
+        ensures checked { IfOk result (λ stays. Checked self.old self.new keys.now stays) }
     {
-        self.spread = Spread::new(alloc);
-        let openings = self.windows.removals.list(alloc)?;
+        let late = self.late_ones(alloc, keys)?;
+        if late.is_empty() {
+            Ok(true)
+        } else {
+            let stays = self.find_anew(alloc, late)?;
+            Ok(stays)
+        }
+    }
+
+    // Returns those of the keys that were drawn after a removal that is as early as they are noted.
+    fn late_ones(&self, alloc: Global, keys: &[Key]) -> Result<Vec<Key>, AllocError>
+        ensures { IfOk result (λ late. (k : List ℕ) → is_among keys.now k ≡ true
+            → (is_among late.items k ≡ true) ⊎ (is_late self.now.drawn (number_of self.now.spread.keys k) k ≡ false)) }
+    {
+        let mut late = Vec::new(alloc);
+        for key in keys {
+            self.sift(*key, &mut late)?;
+        }
+        Ok(late)
+    }
+
+    // Puts a key into a list, where it was drawn after a removal that is as early as the key is noted.
+    fn sift(&self, key: Key, late: &mut Vec<Key>) -> Result<(), AllocError>
+        ensures kept { OnOk result ((k : List ℕ) → is_among late.old.items k ≡ true
+            → is_among late.new.items k ≡ true) }
+        ensures sifted { OnOk result ((is_among late.new.items key.0 ≡ true)
+            ⊎ (is_late self.now.drawn (number_of self.now.spread.keys key.0) key.0 ≡ false)) }
+    {
+        let early = self.spread.keys.of(&key);
+        if self.is_late(&key, early) {
+            late.push(key)?;
+            Ok(())
+        } else {
+            Ok(())
+        }
+    }
+
+    // Finds anew for which removed devices keys come out, and tells whether these were drawn before.
+    fn find_anew(&mut self, alloc: Global, keys: Vec<Key>) -> Result<bool, AllocError>
+        ensures settles { OnOk result (Settles self.old self.new) }
+        ensures checked { IfOk result (λ stays. Checked self.old self.new keys.items stays) }
+    {
+        let openings = self.take_back(alloc, keys)?;
         let stays = self.try_all(alloc, &openings)?;
         Ok(stays)
     }
 
-    // Enters the removed devices, and returns whether no key that comes out for one was drawn since.
+    // Takes back that keys come out, with all that leads to them; answers the devices among that which are removed.
+    fn take_back(&mut self, alloc: Global, keys: Vec<Key>) -> Result<Vec<Opening>, AllocError>
+        ensures settles { OnOk result (Settles self.old self.new) }
+        ensures taken { IfOk result (λ openings. TakenBack self.old self.new keys.items openings.items) }
+    {
+        let cleared = self.spread.keys.clear(alloc, &self.back.bases, keys)?;
+        let openings = self
+            .spread
+            .forget(alloc, &self.back, &self.windows, &cleared)?;
+        Ok(openings)
+    }
+
+    // Enters removed devices, and returns whether no key that comes out for one was drawn since.
     fn try_all(&mut self, alloc: Global, openings: &[Opening]) -> Result<bool, AllocError>
         ensures settles { OnOk result (Settles self.old self.new) }
-        ensures judged { IfOk result (λ stays. IsFresh self.old.spread → IsListed self.old openings.now
-            → IsJudgedAnew self.new stays) }
+        ensures entered { IfOk result (λ stays. EnteredAll self.old self.new openings.now stays) }
     {
         for opening in openings {
             let stays = self.try_one(alloc, opening)?;

@@ -1,7 +1,8 @@
 use Rattle.std.proofs.Common.{◌++◌, List, ◌∷◌, [], length, length-append, arith, ap, sym, ◌∙◌, subst}
 use Rattle.zb_base.specs.declared.key.Key.{Key}
 use Rattle.zb_trace_watch.specs.Sets.{key_cmp, keys_at}
-use Rattle.zb_audit_lockout.proofs.Raised.{Raising, is_high_now, raised_once, raises_new, raises_old, stays_high, was_low}
+use Rattle.zb_audit_lockout.proofs.Left.{done_once}
+use Rattle.zb_audit_lockout.proofs.Raised.{Raising, is_high, is_high_now, raises_new, raises_old, stays_high, was_low}
 use Rattle.zb_audit_lockout.proofs.numbers.Numbers.raise.Goals as goal
 
 pub loop-key-preserved-in-Continue-branch-3 : goal.loop-key-preserved-in-Continue-branch-3
@@ -27,8 +28,9 @@ loop-key-preserved c =
 pub loop-key-smaller-in-Continue-branch-3 : goal.loop-key-smaller-in-Continue-branch-3
 loop-key-smaller-in-Continue-branch-3 c =
     let below = sym c.in_ok-raise_one.ensures.rises ∙ c.if-branch.true in
-    let once = raised_once c.loop-key.self c.raise_one.new.self c.args.number c.in-Some.key
+    let once = done_once (is_high c.loop-key.self c.args.number) (is_high c.raise_one.new.self c.args.number)
     (stays_high c.loop-key.self c.raise_one.new.self c.args.number c.in-Some.key c.in_ok-raise_one.ensures.numbers)
+    c.in-Some.key
     (was_low c.loop-key.self c.raise_one.new.self c.args.number c.in-Some.key c.in_ok-raise_one.ensures.numbers below)
     (is_high_now c.loop-key.self c.raise_one.new.self c.args.number c.in-Some.key c.in_ok-raise_one.ensures.numbers
     below) c.args.leads.now.sets.entries in

@@ -16,6 +16,7 @@ returns-clause-carries c =
       windows = c.args.self.now.windows;
       leads = c.add.new.self;
       held = c.args.self.now.held;
+      back = record { bases = c.add-2.new.self; holders = c.args.self.now.back.holders };
       drawn = c.args.self.now.drawn;
       spread = c.args.self.now.spread;
     } in
@@ -32,7 +33,8 @@ returns-clause-carries c =
 pub returns-clause-tells : goal.returns-clause-tells
 returns-clause-tells c =
     if_ok c.follow.result _ _
-    (λ stays judged. carried_tells c.args.self.now c.follow.new.self c.add.new.self c.args.base c.args.key
-    c.of-early.result stays
+    (λ stays judged. carried_tells c.args.self.now c.follow.new.self c.add.new.self c.add-2.new.self c.args.base
+    c.args.key c.of-early.result stays
     (added_bytes c.add.new.self c.args.self.now.leads c.args.base c.args.key c.in_ok-add.ensures)
+    (added_bytes c.add-2.new.self c.args.self.now.back.bases c.args.key c.args.base c.in_ok-add-2.ensures)
     c.of-early.ensures judged) c.follow.ensures.judged

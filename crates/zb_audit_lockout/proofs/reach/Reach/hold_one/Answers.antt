@@ -18,6 +18,7 @@ returns-clause-holds c =
       windows = c.args.self.now.windows;
       leads = c.args.self.now.leads;
       held = c.add.new.self;
+      back = c.hold.new.self;
       drawn = c.args.self.now.drawn;
       spread = c.args.self.now.spread;
     } in
@@ -35,7 +36,8 @@ returns-clause-holds c =
 pub returns-clause-tells : goal.returns-clause-tells
 returns-clause-tells c =
     if_ok c.follow.result _ _
-    (λ stays judged. held_tells c.args.self.now c.follow.new.self c.add.new.self c.args.device c.args.key
-    c.of-early.result stays
+    (λ stays judged. held_tells c.args.self.now c.follow.new.self c.add.new.self c.hold.new.self c.args.device
+    c.args.key c.of-early.result stays
     (added_number c.add.new.self c.args.self.now.held c.args.device c.args.key c.in_ok-add.ensures)
+    c.in_ok-hold.ensures
     c.of-early.ensures judged) c.follow.ensures.judged

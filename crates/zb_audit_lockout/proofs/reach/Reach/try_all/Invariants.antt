@@ -1,5 +1,5 @@
 -- The devices up to the loop's place are entered, and no key that comes out for them was drawn since.
-use Rattle.zb_audit_lockout.proofs.Telling.{Entering}
+use Rattle.zb_audit_lockout.proofs.Checking.{Entering}
 use Rattle.zb_audit_lockout.proofs.reach.Reach.try_all.Given as goal
 
 abbrev pub invariant-loop-opening : goal.invariant-loop-opening

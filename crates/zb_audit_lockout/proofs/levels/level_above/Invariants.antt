@@ -1,0 +1,7 @@
+-- Each key that is new brings those that terms carry under it, once.
+use Rattle.std.proofs.Common.{◌+◌, length}
+use Rattle.zb_trace_watch.proofs.Learning.{unopened}
+use Rattle.zb_audit_lockout.proofs.levels.level_above.Given as goal
+
+abbrev pub decreases-loop-key : goal.decreases-loop-key
+decreases-loop-key l = unopened l.seen l.leads.sets.entries + length l.keys.items

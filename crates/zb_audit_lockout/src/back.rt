@@ -1,0 +1,45 @@
+//! Which keys and which devices lead to each key.
+ghost use Rattle.std.specs.Prelude.{OnOk};
+ghost use Rattle.zb_audit_lockout.specs.Backing.{Notes};
+
+use crate::bags::Bags;
+use std::alloc::{AllocError, Global};
+use zb_base::{Eui, Key};
+use zb_trace_watch::holdings::Holdings;
+
+/// For each key, the base keys under which terms carry it, and the devices that ever held it.
+#[derive(Drop)]
+pub struct Back {
+    /// For each key, the keys under which terms carry it.
+    pub bases: Holdings<Key>,
+    /// For each key, the devices that ever held it.
+    pub holders: Bags<Key, Eui>,
+}
+
+impl Back {
+    /// Makes the value before the first line.
+    pub fn new(alloc: Global) -> Back {
+        Back {
+            bases: Holdings::new(alloc),
+            holders: Bags::new(alloc),
+        }
+    }
+
+    /// Notes that a device comes to hold a key, unless it is among what devices held before.
+    pub fn hold(
+        &mut self,
+        alloc: Global,
+        held: &Holdings<Eui>,
+        device: Eui,
+        key: Key,
+    ) -> Result<(), AllocError>
+        ensures { OnOk result (Notes held.now self.old self.new device.0 key.0) }
+    {
+        if held.has(&device, &key) {
+            Ok(())
+        } else {
+            self.holders.add(alloc, key, device)?;
+            Ok(())
+        }
+    }
+}
