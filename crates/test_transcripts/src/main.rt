@@ -10,10 +10,10 @@ ghost use Rattle.std.specs.Prelude.{◌<◌, length};
 
 use std::alloc::{AllocError, Global};
 use std::{env, fs, io};
+use zb_audit::{ideal, private};
 use zb_base::OrMemory;
 use zb_trace::{Line, put_line};
 use zb_trace_read::{TraceError, read_lines};
-use zb_trace_watch::{ideal, private};
 
 fn main(rt: HostRuntime) -> io::Result<()> {
     for name in env::args(&rt)?.skip(1) {

@@ -25,9 +25,9 @@ use Rattle.zb_audit_names.specs.Standing as directory
 use Rattle.zb_audit_names.specs.Standing.{IsSpeaker, Tells, TellsOf}
 use Rattle.zb_audit_names.specs.declared.directory.Directory.{Directory}
 use Rattle.zb_audit_names.specs.declared.node.Who.{Who}
-use Rattle.zb_audit_words.proofs.Growth.{ideal_before, private_before}
-use Rattle.zb_audit_words.specs.Standing as words
-use Rattle.zb_audit_words.specs.declared.reading.EndWords.{EndWords}
+use Rattle.zb_audit.proofs.SaidByName.{ideal_before, private_before}
+use Rattle.zb_audit.specs.Words.{WordsStand}
+use Rattle.zb_trace_watch.specs.declared.words.EndWords.{EndWords}
 use Rattle.zb_audit_lockout.specs.Standing as lockout
 use Rattle.zb_audit_lockout.specs.declared.lockout.Lockout.{Lockout}
 use Rattle.zb_model.specs.Data.{Bytes, Station}
@@ -82,7 +82,7 @@ words_before tools h l it =
 
 pub none_stand : (tools : Tools) (d : Directory) (w : EndWords) (n : Nonces) (t : Taking) (c : Confirming)
     (r : Recount) (k : Lockout) (e : Ending)
-    → directory.Stands d [] [] → ((names : List Bytes) → words.Stands tools names w []) → AreNonces n []
+    → directory.Stands d [] [] → ((names : List Bytes) → WordsStand tools names w []) → AreNonces n []
     → ((names : List Bytes) → AreTaken names t []) → AreConfirmed c []
     → ((names : List Bytes) → Recounts names r []) → ((names : List Bytes) → lockout.Stands tools names k [])
     → Ends tools e []
@@ -120,8 +120,8 @@ pub line_stands : (tools : Tools) (old : Auditor) (h : List Line) (l : Line) (wh
     → directory.Stands d (names_in (h ++ l ∷ [])) (declared_in (h ++ l ∷ [])))
     → ((h : List Line) → directory.Stands old.directory (names_in h) (declared_in h)
     → IsSpeaker who (names_in (h ++ l ∷ [])) (declared_in h) l)
-    → ((names : List Bytes) (h : List Line) → words.Stands tools names old.words h → i ≡ ideal tools h)
-    → ((names : List Bytes) (h : List Line) → words.Stands tools names old.words h → p ≡ private tools h)
+    → ((names : List Bytes) (h : List Line) → WordsStand tools names old.words h → i ≡ ideal tools h)
+    → ((names : List Bytes) (h : List Line) → WordsStand tools names old.words h → p ≡ private tools h)
     → ((h : List Line) → number ≡ length h + 1 → AreNonces old.nonces h → AreNonces n (h ++ l ∷ []))
     → ((names : List Bytes) (h : List Line) → number ≡ length h + 1 → IsSpeaker who names (declared_in h) l
     → AreTaken names old.taking h → AreTaken names t (h ++ l ∷ []))
@@ -133,7 +133,7 @@ pub line_stands : (tools : Tools) (old : Auditor) (h : List Line) (l : Line) (wh
     → ((h : List Line) → number ≡ length h + 1 → i ≡ ideal tools h → p ≡ private tools h → Ends tools old.ending h
     → Ends tools e (h ++ l ∷ []))
     → ((names : List Bytes) (h : List Line) → IsSpeaker who names (declared_in h) l
-    → words.Stands tools names old.words h → words.Stands tools names w (h ++ l ∷ []))
+    → WordsStand tools names old.words h → WordsStand tools names w (h ++ l ∷ []))
     → Stands tools old h
     → Stands tools
     (record {

@@ -7,7 +7,7 @@ use Rattle.zb_audit_names.specs.Secrets.{ideal, private}
 use Rattle.zb_audit_names.specs.Standing as directory
 use Rattle.zb_audit_names.specs.Standing.{IsSpeaker}
 use Rattle.zb_audit_names.specs.declared.node.Who.{Who}
-use Rattle.zb_audit_words.specs.Standing as words
+use Rattle.zb_audit.specs.Words.{WordsStand}
 use Rattle.zb_audit_lockout.specs.Standing as lockout
 use Rattle.zb_audit_lockout.specs.declared.lockout.Lockout.{Lockout}
 use Rattle.zb_trace_watch.specs.Standing.{FindKeys}
@@ -18,7 +18,7 @@ use Rattle.zb_trace.specs.declared.line.Line.{Line}
 
 -- the parts that go by the places of names among these
 pub record StandAt (tools : Tools) (names : List Bytes) (a : Auditor) (h : List Line) : Type 0 where
-  pub words : words.Stands tools names a.words h
+  pub words : WordsStand tools names a.words h
   pub taking : AreTaken names a.taking h
   pub recount : Recounts names a.recount h
   -- lockout is carried on as long as both words hold

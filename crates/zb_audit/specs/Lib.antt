@@ -5,5 +5,6 @@ pub mod Confirming
 pub mod Ending
 pub mod Standing
 pub mod Faults
+pub mod Words
 pub mod Auditing
 pub mod Claims

@@ -15,13 +15,14 @@ use crate::fault::{AuditFault, BadLine, Verdict};
 use crate::nonces::Nonces;
 use crate::numbers::next;
 use crate::taking::Taking;
+use crate::words::seen;
 use std::alloc::Global;
 use zb_audit_counters::Recount;
 use zb_audit_lockout::Lockout;
 use zb_audit_names::{Directory, Who};
-use zb_audit_words::EndWords;
 use zb_base::NoMemory;
 use zb_trace::Line;
+use zb_trace_watch::EndWords;
 
 /// What is known of a transcript after the lines so far, and no line.
 #[derive(Drop)]
@@ -90,7 +91,7 @@ impl Auditor {
         self.recount.line(alloc, number, line, who)?;
         carry_on(&mut self.lockout, alloc, ideal, private, number, line, who)?;
         self.ending.line(number, line, ideal, private)?;
-        self.words.line(alloc, line, who)?;
+        self.words.line(alloc, line, seen(who))?;
         self.number = number;
         Ok(())
     }

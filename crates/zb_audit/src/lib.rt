@@ -14,6 +14,7 @@ mod laws;
 mod nonces;
 mod numbers;
 mod taking;
+mod words;
 
 pub use auditor::{Auditor, audit};
 pub use confirming::{Confirming, LinkRow};
@@ -22,3 +23,4 @@ pub use fault::{AuditFault, BadLine, Verdict};
 pub use laws::confirmable_seals_are_of_stored_keys;
 pub use nonces::{Nonces, Stamp};
 pub use taking::{Channel, Taking};
+pub use words::{ideal, private};

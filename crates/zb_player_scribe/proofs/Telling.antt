@@ -17,7 +17,7 @@ use Rattle.zb_player_scribe.specs.declared.scribe.Scribe.{Scribe}
 use Rattle.zb_trace.specs.Text.{text}
 use Rattle.zb_trace.specs.Views.{logged}
 use Rattle.zb_trace.specs.declared.line.Line.{Line}
-use Rattle.zb_trace_watch.specs.Standing.{Stands}
+use Rattle.zb_trace_watch.specs.Watching.{Stands}
 use Rattle.zb_trace_watch.specs.declared.watch.Watch.{Watch}
 
 -- a line more

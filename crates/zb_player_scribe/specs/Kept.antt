@@ -8,7 +8,7 @@ use Rattle.zb_model.specs.Transcript.{accept_count, refuse_count, seal_count}
 use Rattle.zb_model_real.specs.Real.{real}
 use Rattle.zb_trace_model.specs.Said.{text_of}
 use Rattle.zb_player_scribe.specs.declared.scribe.Scribe.{Scribe}
-use Rattle.zb_trace_watch.specs.Standing.{Stands}
+use Rattle.zb_trace_watch.specs.Watching.{Stands}
 
 -- The scribe has of these lines what a run needs of them.
 pub record Kept (h : List log.Line) (k : Scribe) : Type 0 where

@@ -1,13 +1,12 @@
 -- The lines of the program as the model's. A line of the program names a node by its name, and the model by its EUI:
 -- that of the first node of that name that the lines before it declare, and `nobody` where there is none. The lines
 -- that only the centre gives, and that don't show it, are the centre's: the first declared node of that role.
-use Rattle.std.specs.Prelude.{ℕ, List, [], ◌∷◌, ◌++◌, fold, find, bytes_eq, codes, Option, Some, None, if◌then◌else◌}
+use Rattle.std.specs.Prelude.{ℕ, List, find, bytes_eq, codes, Option, Some, None, if◌then◌else◌}
 use Rattle.zb_node_types.specs.Changes.{model_layer, model_role, model_state, model_attribute, is_sending, model_place, reason}
 use Rattle.zb_node_types.specs.Changes as changes
 use Rattle.zb_model.specs.Data as model
 use Rattle.zb_model.specs.Data.{Station, nobody}
 use Rattle.zb_model.specs.Lines as log
-use Rattle.zb_model.specs.Readings.{stations_of}
 use Rattle.zb_model.specs.State.{is_centre}
 use Rattle.zb_model_real.specs.Terms.{model_term}
 use Rattle.zb_trace.specs.declared.line.Line.{Line}
@@ -85,11 +84,3 @@ logged known (line.Boot event node) = log.Boot event (named known node.bytes)
 logged known (line.Dump event node bytes) = log.Dump event (named known node.bytes) bytes
 logged known (line.End events seals accepts refusals ideal private) = log.End events seals accepts refusals ideal
     private
-
--- The model's lines, and one more line of the program after them.
-abbrev pub with_line : List log.Line → Line → List log.Line
-with_line h l = h ++ logged (stations_of h) l ∷ []
-
--- The program's lines as the model's.
-unfoldable pub log_of : List Line → List log.Line
-log_of lines = fold with_line [] lines

@@ -265,26 +265,15 @@ module _ (tools : Tools) where
       by_turn n ts keys (λ more fewer_left. closed_after n ts more fewer_left) (omega (arith, le))
       (turns ts ts keys (all_among ts))
 
-one_term : (l : Line) → length (terms_in l) ≤ 1
-one_term (Seal e n t) = omega arith
-one_term (Forge e t) = omega arith
-one_term _ = omega arith
+-- What comes out in as many rounds as there are terms: it has the start, is closed, and is no more than that.
 
-few_terms : (h : List Line) → length (terms_of h) ≤ length h
-unfolding terms_of
-few_terms [] = omega arith
-few_terms (l ∷ h) = omega (arith, length-append (terms_in l) (flat_map terms_in h), one_term l, few_terms h)
+pub rounds_cover : (tools : Tools) (n : ℕ) (ts : List Term) (from : List Bytes) (k : Bytes) → holds from k ≡ true
+    → holds (rounds n tools ts from) k ≡ true
+rounds_cover tools n ts from k there = rounds_grow tools n ts from k there
 
-pub exposed_covers : (tools : Tools) (h : List Line) (from : List Bytes) (k : Bytes) → holds from k ≡ true
-    → holds (exposed tools h from) k ≡ true
-unfolding exposed
-exposed_covers tools h from k there = rounds_grow tools (length h) (terms_of h) from k there
-
-pub exposed_closed : (tools : Tools) (h : List Line) (from : List Bytes)
-    → IsClosed tools (holds (exposed tools h from)) (terms_of h)
-unfolding exposed
-exposed_closed tools h from = closed_after tools (length h) (terms_of h) from
-    (omega (arith, missing_at_most tools (terms_of h) from, few_terms h))
+pub rounds_closed : (tools : Tools) (n : ℕ) (ts : List Term) (from : List Bytes) → length ts ≤ n
+    → IsClosed tools (holds (rounds n tools ts from)) ts
+rounds_closed tools n ts from few = closed_after tools n ts from (omega (arith, missing_at_most tools ts from, few))
 
 all_within : (S : Bytes → Bool) (keys all : List Bytes) → ((k : Bytes) → holds all k ≡ true → S k ≡ true)
     → Subset keys all → Within S keys
@@ -292,10 +281,38 @@ all_within S [] all covers sub = tt
 all_within S (k ∷ keys) all covers sub =
     (covers k (sub k (or_left _ _ (itself k))), all_within S keys all covers (λ q h. sub q (or_right _ _ h)))
 
+pub rounds_least : (tools : Tools) (n : ℕ) (ts : List Term) (from : List Bytes) (S : Bytes → Bool)
+    → ((k : Bytes) → holds from k ≡ true → S k ≡ true) → IsClosed tools S ts
+    → (k : Bytes) → holds (rounds n tools ts from) k ≡ true → S k ≡ true
+rounds_least tools n ts from S covers closed k there =
+    holds_within S (rounds n tools ts from) k
+    (rounds_within tools n S ts from closed (all_within S from from covers (λ q h. h))) there
+
+-- of lines
+
+one_term : (l : Line) → length (terms_in l) ≤ 1
+one_term (Seal e n t) = omega arith
+one_term (Forge e t) = omega arith
+one_term _ = omega arith
+
+pub few_terms : (h : List Line) → length (terms_of h) ≤ length h
+unfolding terms_of
+few_terms [] = omega arith
+few_terms (l ∷ h) = omega (arith, length-append (terms_in l) (flat_map terms_in h), one_term l, few_terms h)
+
+pub exposed_covers : (tools : Tools) (h : List Line) (from : List Bytes) (k : Bytes) → holds from k ≡ true
+    → holds (exposed tools h from) k ≡ true
+unfolding exposed
+exposed_covers tools h from k there = rounds_cover tools (length h) (terms_of h) from k there
+
+pub exposed_closed : (tools : Tools) (h : List Line) (from : List Bytes)
+    → IsClosed tools (holds (exposed tools h from)) (terms_of h)
+unfolding exposed
+exposed_closed tools h from = rounds_closed tools (length h) (terms_of h) from (few_terms h)
+
 pub exposed_least : (tools : Tools) (h : List Line) (from : List Bytes) (S : Bytes → Bool)
     → ((k : Bytes) → holds from k ≡ true → S k ≡ true) → IsClosed tools S (terms_of h)
     → (k : Bytes) → holds (exposed tools h from) k ≡ true → S k ≡ true
 unfolding exposed
-exposed_least tools h from S covers closed k there =
-    holds_within S (rounds (length h) tools (terms_of h) from) k
-    (rounds_within tools (length h) S (terms_of h) from closed (all_within S from from covers (λ q h. h))) there
+exposed_least tools h from S covers closed k there = rounds_least tools (length h) (terms_of h) from S covers closed k
+    there

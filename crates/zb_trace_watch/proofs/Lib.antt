@@ -10,6 +10,7 @@ pub mod Exposed
 pub mod Growth
 pub mod Outsiders
 pub mod Advancing
-pub mod Found
 pub mod Effects
+pub mod Found
+pub mod Logged
 pub mod Starting

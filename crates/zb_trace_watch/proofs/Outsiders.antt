@@ -1,18 +1,18 @@
--- What outsiders may know is the model's list of exposed keys, as a set.
-use Rattle.std.proofs.Common.{◌≡◌, ℕ, List, [], ◌∷◌, Bool, true, false, ◌&&◌, inl, inr, Option, Some, None, refl, ap, sym, ◌∙◌, bytes_eq, nat_eq}
+-- What outsiders may know is the list of exposed keys, as a set.
+use Rattle.std.proofs.Common.{◌≡◌, ℕ, ◌≤◌, length, List, [], ◌∷◌, Bool, true, false, ◌&&◌, inl, inr, Option, Some, None, refl, ap, sym, ◌∙◌, bytes_eq, nat_eq}
 use Rattle.std.specs.List.{list_any, flat_map}
 use Rattle.std.specs.Option.{IfSome}
 use Rattle.std.proofs.lemmas.List.Folds.{list_any-append}
 use Rattle.zb_model.specs.Data.{Bytes, Term, nobody}
-use Rattle.zb_model.specs.Lines.{Line}
-use Rattle.zb_model.specs.Secrets.{carried, ever, exposed, holds, outside, removed_devices, terms_of, well_known}
+use Rattle.zb_model.specs.Secrets.{carried, holds, rounds, well_known}
 use Rattle.zb_model.specs.Tools.{Tools}
 use Rattle.zb_trace_watch.specs.Closure.{IsClosed, Passes}
 use Rattle.zb_trace_watch.specs.Exposure.{Covers, IsSettled, was_removed}
+use Rattle.zb_trace_watch.specs.Sayings.{exposed, Sayings}
 use Rattle.zb_trace_watch.specs.Sets.{has, is_carried, node_has}
 use Rattle.zb_trace_watch.specs.Standing.{carries, is_that}
 use Rattle.zb_trace_watch.specs.declared.exposure.Exposure.{Exposure}
-use Rattle.zb_trace_watch.proofs.Exposed.{exposed_covers, exposed_closed, exposed_least}
+use Rattle.zb_trace_watch.proofs.Exposed.{rounds_cover, rounds_closed, rounds_least}
 use Rattle.zb_trace_watch.proofs.Truth.{and_left, and_right, both, decided, either, itself, not_both, or_left, or_right, same_bytes, same_number, same_truth, itself_number}
 
 -- What removed devices ever held is among what outsiders may hold, and besides it there is the well-known key.
@@ -71,53 +71,54 @@ module _ (tools : Tools) (S : Bytes → Bool) where
     closed_from ts (λ base key known there. carries_all base key known (or_right _ _ there)),
   )
 
--- Where the parts of an exposure are those of a list of lines.
-module _ (tools : Tools) (e : Exposure) (h : List Line)
-    (carried_is : (base key : Bytes) → is_carried e.carried base key ≡ list_any (carries tools base key) (terms_of h))
+-- Where the parts of an exposure are what lines say.
+module _ (tools : Tools) (e : Exposure) (s : Sayings) (few : length s.terms ≤ s.lines)
+    (carried_is : (base key : Bytes) → is_carried e.carried base key ≡ list_any (carries tools base key) s.terms)
     (ever_is : (node : ℕ) → nat_eq node nobody ≡ false → (key : Bytes) → node_has e.ever node key
-    ≡ holds (ever h node) key)
-    (removed_is : (device : ℕ) → was_removed e device ≡ list_any (nat_eq device) (removed_devices h))
-    (somebody : list_any (nat_eq nobody) (removed_devices h) ≡ false) where
-  not_nobody : (d : ℕ) → list_any (nat_eq d) (removed_devices h) ≡ true → nat_eq d nobody ≡ false
+    ≡ holds (s.ever node) key)
+    (removed_is : (device : ℕ) → was_removed e device ≡ list_any (nat_eq device) s.removed)
+    (somebody : list_any (nat_eq nobody) s.removed ≡ false) where
+  not_nobody : (d : ℕ) → list_any (nat_eq d) s.removed ≡ true → nat_eq d nobody ≡ false
   not_nobody d gone = elim (decided (nat_eq d nobody)) [
     | inl is ↦ absurd
-        (not_both _ gone
-        (ap (λ (n : ℕ). list_any (nat_eq n) (removed_devices h)) (same_number d nobody is) ∙ somebody))
+        (not_both _ gone (ap (λ (n : ℕ). list_any (nat_eq n) s.removed) (same_number d nobody is) ∙ somebody))
     | inr is ↦ is
   ]
 
-  covers_exposed : Covers e (holds (exposed tools h (outside h)))
-  unfolding outside
+  abbrev outside : List Bytes
+  outside = well_known ∷ flat_map s.ever s.removed
+
+  covers_exposed : Covers e (holds (exposed tools s))
+  unfolding exposed
   covers_exposed = record {
-    everybody = exposed_covers tools h (outside h) well_known refl;
+    everybody = rounds_cover tools s.lines s.terms outside well_known refl;
     removed = λ d k gone did.
-        let was : list_any (nat_eq d) (removed_devices h) ≡ true = sym (removed_is d) ∙ gone in
-        exposed_covers tools h (outside h) k
-        (or_right _ _ (outside_has (ever h) d k (removed_devices h) was (sym (ever_is d (not_nobody d was) k) ∙ did)));
-    carried = λ base key known there. closed_any tools (holds (exposed tools h (outside h))) base key (terms_of h)
-        (exposed_closed tools h (outside h)) known (sym (carried_is base key) ∙ there);
+        let was : list_any (nat_eq d) s.removed ≡ true = sym (removed_is d) ∙ gone in
+        rounds_cover tools s.lines s.terms outside k
+        (or_right _ _ (outside_has s.ever d k s.removed was (sym (ever_is d (not_nobody d was) k) ∙ did)));
+    carried = λ base key known there. closed_any tools (holds (rounds s.lines tools s.terms outside)) base key s.terms
+        (rounds_closed tools s.lines s.terms outside few) known (sym (carried_is base key) ∙ there);
   }
 
-  exposed_within : (S : Bytes → Bool) → Covers e S → (k : Bytes) → holds (exposed tools h (outside h)) k ≡ true → S k
-      ≡ true
-  unfolding outside
+  exposed_within : (S : Bytes → Bool) → Covers e S → (k : Bytes) → holds (exposed tools s) k ≡ true → S k ≡ true
+  unfolding exposed
   exposed_within S covers k there =
-      exposed_least tools h (outside h) S
+      rounds_least tools s.lines s.terms outside S
       (λ q out.
-      elim (either (bytes_eq q well_known) (holds (flat_map (ever h) (removed_devices h)) q) out) [
+      elim (either (bytes_eq q well_known) (holds (flat_map s.ever s.removed) q) out) [
         | inl is ↦ ap S (same_bytes q well_known is) ∙ covers.everybody
-        | inr from ↦ from_outside (ever h) S q (removed_devices h)
+        | inr from ↦ from_outside s.ever S q s.removed
             (λ d was did. covers.removed d q (removed_is d ∙ was) (ever_is d (not_nobody d was) q ∙ did)) from
       ])
-      (closed_from tools S (terms_of h)
+      (closed_from tools S s.terms
       (λ base key known carry. covers.carried base key known (carried_is base key ∙ carry))) k there
 
-  pub known_is_exposed : IsSettled e → (k : Bytes) → has e.known k ≡ holds (exposed tools h (outside h)) k
+  pub known_is_exposed : IsSettled e → (k : Bytes) → has e.known k ≡ holds (exposed tools s) k
   known_is_exposed settled k =
-      same_truth _ _ (settled.least (holds (exposed tools h (outside h))) covers_exposed k)
+      same_truth _ _ (settled.least (holds (exposed tools s)) covers_exposed k)
       (exposed_within (has e.known) settled.covers k)
 
-  pub exposed_is_settled : ((k : Bytes) → has e.known k ≡ holds (exposed tools h (outside h)) k) → IsSettled e
+  pub exposed_is_settled : ((k : Bytes) → has e.known k ≡ holds (exposed tools s) k) → IsSettled e
   exposed_is_settled known_is = record {
     covers = record {
       everybody = known_is well_known ∙ covers_exposed.everybody;

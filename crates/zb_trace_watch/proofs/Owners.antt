@@ -7,7 +7,7 @@ use Rattle.std.specs.BTreeSet.{BTreeSet, contains}
 use Rattle.std.specs.Ordering.{is_eq, nat_cmp}
 use Rattle.zb_base.specs.declared.address.Eui.{Eui}
 use Rattle.zb_base.specs.declared.key.Key.{Key}
-use Rattle.zb_trace_watch.specs.Sets.{eui_cmp, held, is_carried, is_key, is_node, key_cmp, node_has}
+use Rattle.zb_trace_watch.specs.Sets.{eui_cmp, held, is_carried, is_key, is_number, key_cmp, node_has, number_has}
 use Rattle.zb_trace_watch.specs.declared.holdings.Holdings.{Holdings}
 use Rattle.zb_trace_watch.proofs.Alike.{bytes_alike, bytes_eq_sym, true_or}
 use Rattle.zb_trace_watch.proofs.Truth.{number_alike}
@@ -37,16 +37,18 @@ removed_number new old device updates d =
     ∙ (true_or (is_eq (nat_cmp device.0 d)) (contains eui_cmp old (record { 0 = d }))
     ∙ ap (λ (x : Bool). contains eui_cmp old (record { 0 = d }) || x) (number_alike device.0 d))
 
-pub added_at : (result : Result (Unit {0}) AllocError) (new old : Holdings Eui) (node : Option Eui) (eui : Eui)
-    (key : Key) → node ≡ Some eui
+pub added_at : (result : Result (Unit {0}) AllocError) (new old : Holdings ℕ) (node : Option ℕ) (number : ℕ)
+    (key : Key) → node ≡ Some number
     → OnOk result
-    ((o : Eui) (k : List ℕ) → held eui_cmp new o k
-    ≡ (held eui_cmp old o k || (is_eq (eui_cmp eui o) && bytes_eq k key.0)))
+    ((o : ℕ) (k : List ℕ) → held nat_cmp new o k
+    ≡ (held nat_cmp old o k || (is_eq (nat_cmp number o) && bytes_eq k key.0)))
     → OnOk result
-    ((n : ℕ) (k : List ℕ) → node_has new n k ≡ (node_has old n k || (is_node node n && bytes_eq k key.0)))
-added_at (Ok u) new old who eui key is adds = λ n k. added_number new old eui key adds n k ∙ ap
-    (λ (o : Option Eui). node_has old n k || (is_node o n && bytes_eq k key.0)) (sym is)
-added_at (Err e) new old who eui key is adds = tt
+    ((n : ℕ) (k : List ℕ) → number_has new n k ≡ (number_has old n k || (is_number node n && bytes_eq k key.0)))
+added_at (Ok u) new old who number key is adds = λ n k.
+    adds n k
+    ∙ (ap (λ (x : Bool). number_has old n k || (x && bytes_eq k key.0)) (number_alike number n)
+    ∙ ap (λ (o : Option ℕ). number_has old n k || (is_number o n && bytes_eq k key.0)) (sym is))
+added_at (Err e) new old who number key is adds = tt
 
 pub added_under : (result : Result (Unit {0}) AllocError) (new old : Holdings Key) (owner : Option Key)
     (one key : Key) → owner ≡ Some one

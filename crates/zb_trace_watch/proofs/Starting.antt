@@ -1,10 +1,7 @@
--- A watch over no lines, its two words, and forms that answers share.
+-- The words of no lines, a watch over none, and forms that answers share.
 use Rattle.zb_model.specs.Lines as log
-use Rattle.std.proofs.Common.{◌≡◌, ℕ, List, [], Bool, true, false, not, ◌||◌, ◌&&◌, Option, Some, None, refl, ap, sym, ◌∙◌, bytes_eq, Result, Ok, Err, ◌+◌, ◌<◌, length, get_or, take}
+use Rattle.std.proofs.Common.{◌≡◌, ℕ, List, [], Bool, true, false, not, ◌||◌, ◌&&◌, Option, Some, None, refl, ap, sym, ◌∙◌, bytes_eq, Result, Ok, Err, arith}
 use Rattle.std.specs.Result.{OnOk}
-use Rattle.std.proofs.lemmas.List.Sums.{fold_more}
-use Rattle.zb_trace.specs.Views.{log_of, with_line}
-use Rattle.zb_trace.specs.declared.line.Line.{Line}
 use Rattle.std.specs.Option.{is_none, option_map}
 use Rattle.std.specs.Prelude.{if◌then◌else◌}
 use Rattle.zb_aps.specs.Reading.{frame_of}
@@ -28,48 +25,44 @@ use Rattle.zb_model_real.specs.Real.{real}
 use Rattle.zb_seal.specs.declared.term.Term.{Term}
 use Rattle.zb_trace_watch.specs.Exposure.{IsSettled, was_removed}
 use Rattle.zb_trace_watch.specs.Nodes.{Declares}
-use Rattle.zb_trace_watch.specs.Sets.{has, is_carried, is_node, node_has}
-use Rattle.zb_trace_watch.specs.Standing.{FindKeys, Stands, bytes_of}
+use Rattle.zb_trace_watch.specs.Sayings as say
+use Rattle.zb_trace_watch.specs.Sayings.{start, Sayings}
+use Rattle.zb_trace_watch.specs.Sets.{has, is_carried, node_has, number_has}
+use Rattle.zb_trace_watch.specs.Standing.{FindKeys, Represents, bytes_of}
 use Rattle.zb_trace_watch.specs.Terms.{has_term}
+use Rattle.zb_trace_watch.specs.Watching.{is_somebody, said, Stands}
 use Rattle.zb_trace_watch.specs.declared.exposure.Exposure.{Exposure}
-use Rattle.zb_trace_watch.specs.declared.holdings.Holdings.{Holdings}
 use Rattle.zb_trace_watch.specs.declared.nodes.Nodes.{Nodes}
 use Rattle.zb_trace_watch.specs.declared.origins.Origins.{Origins}
 use Rattle.zb_trace_watch.specs.declared.passing.Passing.{Passing}
-use Rattle.zb_trace_watch.specs.declared.watch.Watch.{Watch}
+use Rattle.zb_trace_watch.specs.declared.words.EndWords.{EndWords}
 use Rattle.zb_trace_watch.proofs.Outsiders.{known_is_exposed}
 use Rattle.zb_trace_watch.proofs.Truth.{not_both}
-
--- A node, if there is one, has one more key.
-abbrev pub node_has_more : Holdings Eui → Holdings Eui → Option Eui → Key → Type 0
-node_has_more old new node key = (n : ℕ) (k : Bytes) → node_has new n k
-    ≡ (node_has old n k || (is_node node n && bytes_eq k key.0))
 
 pub on_ok : {T E : Type 0} (r : Result T E) (P Q : Type 0) → (P → Q) → OnOk r P → OnOk r Q
 on_ok (Ok x) P Q f p = f p
 on_ok (Err e) P Q f p = tt
 
-pub private_is : (tools : Tools) (w : Watch) (h : List log.Line) → Stands tools w h
-    → (w.exposure.based && not w.passing.passed_on) ≡ private tools h
-unfolding private
-private_is tools w h stands = rw (stands.based, stands.passed_on) refl
+pub private_is : (tools : Tools) (counts : ℕ → Bool) (w : EndWords) (s : Sayings) → Represents tools counts w s
+    → (w.exposure.based && not w.passing.passed_on) ≡ say.private tools s
+private_is tools counts w s stands = rw (stands.based, stands.passed_on) refl
 
-module _ (tools : Tools) (nodes : Nodes) (origins : Origins) (passing : Passing) (exposure : Exposure) where
-  pub new_stands : Declares nodes [] → ((t : Term) → has_term origins.terms t ≡ false)
-      → ((n : ℕ) (k : Bytes) → node_has origins.codes n k ≡ false)
-      → ((n : ℕ) (k : Bytes) → node_has origins.bases n k ≡ false)
+module _ (tools : Tools) (counts : ℕ → Bool) (origins : Origins) (passing : Passing) (exposure : Exposure) where
+  pub new_stands : ((t : Term) → has_term origins.terms t ≡ false)
+      → ((n : ℕ) (k : Bytes) → number_has origins.codes n k ≡ false)
+      → ((n : ℕ) (k : Bytes) → number_has origins.bases n k ≡ false)
       → ((k b : Bytes) → is_carried origins.carriers k b ≡ false)
-      → ((n : ℕ) (k : Bytes) → node_has origins.traced n k ≡ false) → origins.ideal ≡ true
+      → ((n : ℕ) (k : Bytes) → number_has origins.traced n k ≡ false) → origins.ideal ≡ true
       → ((k : Bytes) → has passing.network k ≡ false) → ((k : Bytes) → has passing.forged k ≡ false)
       → passing.passed_on ≡ false
       → IsSettled exposure → ((n : ℕ) (k : Bytes) → node_has exposure.ever n k ≡ false)
       → ((d : ℕ) → was_removed exposure d ≡ false) → ((b k : Bytes) → is_carried exposure.carried b k ≡ false)
       → exposure.based ≡ true
-      → Stands tools (record { nodes = nodes; origins = origins; passing = passing; exposure = exposure }) []
-  unfolding stations_of terms_of ever codes_of bases removed_devices network_keys passes_on ideal each_line
-  new_stands declares terms codes bases carriers traced ideal network forged passed settled ever removed carried
+      → Represents tools counts (record { origins = origins; passing = passing; exposure = exposure }) start
+  unfolding say.passes_on
+  new_stands terms codes bases carriers traced ideal network forged passed settled ever removed carried
       based = record {
-        nodes = declares;
+        few = omega arith;
         terms = terms;
         carried = carried;
         ever = λ n some k. ever n k;
@@ -79,13 +72,24 @@ module _ (tools : Tools) (nodes : Nodes) (origins : Origins) (passing : Passing)
         traced = λ n some k it. absurd (not_both _ it (traced n k));
         removed = removed;
         somebody = refl;
-        known = known_is_exposed tools exposure [] carried (λ n some k. ever n k) removed refl settled;
+        known = known_is_exposed tools exposure start (omega arith) carried (λ n some k. ever n k) removed refl settled;
         network = network;
         forged = forged;
         passed_on = passed;
         ideal = ideal;
         based = based;
       }
+
+-- A watch over no lines, and its two words
+
+pub watch_starts : (tools : Tools) (nodes : Nodes) (w : EndWords) → Declares nodes []
+    → Represents tools is_somebody w start → Stands tools (record { nodes = nodes; words = w }) []
+unfolding stations_of terms_of ever codes_of bases removed_devices network_keys ideal each_line
+watch_starts tools nodes w declares represents = record { nodes = declares; words = represents }
+
+pub watch_private : (tools : Tools) (h : List log.Line) → say.private tools (said tools h) ≡ private tools h
+unfolding private passes_on say.passes_on
+watch_private tools h = refl
 
 -- The model's tools find what this program's readers find, where they read as these do.
 
@@ -125,9 +129,3 @@ readers_find = record {
   in_command = λ bytes. command_found (command_of bytes);
   in_frame = λ bytes. frame_found (frame_of bytes);
 }
-
-pub log_more : (lines : List Line) (i : ℕ) (l : Line) → i < length lines → l ≡ get_or lines i l
-    → log_of (take (i + 1) lines) ≡ with_line (log_of (take i lines)) l
-unfolding log_of
-log_more lines i l in_range is = fold_more with_line [] lines i l in_range ∙ ap (with_line (log_of (take i lines)))
-    (sym is)

@@ -5,4 +5,6 @@ pub mod Origins
 pub mod Passing
 pub mod Nodes
 pub mod Closure
+pub mod Sayings
 pub mod Standing
+pub mod Watching

@@ -1,5 +1,5 @@
 -- The declared nodes, as a watch keeps them.
-use Rattle.std.specs.Prelude.{◌≡◌, ℕ, List, Bool, true, false, bytes_eq, find, nat_eq, Option, Some, None}
+use Rattle.std.specs.Prelude.{◌≡◌, ℕ, if◌then◌else◌, List, Bool, true, false, bytes_eq, find, nat_eq, Option, Some, None}
 use Rattle.std.specs.BTreeMap.{BTreeMap, get}
 use Rattle.std.specs.Cmp.Lexicographic.{slice_cmp}
 use Rattle.std.specs.List.{AllByRecursion}
@@ -16,6 +16,7 @@ use Rattle.zb_model.specs.State.{is_centre}
 use Rattle.zb_node_types.specs.Changes.{model_role}
 use Rattle.zb_trace_watch.specs.Sets.{eui_cmp}
 use Rattle.zb_trace_watch.specs.declared.nodes.Nodes.{Nodes}
+use Rattle.zb_trace_watch.specs.declared.speaker.Speaker.{Speaker}
 
 abbrev pub name_cmp : ArrayString → ArrayString → Ordering
 name_cmp a b = slice_cmp nat_cmp a.bytes b.bytes
@@ -45,6 +46,22 @@ abbrev pub is_first_centre : Option Eui → Option Eui → Bool
 is_first_centre None _ = false
 is_first_centre (Some centre) None = false
 is_first_centre (Some centre) (Some eui) = nat_eq centre.0 eui.0
+
+abbrev pub number_of : Option Eui → Option ℕ
+number_of node = option_map (λ (e : Eui). e.0) node
+
+-- who the first node of that name is
+abbrev pub who_is : Nodes → ArrayString → Speaker
+who_is nodes name = record {
+  number = number_of (address_of nodes name);
+  joiner = number_of (if is_joiner nodes (address_of nodes name) then address_of nodes name else None);
+  address = address_of nodes name;
+  is_centre = is_first_centre nodes.centre (address_of nodes name);
+}
+
+-- who is asked for nothing
+abbrev pub no_node : Speaker
+no_node = record { number = None; joiner = None; address = None; is_centre = false }
 
 -- The first node of a name, of an address and of the centre's role are those of the list; and no node has the address
 -- that represents nobody.

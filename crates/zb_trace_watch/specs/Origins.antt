@@ -1,17 +1,17 @@
 -- Where keys come from.
 use Rattle.std.specs.Prelude.{◌≡◌, ℕ, ◌||◌, List, Bool, true, Option, Some, None, ⊤}
-use Rattle.zb_base.specs.declared.address.Eui.{Eui}
-use Rattle.zb_trace_watch.specs.Sets.{eui_cmp, key_cmp, keys_at, meet, node_has}
+use Rattle.std.specs.Ordering.{nat_cmp}
+use Rattle.zb_trace_watch.specs.Sets.{key_cmp, keys_at, meet, number_has}
 use Rattle.zb_trace_watch.specs.declared.origins.Origins.{Origins}
 
 -- whether the key is that of the node's code, or a term carries it under one of the node's keys; nothing is asked
 -- where there is no node
-abbrev pub came : Origins → Option Eui → List ℕ → Bool
+abbrev pub came : Origins → Option ℕ → List ℕ → Bool
 came o None key = true
-came o (Some node) key = node_has o.codes node.0 key
-    || meet (keys_at eui_cmp o.bases node) (keys_at key_cmp o.carriers (record { 0 = key }))
+came o (Some node) key = number_has o.codes node key
+    || meet (keys_at nat_cmp o.bases node) (keys_at key_cmp o.carriers (record { 0 = key }))
 
 -- if this key of this node was traced, it came
-abbrev pub IsTraced : Origins → Option Eui → List ℕ → Type 0
+abbrev pub IsTraced : Origins → Option ℕ → List ℕ → Type 0
 IsTraced o None key = ⊤
-IsTraced o (Some node) key = node_has o.traced node.0 key ≡ true → came o (Some node) key ≡ true
+IsTraced o (Some node) key = number_has o.traced node key ≡ true → came o (Some node) key ≡ true

@@ -44,9 +44,18 @@ key_cmp a b = slice_cmp nat_cmp a.0 b.0
 abbrev pub node_has : Holdings Eui → ℕ → List ℕ → Bool
 node_has holdings node key = held eui_cmp holdings (record { 0 = node }) key
 
+-- owners that are numbers of nodes
+abbrev pub number_has : Holdings ℕ → ℕ → List ℕ → Bool
+number_has holdings number key = held nat_cmp holdings number key
+
 -- whether a term carries the key under the base key
 abbrev pub is_carried : Holdings Key → List ℕ → List ℕ → Bool
 is_carried carried base key = held key_cmp carried (record { 0 = base }) key
+
+-- whether there is a number, and it is this one
+abbrev pub is_number : Option ℕ → ℕ → Bool
+is_number None number = false
+is_number (Some other) number = nat_eq number other
 
 -- whether there is a node, and it is this one; a key, and it is this one
 abbrev pub is_node : Option Eui → ℕ → Bool

@@ -2,12 +2,12 @@
 ghost use Rattle.std.specs.Prelude.{◌≡◌, ◌||◌, ◌&&◌, ◌++◌, ℕ, List, OnOk, bytes_eq, false};
 ghost use Rattle.std.specs.Ordering.{is_eq};
 ghost use Rattle.std.specs.BTreeMap.{get};
-ghost use Rattle.zb_trace_watch.specs.Sets.{held, is_carried, is_key, is_node, keys_at, meet, node_has};
+ghost use Rattle.zb_trace_watch.specs.Sets.{held, is_carried, is_key, is_number, keys_at, meet, number_has};
 
 use crate::keys::Keys;
 use std::alloc::{AllocError, Global};
 use std::collections::BTreeMap;
-use zb_base::{Eui, Key};
+use zb_base::Key;
 
 /// Holds, for each owner, the keys that were added for it.
 #[derive(Drop)]
@@ -93,14 +93,14 @@ impl Holdings<Key> {
     }
 }
 
-impl Holdings<Eui> {
+impl Holdings<u64> {
     /// Adds a key for a node, if there is one.
-    pub fn add_at(&mut self, alloc: Global, node: Option<Eui>, key: Key) -> Result<(), AllocError>
+    pub fn add_at(&mut self, alloc: Global, node: Option<u64>, key: Key) -> Result<(), AllocError>
         ensures { OnOk result ((n : ℕ) (k : List ℕ)
-            → node_has self.new n k ≡ (node_has self.old n k || (is_node node n && bytes_eq k key.0))) }
+            → number_has self.new n k ≡ (number_has self.old n k || (is_number node n && bytes_eq k key.0))) }
     {
         match node {
-            Some(eui) => self.add(alloc, eui, key),
+            Some(number) => self.add(alloc, number, key),
             None => Ok(()),
         }
     }

@@ -1,5 +1,9 @@
-//! A watch over a transcript as it grows: whether all that was accepted or taken in came from earlier terms, and
-//! whether outsiders forged only with what they may know. It keeps what these two words need, and no line.
+//! The two words of a transcript's end line, as its lines come: whether all that was accepted or taken in came from
+//! earlier terms, and whether outsiders forged only with what they may know. It keeps what these two words need, and
+//! no line.
+//!
+//! `EndWords` is for every reading of the lines: who the node of a line is, its caller says. `Watch` reads the lines
+//! of a run, by addresses.
 #![tactic(auto)]
 
 pub mod exposure;
@@ -9,9 +13,11 @@ mod laws;
 pub mod nodes;
 pub mod origins;
 pub mod passing;
+pub mod speaker;
 pub mod terms;
 pub mod watch;
-mod words;
+pub mod words;
 
+pub use speaker::{NOBODY, Speaker};
 pub use watch::Watch;
-pub use words::{ideal, private};
+pub use words::EndWords;

@@ -1,12 +1,14 @@
 //! The nodes that a transcript declared so far.
 ghost use Rattle.std.specs.Prelude.{◌≡◌, ◌++◌, ◌∷◌, [], ℕ, List, Some, OnOk, if◌then◌else◌, None, bytes_eq, nat_eq, ◌<◌, ◌^◌};
-ghost use Rattle.std.specs.Option.{option_or};
+ghost use Rattle.std.specs.Option.{option_map, option_or};
 ghost use Rattle.arrayvec.specs.ArrayString.{ArrayString};
 ghost use Rattle.zb_model.specs.Data.{Station};
 ghost use Rattle.zb_model.specs.State.{is_centre};
 ghost use Rattle.zb_node_types.specs.Changes.{model_role};
-ghost use Rattle.zb_trace_watch.specs.Nodes.{address_in, address_of, is_first_centre, is_joiner, role_in, IsOf, Declares};
+ghost use Rattle.zb_base.specs.declared.address.Eui.{Eui as AnyEui};
+ghost use Rattle.zb_trace_watch.specs.Nodes.{address_in, address_of, is_first_centre, is_joiner, role_in, who_is, IsOf, Declares};
 
+use crate::speaker::Speaker;
 use std::alloc::{AllocError, Global};
 use std::collections::BTreeMap;
 use zb_base::{Eui, Name, Role};
@@ -34,15 +36,28 @@ impl Nodes {
         }
     }
 
+    /// Returns who the first node of that name is.
+    pub fn who(&self, name: &Name) -> Speaker
+        ensures { result ≡ who_is self.now name.now }
+    {
+        let node = self.named(name);
+        Speaker {
+            number: number(node),
+            joiner: number(self.joiner(node)),
+            address: node,
+            is_centre: self.is_centre(node),
+        }
+    }
+
     /// Returns the address of the first node of that name.
-    pub fn named(&self, name: &Name) -> Option<Eui>
+    fn named(&self, name: &Name) -> Option<Eui>
         ensures { result ≡ address_of self.now name.now }
     {
         self.addresses.get(name).copied()
     }
 
     /// Returns the node where it is a router or device, and none else.
-    pub fn joiner(&self, node: Option<Eui>) -> Option<Eui>
+    fn joiner(&self, node: Option<Eui>) -> Option<Eui>
         ensures { result ≡ (if is_joiner self.now node then node else None) }
     {
         if self.joins(node) { node } else { None }
@@ -66,17 +81,7 @@ impl Nodes {
         }
     }
 
-    /// Returns the partner of a node's link row where the node is the centre.
-    pub fn partner(&self, node: Option<Eui>, partner: Eui) -> Option<Eui>
-        ensures { result ≡ (if is_first_centre self.now.centre node then Some partner else None) }
-    {
-        if self.is_centre(node) {
-            Some(partner)
-        } else {
-            None
-        }
-    }
-
+    /// Returns whether a node is the first centre.
     fn is_centre(&self, node: Option<Eui>) -> bool
         ensures { result ≡ is_first_centre self.now.centre node }
     {
@@ -95,6 +100,16 @@ impl Nodes {
         give_role(&mut self.roles, eui, role)?;
         self.centre = first_centre(self.centre, eui, role);
         Ok(())
+    }
+}
+
+/// Returns the number of an address, if there is one.
+fn number(address: Option<Eui>) -> Option<u64>
+    ensures { result ≡ option_map (λ (e : AnyEui). e.0) address }
+{
+    match address {
+        Some(eui) => Some(eui.0),
+        None => None,
     }
 }
 

@@ -1,31 +1,32 @@
 //! Where what was accepted, and the keys that were taken in, came from.
+ghost use Rattle.std.specs.Ordering.{nat_cmp};
 ghost use Rattle.std.specs.Prelude.{◌≡◌, ◌||◌, ◌&&◌, ◌⊎◌, ℕ, List, OnOk, Some, bytes_eq, false, true, not};
 ghost use Rattle.zb_model.specs.Secrets.{same_term};
 ghost use Rattle.zb_model_real.specs.Terms.{model_term};
 ghost use Rattle.zb_seal.specs.declared.term.Term.{Term as AnyTerm};
 ghost use Rattle.zb_trace_watch.specs.Origins.{IsTraced, came};
-ghost use Rattle.zb_trace_watch.specs.Sets.{eui_cmp, is_carried, is_key, is_node, key_cmp, keys_at, meet, node_has};
+ghost use Rattle.zb_trace_watch.specs.Sets.{is_carried, is_key, is_number, key_cmp, keys_at, meet, number_has};
 ghost use Rattle.zb_trace_watch.specs.Terms.{has_term};
 
 use crate::holdings::Holdings;
 use crate::terms::Terms;
 use std::alloc::{AllocError, Global};
-use zb_base::{Eui, Key};
+use zb_base::Key;
 use zb_seal::Term;
 
-/// The terms so far, and whether all that was accepted or taken in came from earlier ones.
+/// The terms so far, and whether all that was accepted or taken in came from earlier ones. A node goes by a number.
 #[derive(Drop)]
 pub struct Origins {
     /// The terms that were sealed or forged.
     pub terms: Terms,
     /// The link keys of each node's install code.
-    pub codes: Holdings<Eui>,
+    pub codes: Holdings<u64>,
     /// The keys under which each node may be sent a key: its code's, and those of its link rows.
-    pub bases: Holdings<Eui>,
+    pub bases: Holdings<u64>,
     /// For each key that terms carry, the base keys of these terms.
     pub carriers: Holdings<Key>,
     /// For each node, keys of which it was found where they came from, so that none is looked for twice.
-    pub traced: Holdings<Eui>,
+    pub traced: Holdings<u64>,
     /// Whether each accepted term was sealed or forged before, and each key that a router or device took in is its
     /// code's or came in an earlier term under one of its keys.
     pub ideal: bool,
@@ -35,10 +36,10 @@ impl Origins {
     /// Makes the origins before the first line.
     pub fn new(alloc: Global) -> Origins
         ensures terms { (t : AnyTerm) → has_term result.terms t ≡ false }
-        ensures codes { (n : ℕ) (k : List ℕ) → node_has result.codes n k ≡ false }
-        ensures bases { (n : ℕ) (k : List ℕ) → node_has result.bases n k ≡ false }
+        ensures codes { (n : ℕ) (k : List ℕ) → number_has result.codes n k ≡ false }
+        ensures bases { (n : ℕ) (k : List ℕ) → number_has result.bases n k ≡ false }
         ensures carriers { (k b : List ℕ) → is_carried result.carriers k b ≡ false }
-        ensures traced { (n : ℕ) (k : List ℕ) → node_has result.traced n k ≡ false }
+        ensures traced { (n : ℕ) (k : List ℕ) → number_has result.traced n k ≡ false }
         ensures ideal { result.ideal ≡ true }
     {
         Origins {
@@ -78,39 +79,40 @@ impl Origins {
 
     /// Notes that a router or device took a key in, or no node did. What was traced isn't looked for again, and once a
     /// key came from nowhere none is.
-    pub fn take_in(&mut self, alloc: Global, node: Option<Eui>, key: Key) -> Result<(), AllocError>
+    pub fn take_in(&mut self, alloc: Global, node: Option<u64>, key: Key) -> Result<(), AllocError>
         ensures ideal { OnOk result (IsTraced self.old node key.0
             → self.new.ideal ≡ (self.old.ideal && came self.old node key.0)) }
-        ensures traced { OnOk result ((n : ℕ) (k : List ℕ) → node_has self.new.traced n k ≡ true
-            → (node_has self.old.traced n k ≡ true)
-            ⊎ (((is_node node n && bytes_eq k key.0) ≡ true) × (came self.old node key.0 ≡ true))) }
+        ensures traced { OnOk result ((n : ℕ) (k : List ℕ) → number_has self.new.traced n k ≡ true
+            → (number_has self.old.traced n k ≡ true)
+            ⊎ (((is_number node n && bytes_eq k key.0) ≡ true) × (came self.old node key.0 ≡ true))) }
         ensures terms { OnOk result (self.new.terms ≡ self.old.terms) }
         ensures codes { OnOk result (self.new.codes ≡ self.old.codes) }
         ensures bases { OnOk result (self.new.bases ≡ self.old.bases) }
         ensures carriers { OnOk result (self.new.carriers ≡ self.old.carriers) }
     {
         match node {
-            Some(eui) => self.trace(alloc, eui, key),
+            Some(number) => self.trace(alloc, number, key),
             None => Ok(()),
         }
     }
 
-    fn trace(&mut self, alloc: Global, eui: Eui, key: Key) -> Result<(), AllocError>
-        ensures ideal { OnOk result (IsTraced self.old (Some eui) key.0
-            → self.new.ideal ≡ (self.old.ideal && came self.old (Some eui) key.0)) }
-        ensures traced { OnOk result ((n : ℕ) (k : List ℕ) → node_has self.new.traced n k ≡ true
-            → (node_has self.old.traced n k ≡ true)
-            ⊎ (((is_node (Some eui) n && bytes_eq k key.0) ≡ true) × (came self.old (Some eui) key.0 ≡ true))) }
+    fn trace(&mut self, alloc: Global, number: u64, key: Key) -> Result<(), AllocError>
+        ensures ideal { OnOk result (IsTraced self.old (Some number) key.0
+            → self.new.ideal ≡ (self.old.ideal && came self.old (Some number) key.0)) }
+        ensures traced { OnOk result ((n : ℕ) (k : List ℕ) → number_has self.new.traced n k ≡ true
+            → (number_has self.old.traced n k ≡ true)
+            ⊎ (((is_number (Some number) n && bytes_eq k key.0) ≡ true)
+            × (came self.old (Some number) key.0 ≡ true))) }
         ensures terms { OnOk result (self.new.terms ≡ self.old.terms) }
         ensures codes { OnOk result (self.new.codes ≡ self.old.codes) }
         ensures bases { OnOk result (self.new.bases ≡ self.old.bases) }
         ensures carriers { OnOk result (self.new.carriers ≡ self.old.carriers) }
     {
-        if self.is_settled(&eui, &key) {
+        if self.is_settled(&number, &key) {
             return Ok(());
         }
-        if self.came(&eui, &key) {
-            self.traced.add_at(alloc, Some(eui), key)?;
+        if self.came(&number, &key) {
+            self.traced.add_at(alloc, Some(number), key)?;
         } else {
             self.ideal = false;
         }
@@ -118,34 +120,37 @@ impl Origins {
     }
 
     // Whether nothing is to be looked for: the key was traced, or the run isn't ideal anyway.
-    fn is_settled(&self, eui: &Eui, key: &Key) -> bool
-        ensures { result ≡ (not self.now.ideal || node_has self.now.traced eui.now.0 key.now.0) }
+    fn is_settled(&self, number: &u64, key: &Key) -> bool
+        ensures { result ≡ (not self.now.ideal || number_has self.now.traced number.now key.now.0) }
     {
-        !self.ideal || self.traced.has(eui, key)
+        !self.ideal || self.traced.has(number, key)
     }
 
     // Whether the key is that of the node's code, or a term carries it under one of the node's keys.
-    fn came(&self, eui: &Eui, key: &Key) -> bool
-        ensures { result ≡ came self.now (Some eui.now) key.now.0 }
+    fn came(&self, number: &u64, key: &Key) -> bool
+        ensures { result ≡ came self.now (Some number.now) key.now.0 }
     {
-        self.codes.has(eui, key) || self.came_under_a_key(eui, key)
+        self.codes.has(number, key) || self.came_under_a_key(number, key)
     }
 
-    fn came_under_a_key(&self, eui: &Eui, key: &Key) -> bool
-        ensures { result ≡ meet (keys_at eui_cmp self.now.bases eui.now) (keys_at key_cmp self.now.carriers key.now) }
+    fn came_under_a_key(&self, number: &u64, key: &Key) -> bool
+        ensures { result ≡ meet (keys_at nat_cmp self.now.bases number.now)
+            (keys_at key_cmp self.now.carriers key.now) }
     {
-        match self.bases.sets.get(eui) {
+        match self.bases.sets.get(number) {
             Some(bases) => self.carriers.meets(key, bases),
             None => false,
         }
     }
 
-    /// Notes the link key of a node's install code; changes nothing where the node was never declared.
-    pub fn code(&mut self, alloc: Global, node: Option<Eui>, key: Key) -> Result<(), AllocError>
+    /// Notes the link key of a node's install code; changes nothing where the node has no number.
+    pub fn code(&mut self, alloc: Global, node: Option<u64>, key: Key) -> Result<(), AllocError>
         ensures codes { OnOk result ((n : ℕ) (k : List ℕ)
-            → node_has self.new.codes n k ≡ (node_has self.old.codes n k || (is_node node n && bytes_eq k key.0))) }
+            → number_has self.new.codes n k
+            ≡ (number_has self.old.codes n k || (is_number node n && bytes_eq k key.0))) }
         ensures bases { OnOk result ((n : ℕ) (k : List ℕ)
-            → node_has self.new.bases n k ≡ (node_has self.old.bases n k || (is_node node n && bytes_eq k key.0))) }
+            → number_has self.new.bases n k
+            ≡ (number_has self.old.bases n k || (is_number node n && bytes_eq k key.0))) }
         ensures terms { OnOk result (self.new.terms ≡ self.old.terms) }
         ensures carriers { OnOk result (self.new.carriers ≡ self.old.carriers) }
         ensures traced { OnOk result (self.new.traced ≡ self.old.traced) }
@@ -156,10 +161,11 @@ impl Origins {
         Ok(())
     }
 
-    /// Notes a node's link row with that key; changes nothing where the node was never declared.
-    pub fn row(&mut self, alloc: Global, node: Option<Eui>, key: Key) -> Result<(), AllocError>
+    /// Notes a node's link row with that key; changes nothing where the node has no number.
+    pub fn row(&mut self, alloc: Global, node: Option<u64>, key: Key) -> Result<(), AllocError>
         ensures bases { OnOk result ((n : ℕ) (k : List ℕ)
-            → node_has self.new.bases n k ≡ (node_has self.old.bases n k || (is_node node n && bytes_eq k key.0))) }
+            → number_has self.new.bases n k
+            ≡ (number_has self.old.bases n k || (is_number node n && bytes_eq k key.0))) }
         ensures codes { OnOk result (self.new.codes ≡ self.old.codes) }
         ensures terms { OnOk result (self.new.terms ≡ self.old.terms) }
         ensures carriers { OnOk result (self.new.carriers ≡ self.old.carriers) }

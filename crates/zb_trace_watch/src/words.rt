@@ -1,33 +1,234 @@
-//! The two words of a run's end line, of a list of lines.
-ghost use Rattle.std.specs.Prelude.{◌≡◌, IfOk};
-ghost use Rattle.zb_model.specs.Secrets.{ideal as ideal_of, private as private_of};
+//! The two words, line by line.
+ghost use Rattle.std.specs.Prelude.{◌≡◌, ◌&&◌, ℕ, Bool, IfOk, OnOk, Some, None, if◌then◌else◌, not};
+ghost use Rattle.arrayvec.specs.ArrayString.{ArrayString};
 ghost use Rattle.zb_model.specs.Tools.{Tools};
-ghost use Rattle.zb_trace.specs.Views.{log_of};
-ghost use Rattle.zb_trace_watch.specs.Standing.{FindKeys};
+ghost use Rattle.zb_base.specs.declared.address.Eui.{Eui as AnyEui};
+ghost use Rattle.zb_trace.specs.declared.line.Line.TheVariants as lines;
+ghost use Rattle.zb_trace_watch.specs.declared.speaker.Speaker.{Speaker as AnySpeaker};
+ghost use Rattle.zb_trace_watch.specs.Sayings.{private as private_of, said_by, start, JoinerCounts, Sayings};
+ghost use Rattle.zb_trace_watch.specs.Standing.{Follows, Represents};
 
-use crate::watch::Watch;
+use crate::exposure::Exposure;
+use crate::origins::Origins;
+use crate::passing::Passing;
+use crate::speaker::Speaker;
 use std::alloc::Global;
-use zb_base::NoMemory;
+use zb_base::{Attribute, Eui, Key, NoMemory};
+use zb_carried_keys::carried;
+use zb_seal::Term;
 use zb_trace::Line;
 
-/// Returns whether all that was accepted or taken in by these lines came from earlier terms.
+/// What is known of a transcript after the lines so far, and no line.
 ///
-/// # Errors
-/// `NoMemory`.
-pub fn ideal(alloc: Global, lines: &[Line]) -> Result<bool, NoMemory>
-    ensures { IfOk result (λ word. (tools : Tools) → FindKeys tools → word ≡ ideal_of tools (log_of lines.now)) }
-{
-    let watch = Watch::over(alloc, lines)?;
-    Ok(watch.ideal())
+/// What it keeps stands in ordered maps and sets, so that a step, which looks a key, a node or a term up or puts it
+/// in, costs logarithmic work. A line takes a fixed number of steps, and those of two tasks:
+///
+/// - Where a key came from is asked the first time that a router or device takes that key in, and no more once the
+///   lines aren't ideal. The node's link keys are looked up among the base keys under which the key was carried, or
+///   the other way round, whichever are fewer. Over a run these look-ups are at most as many as its routers and
+///   devices times its lines that carry a key, so with 63 of them at most 63 a line. A transcript of this program asks
+///   for at most 64 in any one line, since a router or device has at most 64 link rows, dropped ones among them.
+/// - What outsiders come to know is followed when they come to know it. Each key becomes known once, and what was
+///   carried under it is walked then. Over n lines that is at most 2n + 1 steps, but a single line, such as a
+///   removal, may take nearly all of them.
+///
+/// So in a network of at most 64 nodes a line costs logarithmic work, counted over the run and not for each line
+/// alone. A foreign transcript may declare more nodes: its n lines ask for at most n times the square root of n
+/// look-ups.
+#[derive(Drop)]
+pub struct EndWords {
+    /// Where what was accepted or taken in came from.
+    pub origins: Origins,
+    /// The keys of the network, and whether outsiders passed one on.
+    pub passing: Passing,
+    /// What outsiders may know.
+    pub exposure: Exposure,
 }
 
-/// Returns whether by these lines outsiders forged only under keys that they may know, and passed no network key on.
-///
-/// # Errors
-/// `NoMemory`.
-pub fn private(alloc: Global, lines: &[Line]) -> Result<bool, NoMemory>
-    ensures { IfOk result (λ word. (tools : Tools) → FindKeys tools → word ≡ private_of tools (log_of lines.now)) }
+impl EndWords {
+    /// Makes the words of no lines.
+    pub fn new(alloc: Global) -> Result<EndWords, NoMemory>
+        ensures { IfOk result (λ words. (tools : Tools) (counts : ℕ → Bool) → Represents tools counts words start) }
+    {
+        Ok(EndWords {
+            origins: Origins::new(alloc),
+            passing: Passing::new(alloc),
+            exposure: Exposure::new(alloc)?,
+        })
+    }
+
+    /// Returns whether all that was accepted or taken in came from earlier terms.
+    ///
+    /// Each accepted term was sealed or forged before, and each key that a router or device took in is its code's or
+    /// came in an earlier term under one of its keys.
+    pub fn ideal(&self) -> bool
+        ensures { (tools : Tools) (counts : ℕ → Bool) (said : Sayings) → Represents tools counts self.now said
+            → result ≡ said.ideal }
+    {
+        self.origins.ideal
+    }
+
+    /// Returns whether outsiders forged only under keys that they may know, and passed on no key of the network.
+    pub fn private(&self) -> bool
+        ensures { (tools : Tools) (counts : ℕ → Bool) (said : Sayings) → Represents tools counts self.now said
+            → result ≡ private_of tools said }
+    {
+        self.exposure.based && !self.passing.passed_on
+    }
+
+    /// Goes on by one line, whose node is `who`. After `NoMemory` it isn't used further.
+    pub fn line(&mut self, alloc: Global, line: &Line, who: Speaker) -> Result<(), NoMemory>
+        ensures { OnOk result ((tools : Tools) (counts : ℕ → Bool) (said : Sayings) → JoinerCounts counts who line.now
+            → Follows tools counts said (said_by tools said who line.now) self.old self.new) }
+    {
+        match line {
+            Line::GivenNet { key, .. } => self.given_net(alloc, who, *key),
+            Line::GivenLink { key, .. } => self.given_link(alloc, who, *key),
+            Line::Draw { key, .. } => self.draw(*key),
+            Line::Install { key, .. } => self.install(alloc, who, *key),
+            Line::Row {
+                partner,
+                key,
+                attribute,
+                ..
+            } => self.row(alloc, who, *partner, *key, *attribute),
+            Line::Pair {
+                first,
+                second,
+                key,
+                ..
+            } => self.pair(alloc, *first, *second, *key),
+            Line::Removed { device, .. } => self.remove(alloc, *device),
+            Line::Accept { term, .. } => {
+                self.accept(term);
+                Ok(())
+            }
+            Line::Seal { term, .. } => self.seal(alloc, term),
+            Line::Forge { term, .. } => self.forge(alloc, term),
+            _ => Ok(()),
+        }
+    }
+
+    fn given_net(&mut self, alloc: Global, who: Speaker, key: Key) -> Result<(), NoMemory>
+        ensures { OnOk result ((tools : Tools) (counts : ℕ → Bool) (said : Sayings) (node : ArrayString) (sequence : ℕ)
+            → Follows tools counts said (said_by tools said who (lines.GivenNet node key sequence))
+            self.old self.new) }
+    {
+        self.passing.network_key(key)?;
+        self.exposure.hold(alloc, who.address, key)?;
+        Ok(())
+    }
+
+    fn given_link(&mut self, alloc: Global, who: Speaker, key: Key) -> Result<(), NoMemory>
+        ensures { OnOk result ((tools : Tools) (counts : ℕ → Bool) (said : Sayings) (node : ArrayString)
+            (partner : AnyEui)
+            → Follows tools counts said (said_by tools said who (lines.GivenLink node partner key))
+            self.old self.new) }
+    {
+        self.passing.network_key(key)?;
+        self.origins.code(alloc, who.number, key)?;
+        self.exposure.hold(alloc, who.address, key)?;
+        Ok(())
+    }
+
+    fn draw(&mut self, key: Key) -> Result<(), NoMemory>
+        ensures { OnOk result ((tools : Tools) (counts : ℕ → Bool) (said : Sayings) (who : AnySpeaker) (event : ℕ)
+            → Follows tools counts said (said_by tools said who (lines.Draw event key)) self.old self.new) }
+    {
+        self.passing.network_key(key)?;
+        Ok(())
+    }
+
+    fn install(&mut self, alloc: Global, who: Speaker, key: Key) -> Result<(), NoMemory>
+        ensures { OnOk result ((tools : Tools) (counts : ℕ → Bool) (said : Sayings) (node : ArrayString)
+            (event sequence : ℕ)
+            → JoinerCounts counts who (lines.Install event node key sequence)
+            → Follows tools counts said (said_by tools said who (lines.Install event node key sequence))
+            self.old self.new) }
+    {
+        self.origins.take_in(alloc, who.joiner, key)?;
+        self.exposure.hold(alloc, who.address, key)?;
+        Ok(())
+    }
+
+    fn row(
+        &mut self,
+        alloc: Global,
+        who: Speaker,
+        partner: Eui,
+        key: Key,
+        attribute: Attribute,
+    ) -> Result<(), NoMemory>
+        ensures { OnOk result ((tools : Tools) (counts : ℕ → Bool) (said : Sayings) (node : ArrayString) (event : ℕ)
+            → JoinerCounts counts who (lines.Row event node partner key attribute)
+            → Follows tools counts said (said_by tools said who (lines.Row event node partner key attribute))
+            self.old self.new) }
+    {
+        self.passing.row_key(key, attribute)?;
+        self.origins.take_in(alloc, who.joiner, key)?;
+        self.origins.row(alloc, who.number, key)?;
+        self.exposure
+            .hold(alloc, centres_partner(who, partner), key)?;
+        self.exposure.hold(alloc, who.address, key)?;
+        Ok(())
+    }
+
+    fn pair(&mut self, alloc: Global, first: Eui, second: Eui, key: Key) -> Result<(), NoMemory>
+        ensures { OnOk result ((tools : Tools) (counts : ℕ → Bool) (said : Sayings) (who : AnySpeaker)
+            (event : ℕ) (node : ArrayString)
+            → Follows tools counts said (said_by tools said who (lines.Pair event node first second key))
+            self.old self.new) }
+    {
+        self.exposure.hold(alloc, Some(first), key)?;
+        self.exposure.hold(alloc, Some(second), key)?;
+        Ok(())
+    }
+
+    fn remove(&mut self, alloc: Global, device: Eui) -> Result<(), NoMemory>
+        ensures { OnOk result ((tools : Tools) (counts : ℕ → Bool) (said : Sayings) (who : AnySpeaker) (event : ℕ)
+            → Follows tools counts said (said_by tools said who (lines.Removed event device)) self.old self.new) }
+    {
+        self.exposure.remove(alloc, device)?;
+        Ok(())
+    }
+
+    fn accept(&mut self, term: &Term)
+        ensures { (tools : Tools) (counts : ℕ → Bool) (said : Sayings) (who : AnySpeaker) (event : ℕ)
+            (node : ArrayString)
+            → Follows tools counts said (said_by tools said who (lines.Accept event node term.now))
+            self.old self.new }
+    {
+        self.origins.accept(term);
+    }
+
+    fn seal(&mut self, alloc: Global, term: &Term) -> Result<(), NoMemory>
+        ensures { OnOk result ((tools : Tools) (counts : ℕ → Bool) (said : Sayings) (who : AnySpeaker) (event : ℕ)
+            (node : ArrayString)
+            → Follows tools counts said (said_by tools said who (lines.Seal event node term.now))
+            self.old self.new) }
+    {
+        let key = carried(term);
+        self.exposure.carry(alloc, term.base, key)?;
+        self.origins.term(alloc, term, key)?;
+        Ok(())
+    }
+
+    fn forge(&mut self, alloc: Global, term: &Term) -> Result<(), NoMemory>
+        ensures { OnOk result ((tools : Tools) (counts : ℕ → Bool) (said : Sayings) (who : AnySpeaker) (event : ℕ)
+            → Follows tools counts said (said_by tools said who (lines.Forge event term.now)) self.old self.new) }
+    {
+        let key = carried(term);
+        self.exposure.forge(&term.base);
+        self.passing.forged_key(key)?;
+        self.exposure.carry(alloc, term.base, key)?;
+        self.origins.term(alloc, term, key)?;
+        Ok(())
+    }
+}
+
+/// Returns the partner of a node's link row where the node is the centre.
+fn centres_partner(who: Speaker, partner: Eui) -> Option<Eui>
+    ensures { result ≡ (if who.is_centre then Some partner else None) }
 {
-    let watch = Watch::over(alloc, lines)?;
-    Ok(watch.private())
+    if who.is_centre { Some(partner) } else { None }
 }

@@ -1,4 +1,0 @@
-pub mod Growth
-pub mod Outsiders
-pub mod Advancing
-pub mod Effects
