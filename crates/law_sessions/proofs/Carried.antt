@@ -22,7 +22,7 @@ use Rattle.zb_model.specs.Tools.{Tools}
 use Rattle.zb_model.specs.Transcript.{end_line, run_lines, transcript}
 
 -- the lines so far keep P over what each event of a hub adds
-record IsCarried (tools : Tools) (w : Schedule) (n : ℕ) (P : List Line → Type 0) : Type 0 where
+pub record IsCarried (tools : Tools) (w : Schedule) (n : ℕ) (P : List Line → Type 0) : Type 0 where
   pub answers : (h : List Line) (number : ℕ) (task : Task) → P h
       → P (h ++ whole_lines h number n (answer tools (setting_of w n) (state_of h n) task))
   pub injects : (h : List Line) (number frame : ℕ) (bytes : Bytes) → P h → P (h ++ Inject number frame bytes ∷ [])
@@ -135,7 +135,7 @@ hub_carries tools w n P k (tasks ∷ more) =
     (tasks_carry tools w n P k tasks (hub_events n more) (hub_carries tools w n P k more))
 
 -- of all lines of a hub's run
-run_carries : (tools : Tools) (w : Schedule) (n : ℕ) (P : List Line → Type 0) → IsCarried tools w n P
+pub run_carries : (tools : Tools) (w : Schedule) (n : ℕ) (P : List Line → Type 0) → IsCarried tools w n P
     → (all : List (List Task)) → w.events ≡ hub_events n all → P (start w) → P (run_lines tools w)
 unfolding run_lines disk_of
 run_carries tools w n P k all same p =
@@ -145,11 +145,11 @@ run_carries tools w n P k all same p =
 -- ---- seals
 
 -- the node's part of a schedule without events
-own_setting : (w : Schedule) (n : ℕ) → IsSchedule (record w { events = [] }) → Names w n → Me (setting_of w n) n
+pub own_setting : (w : Schedule) (n : ℕ) → IsSchedule (record w { events = [] }) → Names w n → Me (setting_of w n) n
 unfolding setting_of
 own_setting w n is named = me-of (record w { events = [] }) is n named
 
-group_is : (h : List Line) (number n : ℕ) (a : Answer) → group_of h number n a ≡ whole_lines h number n a
+pub group_is : (h : List Line) (number n : ℕ) (a : Answer) → group_of h number n a ≡ whole_lines h number n a
 unfolding group_of stored_lines
 group_is h number n a = refl
 

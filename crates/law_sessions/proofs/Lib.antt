@@ -6,8 +6,14 @@ mod SealLines
 mod PlainLines
 mod HubRuns
 mod Carried
+mod Claimed
 mod LogLemmas
 mod LogRuns
+mod LogClaims
+mod Made
+mod SoundTables
+mod Widths
+mod LineWidths
 mod RuledSessions
 mod OnDisk
 mod Offered

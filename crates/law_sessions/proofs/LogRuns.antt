@@ -4,6 +4,7 @@ use Rattle.std.specs.List.{AllByRecursion}
 use Rattle.std.specs.Prelude.{is_some, unwrap_or, ⊤}
 use Rattle.std.proofs.lemmas.Bool.{false≢true}
 use Rattle.law_answer_storable.specs.Storing.{OpensAsJudged, source_or}
+use Rattle.law_run.specs.Commanding.{SpellsConfirm}
 use Rattle.law_run.specs.Opening.{Opens, shown_source}
 use Rattle.law_run.proofs.LawfulRuns.{lawful}
 use Rattle.law_run_counters.proofs.Unique.{counted}
@@ -11,6 +12,7 @@ use Rattle.law_run.proofs.Runs.{FoundIs, found-is}
 use Rattle.law_sessions.specs.Hubs.{hub_events, without_numbers}
 use Rattle.law_sessions.specs.Logs.{AllHaveSetting, HubHolds, IsHubOf, hub_log, hub_tasks}
 use Rattle.law_sessions.proofs.Carried.{hub_fresh}
+use Rattle.law_sessions.proofs.Claimed.{hub_confirms, hub_once}
 use Rattle.law_sessions.proofs.HubRuns.{again, hub_lines, hub_runs}
 use Rattle.law_sessions.proofs.LogLemmas.{holding, sessions_log}
 use Rattle.zb_live.specs.Living.{Found}
@@ -42,7 +44,7 @@ shown_or : (given : ℕ) (o : Option ℕ) → unwrap_or o given ≡ shown_source
 shown_or given None = refl
 shown_or given (Some source) = refl
 
-opens_real : Opens real
+pub opens_real : Opens real
 opens_real = record {
   nwk = nwk-opens;
   aps = λ bytes key given a aux t read shown opened.
@@ -92,10 +94,14 @@ log_runs w n found sessions is =
 
 -- ---- claims on the run
 
-pub run_holds : (w : Schedule) (n : ℕ) (found : Found) (sessions : List (List Bytes)) → IsHubOf w n found sessions
-    → IsSchedule (record w { events = [] }) → HubHolds w
-run_holds w n found sessions is nodes = record {
-  lawful = lawful real w;
-  counted = counted real opens_real w;
-  fresh = hub_fresh real w n (hub_tasks found sessions) is.events nodes is.named;
-}
+pub run_holds : SpellsConfirm real → (w : Schedule) (n : ℕ) (found : Found) (sessions : List (List Bytes))
+    → IsHubOf w n found sessions → IsSchedule (record w { events = [] }) → HubHolds w
+run_holds spells w n found sessions is nodes =
+    let all = hub_tasks found sessions in
+    record {
+      lawful = lawful real w;
+      counted = counted real opens_real w;
+      fresh = hub_fresh real w n all is.events nodes is.named;
+      once = hub_once real opens_real w n all is.events nodes is.named;
+      confirms = λ one. hub_confirms real opens_real spells w n all is.events nodes one is.named;
+    }

@@ -1,4 +1,5 @@
 pub mod Sessions
 pub mod Hubs
 pub mod Logs
+pub mod Making
 pub mod Offers

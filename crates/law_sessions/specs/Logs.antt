@@ -1,15 +1,17 @@
 -- The log of a hub: the tasks that its centre has in all sessions on a store, and the lines that it writes of them.
 use Rattle.std.specs.Prelude.{ℕ, ◌≡◌, ◌++◌, true, is_some, flat_map, List, [], ◌∷◌, Option, Some, None, Result, Ok, Err, ⊤}
+use Rattle.law_run.specs.Commanding.{OneCentre}
 use Rattle.law_run_counters.specs.Counted.{Counted}
 use Rattle.law_sessions.specs.Hubs.{hub_events}
-use Rattle.law_sessions.specs.Sessions.{left_by}
+use Rattle.law_sessions.specs.Sessions.{Session, left_by}
+use Rattle.zb_centre_store.specs.Standing.{found_on}
 use Rattle.zb_live.specs.Events.{task_for}
 use Rattle.zb_live.specs.Living.{Found, Living, answer_to, done, fresh, next, served, setting_of}
 use Rattle.zb_live.specs.Shown.{event_lines}
 use Rattle.zb_live_line.specs.Grammar.{meaning_of}
 use Rattle.zb_live_line.specs.Said.{Sentence, Happens}
 use Rattle.zb_live_line.specs.declared.cause.Cause.{Cause}
-use Rattle.zb_model.specs.Claims.{Fresh, Lawful}
+use Rattle.zb_model.specs.Claims.{Confirms, Fresh, Lawful, Once}
 use Rattle.zb_model.specs.Data.{Bytes, Task}
 use Rattle.zb_model.specs.Lines.{Line, Boot, DownReset}
 use Rattle.zb_model.specs.Play as play
@@ -92,6 +94,14 @@ hub_log n found (lines ∷ more) =
     opened_lines n (served found lines fresh).after.tables (lines_write found lines fresh)
     ++ hub_log n (left_by found lines) more
 
+-- the log of sessions on one disk, each of which begins on the image that the one before left
+abbrev pub log_on : ℕ → List ℕ → List Session → List Line
+log_on n image [] = []
+log_on n image (x ∷ more) =
+    opened_lines n (served (found_on image) x.lines fresh).after.tables
+    (lines_write (found_on image) x.lines fresh)
+    ++ log_on n x.left more
+
 -- ---- the run
 
 -- the header of a session that was opened gives this setting
@@ -111,9 +121,12 @@ pub record IsHubOf (w : Schedule) (n : ℕ) (found : Found) (sessions : List (Li
   pub found_so : found ≡ Ok (Some (shown (after_boot (state_of (start w) n))))
   pub headers : AllHaveSetting (play.setting_of w n) found sessions
 
--- What holds of the run of a hub: each group answers its event by the policy, with the counters that it must have, and
--- no two seals have one key and nonce.
+-- What holds of the run of a hub: each group answers its event by the policy, with the counters that it must have. No
+-- two seals have one key and nonce, and no counter of a sender is accepted twice under one key. Where the schedule has
+-- one centre, only stored keys are confirmed.
 pub record HubHolds (w : Schedule) : Type 0 where
   pub lawful : Lawful real w (transcript real w)
   pub counted : Counted real w (transcript real w)
   pub fresh : Fresh real (transcript real w)
+  pub once : Once (transcript real w)
+  pub confirms : OneCentre w → Confirms real (transcript real w)

@@ -11,8 +11,8 @@ use Rattle.zb_model.specs.Answer.{answer}
 use Rattle.zb_model.specs.Data.{Bytes, Layer, Nwk, Aps, Task, Term}
 use Rattle.zb_model.specs.State.{NodeState, after_boot, net_of, shown}
 use Rattle.zb_model_real.specs.Real.{real}
-use Rattle.zb_record.specs.Ranges.{FitsBytes}
 use Rattle.zb_script.specs.Scripts.{Script}
+use Rattle.zb_stored_tables.specs.Stored.{IsKept}
 
 -- ---- what is sealed
 
@@ -72,11 +72,10 @@ pub record Session : Type 0 where
   pub lines : List Bytes
   pub left : List ℕ
 
--- The image holds the tables after the lines, or what was found, where the session was never open. The values of the
--- tables are within the widths of a record.
+-- The image holds the tables after the lines, or what was found, where the session was never open.
 abbrev pub IsLeft : Found → Option NodeState → List ℕ → Type 0
 IsLeft found None left = found_on left ≡ found
-IsLeft found (Some s) left = FitsBytes s × StandsAs (Some s) left
+IsLeft found (Some s) left = StandsAs (Some s) left
 
 -- each session begins on the image that the one before left
 abbrev pub AreSessions : List ℕ → List Session → Type 0
@@ -90,6 +89,11 @@ sealed_on image [] = []
 sealed_on image (x ∷ more) = lines_seal (found_on image) x.lines fresh ++ sealed_on x.left more
 
 -- ---- what is claimed
+
+-- the tables keep the rules for records and the widths of a record, if there are some
+abbrev pub AreKept : Option NodeState → Type 0
+AreKept None = ⊤
+AreKept (Some s) = IsKept s
 
 -- at NWK each network key has counters of its own, at APS the centre has one for all keys
 abbrev pub AreCountedAsOne : Layer → Bytes → Bytes → Type 0
