@@ -22,7 +22,7 @@ bare s = record s { aps_limit = 0; aps_next = 0; nets = map bare_net s.nets; lin
 
 -- ---- what bare rows don't show
 
-blind : {X : Type 0} (test : X → Bool) (f g : X → X) → ((x : X) → g (f x) ≡ g x) → (xs : List X)
+pub blind : {X : Type 0} (test : X → Bool) (f g : X → X) → ((x : X) → g (f x) ≡ g x) → (xs : List X)
     → map g (map (λ x. if test x then f x else x) xs) ≡ map g xs
 blind test f g each [] = refl
 blind {X} test f g each (x ∷ xs) = ap (λ y. y ∷ map g (map (λ x. if test x then f x else x) xs)) (by_test (test x)) ∙
@@ -69,7 +69,7 @@ by_hearing Nwk key sender counter s = nets_same s (at_net key (net_kept sender (
 by_hearing Aps key sender counter s = links_same s (at_link sender key (link_kept (counter + 1)) s.links) s.links
     (blind (is_link sender key) (link_kept (counter + 1)) bare_link (λ r. refl) s.links)
 
-by_accepts : (ts : List Term) (s : NodeState) → bare (accepted_all ts s) ≡ bare s
+pub by_accepts : (ts : List Term) (s : NodeState) → bare (accepted_all ts s) ≡ bare s
 unfolding after_accepting
 by_accepts [] s = refl
 by_accepts (t ∷ ts) s = by_accepts ts (after_accepting t s) ∙ by_hearing t.layer t.base t.source t.counter s
@@ -80,14 +80,14 @@ by_sealing Nwk t s = nets_same s (at_net t.base (next_at (t.counter + 1)) s.nets
     (blind (λ (r : NetKey). same_key r.key t.base) (next_at (t.counter + 1)) bare_net (λ r. refl) s.nets)
 by_sealing Aps t s = refl
 
-by_seals : (ts : List Term) (s : NodeState) → bare (sealed_all ts s) ≡ bare s
+pub by_seals : (ts : List Term) (s : NodeState) → bare (sealed_all ts s) ≡ bare s
 unfolding after_sealing
 by_seals [] s = refl
 by_seals (t ∷ ts) s = by_seals ts (after_sealing t s) ∙ by_sealing t.layer t s
 
 -- ---- changes of link rows
 
-swapped : {X : Type 0} (test : X → Bool) (f g : X → X) → ((x : X) → test (g x) ≡ test x)
+pub swapped : {X : Type 0} (test : X → Bool) (f g : X → X) → ((x : X) → test (g x) ≡ test x)
     → ((x : X) → g (f x) ≡ f (g x)) → (xs : List X)
     → map g (map (λ x. if test x then f x else x) xs) ≡ map (λ x. if test x then f x else x) (map g xs)
 swapped test f g same each [] = refl

@@ -1,11 +1,11 @@
 -- A frame of the exchange is delivered to the node for which it is: what is in the way, and what it comes to.
-use Rattle.std.proofs.Common.{◌≡◌, ℕ, ◌<◌, Bool, true, false, not, ◌&&◌, List, [], ◌∷◌, Option, Some, None, is_some, nat_eq, nat_lt, nat_le, refl, sym, ap, ◌∙◌, eq-eqb}
+use Rattle.std.proofs.Common.{◌≡◌, ℕ, ◌<◌, Bool, true, false, not, ◌&&◌, List, [], ◌∷◌, find, Option, Some, None, is_some, nat_eq, nat_lt, nat_le, refl, sym, ap, ◌∙◌, eq-eqb}
 use Rattle.std.proofs.lemmas.Bool.{false≢true, lt-leb}
 use Rattle.zb_model.specs.Data.{Bytes, AtNwk, AtAps, Reason, Stale, RowsFull, Term, Command, Received}
 use Rattle.zb_model.specs.State.{greatest_counter, NetKey, LinkKey, NodeState, is_centre, is_live, is_known, usable_of, sender_floor}
 use Rattle.zb_model.specs.Tools.{Tools, NwkShown, ApsAuxiliary}
 use Rattle.zb_model.specs.Rules.{Setting, Plan, is_declared}
-use Rattle.zb_model.specs.Judging.{Verdict, Good, reject, need, Carrier, carrier, senders_full, judge_net, judge_nwk, Unsealed, judge_aps, candidates}
+use Rattle.zb_model.specs.Judging.{Verdict, Good, reject, need, Carrier, carrier, senders_full, judge_net, judge_nwk, Unsealed, judge_aps, candidates, opens_with}
 use Rattle.zb_model.specs.Commands.{Heard, take_command}
 use Rattle.zb_model.specs.Answer.{stopped_at, comes_to, heard_sealed, heard_clear, received_as, aps_part, by_security, sealed_part, plan_of, refusal_of}
 use Rattle.law_key_exchange.specs.CommandFrames.{NetFrame, LinkFrame, net_term, link_term, sealed_content, clear_content, sealed_bytes, clear_bytes, IsCarried, IsUnsealed, IsRead}
@@ -107,15 +107,31 @@ pub record IsOpened (y : NodeState) (l : LinkFrame) (row : LinkKey) : Type 0 whe
   pub same : row.key ≡ l.link
   pub small : l.counter < greatest_counter
 
+-- the first candidate that opens it
+pub record IsChosen (tools : Tools) (y : NodeState) (l : LinkFrame) (row : LinkKey) : Type 0 where
+  pub found : find (opens_with tools (sealed_content tools l) l.source) (candidates y l.source) ≡ Some row
+  pub same : row.key ≡ l.link
+  pub small : l.counter < greatest_counter
+
+pub opens_it : (tools : Tools) (l : LinkFrame) (row : LinkKey) → IsUnsealed tools l → row.key ≡ l.link
+    → tools.open_aps (sealed_content tools l) row.key l.source ≡ Some (link_term tools l)
+opens_it tools l row a same = ap (λ k. tools.open_aps (sealed_content tools l) k l.source) same ∙ a.opens l.source
+
+first_chosen : (tools : Tools) (y : NodeState) (l : LinkFrame) (row : LinkKey) → IsUnsealed tools l → IsOpened y l row
+    → IsChosen tools y l row
+first_chosen tools y l row a o = record {
+  found = rw (o.first, opens_it tools l row a o.same) refl;
+  same = o.same;
+  small = o.small;
+}
+
 opened : (tools : Tools) (b : Setting) (y : NodeState) (shown : NwkShown) (l : LinkFrame) (row : LinkKey)
-    → IsUnsealed tools l → IsOpened y l row
+    → IsUnsealed tools l → IsChosen tools y l row
     → judge_aps tools b y shown (sealed_content tools l) (seal_of l)
     ≡ reject (nat_lt l.counter row.kept) AtAps (Stale row.kept) (Good (found_so tools l row))
-unfolding judge_aps need reject candidates
+unfolding judge_aps need reject
 opened tools b y shown l row a o =
-    let opens : tools.open_aps (sealed_content tools l) row.key l.source ≡ Some (link_term tools l) =
-    ap (λ k. tools.open_aps (sealed_content tools l) k l.source) o.same ∙ a.opens l.source in
-    rw (o.first, opens, opens, below l.counter o.small) refl
+    rw (o.found, opens_it tools l row a o.same, below l.counter o.small) refl
 
 abbrev pub both_terms : Tools → NetFrame → LinkFrame → List Term
 both_terms tools f l = net_term f (sealed_content tools l) ∷ link_term tools l ∷ []
@@ -130,6 +146,22 @@ unfolding reject
 by_floor tools b y f l row draw a true = refl
 by_floor tools b y f l row draw a false = rw (a.is_command, a.means) refl
 
+pub delivered_chosen : (tools : Tools) (b : Setting) (y : NodeState) (f : NetFrame) (l : LinkFrame) (net : NetKey)
+    (row : LinkKey) (draw : Option Bytes)
+    → IsCarried tools f (sealed_content tools l) → IsUnsealed tools l → IsHeard b y f net → IsChosen tools y l row
+    → plan_of tools b y (Received (sealed_bytes tools f l) draw)
+    ≡ plan_at f net
+    (plan_opened (nat_lt l.counter row.kept) (net_term f (sealed_content tools l) ∷ []) row.kept
+    (comes_to (both_terms tools f l) AtAps (take_command tools b y draw (heard_with tools f l row) l.command)))
+delivered_chosen tools b y f l net row draw a u h o =
+    delivered tools b y f (sealed_content tools l) net draw a h
+    ∙ ap (plan_at f net)
+    (ap (aps_part tools b y draw (shown_of f a.body) (Some (net_term f (sealed_content tools l)))) u.reads
+    ∙ ap (by_security tools b y draw (shown_of f a.body) (Some (net_term f (sealed_content tools l))) u.part) u.sealed
+    ∙ ap (sealed_part tools b y draw (Some (net_term f (sealed_content tools l))) u.part (seal_of l))
+    (opened tools b y (shown_of f a.body) l row u o)
+    ∙ by_floor tools b y f l row draw u (nat_lt l.counter row.kept))
+
 pub delivered_sealed : (tools : Tools) (b : Setting) (y : NodeState) (f : NetFrame) (l : LinkFrame) (net : NetKey)
     (row : LinkKey) (draw : Option Bytes)
     → IsCarried tools f (sealed_content tools l) → IsUnsealed tools l → IsHeard b y f net → IsOpened y l row
@@ -138,13 +170,7 @@ pub delivered_sealed : (tools : Tools) (b : Setting) (y : NodeState) (f : NetFra
     (plan_opened (nat_lt l.counter row.kept) (net_term f (sealed_content tools l) ∷ []) row.kept
     (comes_to (both_terms tools f l) AtAps (take_command tools b y draw (heard_with tools f l row) l.command)))
 delivered_sealed tools b y f l net row draw a u h o =
-    delivered tools b y f (sealed_content tools l) net draw a h
-    ∙ ap (plan_at f net)
-    (ap (aps_part tools b y draw (shown_of f a.body) (Some (net_term f (sealed_content tools l)))) u.reads
-    ∙ ap (by_security tools b y draw (shown_of f a.body) (Some (net_term f (sealed_content tools l))) u.part) u.sealed
-    ∙ ap (sealed_part tools b y draw (Some (net_term f (sealed_content tools l))) u.part (seal_of l))
-    (opened tools b y (shown_of f a.body) l row u o)
-    ∙ by_floor tools b y f l row draw u (nat_lt l.counter row.kept))
+    delivered_chosen tools b y f l net row draw a u h (first_chosen tools y l row u o)
 
 -- ---- a command in clear
 

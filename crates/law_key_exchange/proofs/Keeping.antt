@@ -5,9 +5,9 @@ use Rattle.zb_model.specs.Fits.{all_apart, keeps_rules}
 use Rattle.zb_model.specs.State.{LinkKey, NodeState, same_key, is_link, has_link, is_live_of, is_live, is_unverified, is_verified, at_link, dropped_link, revived, new_link, with_link, may_use, current, offered}
 use Rattle.law_change_fits.proofs.Parts.{kinds_alike, rules_of}
 use Rattle.law_change_fits.proofs.Tests.{any_map, apart_map, both, never}
-use Rattle.law_key_exchange.specs.Meeting.{HasNetwork, HasLink, HasOffer, HasProved}
+use Rattle.law_key_exchange.specs.Meeting.{HasBoth, HasNetwork, HasLink, HasOffer, HasProved}
 use Rattle.law_key_exchange.proofs.Baring.{bare, bare_net, bare_link}
-use Rattle.law_key_exchange.proofs.Rows.{before, none_before, is_current, is_offer, current_bare, offered_bare, last_bare, found_before, found_last, found_test, any_found, last_first, replaced_current, may_use_of, same_network}
+use Rattle.law_key_exchange.proofs.Rows.{before, none_before, is_current, is_offer, current_bare, offered_bare, last_bare, found_before, found_last, found_test, any_found, last_first, none_offered_then, replaced_current, may_use_of, same_network}
 
 pub nets_of : (s x : NodeState) → bare s ≡ x → map bare_net s.nets ≡ x.nets
 unfolding bare
@@ -73,6 +73,52 @@ link_kept s u p link h rows =
 pub link_left : (s u : NodeState) (p : ℕ) (link : Bytes) → HasLink s p link → bare u ≡ bare s → HasLink u p link
 link_left s u p link h e = link_kept s u p link h (links_left s u e)
 
+pub both_left : (s u : NodeState) (p : ℕ) (link key : Bytes) → HasBoth s p link key → bare u ≡ bare s
+    → HasBoth u p link key
+both_left s u p link key h e =
+    let rows = links_left s u e in
+    let a = before bare_link (current u p) (bare_link h.row)
+    (current_bare u p ∙ ap (find (is_current p)) rows ∙ sym (current_bare s p) ∙ ap (option_map bare_link)
+    h.is_current) in
+    let b = before bare_link (offered u p) (bare_link h.offer)
+    (offered_bare u p ∙ ap (find (is_offer p)) rows ∙ sym (offered_bare s p) ∙ ap (option_map bare_link)
+    h.is_offered) in
+    record {
+      row = a.item;
+      is_current = a.is;
+      row_key = ap (λ (r : LinkKey). r.key) a.seen ∙ h.row_key;
+      offer = b.item;
+      is_offered = b.is;
+      offer_key = ap (λ (r : LinkKey). r.key) b.seen ∙ h.offer_key;
+    }
+
+-- what is offered beside a key is offered
+pub one_of : (s : NodeState) (p : ℕ) (link key : Bytes) → HasBoth s p link key → HasOffer s p key
+one_of s p link key h = record {
+  row = h.row;
+  is_current = h.is_current;
+  offer = h.offer;
+  is_offered = h.is_offered;
+  offer_key = h.offer_key;
+}
+
+pub proved_left : (s u : NodeState) (p : ℕ) (key : Bytes) → HasProved s p key → bare u ≡ bare s → HasProved u p key
+proved_left s u p key h e =
+    let rows = links_left s u e in
+    let a = before bare_link (current u p) (bare_link h.row)
+    (current_bare u p ∙ ap (find (is_current p)) rows ∙ sym (current_bare s p) ∙ ap (option_map bare_link)
+    h.is_current) in
+    record {
+      row = a.item;
+      is_current = a.is;
+      row_key = ap (λ (r : LinkKey). r.key) a.seen ∙ h.row_key;
+      verified = ap (λ (r : LinkKey). is_verified r.attribute) a.seen ∙ h.verified;
+      none_offered =
+          none_before bare_link (offered u p)
+          (offered_bare u p ∙ ap (find (is_offer p)) rows ∙ sym (offered_bare s p) ∙ ap (option_map bare_link)
+          h.none_offered);
+    }
+
 pub offer_left : (s u : NodeState) (p : ℕ) (key : Bytes) → HasOffer s p key → bare u ≡ bare s → HasOffer u p key
 offer_left s u p key h e =
     let rows = links_left s u e in
@@ -114,9 +160,9 @@ offer_row p key told = new_link p key Unverified told
 is_one : (p : ℕ) (key : Bytes) (told : Bool) → is_offer p (offer_row p key told) ≡ true
 is_one p key told = rw (self p) refl
 
-pub offer_comes : (s u : NodeState) (p : ℕ) (link key : Bytes) (told : Bool) → HasLink s p link
-    → map bare_link u.links ≡ map bare_link s.links ++ offer_row p key told ∷ [] → HasOffer u p key
-offer_comes s u p link key told h e =
+pub both_come : (s u : NodeState) (p : ℕ) (link key : Bytes) (told : Bool) → HasLink s p link
+    → map bare_link u.links ≡ map bare_link s.links ++ offer_row p key told ∷ [] → HasBoth u p link key
+both_come s u p link key told h e =
     let a = before bare_link (current u p) (bare_link h.row)
     (current_bare u p ∙ ap (find (is_current p)) e ∙ found_before (is_current p) (map bare_link s.links)
     (offer_row p key told ∷ []) (bare_link h.row)
@@ -128,10 +174,15 @@ offer_comes s u p link key told h e =
     record {
       row = a.item;
       is_current = a.is;
+      row_key = ap (λ (r : LinkKey). r.key) a.seen ∙ h.row_key;
       offer = b.item;
       is_offered = b.is;
       offer_key = ap (λ (r : LinkKey). r.key) b.seen;
     }
+
+pub offer_comes : (s u : NodeState) (p : ℕ) (link key : Bytes) (told : Bool) → HasLink s p link
+    → map bare_link u.links ≡ map bare_link s.links ++ offer_row p key told ∷ [] → HasOffer u p key
+offer_comes s u p link key told h e = one_of u p link key (both_come s u p link key told h e)
 
 pub offer_tried : (s u : NodeState) (p : ℕ) (key : Bytes) (told : Bool) → map bare_link u.links
     ≡ map bare_link s.links ++ offer_row p key told ∷ [] → Tries u p key
@@ -183,6 +234,11 @@ proof_comes s u p key told rules h e =
       is_current = a.is;
       row_key = ap (λ (r : LinkKey). r.key) a.seen ∙ f.has.0;
       verified = ap (λ (r : LinkKey). is_verified r.attribute) a.seen ∙ f.has.1;
+      none_offered =
+          none_before bare_link (offered u p)
+          (offered_bare u p ∙ ap (find (is_offer p)) e ∙ none_offered_then p h.row.key key told (bare_link h.offer)
+          (map bare_link s.links) (bare_apart s rules) (sym (offered_bare s p) ∙ ap (option_map bare_link) h.is_offered)
+          h.offer_key);
     }
 
 pub is_member : (s : NodeState) (p : ℕ) (row : LinkKey) → current s p ≡ Some row → is_live s p ≡ true

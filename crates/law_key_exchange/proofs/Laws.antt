@@ -16,15 +16,15 @@ use Rattle.law_key_exchange.proofs.Offering as offering
 use Rattle.law_key_exchange.proofs.Proving as proving
 use Rattle.law_key_exchange.proofs.Confirming as confirming
 
-found_net : (s : NodeState) (k : Seals) (source : ℕ) (row : NetKey) → usable_of s k.sequence ≡ Some row
+pub found_net : (s : NodeState) (k : Seals) (source : ℕ) (row : NetKey) → usable_of s k.sequence ≡ Some row
     → in_row (usable_of s k.sequence) (λ row. why_not_heard row source k.nwk) ≡ why_not_heard row source k.nwk
 found_net s k source row e = ap (λ o. in_row o (λ row. why_not_heard row source k.nwk)) e
 
-found_link : (o : Option LinkKey) (row : LinkKey) (counter : ℕ) → o ≡ Some row
+pub found_link : (o : Option LinkKey) (row : LinkKey) (counter : ℕ) → o ≡ Some row
     → in_row o (λ row. why_not_opened row counter) ≡ why_not_opened row counter
 found_link o row counter e = ap (λ o. in_row o (λ row. why_not_opened row counter)) e
 
-three : (a b c d e : Option Reason) → a ≡ b → c ≡ d → or_else a (or_else c e) ≡ or_else b (or_else d e)
+pub three : (a b c d e : Option Reason) → a ≡ b → c ≡ d → or_else a (or_else c e) ≡ or_else b (or_else d e)
 three a b c d e f g = ap (λ x. or_else x (or_else c e)) f ∙ ap (λ x. or_else b (or_else x e)) g
 
 pub asks_again : (tools : Tools) (c m : Setting) (t : NodeState) (key : Bytes) (sequence : ℕ) (link : Bytes)
@@ -104,7 +104,7 @@ pub shows_again : (tools : Tools) (c m : Setting) (t : NodeState) (key : Bytes) 
 shows_again tools c m t key sequence link d j = proving.still_offered t (after_task tools m t DoTimer) c.me.eui key
     sequence link j (proving.proof_bare tools c m t key sequence link d j)
 
-no_confirmation : (s : NodeState) (device : ℕ) (k : Seals) (h : HasNetwork s k.key k.sequence)
+pub no_confirmation : (s : NodeState) (device : ℕ) (k : Seals) (h : HasNetwork s k.key k.sequence)
     → why_no_confirmation s device k ≡ or_else (why_not_heard h.found device k.nwk) (why_not_sealed s)
 unfolding why_no_confirmation
 no_confirmation s device k h = ap (λ o. or_else o (why_not_sealed s)) (found_net s k device h.found h.is_found)

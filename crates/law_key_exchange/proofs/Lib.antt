@@ -1,6 +1,7 @@
 pub mod Baring
 pub mod Rows
 pub mod Sending
+pub mod Quiet
 pub mod Judged
 pub mod Keeping
 pub mod Requesting
@@ -9,4 +10,7 @@ pub mod Proving
 pub mod Confirming
 pub mod Steady
 pub mod Laws
+pub mod Choosing
+pub mod Again
 pub mod Joining
+mod Cases

@@ -75,7 +75,7 @@ keep_reason centre key false None = refl
 abbrev keeps_now : Setting → NodeState → Bytes → Outcome
 keeps_now c t key = keeps c.me.eui key (links_full t) (other_user t c.me.eui key)
 
-abbrev end_plan : Tools → Setting → Setting → Seals → Bytes → Outcome → Plan
+abbrev pub end_plan : Tools → Setting → Setting → Seals → Bytes → Outcome → Plan
 end_plan tools c m k key o = comes_to (both_terms tools (net_frame c m k) (offer c m k key)) AtAps o
 
 keep_plan : (tools : Tools) → DeliversCommands tools → (c m : Setting) (t : NodeState) (k : Seals) (key : Bytes)
@@ -115,7 +115,7 @@ keep_plan tools delivers c m t k key draw d st rn ra long rules j fresh =
     (plan_opened (nat_lt k.aps row.kept) (net_term f (sealed_content tools l) ∷ []) row.kept
     (end_plan tools c m k key o))) rule
 
-abbrev why_not_offer : Setting → NodeState → Seals → Bytes → NetKey → LinkKey → Option Reason
+abbrev pub why_not_offer : Setting → NodeState → Seals → Bytes → NetKey → LinkKey → Option Reason
 why_not_offer c t k key net row = or_else (why_not_heard net c.me.eui k.nwk)
     (or_else (why_not_opened row k.aps) (why_not_kept t c.me.eui key))
 
@@ -142,7 +142,7 @@ none_user : (o : Option LinkKey) → why_key_in_use o ≡ None → o ≡ None
 none_user None e = refl
 none_user (Some other) e = absurd (false≢true (sym (ap is_some e)))
 
-abbrev kept_moves : ℕ → Bytes → List Move
+abbrev pub kept_moves : ℕ → Bytes → List Move
 kept_moves centre key = Row centre key Unverified ∷ Became Offered ∷ []
 
 keeps_so : (c : Setting) (t : NodeState) (key : Bytes) → why_not_kept t c.me.eui key ≡ None → keeps_now c t key
@@ -154,7 +154,7 @@ keeps_so c t key e =
     (when_none (links_full t) RowsFull (or_first first second e)) ∙ ap (keeps c.me.eui key false)
     (none_user (other_user t c.me.eui key) (or_second first second e))
 
-gives : (t : NodeState) (centre : ℕ) (key : Bytes) → t.state ≡ Joined → has_link centre key t.links ≡ false
+pub gives : (t : NodeState) (centre : ℕ) (key : Bytes) → t.state ≡ Joined → has_link centre key t.links ≡ false
     → filter (changes t) (kept_moves centre key) ≡ kept_moves centre key
 gives t centre key state none = rw (no_such_row centre key (attribute_byte Unverified) t.links none, state) refl
 
@@ -175,10 +175,10 @@ kept_state : (t u : NodeState) (centre : ℕ) (key : Bytes) → bare u ≡ moved
     → u.state ≡ Offered
 kept_state t u centre key e = state_of u (moved_all (kept_moves centre key) (bare t)) e
 
-abbrev kept_plan : Tools → Setting → Setting → Seals → Bytes → Plan
+abbrev pub kept_plan : Tools → Setting → Setting → Seals → Bytes → Plan
 kept_plan tools c m k key = end_plan tools c m k key (Does (kept_moves c.me.eui key) None)
 
-free_plan : (tools : Tools) → DeliversCommands tools → (c m : Setting) (t : NodeState) (k : Seals) (key : Bytes)
+pub free_plan : (tools : Tools) → DeliversCommands tools → (c m : Setting) (t : NodeState) (k : Seals) (key : Bytes)
     (draw : Option Bytes) → AreDeclared c m → StationsInRange c m → NwkInRange k → ApsInRange k → length key ≡ 16
     → keeps_rules t ≡ true
     → (j : IsJoined t c.me.eui k.key k.sequence k.link) → has_link c.me.eui key t.links ≡ false

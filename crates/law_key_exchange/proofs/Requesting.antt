@@ -26,7 +26,7 @@ use Rattle.law_key_exchange.proofs.Baring.{bare, bare_link, bare_after, moved_al
 use Rattle.law_key_exchange.proofs.Rows.{may_use_of}
 use Rattle.law_key_exchange.proofs.Sending.{sealed_out}
 use Rattle.law_key_exchange.proofs.Judged.{IsHeard, IsOpened, plan_at, plan_opened, both_terms, heard_with, delivered_sealed, refused_at, refused_opened, free_at, free_opened, or_first, or_second, when_none}
-use Rattle.law_key_exchange.proofs.Keeping.{keeps_network, network_left, link_left, state_left, links_of, offer_comes, no_row, is_member}
+use Rattle.law_key_exchange.proofs.Keeping.{keeps_network, network_left, link_left, state_left, links_of, both_come, no_row, is_member}
 
 -- four parts of a frame
 pub four : {Y : Type 0} (frame : ℕ → Bytes → ℕ → Bytes → Y) (a b : ℕ) (c d : Bytes) (e f : ℕ) (g h : Bytes) → a ≡ b
@@ -36,7 +36,7 @@ four frame a b c d e f g h x y z w = ap (λ n. frame n c e g) x ∙ ap (λ n. fr
 
 -- ---- the request
 
-abbrev asks : Bool → Bytes → Outcome
+abbrev pub asks : Bool → Bytes → Outcome
 asks true link = Stop CounterSpent
 asks false link = Does [] (sends 0 true (Secret ForData link RequestLink))
 
@@ -56,7 +56,7 @@ pub timer_answer : (tools : Tools) (m : Setting) (t : NodeState) (o : Outcome) �
 unfolding answer plan_of own
 timer_answer tools m t o role e = rw role (ap (by_outcome tools m t) e)
 
-request_answer : (tools : Tools) (c m : Setting) (t : NodeState) (key : Bytes) (sequence : ℕ) (link : Bytes)
+pub request_answer : (tools : Tools) (c m : Setting) (t : NodeState) (key : Bytes) (sequence : ℕ) (link : Bytes)
     → AreDeclared c m → (j : IsJoined t c.me.eui key sequence link) → (b : Bool) → both_spent t ≡ b
     → answer tools m t DoTimer ≡ by_outcome tools m t (asks b j.keys.row.key)
 request_answer tools c m t key sequence link d j b e =
@@ -101,7 +101,7 @@ request_sent tools c m t key sequence link d j none =
     0 c.me.short h.active.key key h.active.sequence sequence j.keys.row.key link (sym d.centre_short) h.active_key
     h.active_sequence j.keys.row_key
 
-asks_no_moves : (b : Bool) (link : Bytes) → moves_of (asks b link) ≡ []
+pub asks_no_moves : (b : Bool) (link : Bytes) → moves_of (asks b link) ≡ []
 asks_no_moves true link = refl
 asks_no_moves false link = refl
 
@@ -150,7 +150,7 @@ heard_up c m s k row d h here small = record {
     by_tests true false = refl
     by_tests false b = refl
 
-abbrev offers : Setting → ℕ → LinkKey → Bool → Option Bytes → Bool → Outcome
+abbrev pub offers : Setting → ℕ → LinkKey → Bool → Option Bytes → Bool → Outcome
 offers c device row true o b = Stop RowsFull
 offers c device row false None b = Stop NoDraw
 offers c device row false (Some key) true = Stop CounterSpent
@@ -175,7 +175,7 @@ pub opened_up : (c m : Setting) (s : NodeState) (k : Seals) (l : HasLink s m.me.
     ≡ l.row ∷ [] → k.aps < greatest_counter → IsOpened s (request m k) l.row
 opened_up c m s k l one small = record { rest = []; first = one; same = l.row_key; small = small }
 
-abbrev offers_now : Setting → Setting → NodeState → LinkKey → Option Bytes → Outcome
+abbrev pub offers_now : Setting → Setting → NodeState → LinkKey → Option Bytes → Outcome
 offers_now c m s row draw = offers c m.me.eui row (links_full s) (unless_held s draw) (both_spent s)
 
 pub net_range : (a b : Setting) (k : Seals) → a.me.short < 2 ^ 16 → b.me.short < 2 ^ 16 → a.me.eui < 2 ^ 64
@@ -274,15 +274,15 @@ no_such_row p key byte rows none =
     (λ (r : LinkKey). is_link p key r && (r.live && nat_eq (attribute_byte r.attribute) byte)) (λ r e. rw e refl) rows
     none
 
-abbrev given : Bytes → ℕ → List Move
+abbrev pub given : Bytes → ℕ → List Move
 given key device = Draw key ∷ Row device key Unverified ∷ []
 
-gives : (s : NodeState) (device : ℕ) (key : Bytes) → has_link device key s.links ≡ false
+pub gives : (s : NodeState) (device : ℕ) (key : Bytes) → has_link device key s.links ≡ false
     → filter (changes s) (given key device) ≡ given key device
 gives s device key none = rw (no_such_row device key (attribute_byte Unverified) s.links none) refl
 
 -- the free plan
-offer_plan : (tools : Tools) → DeliversCommands tools
+pub offer_plan : (tools : Tools) → DeliversCommands tools
     → (c m : Setting) (s : NodeState) (k : Seals) (draw : Option Bytes) → AreDeclared c m → StationsInRange c m
     → NwkInRange k → ApsInRange k → keeps_rules s ≡ true → (h : HasNetwork s k.key k.sequence)
     → (l : HasLink s m.me.eui k.link)
@@ -311,7 +311,7 @@ pub record CanOffer (s : NodeState) (draw : Option Bytes) : Type 0 where
   pub room : links_full s ≡ false
   pub unspent : both_spent s ≡ false
 
-offers_of : (s : NodeState) (draw : Option Bytes) → why_not_offered s draw ≡ None → CanOffer s draw
+pub offers_of : (s : NodeState) (draw : Option Bytes) → why_not_offered s draw ≡ None → CanOffer s draw
 offers_of s draw e =
     let first = when (links_full s) RowsFull in
     let second = when (is_none (unless_held s draw)) NoDraw in
@@ -323,13 +323,13 @@ offers_of s draw e =
       unspent = when_none (both_spent s) CounterSpent (or_second second third more);
     }
 
-offers_so : (c m : Setting) (s : NodeState) (row : LinkKey) (draw : Option Bytes) → (o : CanOffer s draw)
+pub offers_so : (c m : Setting) (s : NodeState) (row : LinkKey) (draw : Option Bytes) → (o : CanOffer s draw)
     → offers_now c m s row draw ≡ offers c m.me.eui row false (Some o.draws.key) false
 offers_so c m s row draw o = ap (λ b. offers c m.me.eui row b (unless_held s draw) (both_spent s)) o.room ∙ ap
     (λ x. offers c m.me.eui row false x (both_spent s)) o.draws.held ∙ ap
     (offers c m.me.eui row false (Some o.draws.key)) o.unspent
 
-abbrev offer_end : Tools → Setting → Setting → Seals → LinkKey → Bytes → Plan
+abbrev pub offer_end : Tools → Setting → Setting → Seals → LinkKey → Bytes → Plan
 offer_end tools c m k row key = comes_to (both_terms tools (net_frame m c k) (request m k)) AtAps
     (offers c m.me.eui row false (Some key) false)
 
@@ -399,6 +399,6 @@ is_offering tools delivers c m s k draw d st rn ra rules h l none =
           (short_of c device) m.me.short h.active.key k.key h.active.sequence k.sequence l.row.key k.link
           d.network.short_known h.active_key h.active_sequence l.row_key;
       network = offered_network s u device key k.key k.sequence rows h;
-      keys = offer_comes s u device k.link key (is_told (bare s) device) l
+      keys = both_come s u device k.link key (is_told (bare s) device) l
           (offered_bare_links s u device key rows fresh);
     })

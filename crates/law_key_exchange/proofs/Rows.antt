@@ -1,5 +1,5 @@
 -- What is found among bare rows, and what a row that comes, and one that takes the place of another, make of it.
-use Rattle.std.proofs.Common.{◌≡◌, ℕ, Bool, true, false, not, ◌&&◌, ◌||◌, if◌then◌else◌, List, [], ◌∷◌, ◌++◌, map, filter, find, reverse, Option, Some, None, option_map, is_some, nat_eq, refl, sym, ap, ◌∙◌, eq-eqb, eqb-true}
+use Rattle.std.proofs.Common.{◌≡◌, ℕ, Bool, true, false, not, ◌&&◌, ◌||◌, if◌then◌else◌, List, [], ◌∷◌, ◌++◌, map, filter, find, reverse, Option, Some, None, option_map, option_to_list, is_some, nat_eq, refl, sym, ap, ◌∙◌, eq-eqb, eqb-true}
 use Rattle.std.specs.List.{AllByRecursion, list_any}
 use Rattle.std.proofs.lemmas.Bool.{false≢true, not-true}
 use mathlib.Core.List.{reverse_aux}
@@ -9,6 +9,7 @@ use Rattle.zb_model.specs.Record.{attribute_byte}
 use Rattle.zb_model.specs.State.{NetKey, LinkKey, NodeState, same_key, is_link, has_net, has_link, new_net, is_live_of, is_unverified, is_verified, at_link, dropped_link, revived, net_of_active, active_row, may_use, live_nets, usable_nets, usable_of, current, offered}
 use Rattle.law_change_fits.proofs.Parts.{kinds_alike, links_alike, same_key_is, same_key_of}
 use Rattle.law_change_fits.proofs.Tests.{any_from, any_map, both, neither, never, not_apart}
+use Rattle.law_recovery.proofs.Candidates.{one_left}
 use Rattle.law_recovery.proofs.Once.{find_map, reverse_map}
 use Rattle.law_key_exchange.specs.Meeting.{HasNetwork}
 use Rattle.law_key_exchange.proofs.Baring.{bare_net, bare_link}
@@ -144,30 +145,55 @@ alike p a b x y =
     eq-eqb a.partner b.partner (eqb-true a.partner p la.1 ∙ sym (eqb-true b.partner p lb.1)) in
     rw (la.0, lb.0, same, not-true (is_unverified a.attribute) xa.1, not-true (is_unverified b.attribute) yb.1) refl
 
-none_passes : (p : ℕ) (row x : LinkKey) (xs : List LinkKey) → is_current p x ≡ true → list_any (kinds_alike x) xs
-    ≡ false → AllByRecursion (λ r. is_current p r ≡ true → r ≡ row) xs
-none_passes p row x [] e apart = tt
-none_passes p row x (y ∷ ys) e apart =
-    let parts = neither (kinds_alike x y) (list_any (kinds_alike x) ys) apart in
-    (λ f. never (kinds_alike x y) (alike p x y e f) parts.0, none_passes p row x ys e parts.1)
+alike_offers : (p : ℕ) (a b : LinkKey) → is_offer p a ≡ true → is_offer p b ≡ true → kinds_alike a b ≡ true
+alike_offers p a b x y =
+    let xa = both (is_live_of p a) (is_unverified a.attribute) x in
+    let yb = both (is_live_of p b) (is_unverified b.attribute) y in
+    let la = both a.live (nat_eq a.partner p) xa.0 in
+    let lb = both b.live (nat_eq b.partner p) yb.0 in
+    let same : nat_eq a.partner b.partner ≡ true =
+    eq-eqb a.partner b.partner (eqb-true a.partner p la.1 ∙ sym (eqb-true b.partner p lb.1)) in
+    rw (la.0, lb.0, same, xa.1, yb.1) refl
 
-only_current : (p : ℕ) (row : LinkKey) (xs : List LinkKey) → all_apart kinds_alike xs ≡ true → find (is_current p) xs
-    ≡ Some row → AllByRecursion (λ r. is_current p r ≡ true → r ≡ row) xs
-only_current p row [] apart e = tt
-only_current p row (x ∷ xs) apart e =
-    let parts = both (not (list_any (kinds_alike x) xs)) (all_apart kinds_alike xs) apart in
-    by_test (is_current p x) refl e (not-true (list_any (kinds_alike x) xs) parts.0)
-    (λ f. only_current p row xs parts.1 f)
+-- any two that pass are alike
+abbrev pub OfOneKind : {X : Type 0} → (X → X → Bool) → (X → Bool) → Type 0
+OfOneKind {X} kind q = (a b : X) → q a ≡ true → q b ≡ true → kind a b ≡ true
+
+none_passes : {X : Type 0} (kind : X → X → Bool) (q : X → Bool) → OfOneKind kind q → (row x : X) (xs : List X) → q x
+    ≡ true → list_any (kind x) xs ≡ false → AllByRecursion (λ r. q r ≡ true → r ≡ row) xs
+none_passes kind q of row x [] e apart = tt
+none_passes kind q of row x (y ∷ ys) e apart =
+    let parts = neither (kind x y) (list_any (kind x) ys) apart in
+    (λ f. never (kind x y) (of x y e f) parts.0, none_passes kind q of row x ys e parts.1)
+
+pub only_one : {X : Type 0} (kind : X → X → Bool) (q : X → Bool) → OfOneKind kind q → (row : X) (xs : List X)
+    → all_apart kind xs ≡ true → find q xs ≡ Some row → AllByRecursion (λ r. q r ≡ true → r ≡ row) xs
+only_one kind q of row [] apart e = tt
+only_one {X} kind q of row (x ∷ xs) apart e =
+    let parts = both (not (list_any (kind x) xs)) (all_apart kind xs) apart in
+    by_test (q x) refl e (not-true (list_any (kind x) xs) parts.0) (λ f. only_one kind q of row xs parts.1 f)
   where
-    by_test : (b : Bool) → is_current p x ≡ b → (if b then Some x else find (is_current p) xs) ≡ Some row
-        → list_any (kinds_alike x) xs ≡ false
-        → (find (is_current p) xs ≡ Some row → AllByRecursion (λ r. is_current p r ≡ true → r ≡ row) xs)
-        → (is_current p x ≡ true → x ≡ row) × AllByRecursion (λ r. is_current p r ≡ true → r ≡ row) xs
-    by_test true t e apart later = (λ f. same e, none_passes p row x xs t apart)
+    by_test : (b : Bool) → q x ≡ b → (if b then Some x else find q xs) ≡ Some row → list_any (kind x) xs ≡ false
+        → (find q xs ≡ Some row → AllByRecursion (λ r. q r ≡ true → r ≡ row) xs)
+        → (q x ≡ true → x ≡ row) × AllByRecursion (λ r. q r ≡ true → r ≡ row) xs
+    by_test true t e apart later = (λ f. same e, none_passes kind q of row x xs t apart)
       where
         same : Some x ≡ Some row → x ≡ row
         same d = cc
-    by_test false t e apart later = (λ f. never (is_current p x) f t, later e)
+    by_test false t e apart later = (λ f. never (q x) f t, later e)
+
+only_current : (p : ℕ) (row : LinkKey) (xs : List LinkKey) → all_apart kinds_alike xs ≡ true → find (is_current p) xs
+    ≡ Some row → AllByRecursion (λ r. is_current p r ≡ true → r ≡ row) xs
+only_current p row xs apart e = only_one kinds_alike (is_current p) (alike p) row xs apart e
+
+-- one row of a partner is current, and one is offered
+pub one_current : (p : ℕ) (row : LinkKey) (xs : List LinkKey) → all_apart kinds_alike xs ≡ true
+    → find (is_current p) xs ≡ Some row → filter (is_current p) xs ≡ row ∷ []
+one_current p row xs apart e = one_left kinds_alike (is_current p) (alike p) xs apart ∙ ap option_to_list e
+
+pub one_offer : (p : ℕ) (row : LinkKey) (xs : List LinkKey) → all_apart kinds_alike xs ≡ true → find (is_offer p) xs
+    ≡ Some row → filter (is_offer p) xs ≡ row ∷ []
+one_offer p row xs apart e = one_left kinds_alike (is_offer p) (alike_offers p) xs apart ∙ ap option_to_list e
 
 -- ---- the offered row takes the place of the current one
 
@@ -252,6 +278,46 @@ replaced_current p new told row offer xs apart here there key =
     found_such (is_current p) (IsProof new) (at_link p new (revived Verified told) (at_link p row.key dropped_link xs))
     (each_after p row.key new told row xs at (only_current p row xs apart here))
     (some_after p row.key new told xs (any_found (is_offer p) (is_offer_of p new) xs offer there is))
+
+-- none is offered any more
+no_offer_after : (p : ℕ) (new : Bytes) (told : Bool) (offer r : LinkKey) (b d t : Bool) → is_link p new r ≡ d
+    → is_offer p r ≡ t → is_link p new offer ≡ true → (is_offer p r ≡ true → r ≡ offer)
+    → is_offer p (if d then revived Verified told (if b then dropped_link r else r)
+    else (if b then dropped_link r else r)) ≡ false
+no_offer_after p new told offer r true true t x y at only =
+    rw (both (nat_eq r.partner p) (same_key r.key new) x).0 refl
+no_offer_after p new told offer r false true t x y at only =
+    rw (both (nat_eq r.partner p) (same_key r.key new) x).0 refl
+no_offer_after p new told offer r true false t x y at only = refl
+no_offer_after p new told offer r false false true x y at only =
+    never (is_link p new r) (ap (is_link p new) (only y) ∙ at) x
+no_offer_after p new told offer r false false false x y at only = y
+
+pub replaced_offer : (p : ℕ) (old new : Bytes) (told : Bool) (offer : LinkKey) (xs : List LinkKey)
+    → is_link p new offer ≡ true → AllByRecursion (λ r. is_offer p r ≡ true → r ≡ offer) xs
+    → find (is_offer p) (at_link p new (revived Verified told) (at_link p old dropped_link xs)) ≡ None
+replaced_offer p old new told offer [] at all = refl
+replaced_offer p old new told offer (r ∷ xs) at all =
+    rw (by_test (is_link p old r)) (replaced_offer p old new told offer xs at all.1)
+  where
+    same_link : (b : Bool) → is_link p new (if b then dropped_link r else r) ≡ is_link p new r
+    same_link true = refl
+    same_link false = refl
+
+    by_test : (b : Bool)
+        → is_offer p (if is_link p new (if b then dropped_link r else r)
+        then revived Verified told (if b then dropped_link r else r) else (if b then dropped_link r else r)) ≡ false
+    by_test b = no_offer_after p new told offer r b (is_link p new (if b then dropped_link r else r)) (is_offer p r)
+        (sym (same_link b)) refl at all.0
+
+pub none_offered_then : (p : ℕ) (old new : Bytes) (told : Bool) (offer : LinkKey) (xs : List LinkKey)
+    → all_apart kinds_alike xs ≡ true → find (is_offer p) xs ≡ Some offer → offer.key ≡ new
+    → find (is_offer p) (at_link p new (revived Verified told) (at_link p old dropped_link xs)) ≡ None
+none_offered_then p old new told offer xs apart there key =
+    let live = both (is_live_of p offer) (is_unverified offer.attribute) (found_test (is_offer p) xs offer there) in
+    let at : is_link p new offer ≡ true =
+    rw ((both offer.live (nat_eq offer.partner p) live.0).1, same_key_of offer.key new key) refl in
+    replaced_offer p old new told offer xs at (only_one kinds_alike (is_offer p) (alike_offers p) offer xs apart there)
 
 -- a row of the offered key is there already verified: none is
 none_verified : (p : ℕ) (new : Bytes) (xs : List LinkKey) → all_apart links_alike xs ≡ true

@@ -1,11 +1,11 @@
 -- The four frames of the exchange: a request, the key that answers it, the proof of that key, and the confirmation.
-use Rattle.std.specs.Prelude.{ℕ, ◌≡◌, ◌<◌, ◌^◌, length, Option, Some}
+use Rattle.std.specs.Prelude.{ℕ, ◌≡◌, ◌<◌, ◌^◌, length, Option, None, Some}
 use Rattle.zb_model.specs.Data.{Bytes, Nwk, Aps, ForData, ForLoad, RequestLink, TransportLink, VerifyKey, ConfirmKey}
 use Rattle.zb_model.specs.Rules.{Setting}
 use Rattle.zb_model.specs.State.{greatest_counter, NodeState, next_counter}
 use Rattle.zb_model.specs.Tools.{Tools, verify_hash}
-use Rattle.law_key_exchange.specs.CommandFrames.{NetFrame, LinkFrame, sealed_bytes, clear_bytes}
-use Rattle.law_key_exchange.specs.Meeting.{HasNetwork, HasOffer, HasProved}
+use Rattle.law_key_exchange.specs.CommandFrames.{NetFrame, LinkFrame, sealed_content, sealed_bytes, clear_bytes}
+use Rattle.law_key_exchange.specs.Meeting.{HasNetwork, HasBoth, HasProved}
 
 -- What is sealed in a frame: the network key with its sequence, the link key, and the counters at NWK and at APS.
 pub record Seals : Type 0 where
@@ -47,6 +47,10 @@ abbrev pub confirmation : Setting → Setting → Seals → LinkFrame
 confirmation c m k =
     record { label = ForData; link = k.link; source = c.me.eui; counter = k.aps; command = ConfirmKey 0 4 m.me.eui }
 
+-- A request doesn't open under another key. It opens there by chance alone: by that of its MIC.
+abbrev pub StaysClosed : Tools → Setting → Seals → Bytes → Type 0
+StaysClosed tools m k other = tools.open_aps (sealed_content tools (request m k)) other m.me.eui ≡ None
+
 abbrev pub request_bytes : Tools → Setting → Setting → Seals → Bytes
 request_bytes tools c m k = sealed_bytes tools (net_frame m c k) (request m k)
 
@@ -74,7 +78,14 @@ pub record Offers (tools : Tools) (c m : Setting) (s u : NodeState) (k : Seals) 
     pub drawn : draw ≡ Some key
     pub sent : frame ≡ Some (offer_bytes tools c m (seals_now s k.key k.sequence k.link) key)
     pub network : HasNetwork u k.key k.sequence
-    pub keys : HasOffer u m.me.eui key
+    pub keys : HasBoth u m.me.eui k.link key
+
+-- It was in state s, and is in state u. It offers the key again that it offers, and its frame is for the device.
+pub record OffersAgain (tools : Tools) (c m : Setting) (s u : NodeState) (k : Seals) (key : Bytes)
+    (frame : Option Bytes) : Type 0 where
+  pub sent : frame ≡ Some (offer_bytes tools c m (seals_now s k.key k.sequence k.link) key)
+  pub network : HasNetwork u k.key k.sequence
+  pub keys : HasBoth u m.me.eui k.link key
 
 -- It keeps the key that was proved, and its frame, which confirms it, is for the device.
 pub record Confirms (tools : Tools) (c m : Setting) (s u : NodeState) (k : Seals) (frame : Option Bytes) : Type 0 where

@@ -39,12 +39,22 @@ pub record HasOffer (s : NodeState) (partner : ℕ) (key : Bytes) : Type 0 where
   pub is_offered : offered s partner ≡ Some offer
   pub offer_key : offer.key ≡ key
 
--- A node has this link key of a partner, and it is verified.
+-- A node has this link key of a partner, and this other one is offered.
+pub record HasBoth (s : NodeState) (partner : ℕ) (link key : Bytes) : Type 0 where
+  pub row : LinkKey
+  pub is_current : current s partner ≡ Some row
+  pub row_key : row.key ≡ link
+  pub offer : LinkKey
+  pub is_offered : offered s partner ≡ Some offer
+  pub offer_key : offer.key ≡ key
+
+-- A node has this link key of a partner, it is verified, and no other is offered.
 pub record HasProved (s : NodeState) (partner : ℕ) (key : Bytes) : Type 0 where
   pub row : LinkKey
   pub is_current : current s partner ≡ Some row
   pub row_key : row.key ≡ key
   pub verified : is_verified row.attribute ≡ true
+  pub none_offered : offered s partner ≡ None
 
 -- ---- how far a device has come
 

@@ -68,6 +68,12 @@ why_no_offer s device k draw =
     or_else (why_unheard s device k)
     (or_else (in_row (current s device) (λ row. why_not_opened row k.aps)) (why_not_offered s draw))
 
+-- The centre offers the key again that it offers; nothing is drawn then.
+unfoldable pub why_no_offer_again : NodeState → ℕ → Seals → Option Reason
+why_no_offer_again s device k =
+    or_else (why_unheard s device k)
+    (or_else (in_row (current s device) (λ row. why_not_opened row k.aps)) (why_not_sealed s))
+
 unfoldable pub why_offer_not_kept : NodeState → ℕ → Seals → Bytes → Option Reason
 why_offer_not_kept t centre k key =
     or_else (why_unheard t centre k)

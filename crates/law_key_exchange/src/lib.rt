@@ -6,13 +6,13 @@
 ghost use Rattle.std.specs.Prelude.{◌≡◌, ℕ, ◌≤◌, true, false, length, Option, Some, None};
 ghost use Rattle.law_answer_storable.specs.Storing.{OpensAsJudged};
 ghost use Rattle.law_key_exchange.specs.CommandFrames.{DeliversCommands};
-ghost use Rattle.law_key_exchange.specs.Exchanging.{ApsInRange, Confirms, NwkInRange, Offers, Seals, StationsInRange};
+ghost use Rattle.law_key_exchange.specs.Exchanging.{ApsInRange, Confirms, NwkInRange, Offers, OffersAgain, Seals};
 ghost use Rattle.law_key_exchange.specs.Exchanging.{confirmation_bytes, offer_bytes, proof_bytes, request_bytes};
-ghost use Rattle.law_key_exchange.specs.Exchanging.{seals_now};
-ghost use Rattle.law_key_exchange.specs.Meeting.{AreDeclared, HasLink, HasNetwork, HasOffer, IsConfirmed, IsJoined};
-ghost use Rattle.law_key_exchange.specs.Meeting.{IsOffered, IsSteady};
-ghost use Rattle.law_key_exchange.specs.Obstacles.{why_no_confirmation, why_no_offer, why_no_proof, why_no_request};
-ghost use Rattle.law_key_exchange.specs.Obstacles.{why_not_confirmed, why_offer_not_kept};
+ghost use Rattle.law_key_exchange.specs.Exchanging.{StationsInRange, StaysClosed, seals_now};
+ghost use Rattle.law_key_exchange.specs.Meeting.{AreDeclared, HasBoth, HasLink, HasNetwork, HasOffer};
+ghost use Rattle.law_key_exchange.specs.Meeting.{HasProved, IsConfirmed, IsJoined, IsOffered, IsSteady};
+ghost use Rattle.law_key_exchange.specs.Obstacles.{why_no_confirmation, why_no_offer, why_no_offer_again};
+ghost use Rattle.law_key_exchange.specs.Obstacles.{why_no_proof, why_no_request, why_not_confirmed, why_offer_not_kept};
 ghost use Rattle.law_recovery.specs.Answering.{after_task, frame_of};
 ghost use Rattle.law_recovery.specs.Joining.{AreIntroduced};
 ghost use Rattle.law_recovery.specs.KeyFrames.{DeliversKeys, KeyFrameInRange, key_bytes};
@@ -65,6 +65,23 @@ pub fn the_centre_offers_a_link_key()
         (frame_of tools c s (Received (request_bytes tools c m k) draw)) }
 {}
 
+/// States that the centre offers its key again to a device whose request comes again, and when it doesn't.
+///
+/// The offer was lost. The request opens under the current key, and not under the one that is offered.
+pub fn the_centre_offers_its_key_again()
+    ensures refused { (tools : Tools) → DeliversCommands tools → (c m : Setting) (s : NodeState) (k : Seals)
+        (key : Bytes) (draw : Option Bytes) → AreDeclared c m → StationsInRange c m → NwkInRange k → ApsInRange k
+        → keeps_rules s ≡ true → HasNetwork s k.key k.sequence → HasBoth s m.me.eui k.link key
+        → StaysClosed tools m k key
+        → (answer tools c s (Received (request_bytes tools c m k) draw)).refusal ≡ why_no_offer_again s m.me.eui k }
+    ensures offers { (tools : Tools) → DeliversCommands tools → (c m : Setting) (s : NodeState) (k : Seals)
+        (key : Bytes) (draw : Option Bytes) → AreDeclared c m → StationsInRange c m → NwkInRange k → ApsInRange k
+        → keeps_rules s ≡ true → HasNetwork s k.key k.sequence → HasBoth s m.me.eui k.link key
+        → StaysClosed tools m k key → why_no_offer_again s m.me.eui k ≡ None
+        → OffersAgain tools c m s (after_task tools c s (Received (request_bytes tools c m k) draw)) k key
+        (frame_of tools c s (Received (request_bytes tools c m k) draw)) }
+{}
+
 /// States that a joined device keeps the key that is offered to it, and when it doesn't.
 ///
 /// The key is new to it: it has no row of the centre with that key. No frame goes out.
@@ -111,6 +128,21 @@ pub fn the_centre_confirms_a_proved_key()
     ensures confirms { (tools : Tools) → DeliversCommands tools → (c m : Setting) (s : NodeState) (k : Seals)
         (draw : Option Bytes) → AreDeclared c m → StationsInRange c m → NwkInRange k → keeps_rules s ≡ true
         → HasNetwork s k.key k.sequence → HasOffer s m.me.eui k.link → why_no_confirmation s m.me.eui k ≡ None
+        → Confirms tools c m s (after_task tools c s (Received (proof_bytes tools c m k) draw)) k
+        (frame_of tools c s (Received (proof_bytes tools c m k) draw)) }
+{}
+
+/// States that the centre confirms its key again to a device whose proof comes again, and when it doesn't.
+///
+/// The confirmation was lost. The centre has verified the key, and offers no other.
+pub fn the_centre_confirms_its_key_again()
+    ensures refused { (tools : Tools) → DeliversCommands tools → (c m : Setting) (s : NodeState) (k : Seals)
+        (draw : Option Bytes) → AreDeclared c m → StationsInRange c m → NwkInRange k
+        → HasNetwork s k.key k.sequence → HasProved s m.me.eui k.link
+        → (answer tools c s (Received (proof_bytes tools c m k) draw)).refusal ≡ why_no_confirmation s m.me.eui k }
+    ensures confirms { (tools : Tools) → DeliversCommands tools → (c m : Setting) (s : NodeState) (k : Seals)
+        (draw : Option Bytes) → AreDeclared c m → StationsInRange c m → NwkInRange k
+        → HasNetwork s k.key k.sequence → HasProved s m.me.eui k.link → why_no_confirmation s m.me.eui k ≡ None
         → Confirms tools c m s (after_task tools c s (Received (proof_bytes tools c m k) draw)) k
         (frame_of tools c s (Received (proof_bytes tools c m k) draw)) }
 {}

@@ -5,3 +5,4 @@ pub mod Knocks
 pub mod Known
 pub mod Readmitted
 pub mod Refusing
+mod Cases

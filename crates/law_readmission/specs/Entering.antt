@@ -4,7 +4,7 @@ use Rattle.std.specs.Prelude.{ℕ, ◌≡◌, false, not, ◌&&◌, Option, Some
 use Rattle.zb_model.specs.Data.{Bytes, Aps, Knocked, Reason, NoKey, NotMember, WrongState, RowsFull}
 use Rattle.zb_model.specs.Rules.{links_full}
 use Rattle.zb_model.specs.State.{LinkKey, NodeState, code_row, current, has_link, is_live, is_verified, next_counter, offered, other_user}
-use Rattle.law_key_exchange.specs.Meeting.{HasLink, HasNetwork, HasOffer, IsJoined, IsOffered}
+use Rattle.law_key_exchange.specs.Meeting.{HasBoth, HasLink, HasNetwork, HasOffer, HasProved, IsConfirmed, IsJoined, IsOffered}
 use Rattle.law_key_exchange.specs.Obstacles.{or_else, when, why_key_in_use}
 
 -- ---- the obstacles
@@ -66,5 +66,9 @@ pub record IsSpared (s u : NodeState) : Type 0 where
   pub offer : (partner : ℕ) (key : Bytes) → HasOffer s partner key → HasOffer u partner key
   pub joined : (centre : ℕ) (key : Bytes) (sequence : ℕ) (link : Bytes) → IsJoined s centre key sequence link
       → IsJoined u centre key sequence link
+  pub both : (partner : ℕ) (link key : Bytes) → HasBoth s partner link key → HasBoth u partner link key
+  pub proved : (partner : ℕ) (key : Bytes) → HasProved s partner key → HasProved u partner key
   pub offered : (centre : ℕ) (key : Bytes) (sequence : ℕ) (link : Bytes) → IsOffered s centre key sequence link
       → IsOffered u centre key sequence link
+  pub confirmed : (centre : ℕ) (key : Bytes) (sequence : ℕ) (link : Bytes) → IsConfirmed s centre key sequence link
+      → IsConfirmed u centre key sequence link

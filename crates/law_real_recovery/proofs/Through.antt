@@ -162,7 +162,7 @@ pub routed_at_the_end : (p : sched.Schedule) → IsSchedule p → (before : List
     (after_events real (schedule_of p) (first_front (schedule_of p)) before) c r d
     → (may : MayRoute (schedule_of p) (after_events real (schedule_of p) (first_front (schedule_of p)) before) c r d
     rlink)
-    → RouteIsFree real (schedule_of p) (after_events real (schedule_of p) (first_front (schedule_of p)) before) c r d
+    → RouteIsFree (schedule_of p) (after_events real (schedule_of p) (first_front (schedule_of p)) before) c r d
     rlink may.introduced.net.key may.introduced.net.sequence may.introduced.own
     → NothingStops real (schedule_of p)
     (routed_front real (schedule_of p) (after_events real (schedule_of p) (first_front (schedule_of p)) before) c r d)

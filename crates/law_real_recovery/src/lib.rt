@@ -126,7 +126,7 @@ pub fn a_device_joins_through_a_router_in_each_schedule()
         (after_events real (schedule_of p) (first_front (schedule_of p)) before) c r d
         → (may : MayRoute (schedule_of p) (after_events real (schedule_of p) (first_front (schedule_of p)) before)
         c r d router_link)
-        → RouteIsFree real (schedule_of p)
+        → RouteIsFree (schedule_of p)
         (after_events real (schedule_of p) (first_front (schedule_of p)) before) c r d router_link
         may.introduced.net.key may.introduced.net.sequence may.introduced.own
         → NothingStops real (schedule_of p) (routed_front real (schedule_of p)

@@ -16,7 +16,7 @@ none_left q (x ∷ xs) e =
     rw parts.0 (none_left q xs parts.1)
 
 -- where any two that pass are alike and no two items are, one passes at most, and is found
-one_left : {X : Type 0} (alike : X → X → Bool) (q : X → Bool)
+pub one_left : {X : Type 0} (alike : X → X → Bool) (q : X → Bool)
     → ((x y : X) → q x ≡ true → q y ≡ true → alike x y ≡ true)
     → (xs : List X) → all_apart alike xs ≡ true → filter q xs ≡ option_to_list (find q xs)
 one_left alike q each [] apart = refl
@@ -35,7 +35,7 @@ one_left {X} alike q each (x ∷ xs) apart =
     by_test false e alone later = later
 
 -- a list that is turned round, and then filtered
-filter_turned : {X : Type 0} (q : X → Bool) (xs ys : List X) → filter q (reverse_aux xs ys)
+pub filter_turned : {X : Type 0} (q : X → Bool) (xs ys : List X) → filter q (reverse_aux xs ys)
     ≡ reverse_aux (filter q xs) (filter q ys)
 filter_turned q [] ys = refl
 filter_turned {X} q (x ∷ xs) ys = filter_turned q xs (x ∷ ys) ∙ by_test (q x)
@@ -60,7 +60,7 @@ without {X} a b (x ∷ xs) e =
     by_tests true false f h = ap (λ l. x ∷ l) h
     by_tests false q f h = h
 
-found_any : {X : Type 0} (q : X → Bool) (xs : List X) → find q xs ≡ None → list_any q xs ≡ false
+pub found_any : {X : Type 0} (q : X → Bool) (xs : List X) → find q xs ≡ None → list_any q xs ≡ false
 found_any q [] e = refl
 found_any {X} q (x ∷ xs) e = by_test (q x) e (found_any q xs)
   where

@@ -5,7 +5,7 @@ pub mod Rolling
 pub mod Candidates
 pub mod Asking
 pub mod Taking
-mod Repeating
+pub mod Repeating
 pub mod Knocking
 mod HavingKeys
 mod Cases

@@ -93,14 +93,14 @@ has_both : (s : NodeState) (device : ℕ) → why_not_sent s device ≡ None →
 unfolding why_not_sent
 has_both s device e = has_by s device (active_row s) (current s device) (spent Aps s) refl refl e
 
-once : (tools : Tools) (c : Setting) (s : NodeState) (device : ℕ) → is_centre c.me.role ≡ true → why_not_sent s device
-    ≡ None → WentOn s (after_task tools c s (HasChild device true)) device 1
+pub once : (tools : Tools) (c : Setting) (s : NodeState) (device : ℕ) (rejoin : Bool) → is_centre c.me.role ≡ true
+    → why_not_sent s device ≡ None → WentOn s (after_task tools c s (HasChild device rejoin)) device 1
 unfolding after_task counting_of
-once tools c s device role e =
+once tools c s device rejoin role e =
     let h = has_both s device e in
     let z = unspent_of s device e in
     subst (λ a. WentOn s (answered a s) device 1)
-    (sym (child_answer tools c s device true (child_does c device h.net h.row) role
+    (sym (child_answer tools c s device rejoin (child_does c device h.net h.row) role
     (child_rule c s device h.net h.row h.active_key h.link z)))
     (child_state tools c s (counting_of c s (comes_to [] AtEvent (child_does c device h.net h.row))) device
     (short_of c device) h.row.key (TransportNet h.net.key h.net.sequence device c.me.eui) z refl)
@@ -122,7 +122,7 @@ why_by : (s : NodeState) (device : ℕ) (n l b : Bool) → is_none (active_row s
 unfolding why_not_sent
 why_by s device n l b x y z e f g = rw (x, e, y, f, z, g) refl
 
-still : (s u : NodeState) (device frames : ℕ) → WentOn s u device frames → why_not_sent s device ≡ None
+pub still : (s u : NodeState) (device frames : ℕ) → WentOn s u device frames → why_not_sent s device ≡ None
     → next_counter Aps s + frames < greatest_counter → why_not_sent u device ≡ None
 still s u device frames w e lt =
     let h = has_both s device e in
@@ -151,7 +151,7 @@ unfolding repeated
 goes_on tools c device zero s role e lt = (tt, stays s device)
 goes_on tools c device (suc n) s role e lt =
     let u = after_task tools c s (HasChild device true) in
-    let w = once tools c s device role e in
+    let w = once tools c s device true role e in
     let more = goes_on tools c device n u role (still s u device 1 w e (omega (arith, lt)))
     (omega (arith, lt, w.counter)) in (
       (refuses tools c s device true role ∙ e, more.0),
@@ -164,27 +164,27 @@ goes_on tools c device (suc n) s role e lt =
 not_stale : (counter kept : ℕ) → kept ≤ counter → nat_lt counter kept ≡ false
 not_stale counter kept le = le-ltb counter kept le
 
-taken_by : (t : NodeState) (own : LinkKey) (counter : ℕ) (key : Bytes) → own.kept ≤ counter
+pub taken_by : (t : NodeState) (own : LinkKey) (counter : ℕ) (key : Bytes) → own.kept ≤ counter
     → why_old (dropped_at 0 key t.nets) (why_no_room t key) ≡ None → why_not_taken t own counter key ≡ None
 unfolding why_not_taken
 taken_by t own counter key le e = rw (not_stale counter own.kept le) e
 
-from_map : (f : NetKey → Bytes) (o : Option NetKey) (r : NetKey) → option_map f o ≡ Some (f r) → (x : NetKey)
+pub from_map : (f : NetKey → Bytes) (o : Option NetKey) (r : NetKey) → option_map f o ≡ Some (f r) → (x : NetKey)
     × (o ≡ Some x) × (f x ≡ f r)
 from_map f None r e = absurd (false≢true (ap is_some e))
 from_map f (Some x) r e = (x, refl, ap (λ o. unwrap_or o (f r)) e)
 
-number_is : (f : NetKey → ℕ) (o : Option NetKey) (x r : NetKey) → o ≡ Some x → option_map f o ≡ Some (f r) → f x ≡ f r
+pub number_is : (f : NetKey → ℕ) (o : Option NetKey) (x r : NetKey) → o ≡ Some x → option_map f o ≡ Some (f r) → f x ≡ f r
 number_is f o x r e g = ap (λ o. unwrap_or o (f r)) (sym (ap (option_map f) e) ∙ g)
 
-record Relinked (c m : Setting) (s u t : NodeState) (l : AreLinked c m s t) : Type 0 where
-  linked : AreLinked c m u t
-  same_own : linked.own ≡ l.own
-  same_row : linked.row ≡ l.row
-  same_key : linked.net.key ≡ l.net.key
-  same_sequence : linked.net.sequence ≡ l.net.sequence
+pub record Relinked (c m : Setting) (s u t : NodeState) (l : AreLinked c m s t) : Type 0 where
+  pub linked : AreLinked c m u t
+  pub same_own : linked.own ≡ l.own
+  pub same_row : linked.row ≡ l.row
+  pub same_key : linked.net.key ≡ l.net.key
+  pub same_sequence : linked.net.sequence ≡ l.net.sequence
 
-relinked : (c m : Setting) (s u t : NodeState) (n : ℕ) (l : AreLinked c m s t) → WentOn s u m.me.eui n
+pub relinked : (c m : Setting) (s u t : NodeState) (n : ℕ) (l : AreLinked c m s t) → WentOn s u m.me.eui n
     → Relinked c m s u t l
 relinked c m s u t n l w =
     let x = from_map (λ (r : NetKey). r.key) (active_row u) l.net
@@ -209,7 +209,7 @@ relinked c m s u t n l w =
           (w.sequence ∙ ap (option_map (λ (r : NetKey). r.sequence)) l.active_key);
     }
 
-in_range : (c m : Setting) (s u t : NodeState) (l : AreLinked c m s t) (r : Relinked c m s u t l)
+pub in_range : (c m : Setting) (s u t : NodeState) (l : AreLinked c m s t) (r : Relinked c m s u t l)
     → KeyFrameInRange (answer_frame c m s l.net l.row) → next_counter Aps u < greatest_counter
     → KeyFrameInRange (answer_frame c m u r.linked.net r.linked.row)
 in_range c m s u t l r range lt = record {

@@ -18,7 +18,7 @@ use Rattle.law_key_exchange.specs.Meeting.{HasLink, HasNetwork, HasOffer, HasPro
 use Rattle.law_key_exchange.specs.Obstacles.{or_else, when, in_row, why_unheard, why_not_opened, why_not_sealed, why_no_confirmation, why_no_offer, why_no_proof, why_no_request, why_not_confirmed, why_offer_not_kept}
 use Rattle.law_key_exchange.proofs.Joining.{child_bare, is_joined}
 use Rattle.law_key_exchange.proofs.Judged.{or_second, when_none}
-use Rattle.law_key_exchange.proofs.Keeping.{link_left, network_left}
+use Rattle.law_key_exchange.proofs.Keeping.{link_left, network_left, one_of}
 use Rattle.law_key_exchange.proofs.Laws as law
 use Rattle.law_key_exchange.proofs.Proving.{proof_sent}
 use Rattle.law_key_exchange.proofs.Requesting.{request_sent}
@@ -125,26 +125,26 @@ sent_on_air x y frames bytes o count e sent =
 
 -- ---- counters in their ranges
 
-below_nwk : (s : NodeState) → spent Nwk s ≡ false → next_counter Nwk s < greatest_counter
+pub below_nwk : (s : NodeState) → spent Nwk s ≡ false → next_counter Nwk s < greatest_counter
 unfolding spent
 below_nwk s e = leb-false greatest_counter (next_counter Nwk s) e
 
-below_aps : (s : NodeState) → spent Aps s ≡ false → next_counter Aps s < greatest_counter
+pub below_aps : (s : NodeState) → spent Aps s ≡ false → next_counter Aps s < greatest_counter
 unfolding spent
 below_aps s e = leb-false greatest_counter (next_counter Aps s) e
 
-nwk_range : (s : NodeState) (key : Bytes) (sequence : ℕ) (link : Bytes) → length key ≡ 16 → sequence < 256
+pub nwk_range : (s : NodeState) (key : Bytes) (sequence : ℕ) (link : Bytes) → length key ≡ 16 → sequence < 256
     → spent Nwk s ≡ false → NwkInRange (seals_now s key sequence link)
 nwk_range s key sequence link size small e = record { key = size; sequence = small; counter = below_nwk s e }
 
-aps_range : (s : NodeState) (key : Bytes) (sequence : ℕ) (link : Bytes) → length link ≡ 16 → spent Aps s ≡ false
+pub aps_range : (s : NodeState) (key : Bytes) (sequence : ℕ) (link : Bytes) → length link ≡ 16 → spent Aps s ≡ false
     → ApsInRange (seals_now s key sequence link)
 aps_range s key sequence link size e = record { link = size; counter = below_aps s e }
 
-sealed_free : (s : NodeState) → why_not_sealed s ≡ None → (spent Nwk s ≡ false) × (spent Aps s ≡ false)
+pub sealed_free : (s : NodeState) → why_not_sealed s ≡ None → (spent Nwk s ≡ false) × (spent Aps s ≡ false)
 sealed_free s e = apart_spent s (when_none (both_spent s) CounterSpent e)
 
-offer_free : (s : NodeState) (device : ℕ) (k : Seals) (draw : Option Bytes) → why_no_offer s device k draw ≡ None
+pub offer_free : (s : NodeState) (device : ℕ) (k : Seals) (draw : Option Bytes) → why_no_offer s device k draw ≡ None
     → why_not_sealed s ≡ None
 unfolding why_no_offer
 offer_free s device k draw e =
@@ -157,7 +157,7 @@ offer_free s device k draw e =
     or_second fourth last
     (or_second third (or_else fourth last) (or_second second rest (or_second first (or_else second rest) e)))
 
-confirmation_free : (s : NodeState) (device : ℕ) (k : Seals) → why_no_confirmation s device k ≡ None
+pub confirmation_free : (s : NodeState) (device : ℕ) (k : Seals) → why_no_confirmation s device k ≡ None
     → why_not_sealed s ≡ None
 unfolding why_no_confirmation
 confirmation_free s device k e = or_second (why_unheard s device k) (why_not_sealed s) e
@@ -203,7 +203,7 @@ record Offered (tools : Tools) (w : Schedule) (y : Front) (c d : ℕ) (k : Seals
     keys : HasOffer (state_of y.lines c) (eui_of w d) drawn
     heard : OnAir y frames (offer_bytes tools (setting_of w c) (setting_of w d) k drawn)
 
-same_key : (a b : Bytes) → Some a ≡ Some b → b ≡ a
+pub same_key : (a b : Bytes) → Some a ≡ Some b → b ≡ a
 same_key a b e = cc
 
 offered : (tools : Tools) → DeliversCommands tools → OpensAsJudged tools
@@ -230,7 +230,8 @@ offered tools delivers opens w x c d k drawn frames a rn ra draw none =
       device = subst (λ t. IsJoined t (eui_of w c) k.key k.sequence k.link) (sym b.device) a.joined.device;
       network = subst (λ u. HasNetwork u k.key k.sequence) (sym b.centre) o.network;
       keys = subst (λ u. HasOffer u (eui_of w d) drawn) (sym b.centre)
-          (subst (HasOffer (after_task tools (setting_of w c) s task) (eui_of w d)) key o.keys);
+          (subst (HasOffer (after_task tools (setting_of w c) s task) (eui_of w d)) key
+          (one_of (after_task tools (setting_of w c) s task) (eui_of w d) k.link o.key o.keys));
       heard =
           sent_on_air x y frames
           (offer_bytes tools (setting_of w c) (setting_of w d) (seals_now s k.key k.sequence k.link) drawn)

@@ -1,3 +1,4 @@
 pub mod Reporting
 pub mod Passing
 pub mod Through
+mod Cases

@@ -20,6 +20,7 @@ use Rattle.law_key_exchange.specs.Meeting.{HasNetwork, HasLink}
 use Rattle.law_key_exchange.specs.Obstacles.{or_else, in_row, when, why_not_heard, why_not_opened, why_not_sealed}
 use Rattle.law_key_exchange.proofs.Baring.{bare, bare_after}
 use Rattle.law_key_exchange.proofs.Judged.{IsOpened, plan_at, plan_opened, both_terms, heard_with, delivered_sealed, refused_at, refused_opened, free_at, free_opened, or_first, or_second, when_none}
+use Rattle.law_key_exchange.proofs.Quiet.{quiet, quiet_after}
 use Rattle.law_key_exchange.proofs.Requesting.{four, heard_up, net_range}
 use Rattle.law_key_exchange.proofs.Rows.{may_use_of}
 use Rattle.law_key_exchange.proofs.Sending.{apart_spent, sealed_out}
@@ -117,6 +118,17 @@ report_bare tools c r m t key sequence link d j =
     ∙ bare_after tools r t (counting_of r t (comes_to [] AtEvent o)) (comes_to [] AtEvent o) []
     (ap (filter (changes t))
     (reports_no_moves m.me.eui (short_of r m.me.eui) (both_spent t) j.keys.row.key)) tt
+
+-- the report leaves the floors of senders
+pub report_quiet : (tools : Tools) (c r m : Setting) (t : NodeState) (key : Bytes) (sequence : ℕ) (link : Bytes)
+    → AreRouted c r m → IsRouting t c.me.eui key sequence link
+    → quiet (after_task tools r t (HasChild m.me.eui false)) ≡ quiet t
+unfolding after_task
+report_quiet tools c r m t key sequence link d j =
+    let o = reports m.me.eui (short_of r m.me.eui) (both_spent t) j.keys.row.key in
+    ap (λ a. quiet (answered a t)) (report_answer tools c r m t key sequence link d j (both_spent t) refl)
+    ∙ quiet_after tools r t (counting_of r t (comes_to [] AtEvent o)) o
+    (reports_no_moves m.me.eui (short_of r m.me.eui) (both_spent t) j.keys.row.key)
 
 -- ---- the report is delivered to the centre
 

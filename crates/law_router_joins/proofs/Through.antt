@@ -14,9 +14,11 @@ use Rattle.law_answer_storable.specs.Storing.{OpensAsJudged}
 use Rattle.law_key_exchange.specs.CommandFrames.{DeliversCommands}
 use Rattle.law_key_exchange.specs.Exchanging.{ApsInRange, NwkInRange, Seals, seals_now}
 use Rattle.law_key_exchange.specs.Meeting.{HasLink, HasNetwork, IsJoined, IsSteady}
+use Rattle.law_key_exchange.specs.Obstacles.{why_unheard}
 use Rattle.law_key_exchange.proofs.Baring.{bare}
 use Rattle.law_key_exchange.proofs.Judged.{when_none}
 use Rattle.law_key_exchange.proofs.Keeping.{link_left, network_left, state_left}
+use Rattle.law_key_exchange.proofs.Quiet.{quiet, unheard_left}
 use Rattle.law_key_exchange.proofs.Sending.{apart_spent}
 use Rattle.law_recovery.specs.Answering.{after_task, frame_of}
 use Rattle.law_recovery.specs.Joining.{AreIntroduced}
@@ -33,7 +35,7 @@ use Rattle.law_router_joins.specs.Relaying.{AreRouted, IsRouting, why_no_tunnel,
 use Rattle.law_router_joins.specs.Routed.{MayJoinThrough, RouteIsFree, routed_events, routed_front, routed_joining_events}
 use Rattle.law_router_joins.specs.RouterFrames.{DeliversRelays, relayed_frame, report_bytes, tunnel_bytes}
 use Rattle.law_router_joins.proofs.Passing.{key_taken, relay_sent}
-use Rattle.law_router_joins.proofs.Reporting.{report_bare, report_sent, tunnel_bare, tunnel_sent, unspent_of}
+use Rattle.law_router_joins.proofs.Reporting.{report_bare, report_quiet, report_sent, tunnel_bare, tunnel_sent, unspent_of}
 
 -- ---- one event of one of the three
 
@@ -150,7 +152,7 @@ record Reported (tools : Tools) (w : Schedule) (y : Front) (c r d : ℕ) (k : Se
 
 reported : (tools : Tools) → OpensAsJudged tools → (w : Schedule) (x : Front) (c r d : ℕ) (rlink : Bytes)
     → (may : MayJoinThrough w x c r d rlink)
-    → RouteIsFree tools w x c r d rlink may.introduced.net.key may.introduced.net.sequence may.introduced.own
+    → RouteIsFree w x c r d rlink may.introduced.net.key may.introduced.net.sequence may.introduced.own
     → Reported tools w (after_event tools w x (Own r (HasChild d false))) c r d
     (seals_now (state_of x.lines r) may.introduced.net.key may.introduced.net.sequence rlink) (state_of x.lines c)
     (state_of x.lines d) (length (air x.lines) + 1)
@@ -185,6 +187,26 @@ reported tools opens w x c r d rlink may free =
           (report_bytes tools (setting_of w c) (setting_of w r) (setting_of w d) k)
           (frame_of tools (setting_of w r) t child) refl a.on_air sent;
     }
+
+-- the router hears after its report what it heard before
+still_hears : (tools : Tools) → OpensAsJudged tools → (w : Schedule) (x : Front) (c r d : ℕ) (rlink : Bytes)
+    → MayJoinThrough w x c r d rlink → (source : ℕ) (k : Seals)
+    → why_unheard (state_of (after_event tools w x (Own r (HasChild d false))).lines r) source k
+    ≡ why_unheard (state_of x.lines r) source k
+still_hears tools opens w x c r d rlink may source k =
+    let l = may.introduced in
+    let t = state_of x.lines r in
+    let three : Three w x c r d =
+    record { device = may.device_met; router = may.router_met; apart = may.apart } in
+    let child = HasChild d false in
+    let y = after_event tools w x (Own r child) in
+    let a = router_acts tools opens w x c r d child (Own r child) three may.router_met.apart may.apart
+    (own-up tools w x.lines x.disks x.number r child may.router_met.device_ready.up) in
+    let same : quiet (after_task tools (setting_of w r) t child) ≡ quiet t =
+    subst (λ n. quiet (after_task tools (setting_of w r) t (HasChild n false)) ≡ quiet t) may.device_named
+    (report_quiet tools (setting_of w c) (setting_of w r) (setting_of w d) t l.net.key l.net.sequence rlink may.routed
+    may.router) in
+    unheard_left t (state_of y.lines r) source k (ap quiet a.router ∙ same)
 
 -- ---- the Tunnel
 
@@ -348,7 +370,7 @@ key_range w x c r d rlink may unspent =
 
 routed : (tools : Tools) → DeliversKeys tools → DeliversRelays tools → OpensAsJudged tools
     → (w : Schedule) (x : Front) (c r d : ℕ) (rlink : Bytes) → (may : MayJoinThrough w x c r d rlink)
-    → RouteIsFree tools w x c r d rlink may.introduced.net.key may.introduced.net.sequence may.introduced.own
+    → RouteIsFree w x c r d rlink may.introduced.net.key may.introduced.net.sequence may.introduced.own
     → Routed w (routed_front tools w x c r d) c d may.introduced.net.key may.introduced.net.sequence
     may.introduced.row.key
 routed tools keys delivers opens w x c r d rlink may free =
@@ -386,13 +408,15 @@ routed tools keys delivers opens w x c r d rlink may free =
     subst (Relays tools w y3 c r d k s t l.net l.row) third
     (relays tools delivers opens w y2 c r d k s t (state_of y1.lines r) l.net l.row (frames + 2) b may.routed
     (nwk_range s l.net.key l.net.sequence rlink may.in_range.key_size may.in_range.small unspent_c) range
-    a.router.network free.relayed) in
+    a.router.network
+    (still_hears tools opens w x c r d rlink may (eui_of w c) (seals_now s l.net.key l.net.sequence rlink)
+    ∙ free.relayed)) in
     takes tools keys opens w y3 c r d k s t l (frames + 3) e may.routed range refl refl free.taken may.meets
 
 pub routed_and_exchanged : (tools : Tools) → DeliversKeys tools → DeliversRelays tools → DeliversCommands tools
     → OpensAsJudged tools → (w : Schedule) (x : Front) (c r d : ℕ) (rlink drawn : Bytes)
     → (may : MayJoinThrough w x c r d rlink)
-    → RouteIsFree tools w x c r d rlink may.introduced.net.key may.introduced.net.sequence may.introduced.own
+    → RouteIsFree w x c r d rlink may.introduced.net.key may.introduced.net.sequence may.introduced.own
     → length drawn ≡ 16
     → NothingStops tools w (routed_front tools w x c r d) c d may.introduced.net.key may.introduced.net.sequence
     may.introduced.row.key drawn

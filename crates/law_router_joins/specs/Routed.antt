@@ -10,7 +10,7 @@ use Rattle.law_key_exchange.specs.Meeting.{HasLink, HasNetwork}
 use Rattle.law_readmission.specs.Knowing.{MeetsKey}
 use Rattle.law_recovery.specs.Joining.{AreIntroduced}
 use Rattle.law_recovery.specs.Rejoining.{why_not_taken}
-use Rattle.law_recovery_runs.specs.Fronts.{Front, after_event, after_events}
+use Rattle.law_recovery_runs.specs.Fronts.{Front, after_events}
 use Rattle.law_recovery_runs.specs.KeyExchange.{AreMet, KeysInRange, eui_of, exchange_events}
 use Rattle.law_router_joins.specs.Relaying.{AreRouted, IsRouting, why_no_report, why_no_tunnel, why_not_relayed}
 
@@ -46,13 +46,13 @@ pub record MayJoinThrough (w : Schedule) (x : Front) (c r d : ℕ) (router_link 
   pub router_size : length router_link ≡ 16
   pub meets : MeetsKey (state_of x.lines d) introduced.net.key introduced.net.sequence
 
--- Nothing is in the way of the four events, with this network key of the centre and this link key of the device. All
--- but one are asked of the first front.
-pub record RouteIsFree (tools : Tools) (w : Schedule) (x : Front) (c r d : ℕ) (router_link key : Bytes)
+-- Nothing is in the way of the four events, with this network key of the centre and this link key of the device. All is
+-- asked of the first front.
+pub record RouteIsFree (w : Schedule) (x : Front) (c r d : ℕ) (router_link key : Bytes)
     (sequence : ℕ) (own : LinkKey) : Type 0 where
   pub report : why_no_report (state_of x.lines r) ≡ None
   pub tunnel : why_no_tunnel (state_of x.lines c) (eui_of w r) (eui_of w d)
       (seals_now (state_of x.lines r) key sequence router_link) ≡ None
-  pub relayed : why_not_relayed (state_of (after_event tools w x (Own r (HasChild d false))).lines r) (eui_of w c)
+  pub relayed : why_not_relayed (state_of x.lines r) (eui_of w c)
       (seals_now (state_of x.lines c) key sequence router_link) ≡ None
   pub taken : why_not_taken (state_of x.lines d) own (next_counter Aps (state_of x.lines c)) key ≡ None

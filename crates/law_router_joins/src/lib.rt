@@ -93,13 +93,13 @@ pub fn a_device_takes_a_relayed_key()
 
 /// States that after any lines a device that knocked joins through a router and ends confirmed by ten events.
 ///
-/// The router is a member. One of the named obstacles may hold; all but one of the first four events' are asked of the
-/// first front.
+/// The router is a member. One of the named obstacles may hold; those of the first four events are asked of the first
+/// front.
 pub fn a_device_joins_through_a_router_in_a_run()
     ensures { (tools : Tools) → DeliversKeys tools → DeliversRelays tools → DeliversCommands tools
         → OpensAsJudged tools → (w : Schedule) (x : Front) (c r d : ℕ) (router_link drawn : Bytes)
         → (may : MayJoinThrough w x c r d router_link)
-        → RouteIsFree tools w x c r d router_link may.introduced.net.key may.introduced.net.sequence
+        → RouteIsFree w x c r d router_link may.introduced.net.key may.introduced.net.sequence
         may.introduced.own → length drawn ≡ 16
         → NothingStops tools w (routed_front tools w x c r d) c d may.introduced.net.key may.introduced.net.sequence
         may.introduced.row.key drawn

@@ -1,0 +1,5 @@
+pub mod Turns
+pub mod Stages
+pub mod Waiting
+pub mod Rounds
+pub mod Twice

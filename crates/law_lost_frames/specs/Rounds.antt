@@ -1,0 +1,58 @@
+-- A member rejoins in rounds: it asks, the centre answers, and the answer is delivered. Where the member's floor is
+-- above the centre's counter the answer is stale, and the next round begins. What the floor may be, where every frame
+-- that the member accepted came from its centre.
+use Rattle.std.specs.Prelude.{ℕ, zero, suc, ◌≡◌, ◌<◌, ◌≤◌, ◌+◌, ◌-◌, true, false, None, nat_eq, ⊤}
+use Rattle.std.specs.List.{AllByRecursion}
+use Rattle.zb_model.specs.Commands.{dropped_at}
+use Rattle.zb_model.specs.Data.{Aps, Bytes, Floor}
+use Rattle.zb_model.specs.Fits.{keeps_rules}
+use Rattle.zb_model.specs.Lines.{Line, Accept, Changed}
+use Rattle.zb_model.specs.Play.{Schedule, setting_of}
+use Rattle.zb_model.specs.Readings.{state_of}
+use Rattle.zb_model.specs.State.{LinkKey, greatest_counter, next_counter}
+use Rattle.zb_model.specs.Tools.{Tools}
+use Rattle.law_recovery.specs.KeyFrames.{KeyFrameInRange}
+use Rattle.law_recovery.specs.Rejoining.{AreLinked, AreOfOneNetwork, answer_frame, may_rejoin, why_no_room, why_not_sent, why_old}
+use Rattle.law_recovery_runs.specs.Fronts.{Front, IsReady, after_events, rejoin_events}
+
+-- the three events so many times, each time at the front that is reached then
+abbrev pub after_rounds : Tools → Schedule → ℕ → ℕ → ℕ → Front → Front
+after_rounds tools w c d zero x = x
+after_rounds tools w c d (suc n) x = after_rounds tools w c d n (after_events tools w x (rejoin_events x c d))
+
+-- A centre c and a member d that may rejoin, at a front at which no obstacle holds but the member's floor: that is so
+-- many counters above the centre's next one. The counter doesn't reach its end on the way.
+pub record RejoinsLater (w : Schedule) (x : Front) (c d n : ℕ) : Type 0 where
+  pub apart : nat_eq d c ≡ false
+  pub mine : (setting_of w d).me.eui ≡ d
+  pub network : AreOfOneNetwork (setting_of w c) (setting_of w d)
+  pub centre_ready : IsReady x c
+  pub member_ready : IsReady x d
+  pub rules : keeps_rules (state_of x.lines d) ≡ true
+  pub role : (state_of x.lines d).role ≡ (setting_of w d).me.role
+  pub may : may_rejoin (state_of x.lines d) ≡ true
+  pub linked : AreLinked (setting_of w c) (setting_of w d) (state_of x.lines c) (state_of x.lines d)
+  pub in_range : KeyFrameInRange
+      (answer_frame (setting_of w c) (setting_of w d) (state_of x.lines c) linked.net linked.row)
+  pub not_stopped : why_not_sent (state_of x.lines c) d ≡ None
+  pub not_refused : why_old (dropped_at 0 linked.net.key (state_of x.lines d).nets)
+      (why_no_room (state_of x.lines d) linked.net.key) ≡ None
+  pub stale : linked.own.kept - next_counter Aps (state_of x.lines c) ≡ n
+  pub counters : next_counter Aps (state_of x.lines c) + n < greatest_counter
+
+-- A line of a node d, of a link key that it has of c: each counter that it accepted, and each for which it stored a
+-- floor, is below this number.
+abbrev pub IsBelow : ℕ → ℕ → ℕ → ℕ → Bytes → Line → Type 0
+IsBelow number block d c key (Accept e n t) =
+    n ≡ d → t.layer ≡ Aps → t.base ≡ key → t.source ≡ c → t.counter < number
+IsBelow number block d c key (Changed e n (Floor Aps base source value)) =
+    n ≡ d → base ≡ key → source ≡ c → (counter : ℕ) × (counter < number) × (value ≤ counter + block)
+IsBelow number block d c key _ = ⊤
+
+-- What the member accepted under the link key of its centre came from the centre: its counters are those that the
+-- centre has used.
+abbrev pub CameFromCentre : Schedule → Front → ℕ → ℕ → LinkKey → Type 0
+CameFromCentre w x c d own =
+    AllByRecursion
+    (IsBelow (next_counter Aps (state_of x.lines c)) (setting_of w d).me.in_block d (setting_of w c).me.eui own.key)
+    x.lines

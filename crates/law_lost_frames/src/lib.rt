@@ -1,0 +1,90 @@
+//! A lost frame costs a repeat alone: how an exchange of link keys goes on where frames are lost, come twice, or nodes
+//! are stopped. Each law is the contract of a function with an empty body; docs/THEOREMS.md says it in words.
+#![tactic(auto)]
+
+ghost use Rattle.std.specs.Prelude.{◌≡◌, ◌<◌, ◌≤◌, ◌+◌, ◌++◌, ℕ, suc, false, [], ◌∷◌, length, List, Option, Some};
+ghost use Rattle.std.specs.List.{AllByRecursion};
+ghost use Rattle.law_answer_storable.specs.Storing.{OpensAsJudged};
+ghost use Rattle.law_key_exchange.specs.CommandFrames.{DeliversCommands, IsCarried, NetFrame};
+ghost use Rattle.law_key_exchange.specs.Meeting.{HasNetwork, IsSteady};
+ghost use Rattle.law_lost_frames.specs.Rounds.{CameFromCentre, RejoinsLater, after_rounds};
+ghost use Rattle.law_lost_frames.specs.Stages.{AreFree, HaveCome, IsFree, Keys};
+ghost use Rattle.law_lost_frames.specs.Turns.{Answered, Asking, Done, Far, Loses, Turn, after_turn, after_turns};
+ghost use Rattle.law_lost_frames.specs.Turns.{far_after, far_after_all};
+ghost use Rattle.law_lost_frames.specs.Twice.{Hears, frame_bytes};
+ghost use Rattle.law_lost_frames.specs.Waiting.{JoinsAgain};
+ghost use Rattle.law_readmission.specs.Entering.{IsSpared};
+ghost use Rattle.law_recovery.specs.Answering.{after_task};
+ghost use Rattle.law_recovery.specs.KeyFrames.{DeliversKeys};
+ghost use Rattle.law_recovery_runs.specs.Fronts.{EndsRejoined, Front, after_event};
+ghost use Rattle.law_recovery_runs.specs.Joining.{CanJoin};
+ghost use Rattle.law_recovery_runs.specs.KeyExchange.{AreMet, EndsConfirmed, HaveJoined, IsNew, KeysInRange};
+ghost use Rattle.zb_model.specs.Answer.{answer};
+ghost use Rattle.zb_model.specs.Data.{Aps, Bytes, HasChild, Received, Stale, Task};
+ghost use Rattle.zb_model.specs.Play.{Own, Schedule, setting_of};
+ghost use Rattle.zb_model.specs.Readings.{state_of};
+ghost use Rattle.zb_model.specs.Rules.{Setting};
+ghost use Rattle.zb_model.specs.State.{NodeState, after_boot, applied_all, greatest_counter, next_counter};
+ghost use Rattle.zb_model.specs.Tools.{Tools};
+
+/// States that a lost frame of the exchange of link keys costs a repeat of the device's timer, and nothing else.
+///
+/// A turn in which a frame is lost leaves the two at a stage from which the next turn goes on. What is refused between
+/// turns changes no stage, nor does any event of another node.
+pub fn a_lost_frame_costs_a_repeat()
+    ensures turn { (tools : Tools) → DeliversCommands tools → OpensAsJudged tools → (w : Schedule) (x : Front) (c d : ℕ)
+        (k : Keys) (far : Far) (turn : Turn) → KeysInRange k.network k.sequence k.link → length k.drawn ≡ 16
+        → HaveCome w x c d k far → IsFree tools w x c d k far turn
+        → HaveCome w (after_turn tools w c d x turn) c d k (far_after far turn) }
+    ensures turns { (tools : Tools) → DeliversCommands tools → OpensAsJudged tools → (w : Schedule) (x : Front)
+        (c d : ℕ) (k : Keys) (turns : List Turn) → KeysInRange k.network k.sequence k.link → length k.drawn ≡ 16
+        → AreMet w x c d → HaveJoined w x c d k.network k.sequence k.link → far_after_all Asking turns ≡ Done
+        → AreFree tools w c d k x Asking turns
+        → EndsConfirmed w (after_turns tools w c d x turns) c d k.network k.sequence k.drawn }
+    ensures enough { (before between : List Turn) → AllByRecursion Loses before → AllByRecursion Loses between
+        → far_after_all Asking (before ++ Answered ∷ between ++ Answered ∷ []) ≡ Done }
+{}
+
+/// States that a device whose network key was lost may be sent it again, as often as the centre's APS counter lasts.
+pub fn a_lost_network_key_is_sent_again()
+    ensures { (tools : Tools) → OpensAsJudged tools → (w : Schedule) (x : Front) (c d : ℕ) (can : CanJoin w x c d)
+        → IsNew w x c d can → next_counter Aps (state_of x.lines c) + 1 < greatest_counter
+        → JoinsAgain w x (after_event tools w x (Own c (HasChild d false))) c d can }
+{}
+
+/// States that a stop at any device call and a boot leave a node as far in an exchange as before its event, or as
+/// after it.
+pub fn a_stop_leaves_an_exchange()
+    ensures before { (s : NodeState) → IsSpared s (after_boot s) }
+    ensures after { (tools : Tools) (c : Setting) (s : NodeState) (task : Task)
+        → IsSpared (after_task tools c s task) (after_boot (applied_all (answer tools c s task).edits s)) }
+{}
+
+/// States that a member whose floor is above its centre's counter rejoins after as many stale rounds, and no more.
+///
+/// Where all that it accepted under its link key came from its centre, these are fewer than its incoming block.
+pub fn stale_rounds_are_fewer_than_a_block()
+    ensures rounds { (tools : Tools) → DeliversKeys tools → OpensAsJudged tools → (w : Schedule) (x : Front) (c d n : ℕ)
+        → RejoinsLater w x c d n → EndsRejoined (after_rounds tools w c d (suc n) x) c d }
+    ensures bounded { (w : Schedule) (x : Front) (c d n : ℕ) (later : RejoinsLater w x c d n)
+        → CameFromCentre w x c d later.linked.own → n < (setting_of w d).me.in_block }
+{}
+
+/// States that a frame that a node heard and that comes again is stale, and changes nothing.
+///
+/// The node still finds the frame's network key. Its floor of the sender is one above the frame's counter.
+pub fn a_frame_that_comes_twice_is_stale()
+    ensures refused { (tools : Tools) → OpensAsJudged tools → (c : Setting) (s : NodeState) (f : NetFrame)
+        (content : Bytes) (draw again : Option Bytes) → 1 ≤ c.me.in_block → IsSteady c s → IsCarried tools f content
+        → Hears c s f
+        → HasNetwork (after_task tools c s (Received (frame_bytes tools f content) draw)) f.key f.sequence
+        → (answer tools c (after_task tools c s (Received (frame_bytes tools f content) draw))
+        (Received (frame_bytes tools f content) again)).refusal ≡ Some (Stale (f.counter + 1)) }
+    ensures nothing { (tools : Tools) → OpensAsJudged tools → (c : Setting) (s : NodeState) (f : NetFrame)
+        (content : Bytes) (draw again : Option Bytes) → 1 ≤ c.me.in_block → IsSteady c s → IsCarried tools f content
+        → Hears c s f
+        → HasNetwork (after_task tools c s (Received (frame_bytes tools f content) draw)) f.key f.sequence
+        → after_task tools c (after_task tools c s (Received (frame_bytes tools f content) draw))
+        (Received (frame_bytes tools f content) again)
+        ≡ after_task tools c s (Received (frame_bytes tools f content) draw) }
+{}
