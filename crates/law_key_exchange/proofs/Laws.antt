@@ -33,7 +33,7 @@ pub asks_again : (tools : Tools) (c m : Setting) (t : NodeState) (key : Bytes) (
 asks_again tools c m t key sequence link d j = requesting.still_joined t (after_task tools m t DoTimer) c.me.eui key
     sequence link j (requesting.request_bare tools c m t key sequence link d j)
 
-no_offer : (s : NodeState) (device : ℕ) (k : Seals) (draw : Option Bytes) (h : HasNetwork s k.key k.sequence)
+pub no_offer : (s : NodeState) (device : ℕ) (k : Seals) (draw : Option Bytes) (h : HasNetwork s k.key k.sequence)
     (l : HasLink s device k.link) → why_no_offer s device k draw
     ≡ or_else (why_not_heard h.found device k.nwk) (or_else (why_not_opened l.row k.aps) (why_not_offered s draw))
 unfolding why_no_offer
@@ -59,7 +59,7 @@ pub offers : (tools : Tools) → DeliversCommands tools
 offers tools delivers c m s k draw d st rn ra rules h l none = requesting.is_offering tools delivers c m s k draw d st
     rn ra rules h l (sym (no_offer s m.me.eui k draw h l) ∙ none)
 
-not_kept : (t : NodeState) (centre : ℕ) (k : Seals) (key : Bytes) (j : IsJoined t centre k.key k.sequence k.link)
+pub not_kept : (t : NodeState) (centre : ℕ) (k : Seals) (key : Bytes) (j : IsJoined t centre k.key k.sequence k.link)
     → why_offer_not_kept t centre k key ≡ or_else (why_not_heard j.network.found centre k.nwk)
     (or_else (why_not_opened j.keys.row k.aps) (why_not_kept t centre key))
 unfolding why_offer_not_kept

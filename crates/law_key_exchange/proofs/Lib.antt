@@ -14,3 +14,5 @@ pub mod Choosing
 pub mod Again
 pub mod Joining
 mod Cases
+pub mod Calm
+pub mod Counting

@@ -18,6 +18,7 @@ use Rattle.law_key_exchange.specs.Exchanging.{Seals, net_frame, proof_bytes, sea
 use Rattle.law_key_exchange.specs.Meeting.{AreDeclared, HasNetwork, HasOffer, HasProved, IsOffered}
 use Rattle.law_key_exchange.specs.Obstacles.{or_else, when, why_not_heard, why_not_sealed, why_not_sealed_at_nwk}
 use Rattle.law_key_exchange.proofs.Baring.{bare, bare_link, bare_after, moved_all}
+use Rattle.law_key_exchange.proofs.Quiet.{quiet, quiet_after}
 use Rattle.law_key_exchange.proofs.Rows.{may_use_of, is_current, found_test, not_verified, has_offer}
 use Rattle.law_key_exchange.proofs.Sending.{sealed_out, clear_out}
 use Rattle.law_key_exchange.proofs.Judged.{plan_at, heard_open, delivered_clear, refused_at, free_at, or_first, or_second, when_none}
@@ -97,6 +98,16 @@ proof_bare tools c m t key sequence link d j =
     ∙ bare_after tools m t (counting_of m t (comes_to [] AtEvent (shows tools m (spent Nwk t) j.keys.offer.key)))
     (comes_to [] AtEvent (shows tools m (spent Nwk t) j.keys.offer.key)) []
     (ap (filter (changes t)) (shows_no_moves tools m (spent Nwk t) j.keys.offer.key)) tt
+
+-- the proof leaves the floors of senders
+pub proof_quiet : (tools : Tools) (c m : Setting) (t : NodeState) (key : Bytes) (sequence : ℕ) (link : Bytes)
+    → AreDeclared c m → IsOffered t c.me.eui key sequence link → quiet (after_task tools m t DoTimer) ≡ quiet t
+unfolding after_task
+proof_quiet tools c m t key sequence link d j =
+    let o = shows tools m (spent Nwk t) j.keys.offer.key in
+    ap (λ a. quiet (answered a t)) (proof_answer tools c m t key sequence link d j (spent Nwk t) refl)
+    ∙ quiet_after tools m t (counting_of m t (comes_to [] AtEvent o)) o
+    (shows_no_moves tools m (spent Nwk t) j.keys.offer.key)
 
 pub still_offered : (t u : NodeState) (centre : ℕ) (key : Bytes) (sequence : ℕ) (link : Bytes)
     → IsOffered t centre key sequence link → bare u ≡ bare t → IsOffered u centre key sequence link

@@ -123,3 +123,11 @@ pub unheard_left : (s u : NodeState) (source : ℕ) (k : Seals) → quiet u ≡ 
     ≡ why_unheard s source k
 unheard_left s u source k e =
     sym (unheard_quiet u source k) ∙ ap (λ x. why_unheard x source k) e ∙ unheard_quiet s source k
+
+pub links_kept : (s u : NodeState) → quiet u ≡ quiet s → u.links ≡ s.links
+unfolding quiet
+links_kept s u e = ap (λ (x : NodeState). x.links) e
+
+pub role_kept : (s u : NodeState) → quiet u ≡ quiet s → u.role ≡ s.role
+unfolding quiet
+role_kept s u e = ap (λ (x : NodeState). x.role) e

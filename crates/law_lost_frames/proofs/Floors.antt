@@ -1,8 +1,8 @@
 -- Where what a node accepted under a link key is below a number, the key's floor is at most a block above it.
-use Rattle.std.proofs.Common.{◌≡◌, ℕ, ◌+◌, ◌-◌, ◌<◌, ◌≤◌, max, Bool, true, false, cond, ◌&&◌, not, List, [], ◌∷◌, ◌++◌, fold, find, map, Some, Option, None, nat_eq, refl, sym, ◌∙◌, arith, eqb-true, subst}
+use Rattle.std.proofs.Common.{◌≡◌, ℕ, ◌+◌, ◌-◌, ◌<◌, ◌≤◌, max, Bool, true, false, cond, not, List, [], ◌∷◌, fold, find, map, Some, nat_eq, refl, sym, ◌∙◌, arith, eqb-true, subst}
 use Rattle.std.specs.List.{AllByRecursion}
-use Rattle.zb_model.specs.Data.{Bytes, Layer, Nwk, Aps, Attribute, Provisional, Term, Device, Move, Draw, DropNet, DropLink, Install, Active, Row, Pair, Became, Live, Removed, Roll, Told, Untold, Edit, Reserve, Floor, Start, Moved}
-use Rattle.zb_model.specs.Lines.{Line, Declared, GivenNet, GivenLink, Counter, Changed, Accept, Seal, Boot}
+use Rattle.zb_model.specs.Data.{Bytes, Layer, Nwk, Aps, Attribute, Provisional, Term, Device, Move, DropLink, Row, Live, Roll, Told, Untold, Edit, Reserve, Floor, Start, Moved}
+use Rattle.zb_model.specs.Lines.{Line, GivenLink, Counter, Changed, Accept, Seal, Boot}
 use Rattle.zb_model.specs.Play.{Schedule, setting_of}
 use Rattle.zb_model.specs.Readings.{state_of, heard_line, after, speaker}
 use Rattle.zb_model.specs.State.{LinkKey, NodeState, new_node, same_key, is_link, has_link, is_live_of, is_unverified, is_told, dropped_link, link_floor, told_as, revived, new_link, with_link, with_told, moved, applied, sealed_at, after_sealing, link_kept, after_hearing, after_accepting, booted_link, after_boot, with_given_net, with_given_link, with_declared, current, next_counter}

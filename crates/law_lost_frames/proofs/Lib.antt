@@ -8,3 +8,5 @@ mod Knocking
 mod Floors
 mod Rounds
 mod Twice
+mod Drawing
+mod Foreseen

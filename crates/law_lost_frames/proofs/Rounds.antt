@@ -1,14 +1,13 @@
 -- A round of rejoining whose answer is stale leaves the two as they were, one counter on.
-use Rattle.std.proofs.Common.{◌≡◌, ℕ, zero, suc, ◌+◌, ◌-◌, ◌<◌, ◌≤◌, true, false, [], ◌∷◌, ◌++◌, length, Option, Some, None, option_to_list, nat_lt, refl, sym, ap, ◌∙◌, subst, arith}
+use Rattle.std.proofs.Common.{◌≡◌, ℕ, zero, suc, ◌+◌, ◌-◌, ◌<◌, ◌≤◌, true, [], ◌∷◌, ◌++◌, length, Some, None, option_to_list, nat_lt, refl, sym, ap, ◌∙◌, subst, arith}
 use Rattle.std.proofs.lemmas.Bool.{lt-ltb}
 use Rattle.std.proofs.lemmas.List.{append-nil}
 use Rattle.zb_model.specs.Answer.{answer, answered}
 use Rattle.zb_model.specs.Commands.{dropped_at}
-use Rattle.zb_model.specs.Data.{Aps, Bytes, DoRejoin, HasChild, Received}
+use Rattle.zb_model.specs.Data.{Aps, DoRejoin, HasChild, Received}
 use Rattle.zb_model.specs.Fits.{keeps_rules}
 use Rattle.zb_model.specs.Play.{Schedule, Own, Deliver, frame_at, setting_of, supply}
 use Rattle.zb_model.specs.Readings.{air, state_of}
-use Rattle.zb_model.specs.Rules.{Setting}
 use Rattle.zb_model.specs.State.{LinkKey, NodeState, current, greatest_counter, next_counter, offered}
 use Rattle.zb_model.specs.Tools.{Tools}
 use Rattle.law_answer_storable.specs.Storing.{OpensAsJudged}
@@ -16,7 +15,7 @@ use Rattle.law_key_exchange.specs.Meeting.{IsSteady}
 use Rattle.law_key_exchange.proofs.Steady.{steady_after}
 use Rattle.law_recovery.specs.Answering.{after_task}
 use Rattle.law_recovery.specs.KeyFrames.{DeliversKeys, key_bytes}
-use Rattle.law_recovery.specs.Rejoining.{answer_frame, may_rejoin, rejoining, why_no_room, why_not_sent, why_not_taken, why_old}
+use Rattle.law_recovery.specs.Rejoining.{answer_frame, may_rejoin, rejoining, why_no_room, why_not_sent, why_old}
 use Rattle.law_recovery.specs.Repeating.{WentOn}
 use Rattle.law_recovery.proofs.Asking.{asks_silently, sends_key, waits}
 use Rattle.law_recovery.proofs.Repeating.{in_range, once, relinked, still, taken_by}

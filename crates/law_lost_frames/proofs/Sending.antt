@@ -1,6 +1,6 @@
 -- The device's timer: it asks for a link key, or proves the one that it was offered.
-use Rattle.std.proofs.Common.{◌≡◌, ℕ, ◌+◌, ◌<◌, length, Option, None, Some, sym, ap, ◌∙◌, subst, refl}
-use Rattle.zb_model.specs.Data.{Bytes, Nwk, Aps, DoTimer, CounterSpent}
+use Rattle.std.proofs.Common.{◌≡◌, ℕ, ◌+◌, length, Some, sym, subst}
+use Rattle.zb_model.specs.Data.{Bytes, Nwk, DoTimer, CounterSpent}
 use Rattle.zb_model.specs.Play.{Schedule, Own, setting_of}
 use Rattle.zb_model.specs.Readings.{air, state_of}
 use Rattle.zb_model.specs.Rules.{spent}
@@ -14,7 +14,7 @@ use Rattle.law_key_exchange.proofs.Laws.{asks_again, shows_again}
 use Rattle.law_key_exchange.proofs.Proving.{proof_sent}
 use Rattle.law_key_exchange.proofs.Requesting.{request_sent}
 use Rattle.law_recovery.specs.Answering.{after_task, frame_of}
-use Rattle.law_recovery_runs.specs.Fronts.{Front, after_event}
+use Rattle.law_recovery_runs.specs.Fronts.{Front}
 use Rattle.law_recovery_runs.specs.KeyExchange.{AreMet, KeysInRange, eui_of}
 use Rattle.law_recovery_runs.proofs.Confirmed.{DeviceActs, OnAir, device_acts, nwk_range, aps_range, sealed_free, sent_on_air}
 use Rattle.law_run_steps.proofs.Others.{own-up}

@@ -1,5 +1,5 @@
 -- A stop leaves a node as it was before its event, or with the changes of its answer; a boot leaves bare rows.
-use Rattle.std.proofs.Common.{◌≡◌, List, map, sym, ap, ◌∙◌}
+use Rattle.std.proofs.Common.{◌≡◌, List, sym, ap, ◌∙◌}
 use Rattle.zb_model.specs.Answer.{Answer, accepted_all, answer, answered}
 use Rattle.zb_model.specs.Data.{Task}
 use Rattle.zb_model.specs.Rules.{Setting}

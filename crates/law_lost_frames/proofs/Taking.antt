@@ -1,24 +1,23 @@
 -- The device's frame is delivered to the centre, and the centre's to the device.
-use Rattle.std.proofs.Common.{◌≡◌, ℕ, ◌+◌, ◌++◌, false, [], length, Option, None, Some, sym, ap, ◌∙◌, subst}
-use Rattle.zb_model.specs.Answer.{answer}
+use Rattle.std.proofs.Common.{◌≡◌, ℕ, ◌+◌, false, Option, None, Some, sym, ap, ◌∙◌, subst}
 use Rattle.zb_model.specs.Data.{Bytes, Nwk, Aps, Received}
-use Rattle.zb_model.specs.Play.{Schedule, Deliver, answer_step, setting_of, supply}
-use Rattle.zb_model.specs.Readings.{air, state_of}
+use Rattle.zb_model.specs.Play.{Schedule, Deliver, setting_of, supply}
+use Rattle.zb_model.specs.Readings.{state_of}
 use Rattle.zb_model.specs.Rules.{spent}
-use Rattle.zb_model.specs.State.{NodeState, has_link}
+use Rattle.zb_model.specs.State.{NodeState}
 use Rattle.zb_model.specs.Tools.{Tools}
 use Rattle.law_answer_storable.specs.Storing.{OpensAsJudged}
 use Rattle.law_key_exchange.specs.CommandFrames.{DeliversCommands}
-use Rattle.law_key_exchange.specs.Exchanging.{Seals, NwkInRange, ApsInRange, Confirms, Offers, OffersAgain, confirmation_bytes, offer_bytes, proof_bytes, request_bytes, seals_now}
-use Rattle.law_key_exchange.specs.Meeting.{HasBoth, HasNetwork, HasOffer, HasProved, IsJoined, IsOffered}
-use Rattle.law_key_exchange.specs.Obstacles.{or_else, why_no_confirmation, why_no_offer, why_no_offer_again, why_not_sealed}
+use Rattle.law_key_exchange.specs.Exchanging.{Seals, NwkInRange, ApsInRange, confirmation_bytes, offer_bytes, request_bytes, seals_now}
+use Rattle.law_key_exchange.specs.Meeting.{HasBoth, HasNetwork}
+use Rattle.law_key_exchange.specs.Obstacles.{why_not_sealed}
 use Rattle.law_key_exchange.proofs.Again.{again_free, again_offered, confirmed_again}
 use Rattle.law_key_exchange.proofs.Laws as law
 use Rattle.law_key_exchange.proofs.Keeping.{one_of}
 use Rattle.law_recovery.specs.Answering.{after_task, frame_of}
 use Rattle.law_recovery_runs.specs.Fronts.{Front, after_event}
-use Rattle.law_recovery_runs.specs.KeyExchange.{AreMet, eui_of}
-use Rattle.law_recovery_runs.proofs.Confirmed.{CentreActs, DeviceActs, OnAir, aps_range, centre_acts, confirmation_free, device_acts, nwk_range, offer_free, same_key, sealed_free, sent_on_air}
+use Rattle.law_recovery_runs.specs.KeyExchange.{eui_of}
+use Rattle.law_recovery_runs.proofs.Confirmed.{OnAir, aps_range, centre_acts, confirmation_free, device_acts, nwk_range, offer_free, same_key, sealed_free, sent_on_air}
 use Rattle.law_recovery_runs.proofs.Exchanged.{turned}
 use Rattle.law_run_steps.proofs.Others.{frame-up}
 use Rattle.law_lost_frames.specs.Turns.{Far, Asking, Offering, Proving, Proved, Done, answered_from, unanswered_from}

@@ -1,10 +1,9 @@
 -- A turn of the exchange, and turns one after the other.
 use Rattle.std.proofs.Common.{◌≡◌, ℕ, ◌+◌, ◌⊎◌, inl, inr, false, List, [], ◌∷◌, length, Some, refl, sym, ap, ◌∙◌, subst, arith}
 use Rattle.zb_model.specs.Answer.{answer}
-use Rattle.zb_model.specs.Data.{Bytes, Reason, Received}
+use Rattle.zb_model.specs.Data.{Received}
 use Rattle.zb_model.specs.Play.{Schedule, Event, Deliver, setting_of, supply}
 use Rattle.zb_model.specs.Readings.{air, state_of}
-use Rattle.zb_model.specs.State.{NodeState}
 use Rattle.zb_model.specs.Tools.{Tools}
 use Rattle.law_answer_storable.specs.Storing.{OpensAsJudged}
 use Rattle.law_key_exchange.specs.CommandFrames.{DeliversCommands}
@@ -18,11 +17,11 @@ use Rattle.law_recovery_runs.proofs.Confirmed.{centre_acts, device_acts}
 use Rattle.law_recovery_runs.proofs.Exchanged.{left-by, turned}
 use Rattle.law_run_steps.proofs.Others.{frame-up}
 use Rattle.law_run_steps.specs.Steps.{is_of}
-use Rattle.law_lost_frames.specs.Turns.{Far, Asking, Offering, Proving, Proved, Done, Turn, Unheard, Unanswered, Answered, Refused, Elsewhere, after_turn, after_turns, far_after, far_after_all}
-use Rattle.law_lost_frames.specs.Stages.{Keys, DeviceIs, CentreHas, HaveCome, IsFree, AreFree, IsRefused, centre_seals, device_seals, heard, timed}
+use Rattle.law_lost_frames.specs.Turns.{Far, Asking, Done, Turn, Unheard, Unanswered, Answered, Refused, Elsewhere, after_turn, after_turns, far_after, far_after_all}
+use Rattle.law_lost_frames.specs.Stages.{Keys, DeviceIs, CentreHas, HaveCome, IsFree, AreFree, IsRefused, centre_seals, heard, timed}
 use Rattle.law_lost_frames.proofs.Sending.{KeysFit, device_sends}
 use Rattle.law_lost_frames.proofs.Staying.{centre_left, device_left}
-use Rattle.law_lost_frames.proofs.Taking.{IsAsked, IsTold, centre_answers, device_ends}
+use Rattle.law_lost_frames.proofs.Taking.{IsTold, centre_answers, device_ends}
 
 -- ---- a frame that is refused, and events elsewhere
 

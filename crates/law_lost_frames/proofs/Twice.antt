@@ -1,17 +1,17 @@
 -- What a node accepted at NWK has raised its sender's floor over the frame's counter, so that frame is stale then.
-use Rattle.std.proofs.Common.{◌≡◌, ℕ, ◌+◌, ◌<◌, ◌≤◌, ◌⊎◌, inl, inr, min, Bool, true, false, cond, ◌&&◌, not, if◌then◌else◌, List, [], ◌∷◌, ◌++◌, map, filter, find, reverse, flat_map, Option, Some, None, option_map, option_to_list, is_some, nat_eq, nat_lt, nat_le, refl, sym, ap, ◌∙◌, subst, arith, eq-eqb, eqb-true, leb-false, max, not-suc-le-zero}
+use Rattle.std.proofs.Common.{◌≡◌, ℕ, ◌+◌, ◌<◌, ◌≤◌, min, Bool, true, false, cond, if◌then◌else◌, List, [], ◌∷◌, ◌++◌, map, filter, find, reverse, flat_map, Option, Some, None, option_map, option_to_list, is_some, nat_eq, nat_lt, nat_le, refl, sym, ap, ◌∙◌, subst, arith, eq-eqb, eqb-true, leb-false, max, not-suc-le-zero}
 use Rattle.std.specs.List.{AllByRecursion}
 use Rattle.std.proofs.lemmas.Bool.{false≢true, lt-leb, lt-ltb}
-use Rattle.zb_model.specs.Data.{Bytes, Layer, Nwk, Aps, AtNwk, AtAps, Place, Reason, NoKey, CounterMax, BadMic, Stale, Term, Move, Draw, DropNet, DropLink, Install, Active, Row, Pair, Became, Live, Removed, Roll, Told, Untold, Edit, Reserve, Floor, Start, Moved, Received}
-use Rattle.zb_model.specs.Fits.{all_apart, keeps_rules, net_stored}
+use Rattle.zb_model.specs.Data.{Bytes, Layer, Nwk, Aps, AtNwk, AtAps, Place, Reason, NoKey, CounterMax, BadMic, Stale, Term, Move, DropNet, Install, Edit, Reserve, Floor, Start, Moved, Received}
+use Rattle.zb_model.specs.Fits.{keeps_rules, net_stored}
 use Rattle.zb_model.specs.Judging.{Verdict, Not, Good, Unsealed, aps_source, candidates, chosen_row, judge_aps, judge_net, judge_nwk, need, payload_of, reject}
 use Rattle.zb_model.specs.Rules.{Setting, Plan, Does}
-use Rattle.zb_model.specs.State.{SenderFloor, NetKey, LinkKey, NodeState, greatest_counter, same_key, same_layer, has_net, at_net, of_active, net_of, net_of_active, active_row, reserved, started_at, dropped_net, net_floor, net_kept, new_net, next_at, floor_stored, floor_kept, floor_of_sender, sender_floor, moved, applied, applied_all, after_hearing, after_accepting, sealed_at, after_sealing, may_use, live_nets, usable_nets, usable_of}
+use Rattle.zb_model.specs.State.{SenderFloor, NetKey, NodeState, greatest_counter, same_key, same_layer, has_net, at_net, of_active, net_of, net_of_active, active_row, reserved, started_at, dropped_net, net_floor, net_kept, new_net, next_at, floor_stored, floor_kept, floor_of_sender, sender_floor, moved, applied, applied_all, after_hearing, after_accepting, sealed_at, after_sealing, may_use, live_nets, usable_nets, usable_of}
 use Rattle.zb_model.specs.Tools.{Tools, ApsShown, ApsAuxiliary, CommandShown, Known, Unknown, Broken, NwkShown}
 use Rattle.zb_model.specs.Commands.{Heard}
-use Rattle.zb_model.specs.Answer.{Answer, Counting, accepted_all, sealed_all, comes_to, stopped_at, heard_clear, heard_sealed, stored_at, aps_command, aps_part, by_security, received_as, sealed_part, changes, moves_of, move_edits, floor_edit, edits_of, out_of, may_seal, reserve_of, floor_of, floor_for, stored_floor, answer_by, counting_of, plan_of, answer, answered, refusal_of}
+use Rattle.zb_model.specs.Answer.{accepted_all, sealed_all, comes_to, stopped_at, heard_clear, heard_sealed, stored_at, aps_command, aps_part, by_security, received_as, sealed_part, changes, moves_of, move_edits, floor_edit, edits_of, out_of, may_seal, reserve_of, floor_of, floor_for, stored_floor, answer_by, counting_of, plan_of, answer, answered, refusal_of}
 use Rattle.law_answer_storable.specs.Storing.{OpensAsJudged}
-use Rattle.law_change_fits.proofs.Parts.{nets_alike, rules_of, same_key_is, same_key_of, same_key_sym}
+use Rattle.law_change_fits.proofs.Parts.{nets_alike, rules_of, same_key_is, same_key_of}
 use Rattle.law_key_exchange.specs.CommandFrames.{IsCarried, NetFrame, net_term}
 use Rattle.law_key_exchange.specs.Meeting.{HasNetwork, IsSteady}
 use Rattle.law_key_exchange.specs.Obstacles.{in_row, why_not_heard}

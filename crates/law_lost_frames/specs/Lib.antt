@@ -3,3 +3,4 @@ pub mod Stages
 pub mod Waiting
 pub mod Rounds
 pub mod Twice
+pub mod Foreseen

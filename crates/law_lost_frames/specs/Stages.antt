@@ -1,8 +1,8 @@
 -- What the two nodes have at each stage of an exchange, and what can stand in the way of a turn.
-use Rattle.std.specs.Prelude.{ℕ, ◌≡◌, ◌+◌, ◌⊎◌, false, List, [], ◌∷◌, length, Option, Some, None, ⊤}
+use Rattle.std.specs.Prelude.{ℕ, ◌≡◌, ◌+◌, ◌⊎◌, false, List, [], ◌∷◌, length, Some, None, ⊤}
 use Rattle.zb_model.specs.Answer.{answer}
 use Rattle.zb_model.specs.Data.{Bytes, Reason, DoTimer, Received}
-use Rattle.zb_model.specs.Play.{Schedule, Event, Own, Deliver, frame_at, setting_of, supply}
+use Rattle.zb_model.specs.Play.{Schedule, Own, Deliver, frame_at, setting_of, supply}
 use Rattle.zb_model.specs.Readings.{air, state_of}
 use Rattle.zb_model.specs.State.{NodeState, has_link}
 use Rattle.zb_model.specs.Tools.{Tools}

@@ -1,5 +1,5 @@
 -- A frame that is secured at NWK comes to a node for which it is, and comes again.
-use Rattle.std.specs.Prelude.{ℕ, ◌≡◌, ◌<◌, Bool, true, false, not, ◌&&◌, None, nat_eq}
+use Rattle.std.specs.Prelude.{◌≡◌, ◌<◌, true, false, not, ◌&&◌, None, nat_eq}
 use Rattle.zb_model.specs.Data.{Bytes}
 use Rattle.zb_model.specs.Rules.{Setting, is_declared}
 use Rattle.zb_model.specs.State.{NodeState, greatest_counter, is_centre, is_known, is_live, usable_of}

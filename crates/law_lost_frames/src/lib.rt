@@ -19,6 +19,8 @@ ghost use Rattle.law_recovery.specs.KeyFrames.{DeliversKeys};
 ghost use Rattle.law_recovery_runs.specs.Fronts.{EndsRejoined, Front, after_event};
 ghost use Rattle.law_recovery_runs.specs.Joining.{CanJoin};
 ghost use Rattle.law_recovery_runs.specs.KeyExchange.{AreMet, EndsConfirmed, HaveJoined, IsNew, KeysInRange};
+ghost use Rattle.law_recovery_runs.specs.KeyExchange.{NothingStops};
+ghost use Rattle.law_lost_frames.specs.Foreseen.{IsForeseen};
 ghost use Rattle.zb_model.specs.Answer.{answer};
 ghost use Rattle.zb_model.specs.Data.{Aps, Bytes, HasChild, Received, Stale, Task};
 ghost use Rattle.zb_model.specs.Play.{Own, Schedule, setting_of};
@@ -87,4 +89,14 @@ pub fn a_frame_that_comes_twice_is_stale()
         → after_task tools c (after_task tools c s (Received (frame_bytes tools f content) draw))
         (Received (frame_bytes tools f content) again)
         ≡ after_task tools c s (Received (frame_bytes tools f content) draw) }
+{}
+
+/// States that the obstacles of the exchange of link keys are seen at the first front.
+///
+/// Nothing is in the way of its first three events there, and a counter is left for each frame that follows.
+pub fn obstacles_are_seen_at_the_first_front()
+    ensures { (tools : Tools) → DeliversCommands tools → OpensAsJudged tools → (w : Schedule) (x : Front) (c d : ℕ)
+        (key : Bytes) (sequence : ℕ) (link drawn : Bytes) → AreMet w x c d → HaveJoined w x c d key sequence link
+        → KeysInRange key sequence link → length drawn ≡ 16 → IsForeseen w x c d key sequence link drawn
+        → NothingStops tools w x c d key sequence link drawn }
 {}
