@@ -174,7 +174,8 @@ pub from_map : (f : NetKey → Bytes) (o : Option NetKey) (r : NetKey) → optio
 from_map f None r e = absurd (false≢true (ap is_some e))
 from_map f (Some x) r e = (x, refl, ap (λ o. unwrap_or o (f r)) e)
 
-pub number_is : (f : NetKey → ℕ) (o : Option NetKey) (x r : NetKey) → o ≡ Some x → option_map f o ≡ Some (f r) → f x ≡ f r
+pub number_is : (f : NetKey → ℕ) (o : Option NetKey) (x r : NetKey) → o ≡ Some x → option_map f o ≡ Some (f r)
+    → f x ≡ f r
 number_is f o x r e g = ap (λ o. unwrap_or o (f r)) (sym (ap (option_map f) e) ∙ g)
 
 pub record Relinked (c m : Setting) (s u t : NodeState) (l : AreLinked c m s t) : Type 0 where
