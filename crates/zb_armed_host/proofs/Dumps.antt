@@ -125,3 +125,6 @@ none_given (Fault (BadRecord at)) given room lacks of_fault = (at, of_fault)
 
 -- what the proof of `dump` uses
 pub ruleset dumps = (unopened, shown_then, record_then, none_then)
+
+-- what the proof of `read_record` uses
+pub ruleset reads = (unread, written, given_again, none_given)

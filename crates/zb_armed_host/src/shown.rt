@@ -54,7 +54,7 @@ pub fn dump<C: Core>(
 }
 
 // Writes the record of the core that a record and the payloads after it give.
-#[tactic(auto, using(crate::proofs::Dumps::unread, crate::proofs::Dumps::written, crate::proofs::Dumps::given_again, crate::proofs::Dumps::none_given))]
+#[tactic(auto, using(crate::proofs::Dumps::reads))]
 fn read_record<C: Core>(
     alloc: Global,
     config: &Config,

@@ -38,13 +38,13 @@ impl Model for LinksSoFar {
     ghost use Rattle.std.specs.Prelude.{List, map};
     ghost use Rattle.zb_model.specs.State.{LinkKey};
     ghost use Rattle.zb_record.specs.LinkSets.{HaveKeys, HaveLive};
-    ghost use Rattle.zb_record.specs.Rows.{link_seen};
+    ghost use Rattle.zb_record.specs.Rows.{link_seen as seen};
 
     ghost Value = { List LinkKey };
 
-    ghost view = { λ s. map link_seen s.rows.items };
+    ghost view = { λ s. map seen s.rows.items };
 
-    ghost invariant = { λ s. HaveKeys s.keys (map link_seen s.rows.items) × HaveLive s.live (map link_seen s.rows.items) };
+    ghost invariant = { λ s. HaveKeys s.keys (map seen s.rows.items) × HaveLive s.live (map seen s.rows.items) };
 }
 
 impl LinksSoFar {
