@@ -1,5 +1,6 @@
 -- Where what a node accepted under a link key is below a number, the key's floor is at most a block above it.
-use Rattle.std.proofs.Common.{◌≡◌, ℕ, ◌+◌, ◌-◌, ◌<◌, ◌≤◌, max, Bool, true, false, cond, not, List, [], ◌∷◌, fold, find, map, Some, nat_eq, refl, sym, ◌∙◌, arith, eqb-true, subst}
+use Rattle.std.proofs.Common.{◌≡◌, ℕ, ◌+◌, ◌-◌, ◌<◌, ◌≤◌, max, Bool, true, false, cond, not, List, [], ◌∷◌, fold, find, map, reverse, Some, is_some, nat_eq, refl, sym, ap, ◌∙◌, arith, eqb-true, subst}
+use Rattle.std.proofs.lemmas.Bool.{false≢true}
 use Rattle.std.specs.List.{AllByRecursion}
 use Rattle.zb_model.specs.Data.{Bytes, Layer, Nwk, Aps, Attribute, Provisional, Term, Device, Move, DropLink, Row, Live, Roll, Told, Untold, Edit, Reserve, Floor, Start, Moved}
 use Rattle.zb_model.specs.Lines.{Line, GivenLink, Counter, Changed, Accept, Seal, Boot}
@@ -10,27 +11,28 @@ use Rattle.law_change_fits.proofs.Parts.{same_key_is, same_key_of}
 use Rattle.law_change_fits.proofs.Tests.{both}
 use Rattle.law_key_exchange.proofs.Rows.{found_test, is_current}
 use Rattle.law_run.proofs.FreshLines.{all-append, heard-keeps}
+use Rattle.law_run.proofs.Judged.{all-in, found-element, in-reverse}
 use Rattle.law_recovery_runs.specs.Fronts.{Front}
-use Rattle.law_lost_frames.specs.Rounds.{CameFromCentre, IsBelow}
+use Rattle.law_lost_frames.specs.Rounds.{CameFrom, IsBelow}
 
 -- the row of a partner with a key has both floors within a bound
-abbrev Within : ℕ → Bytes → ℕ → LinkKey → Type 0
+abbrev pub Within : ℕ → Bytes → ℕ → LinkKey → Type 0
 Within c key most r = is_link c key r ≡ true → (r.kept ≤ most) × (r.stored ≤ most)
 
-abbrev AllWithin : ℕ → Bytes → ℕ → List LinkKey → Type 0
+abbrev pub AllWithin : ℕ → Bytes → ℕ → List LinkKey → Type 0
 AllWithin c key most rs = AllByRecursion (Within c key most) rs
 
-if_then : {X : Type 0} (P : X → Type 0) (b : Bool) (x y : X) → (b ≡ true → P x) → P y → P (cond b x y)
+pub if_then : {X : Type 0} (P : X → Type 0) (b : Bool) (x y : X) → (b ≡ true → P x) → P y → P (cond b x y)
 if_then P true x y p q = p refl
 if_then P false x y p q = q
 
-mapped : {X : Type 0} (P : X → Type 0) (f : X → X) → ((x : X) → P x → P (f x)) → (xs : List X) → AllByRecursion P xs
+pub mapped : {X : Type 0} (P : X → Type 0) (f : X → X) → ((x : X) → P x → P (f x)) → (xs : List X) → AllByRecursion P xs
     → AllByRecursion P (map f xs)
 mapped P f keeps [] all = tt
 mapped P f keeps (x ∷ xs) all = (keeps x all.0, mapped P f keeps xs all.1)
 
 -- rows that a test picks are changed
-changed : {X : Type 0} (P : X → Type 0) (test : X → Bool) (f : X → X) → ((x : X) → test x ≡ true → P x → P (f x))
+pub changed : {X : Type 0} (P : X → Type 0) (test : X → Bool) (f : X → X) → ((x : X) → test x ≡ true → P x → P (f x))
     → (xs : List X) → AllByRecursion P xs → AllByRecursion P (map (λ x. cond (test x) (f x) x) xs)
 changed P test f keeps [] all = tt
 changed P test f keeps (x ∷ xs) all =
@@ -119,12 +121,12 @@ declared Nwk value c k most s all = all
 declared Aps value c k most s all = all
 
 after_edit : (c : ℕ) (k : Bytes) (number block d e n : ℕ) (edit : Edit) (s : NodeState) → n ≡ d
-    → IsBelow number block d c k (Changed e n edit) → AllWithin c k (number + (block - 1)) s.links
+    → IsBelow Aps number block d c k (Changed e n edit) → AllWithin c k (number + (block - 1)) s.links
     → AllWithin c k (number + (block - 1)) (applied edit s).links
 unfolding applied
 after_edit c k number block d e n (Floor Aps key sender value) s own below all =
     changed (Within c k (number + (block - 1))) (is_link sender key) (link_floor value)
-    (floor_within c k (number + (block - 1)) sender key value (λ x y. at_most (below own x y))) s.links all
+    (floor_within c k (number + (block - 1)) sender key value (λ x y. at_most (below own refl x y))) s.links all
   where
     at_most : (counter : ℕ) × (counter < number) × (value ≤ counter + block) → value ≤ number + (block - 1)
     at_most x = omega (arith, x.2, x.1)
@@ -135,7 +137,7 @@ after_edit c k number block d e n (Floor Nwk key sender value) s own below all =
 after_edit c k number block d e n (Start key value) s own below all = all
 
 after_line : (c : ℕ) (k : Bytes) (number block d : ℕ) (l : Line) (s : NodeState) → speaker l ≡ d
-    → IsBelow number block d c k l → AllWithin c k (number + (block - 1)) s.links
+    → IsBelow Aps number block d c k l → AllWithin c k (number + (block - 1)) s.links
     → AllWithin c k (number + (block - 1)) (after l s).links
 unfolding after speaker after_sealing after_accepting after_boot with_given_net with_given_link
 after_line c k number block d (GivenLink n partner key) s own below all =
@@ -156,7 +158,7 @@ after_line c k number block d (Boot e n) s own below all =
 after_line c k number block d _ s own below all = all
 
 heard : (c : ℕ) (k : Bytes) (number block d : ℕ) (s : NodeState) (h : List Line)
-    → AllByRecursion (IsBelow number block d c k) h → AllWithin c k (number + (block - 1)) s.links
+    → AllByRecursion (IsBelow Aps number block d c k) h → AllWithin c k (number + (block - 1)) s.links
     → AllWithin c k (number + (block - 1)) (fold (heard_line d) s h).links
 heard c k number block d s [] below all = all
 heard c k number block d s (l ∷ h) below all =
@@ -166,10 +168,10 @@ heard c k number block d s (l ∷ h) below all =
 
 -- ---- the current row
 
-all_found : (P : LinkKey → Type 0) (q : LinkKey → Bool) (xs : List LinkKey) (r : LinkKey) → AllByRecursion P xs
+pub all_found : {X : Type 0} (P : X → Type 0) (q : X → Bool) (xs : List X) (r : X) → AllByRecursion P xs
     → find q xs ≡ Some r → P r
-all_found P q [] r all e = absurd (cc)
-all_found P q (x ∷ xs) r all e = by_test (q x) e (λ f. all_found P q xs r all.1 f)
+all_found P q [] r all e = absurd (false≢true (ap is_some e))
+all_found {X} P q (x ∷ xs) r all e = by_test (q x) e (λ f. all_found P q xs r all.1 f)
   where
     by_test : (b : Bool) → cond b (Some x) (find q xs) ≡ Some r → (find q xs ≡ Some r → P r) → P r
     by_test true f later = subst P (same f) all.0
@@ -178,23 +180,57 @@ all_found P q (x ∷ xs) r all e = by_test (q x) e (λ f. all_found P q xs r all
         same g = cc
     by_test false f later = later f
 
-own_within : (s : NodeState) (c most : ℕ) (own : LinkKey) → current s c ≡ Some own → AllWithin c own.key most s.links
-    → own.kept ≤ most
-unfolding current
-own_within s c most own e all =
-    let live = both (is_live_of c own) (not (is_unverified own.attribute)) (found_test (is_current c) s.links own e) in
-    let mine = (both own.live (nat_eq own.partner c) live.0).1 in
-    (all_found (Within c own.key most) (is_current c) s.links own all e
-    (rw (mine, same_key_of own.key own.key refl) refl)).0
+-- a row of a partner in which all floors of a key are within a bound
+abbrev OwnWithin : ℕ → ℕ → LinkKey → Type 0
+OwnWithin c most own = nat_eq own.partner c ≡ true → own.kept ≤ most
 
-pub floor_at_most : (w : Schedule) (x : Front) (c d : ℕ) (own : LinkKey)
-    → current (state_of x.lines d) (setting_of w c).me.eui ≡ Some own → CameFromCentre w x c d own
-    → 1 ≤ (setting_of w d).me.in_block → own.kept - next_counter Aps (state_of x.lines c) < (setting_of w d).me.in_block
+own_within : (c most : ℕ) (own : LinkKey) → Within c own.key most own → OwnWithin c most own
+own_within c most own within mine = (within (rw (mine, same_key_of own.key own.key refl) refl)).0
+
+pub current_within : (s : NodeState) (c most : ℕ) (own : LinkKey) → current s c ≡ Some own
+    → AllWithin c own.key most s.links → own.kept ≤ most
+unfolding current
+current_within s c most own e all =
+    let live = both (is_live_of c own) (not (is_unverified own.attribute)) (found_test (is_current c) s.links own e) in
+    own_within c most own (all_found (Within c own.key most) (is_current c) s.links own all e)
+    (both own.live (nat_eq own.partner c) live.0).1
+
+tried_within : (s : NodeState) (c most : ℕ) (own : LinkKey) → find (is_live_of c) (reverse s.links) ≡ Some own
+    → AllWithin c own.key most s.links → own.kept ≤ most
+tried_within s c most own e all =
+    let found = found-element (is_live_of c) (reverse s.links) own e in
+    own_within c most own (all-in (Within c own.key most) s.links all own (in-reverse own s.links found.0))
+    (both own.live (nat_eq own.partner c) found.1).1
+
+-- what is accepted of a under a key leaves the floors of all rows of b with that key at most a block above
+pub links_within : (w : Schedule) (x : Front) (a b : ℕ) (key : Bytes) → CameFrom Aps w x a b key
+    → AllWithin (setting_of w a).me.eui key
+    (next_counter Aps (state_of x.lines a) + ((setting_of w b).me.in_block - 1)) (state_of x.lines b).links
 unfolding state_of
-floor_at_most w x c d own e came some =
-    let number = next_counter Aps (state_of x.lines c) in
-    let block = (setting_of w d).me.in_block in
-    let eui = (setting_of w c).me.eui in
-    let all = heard eui own.key number block d (new_node Device) x.lines came tt in
-    let most = own_within (state_of x.lines d) eui (number + (block - 1)) own e all in
-    omega (arith, most, some)
+links_within w x a b key came =
+    heard (setting_of w a).me.eui key (next_counter Aps (state_of x.lines a)) (setting_of w b).me.in_block b
+    (new_node Device) x.lines came tt
+
+less_than_block : (kept number block : ℕ) → kept ≤ number + (block - 1) → 1 ≤ block → kept - number < block
+less_than_block kept number block most some = omega (arith, most, some)
+
+pub floor_at_most : (w : Schedule) (x : Front) (a b : ℕ) (own : LinkKey)
+    → current (state_of x.lines b) (setting_of w a).me.eui ≡ Some own → CameFrom Aps w x a b own.key
+    → 1 ≤ (setting_of w b).me.in_block → own.kept - next_counter Aps (state_of x.lines a) < (setting_of w b).me.in_block
+floor_at_most w x a b own e came some =
+    let number = next_counter Aps (state_of x.lines a) in
+    let block = (setting_of w b).me.in_block in
+    less_than_block own.kept number block
+    (current_within (state_of x.lines b) (setting_of w a).me.eui (number + (block - 1)) own e
+    (links_within w x a b own.key came)) some
+
+pub tried_at_most : (w : Schedule) (x : Front) (a b : ℕ) (own : LinkKey)
+    → find (is_live_of (setting_of w a).me.eui) (reverse (state_of x.lines b).links) ≡ Some own
+    → CameFrom Aps w x a b own.key → 1 ≤ (setting_of w b).me.in_block
+    → own.kept - next_counter Aps (state_of x.lines a) < (setting_of w b).me.in_block
+tried_at_most w x a b own e came some =
+    let number = next_counter Aps (state_of x.lines a) in
+    let block = (setting_of w b).me.in_block in
+    less_than_block own.kept number block
+    (tried_within (state_of x.lines b) (setting_of w a).me.eui (number + (block - 1)) own e
+    (links_within w x a b own.key came)) some

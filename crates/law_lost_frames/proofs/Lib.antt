@@ -4,9 +4,14 @@ pub mod Staying
 pub mod Turning
 mod Counting
 mod Stopping
+pub mod Acting
+pub mod Halting
+mod OnAir
 mod Knocking
-mod Floors
-mod Rounds
+pub mod Floors
+pub mod Rounds
+mod NetFloors
+mod Kept
 mod Twice
 mod Drawing
 mod Foreseen

@@ -1,14 +1,14 @@
 -- The device's timer: it asks for a link key, or proves the one that it was offered.
 use Rattle.std.proofs.Common.{◌≡◌, ℕ, ◌+◌, length, Some, sym, subst}
-use Rattle.zb_model.specs.Data.{Bytes, Nwk, DoTimer, CounterSpent}
+use Rattle.zb_model.specs.Data.{Nwk, DoTimer, CounterSpent}
 use Rattle.zb_model.specs.Play.{Schedule, Own, setting_of}
 use Rattle.zb_model.specs.Readings.{air, state_of}
 use Rattle.zb_model.specs.Rules.{spent}
 use Rattle.zb_model.specs.State.{NodeState}
 use Rattle.zb_model.specs.Tools.{Tools}
 use Rattle.law_answer_storable.specs.Storing.{OpensAsJudged}
-use Rattle.law_key_exchange.specs.Exchanging.{Seals, NwkInRange, ApsInRange, proof_bytes, request_bytes}
-use Rattle.law_key_exchange.specs.Meeting.{HasNetwork}
+use Rattle.law_key_exchange.specs.Exchanging.{Seals, NwkInRange, ApsInRange}
+use Rattle.law_key_exchange.specs.Meeting.{AreDeclared, HasNetwork}
 use Rattle.law_key_exchange.proofs.Judged.{when_none}
 use Rattle.law_key_exchange.proofs.Laws.{asks_again, shows_again}
 use Rattle.law_key_exchange.proofs.Proving.{proof_sent}
@@ -19,13 +19,8 @@ use Rattle.law_recovery_runs.specs.KeyExchange.{AreMet, KeysInRange, eui_of}
 use Rattle.law_recovery_runs.proofs.Confirmed.{DeviceActs, OnAir, device_acts, nwk_range, aps_range, sealed_free, sent_on_air}
 use Rattle.law_run_steps.proofs.Others.{own-up}
 use Rattle.law_lost_frames.specs.Turns.{Far, Asking, Offering, Proving, Proved, Done}
-use Rattle.law_lost_frames.specs.Stages.{Keys, DeviceIs, CentreHas, HaveCome, Sends, device_seals, timed}
-
--- the device's frame
-abbrev pub asked_bytes : Far → Tools → Schedule → ℕ → ℕ → Seals → Bytes
-asked_bytes Asking tools w c d f = request_bytes tools (setting_of w c) (setting_of w d) f
-asked_bytes Offering tools w c d f = request_bytes tools (setting_of w c) (setting_of w d) f
-asked_bytes _ tools w c d f = proof_bytes tools (setting_of w c) (setting_of w d) f
+use Rattle.law_lost_frames.specs.Stages.{Keys, DeviceIs, CentreHas, HaveCome, Sends, asked_bytes, device_seals, timed}
+use Rattle.law_lost_frames.specs.Stops.{IsUnderWay}
 
 -- what was sent is in its range; a proof takes no counter at APS
 abbrev pub InRange : Far → Seals → Type 0
@@ -52,37 +47,39 @@ acts : (tools : Tools) → OpensAsJudged tools → (w : Schedule) (x : Front) (c
 acts tools opens w x c d met = device_acts tools opens w x c d DoTimer (Own d DoTimer) met met.apart
     (own-up tools w x.lines x.disks x.number d DoTimer met.device_ready.up)
 
--- the device as the timer leaves it
-still : (tools : Tools) (w : Schedule) (x : Front) (c d : ℕ) (k : Keys) (far : Far) → AreMet w x c d
-    → DeviceIs far (state_of x.lines d) (eui_of w c) k → Sends far (state_of x.lines d)
-    → DeviceIs far (after_task tools (setting_of w d) (state_of x.lines d) DoTimer) (eui_of w c) k
-still tools w x c d k Asking met j none =
-    asks_again tools (setting_of w c) (setting_of w d) (state_of x.lines d) k.network k.sequence k.link met.declared j
-still tools w x c d k Offering met j none =
-    asks_again tools (setting_of w c) (setting_of w d) (state_of x.lines d) k.network k.sequence k.link met.declared j
-still tools w x c d k Proving met j none =
-    shows_again tools (setting_of w c) (setting_of w d) (state_of x.lines d) k.network k.sequence k.drawn met.declared j
-still tools w x c d k Proved met j none =
-    shows_again tools (setting_of w c) (setting_of w d) (state_of x.lines d) k.network k.sequence k.drawn met.declared j
-still tools w x c d k Done met j none = absurd (cc)
+pub under_way : (far : Far) (t : NodeState) → Sends far t → IsUnderWay far
+under_way Asking t none = tt
+under_way Offering t none = tt
+under_way Proving t none = tt
+under_way Proved t none = tt
+under_way Done t none = absurd (cc)
 
-frame_is : (tools : Tools) (w : Schedule) (x : Front) (c d : ℕ) (k : Keys) (far : Far) → AreMet w x c d
-    → DeviceIs far (state_of x.lines d) (eui_of w c) k → Sends far (state_of x.lines d)
-    → frame_of tools (setting_of w d) (state_of x.lines d) DoTimer
-    ≡ Some (asked_bytes far tools w c d (device_seals far (state_of x.lines d) k))
-frame_is tools w x c d k Asking met j none =
-    request_sent tools (setting_of w c) (setting_of w d) (state_of x.lines d) k.network k.sequence k.link met.declared j
-    none
-frame_is tools w x c d k Offering met j none =
-    request_sent tools (setting_of w c) (setting_of w d) (state_of x.lines d) k.network k.sequence k.link met.declared j
-    none
-frame_is tools w x c d k Proving met j none =
-    proof_sent tools (setting_of w c) (setting_of w d) (state_of x.lines d) k.network k.sequence k.drawn met.declared j
-    none
-frame_is tools w x c d k Proved met j none =
-    proof_sent tools (setting_of w c) (setting_of w d) (state_of x.lines d) k.network k.sequence k.drawn met.declared j
-    none
-frame_is tools w x c d k Done met j none = absurd (cc)
+-- the device as the timer leaves it
+pub still : (tools : Tools) (w : Schedule) (c d : ℕ) (t : NodeState) (k : Keys) (far : Far)
+    → AreDeclared (setting_of w c) (setting_of w d) → DeviceIs far t (eui_of w c) k → IsUnderWay far
+    → DeviceIs far (after_task tools (setting_of w d) t DoTimer) (eui_of w c) k
+still tools w c d t k Asking declared j under =
+    asks_again tools (setting_of w c) (setting_of w d) t k.network k.sequence k.link declared j
+still tools w c d t k Offering declared j under =
+    asks_again tools (setting_of w c) (setting_of w d) t k.network k.sequence k.link declared j
+still tools w c d t k Proving declared j under =
+    shows_again tools (setting_of w c) (setting_of w d) t k.network k.sequence k.drawn declared j
+still tools w c d t k Proved declared j under =
+    shows_again tools (setting_of w c) (setting_of w d) t k.network k.sequence k.drawn declared j
+still tools w c d t k Done declared j under = absurd under
+
+pub frame_is : (tools : Tools) (w : Schedule) (c d : ℕ) (t : NodeState) (k : Keys) (far : Far)
+    → AreDeclared (setting_of w c) (setting_of w d) → DeviceIs far t (eui_of w c) k → Sends far t
+    → frame_of tools (setting_of w d) t DoTimer ≡ Some (asked_bytes far tools w c d (device_seals far t k))
+frame_is tools w c d t k Asking declared j none =
+    request_sent tools (setting_of w c) (setting_of w d) t k.network k.sequence k.link declared j none
+frame_is tools w c d t k Offering declared j none =
+    request_sent tools (setting_of w c) (setting_of w d) t k.network k.sequence k.link declared j none
+frame_is tools w c d t k Proving declared j none =
+    proof_sent tools (setting_of w c) (setting_of w d) t k.network k.sequence k.drawn declared j none
+frame_is tools w c d t k Proved declared j none =
+    proof_sent tools (setting_of w c) (setting_of w d) t k.network k.sequence k.drawn declared j none
+frame_is tools w c d t k Done declared j none = absurd (cc)
 
 request_range : (t : NodeState) (k : Keys) → KeysFit k → Sends Asking t → InRange Asking (device_seals Asking t k)
 request_range t k fit none =
@@ -96,7 +93,7 @@ proof_range t k fit none =
     nwk_range t k.network k.sequence k.drawn fit.range.key_size fit.range.small
     (when_none (spent Nwk t) CounterSpent none)
 
-ranges : (t : NodeState) (k : Keys) (far : Far) → KeysFit k → Sends far t → InRange far (device_seals far t k)
+pub ranges : (t : NodeState) (k : Keys) (far : Far) → KeysFit k → Sends far t → InRange far (device_seals far t k)
 ranges t k Asking fit none = request_range t k fit none
 ranges t k Offering fit none = request_range t k fit none
 ranges t k Proving fit none = proof_range t k fit none
@@ -114,12 +111,13 @@ device_sends tools opens w x c d k far frames fit h count none =
         met = a.met;
         network = subst (λ s. HasNetwork s k.network k.sequence) (sym a.centre) h.network;
         device = subst (λ s. DeviceIs far s (eui_of w c) k) (sym a.device)
-            (still tools w x c d k far h.met h.device none);
+            (still tools w c d (state_of x.lines d) k far h.met.declared h.device
+            (under_way far (state_of x.lines d) none));
         centre = subst (λ s. CentreHas far s (eui_of w d) k) (sym a.centre) h.centre;
       };
       range = ranges (state_of x.lines d) k far fit none;
       on_air =
           sent_on_air x y frames (asked_bytes far tools w c d (device_seals far (state_of x.lines d) k))
           (frame_of tools (setting_of w d) (state_of x.lines d) DoTimer) count a.on_air
-          (frame_is tools w x c d k far h.met h.device none);
+          (frame_is tools w c d (state_of x.lines d) k far h.met.declared h.device none);
     }

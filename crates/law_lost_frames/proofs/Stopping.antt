@@ -18,7 +18,7 @@ booted_bare s =
     ∙ ap (λ (l : List LinkKey). record (bare s) { links = l }) (map_map bare_link booted_link s.links)
 
 -- what is accepted and sealed doesn't show
-stored_bare : (a : Answer) (s : NodeState) → bare (applied_all a.edits s) ≡ bare (answered a s)
+pub stored_bare : (a : Answer) (s : NodeState) → bare (applied_all a.edits s) ≡ bare (answered a s)
 unfolding answered
 stored_bare a s =
     sym (by_seals a.seals (accepted_all a.accepts (applied_all a.edits s))

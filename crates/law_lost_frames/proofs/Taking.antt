@@ -8,7 +8,7 @@ use Rattle.zb_model.specs.State.{NodeState}
 use Rattle.zb_model.specs.Tools.{Tools}
 use Rattle.law_answer_storable.specs.Storing.{OpensAsJudged}
 use Rattle.law_key_exchange.specs.CommandFrames.{DeliversCommands}
-use Rattle.law_key_exchange.specs.Exchanging.{Seals, NwkInRange, ApsInRange, confirmation_bytes, offer_bytes, request_bytes, seals_now}
+use Rattle.law_key_exchange.specs.Exchanging.{Seals, NwkInRange, ApsInRange, offer_bytes, request_bytes, seals_now}
 use Rattle.law_key_exchange.specs.Meeting.{HasBoth, HasNetwork}
 use Rattle.law_key_exchange.specs.Obstacles.{why_not_sealed}
 use Rattle.law_key_exchange.proofs.Again.{again_free, again_offered, confirmed_again}
@@ -21,24 +21,33 @@ use Rattle.law_recovery_runs.proofs.Confirmed.{OnAir, aps_range, centre_acts, co
 use Rattle.law_recovery_runs.proofs.Exchanged.{turned}
 use Rattle.law_run_steps.proofs.Others.{frame-up}
 use Rattle.law_lost_frames.specs.Turns.{Far, Asking, Offering, Proving, Proved, Done, answered_from, unanswered_from}
-use Rattle.law_lost_frames.specs.Stages.{Keys, DeviceIs, CentreHas, HaveCome, CentreTakes, DeviceTakes, centre_seals, device_seals}
-use Rattle.law_lost_frames.proofs.Sending.{InRange, KeysFit, asked_bytes}
+use Rattle.law_lost_frames.specs.Stages.{Keys, DeviceIs, CentreHas, HaveCome, CentreTakes, DeviceTakes, asked_bytes, centre_seals, device_seals, told_bytes}
+use Rattle.law_lost_frames.specs.Stops.{HaveKept}
+use Rattle.law_lost_frames.proofs.Sending.{InRange, KeysFit}
 
 -- ---- the centre
 
--- the centre's frame
-abbrev pub told_bytes : Far → Tools → Schedule → ℕ → ℕ → Keys → Seals → Bytes
-told_bytes Asking tools w c d k f = offer_bytes tools (setting_of w c) (setting_of w d) f k.drawn
-told_bytes Offering tools w c d k f = offer_bytes tools (setting_of w c) (setting_of w d) f k.drawn
-told_bytes _ tools w c d k f = confirmation_bytes tools (setting_of w c) (setting_of w d) f
+-- two that are ready and have come so far
+pub kept_so : (w : Schedule) (x : Front) (c d : ℕ) (k : Keys) (far : Far) → HaveCome w x c d k far
+    → HaveKept w x c d k far
+kept_so w x c d k far h = record {
+  apart = h.met.apart;
+  declared = h.met.declared;
+  stations = h.met.stations;
+  centre_steady = h.met.centre_steady;
+  device_steady = h.met.device_steady;
+  network = h.network;
+  device = h.device;
+  centre = h.centre;
+}
 
 -- what the centre made of the device's frame: its state, and its frame
-record Answers (far : Far) (tools : Tools) (w : Schedule) (s u : NodeState) (c d : ℕ) (k : Keys)
+pub record Answers (far : Far) (tools : Tools) (w : Schedule) (s u : NodeState) (c d : ℕ) (k : Keys)
     (frame : Option Bytes) : Type 0 where
-  network : HasNetwork u k.network k.sequence
-  centre : CentreHas (unanswered_from far) u (eui_of w d) k
-  sent : frame ≡ Some (told_bytes far tools w c d k (centre_seals far s k))
-  unspent : why_not_sealed s ≡ None
+  pub network : HasNetwork u k.network k.sequence
+  pub centre : CentreHas (unanswered_from far) u (eui_of w d) k
+  pub sent : frame ≡ Some (told_bytes far tools w c d k (centre_seals far s k))
+  pub unspent : why_not_sealed s ≡ None
 
 -- a front with the device's frame as the last on the air
 pub record IsAsked (tools : Tools) (w : Schedule) (y : Front) (c d : ℕ) (k : Keys) (far : Far) (f : Seals)
@@ -47,8 +56,8 @@ pub record IsAsked (tools : Tools) (w : Schedule) (y : Front) (c d : ℕ) (k : K
   pub range : InRange far f
   pub on_air : OnAir y frames (asked_bytes far tools w c d f)
 
-answers_by : (tools : Tools) → DeliversCommands tools → (w : Schedule) (y : Front) (c d : ℕ) (k : Keys) (far : Far)
-    (t : NodeState) → HaveCome w y c d k far → InRange far (device_seals far t k)
+pub answers_by : (tools : Tools) → DeliversCommands tools → (w : Schedule) (y : Front) (c d : ℕ) (k : Keys) (far : Far)
+    (t : NodeState) → HaveKept w y c d k far → InRange far (device_seals far t k)
     → CentreTakes far tools w y c d k (device_seals far t k)
     → Answers far tools w (state_of y.lines c)
     (after_task tools (setting_of w c) (state_of y.lines c)
@@ -59,8 +68,8 @@ answers_by tools delivers w y c d k Asking t h range takes =
     let f = device_seals Asking t k in
     let s = state_of y.lines c in
     let bytes = request_bytes tools (setting_of w c) (setting_of w d) f in
-    let o = law.offers tools delivers (setting_of w c) (setting_of w d) s f (Some k.drawn) h.met.declared h.met.stations
-    range.0 range.1 h.met.centre_steady.rules h.network h.centre takes.1 in
+    let o = law.offers tools delivers (setting_of w c) (setting_of w d) s f (Some k.drawn) h.declared h.stations
+    range.0 range.1 h.centre_steady.rules h.network h.centre takes.1 in
     let key = same_key k.drawn o.key o.drawn in
     subst (λ draw. Answers Asking tools w s (after_task tools (setting_of w c) s (Received bytes draw)) c d k
     (frame_of tools (setting_of w c) s (Received bytes draw))) (sym takes.0)
@@ -78,7 +87,7 @@ answers_by tools delivers w y c d k Offering t h range takes =
     let f = device_seals Offering t k in
     let s = state_of y.lines c in
     let o = again_offered tools delivers (setting_of w c) (setting_of w d) s f k.drawn (supply w y.lines)
-    h.met.declared h.met.stations range.0 range.1 h.met.centre_steady.rules h.network h.centre takes.0 takes.1 in
+    h.declared h.stations range.0 range.1 h.centre_steady.rules h.network h.centre takes.0 takes.1 in
     record {
       network = o.network;
       centre = o.keys;
@@ -88,8 +97,8 @@ answers_by tools delivers w y c d k Offering t h range takes =
 answers_by tools delivers w y c d k Proving t h range takes =
     let f = device_seals Proving t k in
     let s = state_of y.lines c in
-    let o = law.confirms tools delivers (setting_of w c) (setting_of w d) s f (supply w y.lines) h.met.declared
-    h.met.stations range h.met.centre_steady.rules h.network h.centre takes in
+    let o = law.confirms tools delivers (setting_of w c) (setting_of w d) s f (supply w y.lines) h.declared
+    h.stations range h.centre_steady.rules h.network h.centre takes in
     record {
       network = o.network;
       centre = o.keys;
@@ -99,8 +108,8 @@ answers_by tools delivers w y c d k Proving t h range takes =
 answers_by tools delivers w y c d k Proved t h range takes =
     let f = device_seals Proved t k in
     let s = state_of y.lines c in
-    let o = confirmed_again tools delivers (setting_of w c) (setting_of w d) s f (supply w y.lines) h.met.declared
-    h.met.stations range h.network h.centre takes in
+    let o = confirmed_again tools delivers (setting_of w c) (setting_of w d) s f (supply w y.lines) h.declared
+    h.stations range h.network h.centre takes in
     record {
       network = o.network;
       centre = o.keys;
@@ -110,7 +119,7 @@ answers_by tools delivers w y c d k Proved t h range takes =
 answers_by tools delivers w y c d k Done t h range takes = absurd (cc)
 
 -- the device is as far as it was
-device_stays : (t : NodeState) (centre : ℕ) (k : Keys) (far : Far) → DeviceIs far t centre k
+pub device_stays : (t : NodeState) (centre : ℕ) (k : Keys) (far : Far) → DeviceIs far t centre k
     → DeviceIs (unanswered_from far) t centre k
 device_stays t centre k Asking j = j
 device_stays t centre k Offering j = j
@@ -125,7 +134,7 @@ pub record IsTold (tools : Tools) (w : Schedule) (z : Front) (c d : ℕ) (k : Ke
   pub range : NwkInRange f × ApsInRange f
   pub on_air : OnAir z frames (told_bytes far tools w c d k f)
 
-centre_range : (far : Far) (s : NodeState) (k : Keys) → KeysFit k → why_not_sealed s ≡ None
+pub centre_range : (far : Far) (s : NodeState) (k : Keys) → KeysFit k → why_not_sealed s ≡ None
     → NwkInRange (centre_seals far s k) × ApsInRange (centre_seals far s k)
 centre_range far s k fit none = by_far far (sealed_free s none)
   where
@@ -158,7 +167,7 @@ centre_answers tools delivers opens w y c d k far t frames fit a takes =
     let z = after_event tools w y (Deliver frames c) in
     let b = centre_acts tools opens w y c d task (Deliver frames c) h.met (turned d c h.met.apart)
     (frame-up tools w y.lines y.disks y.number frames c bytes h.met.centre_ready.up a.on_air.last) in
-    let o = answers_by tools delivers w y c d k far t h a.range takes in
+    let o = answers_by tools delivers w y c d k far t (kept_so w y c d k far h) a.range takes in
     record {
       come = record {
         met = b.met;
@@ -175,8 +184,8 @@ centre_answers tools delivers opens w y c d k far t frames fit a takes =
 
 -- ---- the device
 
-device_takes : (tools : Tools) → DeliversCommands tools → (w : Schedule) (z : Front) (c d : ℕ) (k : Keys) (far : Far)
-    (s : NodeState) (draw : Option Bytes) → KeysFit k → HaveCome w z c d k (unanswered_from far)
+pub device_takes : (tools : Tools) → DeliversCommands tools → (w : Schedule) (z : Front) (c d : ℕ) (k : Keys) (far : Far)
+    (s : NodeState) (draw : Option Bytes) → KeysFit k → HaveKept w z c d k (unanswered_from far)
     → NwkInRange (centre_seals far s k) × ApsInRange (centre_seals far s k)
     → DeviceTakes far w z c d k (centre_seals far s k)
     → DeviceIs (answered_from far)
@@ -184,20 +193,20 @@ device_takes : (tools : Tools) → DeliversCommands tools → (w : Schedule) (z 
     (Received (told_bytes far tools w c d k (centre_seals far s k)) draw)) (eui_of w c) k
 device_takes tools delivers w z c d k Asking s draw fit h r takes =
     law.keeps tools delivers (setting_of w c) (setting_of w d) (state_of z.lines d) (centre_seals Asking s k) k.drawn
-    draw h.met.declared h.met.stations r.0 r.1 fit.drawn h.met.device_steady.rules h.device takes.0 takes.1
+    draw h.declared h.stations r.0 r.1 fit.drawn h.device_steady.rules h.device takes.0 takes.1
 device_takes tools delivers w z c d k Offering s draw fit h r takes =
     law.keeps tools delivers (setting_of w c) (setting_of w d) (state_of z.lines d) (centre_seals Offering s k) k.drawn
-    draw h.met.declared h.met.stations r.0 r.1 fit.drawn h.met.device_steady.rules h.device takes.0 takes.1
+    draw h.declared h.stations r.0 r.1 fit.drawn h.device_steady.rules h.device takes.0 takes.1
 device_takes tools delivers w z c d k Proving s draw fit h r takes =
     law.ends tools delivers (setting_of w c) (setting_of w d) (state_of z.lines d) (centre_seals Proving s k) draw
-    h.met.declared h.met.stations r.0 r.1 h.met.device_steady.rules h.device takes
+    h.declared h.stations r.0 r.1 h.device_steady.rules h.device takes
 device_takes tools delivers w z c d k Proved s draw fit h r takes =
     law.ends tools delivers (setting_of w c) (setting_of w d) (state_of z.lines d) (centre_seals Proved s k) draw
-    h.met.declared h.met.stations r.0 r.1 h.met.device_steady.rules h.device takes
+    h.declared h.stations r.0 r.1 h.device_steady.rules h.device takes
 device_takes tools delivers w z c d k Done s draw fit h r takes = absurd (cc)
 
 -- the centre has what it has where the turn ends
-centre_stays : (s : NodeState) (device : ℕ) (k : Keys) (far : Far) → CentreHas (unanswered_from far) s device k
+pub centre_stays : (s : NodeState) (device : ℕ) (k : Keys) (far : Far) → CentreHas (unanswered_from far) s device k
     → CentreHas (answered_from far) s device k
 centre_stays s device k Asking h = one_of s device k.link k.drawn h
 centre_stays s device k Offering h = one_of s device k.link k.drawn h
@@ -219,7 +228,8 @@ device_ends tools delivers opens w z c d k far s frames fit a takes =
       met = b.met;
       network = subst (λ u. HasNetwork u k.network k.sequence) (sym b.centre) h.network;
       device = subst (λ t. DeviceIs (answered_from far) t (eui_of w c) k) (sym b.device)
-          (device_takes tools delivers w z c d k far s (supply w z.lines) fit h a.range takes);
+          (device_takes tools delivers w z c d k far s (supply w z.lines) fit
+          (kept_so w z c d k (unanswered_from far) h) a.range takes);
       centre = subst (λ u. CentreHas (answered_from far) u (eui_of w d) k) (sym b.centre)
           (centre_stays (state_of z.lines c) (eui_of w d) k far h.centre);
     }

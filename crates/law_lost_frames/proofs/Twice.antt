@@ -244,17 +244,26 @@ seals_keep P key (t ∷ ts) s a = seals_keep P key ts (after_sealing t s) (seal_
 
 -- ---- what is accepted begins with the NWK term, and goes on with an APS term at most
 
-abbrev AllAps : List Term → Type 0
-AllAps ts = AllByRecursion (λ (v : Term). v.layer ≡ Aps) ts
+-- each is of the counter that the frame shows
+abbrev pub AllAps : ℕ → List Term → Type 0
+AllAps counter ts = AllByRecursion (λ (v : Term). (v.layer ≡ Aps) × (v.counter ≡ counter)) ts
 
-record Begins (t : Term) (p : Plan) : Type 0 where
-  rest : List Term
-  accepts : p.accepts ≡ t ∷ rest
-  aps : AllAps rest
+abbrev pub seal_counter : Option ApsAuxiliary → ℕ
+seal_counter None = 0
+seal_counter (Some aux) = aux.counter
 
-either : (t : Term) (b : Bool) (p q : Plan) → Begins t p → Begins t q → Begins t (if b then p else q)
-either t true p q x y = x
-either t false p q x y = y
+abbrev pub shown_counter : Option ApsShown → ℕ
+shown_counter None = 0
+shown_counter (Some a) = seal_counter a.auxiliary
+
+pub record Begins (counter : ℕ) (t : Term) (p : Plan) : Type 0 where
+  pub rest : List Term
+  pub accepts : p.accepts ≡ t ∷ rest
+  pub aps : AllAps counter rest
+
+either : (n : ℕ) (t : Term) (b : Bool) (p q : Plan) → Begins n t p → Begins n t q → Begins n t (if b then p else q)
+either n t true p q x y = x
+either n t false p q x y = y
 
 abbrev OnGood : {A : Type 0} → (A → Type 0) → Verdict A → Type 0
 OnGood P (Not place reason) = Unit {0}
@@ -272,55 +281,58 @@ unfolding need
 after_need P None place reason rest k = tt
 after_need P (Some a) place reason rest k = k a refl
 
-abbrev IsAps : Unsealed → Type 0
-IsAps u = u.term.layer ≡ Aps
+abbrev IsAps : ℕ → Unsealed → Type 0
+IsAps counter u = (u.term.layer ≡ Aps) × (u.term.counter ≡ counter)
 
 aps_judged : (tools : Tools) → OpensAsJudged tools → (c : Setting) (s : NodeState) (f : NwkShown) (bytes : Bytes)
     (a : ApsShown) (aux : ApsAuxiliary) → tools.read_aps bytes ≡ Some a → a.auxiliary ≡ Some aux
-    → OnGood IsAps (judge_aps tools c s f bytes aux)
+    → OnGood (IsAps aux.counter) (judge_aps tools c s f bytes aux)
 unfolding judge_aps
 aps_judged tools opens c s f bytes a aux read shown =
-    after_need IsAps (aps_source c f aux) AtAps NoKey _
-    (λ source e. after_need IsAps (chosen_row tools bytes source (candidates s source)) AtAps NoKey _
-    (λ row g. after_reject IsAps (nat_le greatest_counter aux.counter) AtAps CounterMax _
-    (after_reject IsAps (nat_lt aux.counter row.kept) AtAps (Stale row.kept) _
-    (after_need IsAps (tools.open_aps bytes row.key source) AtAps BadMic _
-    (λ term h. (opens.aps bytes row.key source a aux term read shown h).0)))))
+    after_need (IsAps aux.counter) (aps_source c f aux) AtAps NoKey _
+    (λ source e. after_need (IsAps aux.counter) (chosen_row tools bytes source (candidates s source)) AtAps NoKey _
+    (λ row g. after_reject (IsAps aux.counter) (nat_le greatest_counter aux.counter) AtAps CounterMax _
+    (after_reject (IsAps aux.counter) (nat_lt aux.counter row.kept) AtAps (Stale row.kept) _
+    (after_need (IsAps aux.counter) (tools.open_aps bytes row.key source) AtAps BadMic _
+    (λ term h.
+    ((opens.aps bytes row.key source a aux term read shown h).0,
+    (opens.aps bytes row.key source a aux term read shown h).3))))))
 
-command_begins : (tools : Tools) (c : Setting) (s : NodeState) (draw : Option Bytes) (t : Term) (rest : List Term)
-    (m : Heard) (o : CommandShown) → AllAps rest → Begins t (aps_command tools c s draw (t ∷ rest) m o)
-command_begins tools c s draw t rest m (Known command) all = record { rest = rest; accepts = refl; aps = all }
-command_begins tools c s draw t rest m Unknown all = record { rest = rest; accepts = refl; aps = all }
-command_begins tools c s draw t rest m Broken all = record { rest = rest; accepts = refl; aps = all }
+command_begins : (tools : Tools) (c : Setting) (s : NodeState) (draw : Option Bytes) (n : ℕ) (t : Term)
+    (rest : List Term) (m : Heard) (o : CommandShown) → AllAps n rest
+    → Begins n t (aps_command tools c s draw (t ∷ rest) m o)
+command_begins tools c s draw n t rest m (Known command) all = record { rest = rest; accepts = refl; aps = all }
+command_begins tools c s draw n t rest m Unknown all = record { rest = rest; accepts = refl; aps = all }
+command_begins tools c s draw n t rest m Broken all = record { rest = rest; accepts = refl; aps = all }
 
 sealed_begins : (tools : Tools) (c : Setting) (s : NodeState) (draw : Option Bytes) (t : Term) (a : ApsShown)
-    (aux : ApsAuxiliary) (v : Verdict Unsealed) → OnGood IsAps v
-    → Begins t (sealed_part tools c s draw (Some t) a aux v)
+    (aux : ApsAuxiliary) (v : Verdict Unsealed) → OnGood (IsAps aux.counter) v
+    → Begins aux.counter t (sealed_part tools c s draw (Some t) a aux v)
 sealed_begins tools c s draw t a aux (Not place reason) good = record { rest = []; accepts = refl; aps = tt }
 sealed_begins tools c s draw t a aux (Good u) good =
-    either t a.is_command
+    either aux.counter t a.is_command
     (aps_command tools c s draw (t ∷ u.term ∷ []) (heard_sealed (Some t) aux u) (tools.read_command u.term.content))
     (comes_to (t ∷ u.term ∷ []) AtAps (Does [] None))
-    (command_begins tools c s draw t (u.term ∷ []) (heard_sealed (Some t) aux u)
+    (command_begins tools c s draw aux.counter t (u.term ∷ []) (heard_sealed (Some t) aux u)
     (tools.read_command u.term.content) (good, tt))
     (record { rest = u.term ∷ []; accepts = refl; aps = (good, tt) })
 
 security_begins : (tools : Tools) → OpensAsJudged tools → (c : Setting) (s : NodeState) (draw : Option Bytes)
     (f : NwkShown) (t : Term) (a : ApsShown) (o : Option ApsAuxiliary) → tools.read_aps t.content ≡ Some a
-    → a.auxiliary ≡ o → Begins t (by_security tools c s draw f (Some t) a o)
+    → a.auxiliary ≡ o → Begins (seal_counter o) t (by_security tools c s draw f (Some t) a o)
 security_begins tools opens c s draw f t a None read shown =
-    either t a.is_command
+    either 0 t a.is_command
     (aps_command tools c s draw (t ∷ []) (heard_clear (Some t)) (tools.read_command a.body))
     (comes_to (t ∷ []) AtAps (Does [] None))
-    (command_begins tools c s draw t [] (heard_clear (Some t)) (tools.read_command a.body) tt)
+    (command_begins tools c s draw 0 t [] (heard_clear (Some t)) (tools.read_command a.body) tt)
     (record { rest = []; accepts = refl; aps = tt })
 security_begins tools opens c s draw f t a (Some aux) read shown =
     sealed_begins tools c s draw t a aux (judge_aps tools c s f (payload_of f (Some t)) aux)
     (aps_judged tools opens c s f (payload_of f (Some t)) a aux read shown)
 
-part_begins : (tools : Tools) → OpensAsJudged tools → (c : Setting) (s : NodeState) (draw : Option Bytes)
+pub part_begins : (tools : Tools) → OpensAsJudged tools → (c : Setting) (s : NodeState) (draw : Option Bytes)
     (f : NwkShown) (t : Term) (o : Option ApsShown) → tools.read_aps t.content ≡ o
-    → Begins t (aps_part tools c s draw f (Some t) o)
+    → Begins (shown_counter o) t (aps_part tools c s draw f (Some t) o)
 part_begins tools opens c s draw f t None read = record { rest = []; accepts = refl; aps = tt }
 part_begins tools opens c s draw f t (Some a) read = security_begins tools opens c s draw f t a a.auxiliary read refl
 
@@ -331,9 +343,9 @@ abbrev pub StandsOver : NetFrame → NodeState → Type 0
 StandsOver f u = AtKey (KeptAt f.source (f.counter + 1)) f.key u.nets
 
 -- what a plan accepts after the NWK term leaves the network rows
-rest_leaves : (rest : List Term) → AllAps rest → (v : NodeState) → (accepted_all rest v).nets ≡ v.nets
-rest_leaves [] all v = refl
-rest_leaves (u ∷ rest) all v = rest_leaves rest all.1 (after_accepting u v) ∙ aps_leaves u v all.0
+rest_leaves : (n : ℕ) (rest : List Term) → AllAps n rest → (v : NodeState) → (accepted_all rest v).nets ≡ v.nets
+rest_leaves n [] all v = refl
+rest_leaves n (u ∷ rest) all v = rest_leaves n rest all.1 (after_accepting u v) ∙ aps_leaves u v all.0.0
 
 abbrev floor_list : Term → Option ℕ → List Edit
 floor_list t o = option_to_list (option_map (Floor t.layer t.base t.source) o)
@@ -382,15 +394,15 @@ unfolding floor_of
 first_floor c s t rest =
     ap (λ b. if b then floor_for c s t else floor_of c s rest t.layer) (layer_same t.layer)
 
-abbrev plan_with : Plan → List Term → Plan
+abbrev pub plan_with : Plan → List Term → Plan
 plan_with p ts = record p { accepts = ts }
 
-heard_plan : (tools : Tools) (c : Setting) (s : NodeState) (p : Plan) (t : Term) (rest : List Term) → t.layer ≡ Nwk
-    → AllAps rest → AtKey Any t.base s.nets
+heard_plan : (tools : Tools) (c : Setting) (s : NodeState) (p : Plan) (n : ℕ) (t : Term) (rest : List Term)
+    → t.layer ≡ Nwk → AllAps n rest → AtKey Any t.base s.nets
     → AtKey (KeptAt t.source (t.counter + 1)) t.base
     (answered (answer_by tools c s (counting_of c s (plan_with p (t ∷ rest))) (plan_with p (t ∷ rest))) s).nets
 unfolding answered answer_by edits_of counting_of
-heard_plan tools c s p t rest layer all here =
+heard_plan tools c s p n t rest layer all here =
     let q = plan_with p (t ∷ rest) in
     let k = counting_of c s q in
     let a = answer_by tools c s k q in
@@ -416,7 +428,7 @@ heard_plan tools c s p t rest layer all here =
     accept_then t w layer (subst (λ (x : NodeState). AtKey (HasFloor t.source) t.base x.nets) (sym order) kept) in
     seals_keep (KeptAt t.source (t.counter + 1)) t.base a.seals (accepted_all rest (after_accepting t w))
     (subst (λ n. AtKey (KeptAt t.source (t.counter + 1)) t.base n)
-    (sym (rest_leaves rest all (after_accepting t w))) over)
+    (sym (rest_leaves n rest all (after_accepting t w))) over)
 
 -- ---- the row that the node finds
 
@@ -431,7 +443,7 @@ net_here s key sequence h =
       has = tt;
     }
 
-among : (u : NodeState) (sequence : ℕ) (row : NetKey) → usable_of u sequence ≡ Some row → In row u.nets
+pub among : (u : NodeState) (sequence : ℕ) (row : NetKey) → usable_of u sequence ≡ Some row → In row u.nets
 unfolding usable_of usable_nets
 among u sequence row e = by_may (may_use u) (in-reverse row (if may_use u then live_nets u else [])
     (found-element (λ (r : NetKey). nat_eq r.sequence sequence) (reverse (if may_use u then live_nets u else [])) row
@@ -472,7 +484,7 @@ second_judged tools c s u f content a m h stale =
     let small : nat_le greatest_counter f.counter ≡ false = lt-leb greatest_counter f.counter m.small in
     rw (a.shown, m.apart, to, h.is_found, small, stale) refl
 
-stop_leaves : (tools : Tools) (c : Setting) (u : NodeState) (place : Place) (reason : Reason)
+pub stop_leaves : (tools : Tools) (c : Setting) (u : NodeState) (place : Place) (reason : Reason)
     → answered
     (answer_by tools c u (counting_of c u (stopped_at [] place reason)) (stopped_at [] place reason)) u ≡ u
 unfolding answered answer_by counting_of edits_of out_of may_seal reserve_of floor_of applied_all
@@ -521,7 +533,7 @@ heard_frame tools opens c s f content draw a m =
     let begins = part_begins tools opens c s draw (shown_of f a.body) t (tools.read_aps content) refl in
     let shape : part ≡ plan_with part (t ∷ begins.rest) = ap (λ ts. plan_with part ts) begins.accepts in
     subst (λ p. StandsOver f (answered (answer_by tools c s (counting_of c s p) p) s)) (sym (plan ∙ shape))
-    (heard_plan tools c s part t begins.rest refl begins.aps (net_here s f.key f.sequence m.network))
+    (heard_plan tools c s part (shown_counter (tools.read_aps content)) t begins.rest refl begins.aps (net_here s f.key f.sequence m.network))
 
 pub comes_twice : (tools : Tools) → OpensAsJudged tools → (c : Setting) (s : NodeState) (f : NetFrame)
     (content : Bytes) (draw again : Option Bytes) → 1 ≤ c.me.in_block → IsSteady c s → IsCarried tools f content

@@ -4,7 +4,7 @@
 use Rattle.std.specs.Prelude.{ℕ, zero, suc, ◌≡◌, ◌<◌, ◌≤◌, ◌+◌, ◌-◌, true, false, None, nat_eq, ⊤}
 use Rattle.std.specs.List.{AllByRecursion}
 use Rattle.zb_model.specs.Commands.{dropped_at}
-use Rattle.zb_model.specs.Data.{Aps, Bytes, Floor}
+use Rattle.zb_model.specs.Data.{Layer, Aps, Bytes, Floor}
 use Rattle.zb_model.specs.Fits.{keeps_rules}
 use Rattle.zb_model.specs.Lines.{Line, Accept, Changed}
 use Rattle.zb_model.specs.Play.{Schedule, setting_of}
@@ -40,19 +40,23 @@ pub record RejoinsLater (w : Schedule) (x : Front) (c d n : ℕ) : Type 0 where
   pub stale : linked.own.kept - next_counter Aps (state_of x.lines c) ≡ n
   pub counters : next_counter Aps (state_of x.lines c) + n < greatest_counter
 
--- A line of a node d, of a link key that it has of c: each counter that it accepted, and each for which it stored a
--- floor, is below this number.
-abbrev pub IsBelow : ℕ → ℕ → ℕ → ℕ → Bytes → Line → Type 0
-IsBelow number block d c key (Accept e n t) =
-    n ≡ d → t.layer ≡ Aps → t.base ≡ key → t.source ≡ c → t.counter < number
-IsBelow number block d c key (Changed e n (Floor Aps base source value)) =
-    n ≡ d → base ≡ key → source ≡ c → (counter : ℕ) × (counter < number) × (value ≤ counter + block)
-IsBelow number block d c key _ = ⊤
+-- A line of a receiver, of a sender's frames under a key of a layer: each counter that it accepted, and each for which it
+-- stored a floor, is below this number.
+abbrev pub IsBelow : Layer → ℕ → ℕ → ℕ → ℕ → Bytes → Line → Type 0
+IsBelow layer number block receiver sender key (Accept e n t) =
+    n ≡ receiver → t.layer ≡ layer → t.base ≡ key → t.source ≡ sender → t.counter < number
+IsBelow layer number block receiver sender key (Changed e n (Floor at base source value)) =
+    n ≡ receiver → at ≡ layer → base ≡ key → source ≡ sender
+    → (counter : ℕ) × (counter < number) × (value ≤ counter + block)
+IsBelow layer number block receiver sender key _ = ⊤
 
--- What the member accepted under the link key of its centre came from the centre: its counters are those that the
--- centre has used.
-abbrev pub CameFromCentre : Schedule → Front → ℕ → ℕ → LinkKey → Type 0
-CameFromCentre w x c d own =
+-- What a receiver b accepted of a sender a under this key came from a: its counters are those that a has used.
+abbrev pub CameFrom : Layer → Schedule → Front → ℕ → ℕ → Bytes → Type 0
+CameFrom layer w x a b key =
     AllByRecursion
-    (IsBelow (next_counter Aps (state_of x.lines c)) (setting_of w d).me.in_block d (setting_of w c).me.eui own.key)
+    (IsBelow layer (next_counter layer (state_of x.lines a)) (setting_of w b).me.in_block b (setting_of w a).me.eui key)
     x.lines
+
+-- so of what a member accepted under the link key of its centre
+abbrev pub CameFromCentre : Schedule → Front → ℕ → ℕ → LinkKey → Type 0
+CameFromCentre w x c d own = CameFrom Aps w x c d own.key

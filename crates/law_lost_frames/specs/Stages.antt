@@ -6,7 +6,7 @@ use Rattle.zb_model.specs.Play.{Schedule, Own, Deliver, frame_at, setting_of, su
 use Rattle.zb_model.specs.Readings.{air, state_of}
 use Rattle.zb_model.specs.State.{NodeState, has_link}
 use Rattle.zb_model.specs.Tools.{Tools}
-use Rattle.law_key_exchange.specs.Exchanging.{Seals, StaysClosed, seals_now}
+use Rattle.law_key_exchange.specs.Exchanging.{Seals, StaysClosed, confirmation_bytes, offer_bytes, proof_bytes, request_bytes, seals_now}
 use Rattle.law_key_exchange.specs.Meeting.{HasBoth, HasLink, HasNetwork, HasOffer, HasProved, IsConfirmed, IsJoined, IsOffered}
 use Rattle.law_key_exchange.specs.Obstacles.{why_no_confirmation, why_no_offer, why_no_offer_again, why_no_proof, why_no_request, why_not_confirmed, why_offer_not_kept}
 use Rattle.law_recovery_runs.specs.Fronts.{Front, after_event}
@@ -55,6 +55,17 @@ device_seals _ t k = seals_now t k.network k.sequence k.drawn
 -- and the centre: an offer under the link key, or a confirmation under the drawn one
 abbrev pub centre_seals : Far → NodeState → Keys → Seals
 centre_seals far s k = device_seals far s k
+
+-- the device's frame with these seals, and the centre's
+abbrev pub asked_bytes : Far → Tools → Schedule → ℕ → ℕ → Seals → Bytes
+asked_bytes Asking tools w c d f = request_bytes tools (setting_of w c) (setting_of w d) f
+asked_bytes Offering tools w c d f = request_bytes tools (setting_of w c) (setting_of w d) f
+asked_bytes _ tools w c d f = proof_bytes tools (setting_of w c) (setting_of w d) f
+
+abbrev pub told_bytes : Far → Tools → Schedule → ℕ → ℕ → Keys → Seals → Bytes
+told_bytes Asking tools w c d k f = offer_bytes tools (setting_of w c) (setting_of w d) f k.drawn
+told_bytes Offering tools w c d k f = offer_bytes tools (setting_of w c) (setting_of w d) f k.drawn
+told_bytes _ tools w c d k f = confirmation_bytes tools (setting_of w c) (setting_of w d) f
 
 -- the exchange is over
 abbrev pub IsOver : Type 0

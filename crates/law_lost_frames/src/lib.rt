@@ -2,29 +2,35 @@
 //! are stopped. Each law is the contract of a function with an empty body; docs/THEOREMS.md says it in words.
 #![tactic(auto)]
 
-ghost use Rattle.std.specs.Prelude.{◌≡◌, ◌<◌, ◌≤◌, ◌+◌, ◌++◌, ℕ, suc, false, [], ◌∷◌, length, List, Option, Some};
+ghost use Rattle.std.specs.Prelude.{◌≡◌, ◌<◌, ◌≤◌, ◌+◌, ◌++◌, ℕ, suc, true, false, [], ◌∷◌, length, List, Option, Some};
 ghost use Rattle.std.specs.List.{AllByRecursion};
 ghost use Rattle.law_answer_storable.specs.Storing.{OpensAsJudged};
 ghost use Rattle.law_key_exchange.specs.CommandFrames.{DeliversCommands, IsCarried, NetFrame};
 ghost use Rattle.law_key_exchange.specs.Meeting.{HasNetwork, IsSteady};
 ghost use Rattle.law_lost_frames.specs.Rounds.{CameFromCentre, RejoinsLater, after_rounds};
-ghost use Rattle.law_lost_frames.specs.Stages.{AreFree, HaveCome, IsFree, Keys};
+ghost use Rattle.law_lost_frames.specs.Stages.{AreFree, HaveCome, IsFree, Keys, Sends};
+ghost use Rattle.law_lost_frames.specs.Stages.{asked_bytes, centre_seals, device_seals, told_bytes};
+ghost use Rattle.law_lost_frames.specs.Stops.{AreInOrder, ComesToCentre, Happening, HaveKept, IsInOrder};
+ghost use Rattle.law_lost_frames.specs.Stops.{after_happening, after_happenings, heard_answer, kept_far};
+ghost use Rattle.law_lost_frames.specs.Stops.{kept_far_all};
 ghost use Rattle.law_lost_frames.specs.Turns.{Answered, Asking, Done, Far, Loses, Turn, after_turn, after_turns};
-ghost use Rattle.law_lost_frames.specs.Turns.{far_after, far_after_all};
+ghost use Rattle.law_lost_frames.specs.Turns.{far_after, far_after_all, unanswered_from};
 ghost use Rattle.law_lost_frames.specs.Twice.{Hears, frame_bytes};
 ghost use Rattle.law_lost_frames.specs.Waiting.{JoinsAgain};
 ghost use Rattle.law_readmission.specs.Entering.{IsSpared};
 ghost use Rattle.law_recovery.specs.Answering.{after_task};
 ghost use Rattle.law_recovery.specs.KeyFrames.{DeliversKeys};
-ghost use Rattle.law_recovery_runs.specs.Fronts.{EndsRejoined, Front, after_event};
+ghost use Rattle.law_recovery_runs.specs.Fronts.{EndsRejoined, Front, IsReady, after_event};
 ghost use Rattle.law_recovery_runs.specs.Joining.{CanJoin};
 ghost use Rattle.law_recovery_runs.specs.KeyExchange.{AreMet, EndsConfirmed, HaveJoined, IsNew, KeysInRange};
 ghost use Rattle.law_recovery_runs.specs.KeyExchange.{NothingStops};
 ghost use Rattle.law_lost_frames.specs.Foreseen.{IsForeseen};
+ghost use Rattle.law_run_steps.specs.Conditions.{condition_of};
+ghost use Rattle.law_run_steps.specs.Steps.{falls_on};
 ghost use Rattle.zb_model.specs.Answer.{answer};
-ghost use Rattle.zb_model.specs.Data.{Aps, Bytes, HasChild, Received, Stale, Task};
-ghost use Rattle.zb_model.specs.Play.{Own, Schedule, setting_of};
-ghost use Rattle.zb_model.specs.Readings.{state_of};
+ghost use Rattle.zb_model.specs.Data.{Aps, Bytes, DoTimer, HasChild, Received, Stale, Task};
+ghost use Rattle.zb_model.specs.Play.{Deliver, Event, Own, Schedule, frame_at, setting_of};
+ghost use Rattle.zb_model.specs.Readings.{air, is_up, state_of};
 ghost use Rattle.zb_model.specs.Rules.{Setting};
 ghost use Rattle.zb_model.specs.State.{NodeState, after_boot, applied_all, greatest_counter, next_counter};
 ghost use Rattle.zb_model.specs.Tools.{Tools};
@@ -60,6 +66,61 @@ pub fn a_stop_leaves_an_exchange()
     ensures before { (s : NodeState) → IsSpared s (after_boot s) }
     ensures after { (tools : Tools) (c : Setting) (s : NodeState) (task : Task)
         → IsSpared (after_task tools c s task) (after_boot (applied_all (answer tools c s task).edits s)) }
+{}
+
+/// States that a stop of either node within the exchange of link keys costs a repeat, and nothing else.
+///
+/// A node may be reset, booted, or stopped at any device call, at any event and as often as may be. How far the two have
+/// come is kept. Once both have power and nothing is armed, turns go on from there.
+pub fn a_stop_costs_a_repeat()
+    ensures happening { (tools : Tools) → DeliversCommands tools → OpensAsJudged tools → (w : Schedule) (x : Front)
+        (c d : ℕ) (k : Keys) (far : Far) (happening : Happening) → KeysInRange k.network k.sequence k.link
+        → length k.drawn ≡ 16 → HaveKept w x c d k far → IsInOrder tools w x c d k far happening
+        → HaveKept w (after_happening tools w c d x happening) c d k (kept_far tools w c d k x far happening) }
+    ensures happenings { (tools : Tools) → DeliversCommands tools → OpensAsJudged tools → (w : Schedule) (x : Front)
+        (c d : ℕ) (k : Keys) (far : Far) (happenings : List Happening) → KeysInRange k.network k.sequence k.link
+        → length k.drawn ≡ 16 → HaveKept w x c d k far → AreInOrder tools w c d k x far happenings
+        → HaveKept w (after_happenings tools w c d x happenings) c d k
+        (kept_far_all tools w c d k x far happenings) }
+    ensures ends { (tools : Tools) → DeliversCommands tools → OpensAsJudged tools → (w : Schedule) (x : Front)
+        (c d : ℕ) (k : Keys) (happenings : List Happening) → KeysInRange k.network k.sequence k.link
+        → length k.drawn ≡ 16 → AreMet w x c d → HaveJoined w x c d k.network k.sequence k.link
+        → AreInOrder tools w c d k x Asking happenings → kept_far_all tools w c d k x Asking happenings ≡ Done
+        → IsReady (after_happenings tools w c d x happenings) c
+        → IsReady (after_happenings tools w c d x happenings) d
+        → EndsConfirmed w (after_happenings tools w c d x happenings) c d k.network k.sequence k.drawn }
+    ensures begins { (w : Schedule) (x : Front) (c d : ℕ) (k : Keys) (far : Far) → HaveCome w x c d k far
+        → HaveKept w x c d k far }
+    ensures goes_on { (w : Schedule) (x : Front) (c d : ℕ) (k : Keys) (far : Far) → HaveKept w x c d k far
+        → IsReady x c → IsReady x d → HaveCome w x c d k far }
+    ensures turns { (tools : Tools) → DeliversCommands tools → OpensAsJudged tools → (w : Schedule) (x : Front)
+        (c d : ℕ) (k : Keys) (far : Far) (turns : List Turn) → KeysInRange k.network k.sequence k.link
+        → length k.drawn ≡ 16 → HaveCome w x c d k far → AreFree tools w c d k x far turns
+        → far_after_all far turns ≡ Done
+        → EndsConfirmed w (after_turns tools w c d x turns) c d k.network k.sequence k.drawn }
+{}
+
+/// States that the frames of the exchange are on the air where no disk cuts their event, and stay there.
+///
+/// The device's timer sends its frame, and the centre that hears it sends its own. Each is the next on the air.
+pub fn frames_of_the_exchange_are_on_the_air()
+    ensures asked { (tools : Tools) (w : Schedule) (x : Front) (c d : ℕ) (k : Keys) (far : Far)
+        → HaveKept w x c d k far → Sends far (state_of x.lines d) → is_up x.lines d ≡ true
+        → falls_on (answer tools (setting_of w d) (state_of x.lines d) DoTimer) (condition_of w x.lines x.disks d)
+        ≡ false
+        → frame_at (after_event tools w x (Own d DoTimer)).lines (length (air x.lines) + 1)
+        ≡ Some (asked_bytes far tools w c d (device_seals far (state_of x.lines d) k)) }
+    ensures told { (tools : Tools) → DeliversCommands tools → (w : Schedule) (x : Front) (c d : ℕ) (k : Keys)
+        (far : Far) (frame : ℕ) (sealed : NodeState) → KeysInRange k.network k.sequence k.link
+        → length k.drawn ≡ 16 → HaveKept w x c d k far → ComesToCentre tools w x c d k far frame sealed
+        → is_up x.lines c ≡ true
+        → falls_on (heard_answer tools w x c d k far sealed) (condition_of w x.lines x.disks c) ≡ false
+        → frame_at (after_event tools w x (Deliver frame c)).lines (length (air x.lines) + 1)
+        ≡ Some (told_bytes (unanswered_from far) tools w c d k
+        (centre_seals (unanswered_from far) (state_of x.lines c) k)) }
+    ensures stay { (tools : Tools) (w : Schedule) (x : Front) (event : Event) (frame : ℕ) (bytes : Bytes)
+        → frame_at x.lines frame ≡ Some bytes
+        → frame_at (after_event tools w x event).lines frame ≡ Some bytes }
 {}
 
 /// States that a member whose floor is above its centre's counter rejoins after as many stale rounds, and no more.

@@ -99,7 +99,7 @@ station_in p is n y = all-in StationInRange (stations (schedule_of p))
     (of_nodes StationInRange NodeInRange (λ m k. k.station) (schedule_of p).nodes (schedule_in_range p is).nodes)
     y.station y.among
 
-frame_in : (p : sched.Schedule) → IsSchedule p → (x : Front) (c d : ℕ) → Declared (schedule_of p) c
+pub frame_in : (p : sched.Schedule) → IsSchedule p → (x : Front) (c d : ℕ) → Declared (schedule_of p) c
     → Declared (schedule_of p) d → AllByRecursion LineInRange x.lines
     → (l : AreLinked (setting_of (schedule_of p) c) (setting_of (schedule_of p) d) (state_of x.lines c)
     (state_of x.lines d)) → spent Aps (state_of x.lines c) ≡ false

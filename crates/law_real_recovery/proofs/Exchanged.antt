@@ -107,7 +107,7 @@ stations_fit p is c d y z =
 
 -- ---- keys are in their ranges
 
-keys_fit : (w : model.Schedule) (x : Front) (c d : ℕ) (key : Bytes) (sequence : ℕ) (link : Bytes)
+pub keys_fit : (w : model.Schedule) (x : Front) (c d : ℕ) (key : Bytes) (sequence : ℕ) (link : Bytes)
     → AllByRecursion LineInRange x.lines → HaveJoined w x c d key sequence link → KeysInRange key sequence link
 keys_fit w x c d key sequence link lines j =
     let s = state_of x.lines c in

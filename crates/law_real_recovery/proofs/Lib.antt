@@ -8,3 +8,5 @@ pub mod Joined
 pub mod LetIn
 pub mod ArrivingRelays
 pub mod Through
+pub mod Fronts
+pub mod Repeated

@@ -2,16 +2,21 @@
 //! an empty body; docs/THEOREMS.md says it in words.
 #![tactic(auto)]
 
-ghost use Rattle.std.specs.Prelude.{◌≡◌, ℕ, ◌++◌, true, false, List};
+ghost use Rattle.std.specs.Prelude.{◌≡◌, ◌<◌, ℕ, suc, ◌++◌, true, false, List};
 ghost use Rattle.law_key_exchange.specs.CommandFrames.{DeliversCommands};
+ghost use Rattle.law_lost_frames.specs.Rounds.{CameFromCentre};
+ghost use Rattle.law_lost_frames.specs.Stages.{AreFree, Keys};
+ghost use Rattle.law_lost_frames.specs.Stops.{AreInOrder, Happening, kept_far_all};
+ghost use Rattle.law_lost_frames.specs.Turns.{Asking, Done, Turn, far_after_all};
 ghost use Rattle.law_recovery.specs.KeyFrames.{DeliversKeys};
 ghost use Rattle.law_recovery.specs.Rejoining.{AreOfOneNetwork};
 ghost use Rattle.law_readmission.specs.Readmitting.{knocked_front, readmission_events};
 ghost use Rattle.law_real_recovery.specs.Exchanging.{MayExchange, MayJoin};
 ghost use Rattle.law_real_recovery.specs.Readmitting.{MayReadmit};
+ghost use Rattle.law_real_recovery.specs.Repeating.{MayRejoinLater, happening_events, round_events, turns_events};
 ghost use Rattle.law_real_recovery.specs.Routing.{MayRoute};
 ghost use Rattle.law_real_recovery.specs.Texts.{MayRejoin, first_front};
-ghost use Rattle.law_recovery_runs.specs.Fronts.{EndsRejoined, after_events, rejoin_events};
+ghost use Rattle.law_recovery_runs.specs.Fronts.{EndsRejoined, IsReady, after_events, rejoin_events};
 ghost use Rattle.law_recovery_runs.specs.KeyExchange.{EndsConfirmed, NothingStops, exchange_events, joined_front};
 ghost use Rattle.law_recovery_runs.specs.KeyExchange.{joining_events};
 ghost use Rattle.law_router_joins.specs.Routed.{RouteIsFree, routed_front, routed_joining_events};
@@ -135,4 +140,62 @@ pub fn a_device_joins_through_a_router_in_each_schedule()
         → EndsConfirmed (schedule_of p)
         (after_events real (schedule_of p) (first_front (schedule_of p)) (schedule_of p).events) c d
         may.introduced.net.key may.introduced.net.sequence drawn }
+{}
+
+/// States that frames that are lost cost a repeat each at the end of each schedule's run, and nothing else.
+///
+/// The schedule ends with turns of the exchange of link keys that may lose any frame, and may have any events before them.
+pub fn lost_frames_cost_repeats_in_each_schedule()
+    ensures { (p : Schedule) → IsSchedule p → (before : List Event) (c d : ℕ) (k : Keys) (turns : List Turn)
+        → (schedule_of p).events
+        ≡ before ++ turns_events real (schedule_of p) c d
+        (after_events real (schedule_of p) (first_front (schedule_of p)) before) turns
+        → MayExchange (schedule_of p) (after_events real (schedule_of p) (first_front (schedule_of p)) before) c d
+        k.network k.sequence k.link
+        → far_after_all Asking turns ≡ Done
+        → AreFree real (schedule_of p) c d k
+        (after_events real (schedule_of p) (first_front (schedule_of p)) before) Asking turns
+        → EndsConfirmed (schedule_of p)
+        (after_events real (schedule_of p) (first_front (schedule_of p)) (schedule_of p).events) c d
+        k.network k.sequence k.drawn }
+{}
+
+/// States that stops of either node cost a repeat each at the end of each schedule's run, and nothing else.
+///
+/// The schedule ends with an exchange of link keys in which nodes are reset, stopped at any device call and booted. At
+/// its end both have power, and nothing is armed.
+pub fn stops_cost_repeats_in_each_schedule()
+    ensures { (p : Schedule) → IsSchedule p → (before : List Event) (c d : ℕ) (k : Keys) (happenings : List Happening)
+        → (schedule_of p).events ≡ before ++ happening_events c d happenings
+        → MayExchange (schedule_of p) (after_events real (schedule_of p) (first_front (schedule_of p)) before) c d
+        k.network k.sequence k.link
+        → AreInOrder real (schedule_of p) c d k
+        (after_events real (schedule_of p) (first_front (schedule_of p)) before) Asking happenings
+        → kept_far_all real (schedule_of p) c d k
+        (after_events real (schedule_of p) (first_front (schedule_of p)) before) Asking happenings ≡ Done
+        → IsReady (after_events real (schedule_of p) (first_front (schedule_of p)) (schedule_of p).events) c
+        → IsReady (after_events real (schedule_of p) (first_front (schedule_of p)) (schedule_of p).events) d
+        → EndsConfirmed (schedule_of p)
+        (after_events real (schedule_of p) (first_front (schedule_of p)) (schedule_of p).events) c d
+        k.network k.sequence k.drawn }
+{}
+
+/// States that a member whose floor is above its centre's counter rejoins at the end of each schedule's run.
+///
+/// The schedule ends with as many stale rounds, and one more. They are fewer than the member's incoming block where all
+/// that it accepted under its link key came from its centre.
+pub fn stale_rounds_end_in_each_schedule()
+    ensures rounds { (p : Schedule) → IsSchedule p → (before : List Event) (c d n : ℕ)
+        → (schedule_of p).events
+        ≡ before ++ round_events real (schedule_of p) c d (suc n)
+        (after_events real (schedule_of p) (first_front (schedule_of p)) before)
+        → MayRejoinLater (schedule_of p)
+        (after_events real (schedule_of p) (first_front (schedule_of p)) before) c d n
+        → EndsRejoined (after_events real (schedule_of p) (first_front (schedule_of p)) (schedule_of p).events) c d }
+    ensures bounded { (p : Schedule) → IsSchedule p → (before : List Event) (c d n : ℕ)
+        → (may : MayRejoinLater (schedule_of p)
+        (after_events real (schedule_of p) (first_front (schedule_of p)) before) c d n)
+        → CameFromCentre (schedule_of p)
+        (after_events real (schedule_of p) (first_front (schedule_of p)) before) c d may.linked.own
+        → n < (setting_of (schedule_of p) d).me.in_block }
 {}
