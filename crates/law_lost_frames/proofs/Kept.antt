@@ -1,19 +1,22 @@
 -- What an answer leaves of the floors in memory of link rows, and of the state where the frame is stale at NWK.
-use Rattle.std.proofs.Common.{◌≡◌, ℕ, ◌+◌, ◌<◌, ◌≤◌, Bool, true, false, List, [], ◌∷◌, Option, Some, None, refl, sym, ap, ◌∙◌, subst, arith}
+use Rattle.std.proofs.Common.{◌≡◌, ℕ, ◌+◌, ◌<◌, ◌≤◌, Bool, true, false, not, List, [], ◌∷◌, Option, Some, None, nat_eq, refl, sym, ap, ◌∙◌, subst, arith}
 use Rattle.std.specs.List.{AllByRecursion}
 use Rattle.zb_model.specs.Answer.{Counting, accepted_all, sealed_all, aps_part, stopped_at, answer_by, counting_of, plan_of, answer, answered}
 use Rattle.zb_model.specs.Data.{Bytes, Layer, Nwk, Aps, AtNwk, Attribute, Stale, Term, Move, DropLink, Row, Live, Roll, Told, Untold, Edit, Reserve, Floor, Start, Moved, Received}
 use Rattle.zb_model.specs.Judging.{senders_full}
 use Rattle.zb_model.specs.Rules.{Setting, Plan}
-use Rattle.zb_model.specs.State.{NetKey, LinkKey, NodeState, is_link, has_link, is_live_of, is_told, dropped_link, link_floor, link_kept, told_as, revived, new_link, with_link, with_told, moved, applied, applied_all, sealed_at, after_sealing, after_hearing, after_accepting, sender_floor}
+use Rattle.zb_model.specs.State.{NetKey, LinkKey, NodeState, current, is_link, is_unverified, has_link, is_live_of, is_told, dropped_link, link_floor, link_kept, told_as, revived, new_link, with_link, with_told, moved, applied, applied_all, sealed_at, after_sealing, after_hearing, after_accepting, sender_floor}
 use Rattle.zb_model.specs.Tools.{Tools}
 use Rattle.law_answer_storable.specs.Storing.{OpensAsJudged}
 use Rattle.law_key_exchange.specs.CommandFrames.{IsCarried, NetFrame, net_term}
 use Rattle.law_key_exchange.specs.Obstacles.{why_not_heard}
 use Rattle.law_key_exchange.proofs.Judged.{IsHeard, delivered, free_at, plan_heard, shown_of, stale_at}
+use Rattle.law_change_fits.proofs.Parts.{same_key_of}
+use Rattle.law_change_fits.proofs.Tests.{both}
+use Rattle.law_key_exchange.proofs.Rows.{found_test, is_current}
 use Rattle.law_recovery.specs.Answering.{after_task}
 use Rattle.law_run.proofs.FreshLines.{all-append}
-use Rattle.law_lost_frames.proofs.Floors.{AllWithin, changed, if_then, mapped}
+use Rattle.law_lost_frames.proofs.Floors.{AllWithin, all_found, changed, if_then, mapped}
 use Rattle.law_lost_frames.proofs.Twice.{AllAps, part_begins, shown_counter, stop_leaves}
 
 -- the row of a partner with a key has its floor in memory within a bound
@@ -156,3 +159,15 @@ stale_leaves tools b s f content row draw a h late =
     delivered tools b s f content row draw a h
     ∙ ap (λ t. plan_heard t (senders_full f.source f.counter row) floor rest) late in
     ap (λ p. answered (answer_by tools b s (counting_of b s p) p) s) plan ∙ stop_leaves tools b s AtNwk (Stale floor)
+
+-- ---- the current row
+
+pub row_kept : (s : NodeState) (device : ℕ) (link : Bytes) (most : ℕ) (row : LinkKey) → current s device ≡ Some row
+    → row.key ≡ link → AllKept device link most s.links → row.kept ≤ most
+unfolding current
+row_kept s device link most row is key all =
+    let live = both (is_live_of device row) (not (is_unverified row.attribute))
+    (found_test (is_current device) s.links row is) in
+    let mine = (both row.live (nat_eq row.partner device) live.0).1 in
+    all_found (KeptWithin device link most) (is_current device) s.links row all is
+    (rw (mine, same_key_of row.key link key) refl)

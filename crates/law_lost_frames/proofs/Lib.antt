@@ -12,6 +12,7 @@ pub mod Floors
 pub mod Rounds
 mod NetFloors
 mod Kept
+pub mod StaleTurns
 mod Twice
 mod Drawing
 mod Foreseen

@@ -29,7 +29,7 @@ use Rattle.law_lost_frames.proofs.Taking.{IsTold, centre_answers, device_ends}
 abbrev CameTo : Tools → Schedule → Front → ℕ → ℕ → Keys → Far → ℕ → ℕ → Type 0
 CameTo tools w x c d k far frame node = HaveCome w (after_event tools w x (Deliver frame node)) c d k far
 
-refused_turn : (tools : Tools) → OpensAsJudged tools → (w : Schedule) (x : Front) (c d : ℕ) (k : Keys) (far : Far)
+pub refused_turn : (tools : Tools) → OpensAsJudged tools → (w : Schedule) (x : Front) (c d : ℕ) (k : Keys) (far : Far)
     (frame node : ℕ) → HaveCome w x c d k far → IsRefused tools w x c d frame node
     → HaveCome w (after_event tools w x (Deliver frame node)) c d k far
 refused_turn tools opens w x c d k far frame node h r = by_node r.one

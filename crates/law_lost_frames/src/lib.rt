@@ -2,12 +2,14 @@
 //! are stopped. Each law is the contract of a function with an empty body; docs/THEOREMS.md says it in words.
 #![tactic(auto)]
 
-ghost use Rattle.std.specs.Prelude.{◌≡◌, ◌<◌, ◌≤◌, ◌+◌, ◌++◌, ℕ, suc, true, false, [], ◌∷◌, length, List, Option, Some};
+ghost use Rattle.std.specs.Prelude.{◌≡◌, ◌<◌, ◌≤◌, ◌+◌, ◌-◌, ◌++◌, ℕ, suc, true, false, [], ◌∷◌, find, length};
+ghost use Rattle.std.specs.Prelude.{List, Option, Some, reverse};
 ghost use Rattle.std.specs.List.{AllByRecursion};
 ghost use Rattle.law_answer_storable.specs.Storing.{OpensAsJudged};
 ghost use Rattle.law_key_exchange.specs.CommandFrames.{DeliversCommands, IsCarried, NetFrame};
 ghost use Rattle.law_key_exchange.specs.Meeting.{HasNetwork, IsSteady};
-ghost use Rattle.law_lost_frames.specs.Rounds.{CameFromCentre, RejoinsLater, after_rounds};
+ghost use Rattle.law_lost_frames.specs.Rounds.{CameFrom, CameFromCentre, RejoinsLater, after_rounds};
+ghost use Rattle.law_lost_frames.specs.Stale.{AreStale, CameFromDevice, after_stale};
 ghost use Rattle.law_lost_frames.specs.Stages.{AreFree, HaveCome, IsFree, Keys, Sends};
 ghost use Rattle.law_lost_frames.specs.Stages.{asked_bytes, centre_seals, device_seals, told_bytes};
 ghost use Rattle.law_lost_frames.specs.Stops.{AreInOrder, ComesToCentre, Happening, HaveKept, IsInOrder};
@@ -23,16 +25,17 @@ ghost use Rattle.law_recovery.specs.KeyFrames.{DeliversKeys};
 ghost use Rattle.law_recovery_runs.specs.Fronts.{EndsRejoined, Front, IsReady, after_event};
 ghost use Rattle.law_recovery_runs.specs.Joining.{CanJoin};
 ghost use Rattle.law_recovery_runs.specs.KeyExchange.{AreMet, EndsConfirmed, HaveJoined, IsNew, KeysInRange};
-ghost use Rattle.law_recovery_runs.specs.KeyExchange.{NothingStops};
+ghost use Rattle.law_recovery_runs.specs.KeyExchange.{NothingStops, eui_of};
 ghost use Rattle.law_lost_frames.specs.Foreseen.{IsForeseen};
 ghost use Rattle.law_run_steps.specs.Conditions.{condition_of};
 ghost use Rattle.law_run_steps.specs.Steps.{falls_on};
 ghost use Rattle.zb_model.specs.Answer.{answer};
-ghost use Rattle.zb_model.specs.Data.{Aps, Bytes, DoTimer, HasChild, Received, Stale, Task};
+ghost use Rattle.zb_model.specs.Data.{Aps, Bytes, DoTimer, HasChild, Nwk, Received, Stale, Task};
 ghost use Rattle.zb_model.specs.Play.{Deliver, Event, Own, Schedule, frame_at, setting_of};
 ghost use Rattle.zb_model.specs.Readings.{air, is_up, state_of};
 ghost use Rattle.zb_model.specs.Rules.{Setting};
-ghost use Rattle.zb_model.specs.State.{NodeState, after_boot, applied_all, greatest_counter, next_counter};
+ghost use Rattle.zb_model.specs.State.{LinkKey, NodeState, after_boot, applied_all, current, greatest_counter};
+ghost use Rattle.zb_model.specs.State.{is_live_of, next_counter, sender_floor};
 ghost use Rattle.zb_model.specs.Tools.{Tools};
 
 /// States that a lost frame of the exchange of link keys costs a repeat of the device's timer, and nothing else.
@@ -131,6 +134,39 @@ pub fn stale_rounds_are_fewer_than_a_block()
         → RejoinsLater w x c d n → EndsRejoined (after_rounds tools w c d (suc n) x) c d }
     ensures bounded { (w : Schedule) (x : Front) (c d n : ℕ) (later : RejoinsLater w x c d n)
         → CameFromCentre w x c d later.linked.own → n < (setting_of w d).me.in_block }
+{}
+
+/// States that turns whose frames the centre refuses as stale are fewer than its incoming block.
+///
+/// All that it accepted of the device came from the device. The two have come as far then as before.
+pub fn stale_turns_are_fewer_than_a_block()
+    ensures fewer { (tools : Tools) → DeliversCommands tools → OpensAsJudged tools → (w : Schedule) (x : Front)
+        (c d : ℕ) (k : Keys) (far : Far) (n : ℕ) → KeysInRange k.network k.sequence k.link → length k.drawn ≡ 16
+        → HaveCome w x c d k far → CameFromDevice far w x c d k
+        → AreStale tools w c d k far n x → n < (setting_of w c).me.in_block }
+    ensures stays { (tools : Tools) → OpensAsJudged tools → (w : Schedule) (x : Front) (c d : ℕ) (k : Keys)
+        (far : Far) (n : ℕ) → KeysInRange k.network k.sequence k.link → length k.drawn ≡ 16 → HaveCome w x c d k far
+        → AreStale tools w c d k far n x → HaveCome w (after_stale tools w c d n x) c d k far }
+{}
+
+/// States that a floor is less than a block above its sender's next counter, where nobody forged.
+///
+/// All that the receiver accepted under that key came from the sender. The floor is of a network key, or of the link key
+/// that is current, or of the one that is tried first. So a frame is stale less often than the block is long.
+pub fn floors_are_less_than_a_block_above()
+    ensures nwk { (w : Schedule) (x : Front) (a b : ℕ) (key : Bytes) (sequence : ℕ)
+        → (h : HasNetwork (state_of x.lines b) key sequence) → CameFrom Nwk w x a b key
+        → 1 ≤ (setting_of w b).me.in_block
+        → (sender_floor (eui_of w a) h.found).kept - next_counter Nwk (state_of x.lines a)
+        < (setting_of w b).me.in_block }
+    ensures current { (w : Schedule) (x : Front) (a b : ℕ) (row : LinkKey)
+        → current (state_of x.lines b) (eui_of w a) ≡ Some row → CameFrom Aps w x a b row.key
+        → 1 ≤ (setting_of w b).me.in_block
+        → row.kept - next_counter Aps (state_of x.lines a) < (setting_of w b).me.in_block }
+    ensures tried { (w : Schedule) (x : Front) (a b : ℕ) (row : LinkKey)
+        → find (is_live_of (eui_of w a)) (reverse (state_of x.lines b).links) ≡ Some row
+        → CameFrom Aps w x a b row.key → 1 ≤ (setting_of w b).me.in_block
+        → row.kept - next_counter Aps (state_of x.lines a) < (setting_of w b).me.in_block }
 {}
 
 /// States that a frame that a node heard and that comes again is stale, and changes nothing.
