@@ -4,7 +4,7 @@ use Rattle.std.proofs.Common.{◌≡◌, ℕ, ◌+◌, ◌++◌, ◌≤◌, Bool
 use Rattle.std.proofs.lemmas.Bool.{false≢true}
 use Rattle.zb_model.specs.Answer.{Answer, answer, answered}
 use Rattle.zb_model.specs.Data.{Bytes, Down, NoFrame, WrongState, Reason, Task, Received, DoRoll}
-use Rattle.zb_model.specs.Play.{Schedule, Event, Own, RollOver, Deliver, Reset, PowerOn, ShowRecord, ArmStop, ArmFail, InjectBytes, ForgeNet, ForgeNetAps, ForgeOpen, Step, answer_step, refused_step, frame_at, leaves_both, setting_of, stands, step, supply}
+use Rattle.zb_model.specs.Play.{Schedule, Event, Own, RollOver, Deliver, Reset, PowerOn, ShowRecord, ArmStop, ArmFail, Step, answer_step, refused_step, frame_at, leaves_both, setting_of, stands, step, supply}
 use Rattle.zb_model.specs.Readings.{is_up, state_of}
 use Rattle.zb_model.specs.Rules.{Setting}
 use Rattle.zb_model.specs.State.{NodeState, after_boot, applied_all}
@@ -256,8 +256,8 @@ unanswered_kept tools w x (ShowRecord n) m any =
     of_node (Kept w x (after_event tools w x (ShowRecord n))) n m (other_kept tools w x m (ShowRecord n))
     (dump_kept tools w x n)
 unanswered_kept tools w x (ArmStop n calls torn) m any =
-    of_node (Kept w x (after_event tools w x (ArmStop n calls torn))) n m (other_kept tools w x m (ArmStop n calls torn))
-    (stop_kept tools w x n calls torn)
+    of_node (Kept w x (after_event tools w x (ArmStop n calls torn))) n m
+    (other_kept tools w x m (ArmStop n calls torn)) (stop_kept tools w x n calls torn)
 unanswered_kept tools w x (ArmFail n call) m any =
     of_node (Kept w x (after_event tools w x (ArmFail n call))) n m (other_kept tools w x m (ArmFail n call))
     (failure_kept tools w x n call)

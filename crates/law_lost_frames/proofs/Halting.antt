@@ -24,7 +24,7 @@ use Rattle.law_lost_frames.specs.Stages.{Keys, DeviceIs, CentreHas, DeviceTakes,
 use Rattle.law_lost_frames.specs.Stops.{HaveKept, Happening, Timer, Hearing, Taking, Repelling, Idle, ComesToCentre, ComesToDevice, IsAnswered, IsInOrder, AreInOrder, IsUnderWay, IsUnanswered, after_happening, after_happenings, is_stored, kept_far, kept_far_all, taken_from}
 use Rattle.law_lost_frames.specs.Turns.{Far, Asking, Offering, Proving, Proved, Done, Turn, after_turns, far_after_all, unanswered_from}
 use Rattle.law_lost_frames.proofs.Acting.{Acted, Kept, acted_on, other_kept, unanswered_kept}
-use Rattle.law_lost_frames.proofs.Sending.{KeysFit, frame_is, ranges, still}
+use Rattle.law_lost_frames.proofs.Sending.{KeysFit, ranges, still}
 use Rattle.law_lost_frames.proofs.Staying.{centre_left, device_left}
 use Rattle.law_lost_frames.proofs.Taking.{answers_by, centre_range, device_stays, device_takes, kept_so}
 use Rattle.law_lost_frames.proofs.Turning.{all_turns}

@@ -1,6 +1,6 @@
 -- Where what a node accepted of a sender under a network key is below a number, the sender's floor there is at most a
 -- block above it.
-use Rattle.std.proofs.Common.{◌≡◌, ℕ, ◌+◌, ◌-◌, ◌<◌, ◌≤◌, max, Bool, true, false, cond, List, [], ◌∷◌, ◌++◌, fold, find, map, Option, Some, None, nat_eq, nat_lt, refl, sym, ◌∙◌, arith, eqb-true}
+use Rattle.std.proofs.Common.{◌≡◌, ℕ, ◌+◌, ◌-◌, ◌<◌, ◌≤◌, max, Bool, true, false, cond, List, [], ◌∷◌, ◌++◌, fold, find, Option, Some, None, nat_eq, nat_lt, refl, sym, ◌∙◌, arith, eqb-true}
 use Rattle.std.specs.List.{AllByRecursion}
 use Rattle.zb_model.specs.Data.{Bytes, Layer, Nwk, Aps, Device, Term, Move, DropNet, Install, Edit, Reserve, Floor, Start, Moved}
 use Rattle.zb_model.specs.Lines.{Line, GivenNet, Counter, Changed, Accept, Seal, Boot}
@@ -83,8 +83,8 @@ reserved_within source k most limit None rs all = all
 reserved_within source k most limit (Some key) rs all =
     changed (NetWithin source k most) (key_of key) (reserved limit) (λ r t x. x) rs all
 
-added_within : (source : ℕ) (k : Bytes) (most : ℕ) (b : Bool) (r : NetKey) (rs : List NetKey) → NetWithin source k most r
-    → AllNets source k most rs → AllNets source k most (cond b rs (rs ++ r ∷ []))
+added_within : (source : ℕ) (k : Bytes) (most : ℕ) (b : Bool) (r : NetKey) (rs : List NetKey)
+    → NetWithin source k most r → AllNets source k most rs → AllNets source k most (cond b rs (rs ++ r ∷ []))
 added_within source k most true r rs new all = all
 added_within source k most false r rs new all = all-append (NetWithin source k most) rs (r ∷ []) all (new, tt)
 

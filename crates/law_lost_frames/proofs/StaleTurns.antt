@@ -1,10 +1,10 @@
--- Turns whose frames the centre refuses as stale: each uses a counter of the device, and leaves the centre's floors within
--- a block of where it began. So they are fewer than the block.
-use Rattle.std.proofs.Common.{◌≡◌, ℕ, zero, suc, ◌+◌, ◌-◌, ◌<◌, ◌≤◌, ◌⊎◌, inl, inr, Bool, true, false, List, [], ◌∷◌, length, Option, Some, None, nat_lt, refl, sym, ap, ◌∙◌, subst, arith}
+-- Turns whose frames the centre refuses as stale: each uses a counter of the device, and leaves the centre's floors
+-- within a block of where it began. So they are fewer than the block.
+use Rattle.std.proofs.Common.{◌≡◌, ℕ, zero, suc, ◌+◌, ◌-◌, ◌<◌, ◌≤◌, ◌⊎◌, inl, inr, Bool, true, false, [], ◌∷◌, length, Option, Some, None, nat_lt, refl, sym, ap, ◌∙◌, subst, arith}
 use Rattle.std.specs.Prelude.{is_none}
 use Rattle.std.proofs.lemmas.Bool.{ltb-true}
-use Rattle.zb_model.specs.Answer.{Answer, Counting, accepted_all, sealed_all, comes_to, may_seal, out_of, part_of, answer_by, counting_of, answer, answered}
-use Rattle.zb_model.specs.Data.{Bytes, AtEvent, Nwk, Aps, Joined, Offered, Reason, Stale, RowsFull, NoDraw, CounterSpent, Command, Term, VerifyKey, DoTimer, Received}
+use Rattle.zb_model.specs.Answer.{Counting, accepted_all, sealed_all, comes_to, may_seal, out_of, part_of, answer_by, counting_of, answer, answered}
+use Rattle.zb_model.specs.Data.{Bytes, AtEvent, Nwk, Aps, Offered, Reason, Stale, RowsFull, NoDraw, CounterSpent, Command, Term, VerifyKey, DoTimer, Received}
 use Rattle.zb_model.specs.Frames.{clear_command, low_byte, nwk_term, secured_frame}
 use Rattle.zb_model.specs.Judging.{senders_full}
 use Rattle.zb_model.specs.OwnEvents.{member_timer, verify_key}
@@ -16,8 +16,8 @@ use Rattle.zb_model.specs.Tools.{Tools, verify_hash}
 use Rattle.law_answer_storable.specs.Storing.{OpensAsJudged}
 use Rattle.law_key_exchange.specs.CommandFrames.{DeliversCommands, IsCarried, IsUnsealed, NetFrame, sealed_content, clear_content}
 use Rattle.law_key_exchange.specs.Exchanging.{Seals, ApsInRange, NwkInRange, StationsInRange, net_frame, proof_bytes, request, request_bytes, seals_now}
-use Rattle.law_key_exchange.specs.Meeting.{AreDeclared, HasBoth, HasLink, HasNetwork, HasOffer, HasProved, IsOffered, IsSteady}
-use Rattle.law_key_exchange.specs.Obstacles.{in_row, or_else, when, why_no_confirmation, why_no_offer_again, why_no_proof, why_not_heard, why_not_offered, why_not_opened, why_not_sealed, why_unheard}
+use Rattle.law_key_exchange.specs.Meeting.{AreDeclared, HasBoth, HasNetwork, IsOffered, IsSteady}
+use Rattle.law_key_exchange.specs.Obstacles.{in_row, or_else, when, why_no_offer_again, why_no_proof, why_not_heard, why_not_offered, why_not_opened, why_not_sealed}
 use Rattle.law_key_exchange.proofs.Again.{again_refused, confirm_again_refused}
 use Rattle.law_key_exchange.proofs.Calm.{sealed_next}
 use Rattle.law_key_exchange.proofs.Counting.{GoesOn, request_counts}
@@ -28,12 +28,12 @@ use Rattle.law_key_exchange.proofs.Rows.{may_use_of}
 use Rattle.law_key_exchange.proofs.Steady.{steady_after}
 use Rattle.law_recovery.specs.Answering.{after_task}
 use Rattle.law_recovery.proofs.Asking.{by_outcome}
-use Rattle.law_recovery_runs.specs.Fronts.{Front, after_event}
-use Rattle.law_recovery_runs.specs.KeyExchange.{AreMet, eui_of}
+use Rattle.law_recovery_runs.specs.Fronts.{Front}
+use Rattle.law_recovery_runs.specs.KeyExchange.{eui_of}
 use Rattle.law_recovery_runs.proofs.Confirmed.{centre_acts, device_acts}
 use Rattle.law_recovery_runs.proofs.Exchanged.{turned}
 use Rattle.law_run_steps.proofs.Others.{frame-up, own-up}
-use Rattle.law_lost_frames.specs.Stages.{Keys, HaveCome, Sends, asked_bytes, device_seals, heard, timed}
+use Rattle.law_lost_frames.specs.Stages.{Keys, HaveCome, asked_bytes, device_seals, heard, timed}
 use Rattle.law_lost_frames.specs.Rounds.{CameFrom}
 use Rattle.law_lost_frames.specs.Stale.{AreStale, CameFromDevice, IsStale, after_stale}
 use Rattle.law_lost_frames.specs.Turns.{Far, Asking, Offering, Proving, Proved, Done}

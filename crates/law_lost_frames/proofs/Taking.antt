@@ -184,8 +184,8 @@ centre_answers tools delivers opens w y c d k far t frames fit a takes =
 
 -- ---- the device
 
-pub device_takes : (tools : Tools) → DeliversCommands tools → (w : Schedule) (z : Front) (c d : ℕ) (k : Keys) (far : Far)
-    (s : NodeState) (draw : Option Bytes) → KeysFit k → HaveKept w z c d k (unanswered_from far)
+pub device_takes : (tools : Tools) → DeliversCommands tools → (w : Schedule) (z : Front) (c d : ℕ) (k : Keys)
+    (far : Far) (s : NodeState) (draw : Option Bytes) → KeysFit k → HaveKept w z c d k (unanswered_from far)
     → NwkInRange (centre_seals far s k) × ApsInRange (centre_seals far s k)
     → DeviceTakes far w z c d k (centre_seals far s k)
     → DeviceIs (answered_from far)

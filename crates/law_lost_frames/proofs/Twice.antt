@@ -294,9 +294,10 @@ aps_judged tools opens c s f bytes a aux read shown =
     (λ row g. after_reject (IsAps aux.counter) (nat_le greatest_counter aux.counter) AtAps CounterMax _
     (after_reject (IsAps aux.counter) (nat_lt aux.counter row.kept) AtAps (Stale row.kept) _
     (after_need (IsAps aux.counter) (tools.open_aps bytes row.key source) AtAps BadMic _
-    (λ term h.
-    ((opens.aps bytes row.key source a aux term read shown h).0,
-    (opens.aps bytes row.key source a aux term read shown h).3))))))
+    (λ term h. (
+      (opens.aps bytes row.key source a aux term read shown h).0,
+      (opens.aps bytes row.key source a aux term read shown h).3,
+    ))))))
 
 command_begins : (tools : Tools) (c : Setting) (s : NodeState) (draw : Option Bytes) (n : ℕ) (t : Term)
     (rest : List Term) (m : Heard) (o : CommandShown) → AllAps n rest
@@ -533,7 +534,8 @@ heard_frame tools opens c s f content draw a m =
     let begins = part_begins tools opens c s draw (shown_of f a.body) t (tools.read_aps content) refl in
     let shape : part ≡ plan_with part (t ∷ begins.rest) = ap (λ ts. plan_with part ts) begins.accepts in
     subst (λ p. StandsOver f (answered (answer_by tools c s (counting_of c s p) p) s)) (sym (plan ∙ shape))
-    (heard_plan tools c s part (shown_counter (tools.read_aps content)) t begins.rest refl begins.aps (net_here s f.key f.sequence m.network))
+    (heard_plan tools c s part (shown_counter (tools.read_aps content)) t begins.rest refl begins.aps
+    (net_here s f.key f.sequence m.network))
 
 pub comes_twice : (tools : Tools) → OpensAsJudged tools → (c : Setting) (s : NodeState) (f : NetFrame)
     (content : Bytes) (draw again : Option Bytes) → 1 ≤ c.me.in_block → IsSteady c s → IsCarried tools f content

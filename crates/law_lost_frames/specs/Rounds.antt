@@ -40,8 +40,8 @@ pub record RejoinsLater (w : Schedule) (x : Front) (c d n : ℕ) : Type 0 where
   pub stale : linked.own.kept - next_counter Aps (state_of x.lines c) ≡ n
   pub counters : next_counter Aps (state_of x.lines c) + n < greatest_counter
 
--- A line of a receiver, of a sender's frames under a key of a layer: each counter that it accepted, and each for which it
--- stored a floor, is below this number.
+-- A line of a receiver, of a sender's frames under a key of a layer: each counter that it accepted, and each for which
+-- it stored a floor, is below this number.
 abbrev pub IsBelow : Layer → ℕ → ℕ → ℕ → ℕ → Bytes → Line → Type 0
 IsBelow layer number block receiver sender key (Accept e n t) =
     n ≡ receiver → t.layer ≡ layer → t.base ≡ key → t.source ≡ sender → t.counter < number

@@ -1,8 +1,8 @@
--- An exchange of link keys event by event, in which nodes are reset, stopped at any device call, and booted. Where a disk
--- cuts an event, its node is as before it, or the changes of its answer are stored.
+-- An exchange of link keys event by event, in which nodes are reset, stopped at any device call, and booted. Where a
+-- disk cuts an event, its node is as before it, or the changes of its answer are stored.
 use Rattle.std.specs.Prelude.{ℕ, ◌≡◌, ◌⊎◌, Bool, false, not, ◌&&◌, ◌||◌, if◌then◌else◌, List, [], ◌∷◌, fold, Some, None, nat_eq, ⊤}
 use Rattle.zb_model.specs.Answer.{Answer, answer}
-use Rattle.zb_model.specs.Data.{Bytes, DoTimer, Received}
+use Rattle.zb_model.specs.Data.{DoTimer, Received}
 use Rattle.zb_model.specs.Play.{Schedule, Event, Own, RollOver, Deliver, frame_at, setting_of, stands, supply}
 use Rattle.zb_model.specs.Readings.{is_up, state_of}
 use Rattle.zb_model.specs.State.{NodeState}
@@ -15,7 +15,7 @@ use Rattle.law_recovery_runs.specs.KeyExchange.{eui_of}
 use Rattle.law_run_steps.specs.Conditions.{calls_by, condition_of}
 use Rattle.law_run_steps.specs.Steps.{falls_on, is_of}
 use Rattle.law_lost_frames.specs.Stages.{Keys, DeviceIs, CentreHas, Sends, CentreTakes, DeviceTakes, IsRefused, asked_bytes, centre_seals, device_seals, told_bytes}
-use Rattle.law_lost_frames.specs.Turns.{Far, Asking, Offering, Proving, Proved, Done, unanswered_from}
+use Rattle.law_lost_frames.specs.Turns.{Far, Offering, Proving, Proved, Done, unanswered_from}
 
 -- A centre c and a device d have come so far with these keys, whether they have power or not, and whatever is armed.
 pub record HaveKept (w : Schedule) (x : Front) (c d : ℕ) (k : Keys) (far : Far) : Type 0 where
@@ -30,9 +30,9 @@ pub record HaveKept (w : Schedule) (x : Front) (c d : ℕ) (k : Keys) (far : Far
 
 -- ---- what happens
 
--- `Timer`: the device's timer comes. `Hearing`: the frame of this number comes to the centre, which the device sealed in
--- this state. `Taking`: the frame of this number comes to the device, which the centre sealed in this state.
--- `Repelling`: a frame comes to one of the two, which it refuses. `Idle`: an event of neither, or that no node answers.
+-- `Timer`: the device's timer comes. `Hearing`: the frame of this number, which the device sealed in this state, comes
+-- to the centre. `Taking`: the frame of this number, which the centre sealed in this state, comes to the device.
+-- `Repelling`: a frame comes to one of the two, which refuses it. `Idle`: an event of neither, or that no node answers.
 pub data Happening : Type 0 where
   Timer : Happening
   Hearing : (frame : ℕ) (sealed : NodeState) → Happening

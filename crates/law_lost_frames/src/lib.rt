@@ -73,8 +73,8 @@ pub fn a_stop_leaves_an_exchange()
 
 /// States that a stop of either node within the exchange of link keys costs a repeat, and nothing else.
 ///
-/// A node may be reset, booted, or stopped at any device call, at any event and as often as may be. How far the two have
-/// come is kept. Once both have power and nothing is armed, turns go on from there.
+/// A node may be reset, booted, or stopped at any device call, at any event and as often as may be. How far the two
+/// have come is kept. Once both have power and nothing is armed, turns go on from there.
 pub fn a_stop_costs_a_repeat()
     ensures happening { (tools : Tools) → DeliversCommands tools → OpensAsJudged tools → (w : Schedule) (x : Front)
         (c d : ℕ) (k : Keys) (far : Far) (happening : Happening) → KeysInRange k.network k.sequence k.link
@@ -103,7 +103,7 @@ pub fn a_stop_costs_a_repeat()
         → EndsConfirmed w (after_turns tools w c d x turns) c d k.network k.sequence k.drawn }
 {}
 
-/// States that the frames of the exchange are on the air where no disk cuts their event, and stay there.
+/// States that frames of the exchange are on the air where no disk falls, and stay there.
 ///
 /// The device's timer sends its frame, and the centre that hears it sends its own. Each is the next on the air.
 pub fn frames_of_the_exchange_are_on_the_air()
@@ -151,8 +151,8 @@ pub fn stale_turns_are_fewer_than_a_block()
 
 /// States that a floor is less than a block above its sender's next counter, where nobody forged.
 ///
-/// All that the receiver accepted under that key came from the sender. The floor is of a network key, or of the link key
-/// that is current, or of the one that is tried first. So a frame is stale less often than the block is long.
+/// All that the receiver accepted under that key came from the sender. The floor is of a network key, or of the link
+/// key that is current, or of the one that is tried first.
 pub fn floors_are_less_than_a_block_above()
     ensures nwk { (w : Schedule) (x : Front) (a b : ℕ) (key : Bytes) (sequence : ℕ)
         → (h : HasNetwork (state_of x.lines b) key sequence) → CameFrom Nwk w x a b key

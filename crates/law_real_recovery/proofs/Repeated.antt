@@ -1,5 +1,5 @@
--- An exchange goes on at the end of a schedule's run: by turns that lose frames, where nodes are stopped, and by rounds of
--- rejoining that are stale.
+-- An exchange goes on at the end of a schedule's run: by turns that lose frames, where nodes are stopped, and by rounds
+-- of rejoining that are stale.
 use Rattle.std.proofs.Common.{◌≡◌, ℕ, zero, suc, ◌<◌, List, [], ◌∷◌, ◌++◌, fold, length, refl, sym, ap, ◌∙◌, subst}
 use Rattle.std.specs.List.{AllByRecursion}
 use Rattle.std.proofs.lemmas.List.Sums.{fold-append}
@@ -9,13 +9,15 @@ use Rattle.zb_model.specs.Play.{Event, setting_of}
 use Rattle.zb_model.specs.Readings.{state_of}
 use Rattle.zb_model.specs.Tools.{Tools}
 use Rattle.law_lost_frames.specs.Rounds.{CameFromCentre, RejoinsLater, after_rounds}
-use Rattle.law_lost_frames.specs.Stages.{AreFree, Keys}
+use Rattle.law_lost_frames.specs.Stages.{AreFree, HaveCome, Keys}
+use Rattle.law_lost_frames.specs.Stale.{AreStale, CameFromDevice}
 use Rattle.law_lost_frames.specs.Stops.{AreInOrder, Happening, Timer, Hearing, Taking, Repelling, Idle, after_happening, after_happenings, kept_far_all}
-use Rattle.law_lost_frames.specs.Turns.{Asking, Done, Turn, Unheard, Unanswered, Answered, Refused, Elsewhere, after_turn, after_turns, far_after_all, turn_events}
+use Rattle.law_lost_frames.specs.Turns.{Far, Asking, Done, Turn, Unheard, Unanswered, Answered, Refused, Elsewhere, after_turn, after_turns, far_after_all, turn_events}
 use Rattle.law_lost_frames.proofs.Floors.{floor_at_most}
 use Rattle.law_lost_frames.proofs.Halting.{happenings_confirm}
 use Rattle.law_lost_frames.proofs.Rounds.{rounds_end}
 use Rattle.law_lost_frames.proofs.Sending.{KeysFit}
+use Rattle.law_lost_frames.proofs.StaleTurns.{stale_turns_are_fewer}
 use Rattle.law_lost_frames.proofs.Turning.{turns_confirm}
 use Rattle.law_real_nodes.proofs.Euis.{different}
 use Rattle.law_real_nodes.proofs.Opening.{opens_as_judged}
@@ -29,7 +31,7 @@ use Rattle.law_run_text.proofs.Tools.{real_keeps}
 use Rattle.law_schedules.specs.Schedules.{schedule_of}
 use Rattle.law_schedules.proofs.Meets.{is_schedule}
 use Rattle.law_real_recovery.specs.Exchanging.{MayExchange}
-use Rattle.law_real_recovery.specs.Repeating.{MayRejoinLater, happening_events, round_events, turns_events}
+use Rattle.law_real_recovery.specs.Repeating.{MayGoOn, MayRejoinLater, happening_events, round_events, turns_events}
 use Rattle.law_real_recovery.specs.Texts.{first_front}
 use Rattle.law_real_recovery.proofs.Arriving.{delivers}
 use Rattle.law_real_recovery.proofs.ArrivingCommands.{delivers_commands}
@@ -228,3 +230,25 @@ rounds_bounded p is before c d n may came =
     let x = after_events real w (first_front w) before in
     subst (λ k. k < (setting_of w d).me.in_block) may.stale
     (floor_at_most w x c d may.linked.own may.linked.at_member came (some_block p is d may.member_named))
+
+-- ---- turns that are stale
+
+pub stale_turns_bounded : (p : sched.Schedule) → IsSchedule p → (before : List Event) (c d : ℕ) (k : Keys) (far : Far)
+    (n : ℕ)
+    → MayGoOn (schedule_of p) (after_events real (schedule_of p) (first_front (schedule_of p)) before) c d k far
+    → CameFromDevice far (schedule_of p) (after_events real (schedule_of p) (first_front (schedule_of p)) before) c d k
+    → AreStale real (schedule_of p) c d k far n
+    (after_events real (schedule_of p) (first_front (schedule_of p)) before)
+    → n < (setting_of (schedule_of p) c).me.in_block
+stale_turns_bounded p is before c d k far n may came all =
+    let w = schedule_of p in
+    let x = after_events real w (first_front w) before in
+    let come : HaveCome w x c d k far = record {
+      met = met_at p is before c d may.centre_named may.device_named may.centre_role may.device_role may.centre_ready
+          may.device_ready;
+      network = may.network;
+      device = may.device;
+      centre = may.centre;
+    } in
+    stale_turns_are_fewer real delivers_commands opens_as_judged w c d k far n x
+    (record { range = may.in_range; drawn = may.drawn }) come came all

@@ -1,6 +1,6 @@
--- An exchange goes on at the end of a schedule's run, though frames are lost, nodes are stopped, or answers are stale: the
--- events, and what is asked of the two nodes before them.
-use Rattle.std.specs.Prelude.{ℕ, zero, suc, ◌≡◌, ◌<◌, ◌+◌, ◌-◌, true, false, List, [], ◌∷◌, ◌++◌, map, None}
+-- An exchange goes on at the end of a schedule's run, though frames are lost, nodes are stopped, or answers are stale:
+-- the events, and what is asked of the two nodes before them.
+use Rattle.std.specs.Prelude.{ℕ, zero, suc, ◌≡◌, ◌<◌, ◌+◌, ◌-◌, true, false, List, [], ◌∷◌, ◌++◌, map, length, None}
 use Rattle.zb_model.specs.Commands.{dropped_at}
 use Rattle.zb_model.specs.Data.{Aps}
 use Rattle.zb_model.specs.Play.{Schedule, Event, setting_of}
@@ -8,10 +8,13 @@ use Rattle.zb_model.specs.Readings.{state_of}
 use Rattle.zb_model.specs.Schedules.{Names}
 use Rattle.zb_model.specs.State.{greatest_counter, is_centre, next_counter}
 use Rattle.zb_model.specs.Tools.{Tools}
+use Rattle.law_key_exchange.specs.Meeting.{HasNetwork}
+use Rattle.law_lost_frames.specs.Stages.{Keys, DeviceIs, CentreHas}
 use Rattle.law_lost_frames.specs.Stops.{Happening, happening_event}
-use Rattle.law_lost_frames.specs.Turns.{Turn, after_turn, turn_events}
+use Rattle.law_lost_frames.specs.Turns.{Far, Turn, after_turn, turn_events}
 use Rattle.law_recovery.specs.Rejoining.{AreLinked, may_rejoin, why_no_room, why_not_sent, why_old}
 use Rattle.law_recovery_runs.specs.Fronts.{Front, IsReady, after_events, rejoin_events}
+use Rattle.law_recovery_runs.specs.KeyExchange.{KeysInRange, eui_of}
 
 -- the events of turns of the exchange of link keys, each from the front that is reached then
 abbrev pub turns_events : Tools → Schedule → ℕ → ℕ → Front → List Turn → List Event
@@ -46,3 +49,18 @@ pub record MayRejoinLater (w : Schedule) (x : Front) (c d n : ℕ) : Type 0 wher
       (why_no_room (state_of x.lines d) linked.net.key) ≡ None
   pub stale : linked.own.kept - next_counter Aps (state_of x.lines c) ≡ n
   pub counters : next_counter Aps (state_of x.lines c) + n < greatest_counter
+
+-- The centre c of a schedule and a device d of it have power, nothing is armed on their disks, and they have come so
+-- far in an exchange with these keys, which have 16 bytes.
+pub record MayGoOn (w : Schedule) (x : Front) (c d : ℕ) (k : Keys) (far : Far) : Type 0 where
+  pub centre_named : Names w c
+  pub device_named : Names w d
+  pub centre_role : is_centre (setting_of w c).me.role ≡ true
+  pub device_role : is_centre (setting_of w d).me.role ≡ false
+  pub centre_ready : IsReady x c
+  pub device_ready : IsReady x d
+  pub network : HasNetwork (state_of x.lines c) k.network k.sequence
+  pub device : DeviceIs far (state_of x.lines d) (eui_of w c) k
+  pub centre : CentreHas far (state_of x.lines c) (eui_of w d) k
+  pub in_range : KeysInRange k.network k.sequence k.link
+  pub drawn : length k.drawn ≡ 16

@@ -6,14 +6,16 @@ ghost use Rattle.std.specs.Prelude.{◌≡◌, ◌<◌, ℕ, suc, ◌++◌, true
 ghost use Rattle.law_key_exchange.specs.CommandFrames.{DeliversCommands};
 ghost use Rattle.law_lost_frames.specs.Rounds.{CameFromCentre};
 ghost use Rattle.law_lost_frames.specs.Stages.{AreFree, Keys};
+ghost use Rattle.law_lost_frames.specs.Stale.{AreStale, CameFromDevice};
 ghost use Rattle.law_lost_frames.specs.Stops.{AreInOrder, Happening, kept_far_all};
-ghost use Rattle.law_lost_frames.specs.Turns.{Asking, Done, Turn, far_after_all};
+ghost use Rattle.law_lost_frames.specs.Turns.{Asking, Done, Far, Turn, far_after_all};
 ghost use Rattle.law_recovery.specs.KeyFrames.{DeliversKeys};
 ghost use Rattle.law_recovery.specs.Rejoining.{AreOfOneNetwork};
 ghost use Rattle.law_readmission.specs.Readmitting.{knocked_front, readmission_events};
 ghost use Rattle.law_real_recovery.specs.Exchanging.{MayExchange, MayJoin};
 ghost use Rattle.law_real_recovery.specs.Readmitting.{MayReadmit};
-ghost use Rattle.law_real_recovery.specs.Repeating.{MayRejoinLater, happening_events, round_events, turns_events};
+ghost use Rattle.law_real_recovery.specs.Repeating.{MayGoOn, MayRejoinLater, happening_events};
+ghost use Rattle.law_real_recovery.specs.Repeating.{round_events, turns_events};
 ghost use Rattle.law_real_recovery.specs.Routing.{MayRoute};
 ghost use Rattle.law_real_recovery.specs.Texts.{MayRejoin, first_front};
 ghost use Rattle.law_recovery_runs.specs.Fronts.{EndsRejoined, IsReady, after_events, rejoin_events};
@@ -142,9 +144,9 @@ pub fn a_device_joins_through_a_router_in_each_schedule()
         may.introduced.net.key may.introduced.net.sequence drawn }
 {}
 
-/// States that frames that are lost cost a repeat each at the end of each schedule's run, and nothing else.
+/// States that lost frames cost a repeat each at the end of each schedule's run, and nothing else.
 ///
-/// The schedule ends with turns of the exchange of link keys that may lose any frame, and may have any events before them.
+/// The schedule ends with turns of the exchange of link keys that may lose any frame, and may have any events before.
 pub fn lost_frames_cost_repeats_in_each_schedule()
     ensures { (p : Schedule) → IsSchedule p → (before : List Event) (c d : ℕ) (k : Keys) (turns : List Turn)
         → (schedule_of p).events
@@ -160,7 +162,7 @@ pub fn lost_frames_cost_repeats_in_each_schedule()
         k.network k.sequence k.drawn }
 {}
 
-/// States that stops of either node cost a repeat each at the end of each schedule's run, and nothing else.
+/// States that a stop costs a repeat at the end of each schedule's run, and nothing else.
 ///
 /// The schedule ends with an exchange of link keys in which nodes are reset, stopped at any device call and booted. At
 /// its end both have power, and nothing is armed.
@@ -182,8 +184,8 @@ pub fn stops_cost_repeats_in_each_schedule()
 
 /// States that a member whose floor is above its centre's counter rejoins at the end of each schedule's run.
 ///
-/// The schedule ends with as many stale rounds, and one more. They are fewer than the member's incoming block where all
-/// that it accepted under its link key came from its centre.
+/// The schedule ends with as many stale rounds, and one more. They are fewer than the member's incoming block where
+/// all that it accepted under its link key came from its centre.
 pub fn stale_rounds_end_in_each_schedule()
     ensures rounds { (p : Schedule) → IsSchedule p → (before : List Event) (c d n : ℕ)
         → (schedule_of p).events
@@ -198,4 +200,18 @@ pub fn stale_rounds_end_in_each_schedule()
         → CameFromCentre (schedule_of p)
         (after_events real (schedule_of p) (first_front (schedule_of p)) before) c d may.linked.own
         → n < (setting_of (schedule_of p) d).me.in_block }
+{}
+
+/// States that stale turns are fewer than the centre's incoming block in each schedule's run.
+///
+/// After any events the two are at any stage of an exchange of link keys, and the centre refuses the device's frame as
+/// stale, turn by turn. All that the centre accepted of the device came from it.
+pub fn stale_turns_are_fewer_in_each_schedule()
+    ensures { (p : Schedule) → IsSchedule p → (before : List Event) (c d : ℕ) (k : Keys) (far : Far) (n : ℕ)
+        → MayGoOn (schedule_of p) (after_events real (schedule_of p) (first_front (schedule_of p)) before) c d k far
+        → CameFromDevice far (schedule_of p)
+        (after_events real (schedule_of p) (first_front (schedule_of p)) before) c d k
+        → AreStale real (schedule_of p) c d k far n
+        (after_events real (schedule_of p) (first_front (schedule_of p)) before)
+        → n < (setting_of (schedule_of p) c).me.in_block }
 {}
