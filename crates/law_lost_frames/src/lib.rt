@@ -71,7 +71,7 @@ pub fn a_stop_leaves_an_exchange()
         → IsSpared (after_task tools c s task) (after_boot (applied_all (answer tools c s task).edits s)) }
 {}
 
-/// States that a stop of either node within the exchange of link keys costs a repeat, and nothing else.
+/// States that a stop of either node within the exchange of link keys costs repeats alone.
 ///
 /// A node may be reset, booted, or stopped at any device call, at any event and as often as may be. How far the two
 /// have come is kept. Once both have power and nothing is armed, turns go on from there.

@@ -162,7 +162,7 @@ pub fn lost_frames_cost_repeats_in_each_schedule()
         k.network k.sequence k.drawn }
 {}
 
-/// States that a stop costs a repeat at the end of each schedule's run, and nothing else.
+/// States that stops within the exchange of link keys cost repeats alone at the end of each schedule's run.
 ///
 /// The schedule ends with an exchange of link keys in which nodes are reset, stopped at any device call and booted. At
 /// its end both have power, and nothing is armed.
