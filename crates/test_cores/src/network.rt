@@ -1,4 +1,4 @@
-//! A network of a centre, a device and a router, their keys and their first disks.
+//! A network of a centre, a device and a router: how its nodes are configured, and their first disks.
 ghost use Rattle.std.specs.Prelude.{◌≡◌, ◌≤◌, length};
 ghost use Rattle.zb_base.specs.Config.{IsConfig};
 ghost use Rattle.zb_model.specs.Data.{Centre};
@@ -6,12 +6,11 @@ ghost use Rattle.zb_node_types.specs.Changes.{model_role};
 ghost use Rattle.zb_stored_tables.specs.Cores.{IsOfRole};
 
 use arrayvec::ArrayVec;
+use std::alloc::Global;
 use std::process::Abort;
-use std::test::Fail;
-use zb_base::{Config, Eui, Frame, Key, Name, Peer, RECORD_ROOM, Role, Short};
+use zb_base::{Config, Eui, Name, Peer, Role, Short};
 use zb_disk::MemDisk;
 use zb_host::{Core, Host, Outcome};
-use zb_keys::{Declaration, HeldCode, HeldNetwork, Tables};
 use zb_node_types::Refusal;
 use zb_seal::Term;
 use zb_store::Store;
@@ -20,20 +19,7 @@ pub(crate) const CENTRE: Eui = Eui(0x0012_4B00_0000_0001);
 
 pub(crate) const DEVICE: Eui = Eui(0x0012_4B00_0000_0002);
 
-pub(crate) const ROUTER: Eui = Eui(0x0012_4B00_0000_0003);
-
-/// The network key.
-pub(crate) const NET: Key = Key([0, 1, 2, 3, 4, 5, 6, 7, 8, 9, 10, 11, 12, 13, 14, 15]);
-
-/// The link key of the device's install code.
-pub(crate) const CODE: Key = Key([
-    0x66, 0xB6, 0x90, 0x09, 0x81, 0xE1, 0xEE, 0x3C, 0xA4, 0x20, 0x6B, 0x6B, 0x86, 0x1C, 0x02, 0xBB,
-]);
-
-/// The first key of the supply.
-pub(crate) const DRAWN: Key = Key([
-    0xA0, 0xA1, 0xA2, 0xA3, 0xA4, 0xA5, 0xA6, 0xA7, 0xA8, 0xA9, 0xAA, 0xAB, 0xAC, 0xAD, 0xAE, 0xAF,
-]);
+const ROUTER: Eui = Eui(0x0012_4B00_0000_0003);
 
 // A name of at most 16 bytes.
 fn named(text: &str) -> Name
@@ -116,37 +102,18 @@ pub(crate) fn alone(block: u32) -> Config
     }
 }
 
-/// What a node is declared with: its role, whether it has the network key, and its code.
-pub(crate) fn declared(role: Role, joined: bool, code: Option<HeldCode>) -> Declaration {
-    let network = if joined {
-        Some(HeldNetwork {
-            key: NET,
-            sequence: 0,
-        })
-    } else {
-        None
-    };
-    Declaration {
-        role,
-        network,
-        code,
-        nwk: 0,
-        aps: 0,
-    }
+/// Returns a disk in memory with these bytes.
+pub(crate) fn disk_of(rt: &(impl AllocGlobal + Abort), bytes: &[u8]) -> MemDisk {
+    assert!(rt; bytes.len() <= 131_072);
+    MemDisk::new(rt.alloc(), bytes).expect(rt, "memory")
 }
 
-/// Returns a disk in memory with the first record of a node.
-pub(crate) fn first_disk(
-    rt: &(impl AllocGlobal + Abort),
-    declaration: &Declaration,
-) -> Result<MemDisk, Fail> {
-    let tables = Tables::from_declaration(rt.alloc(), declaration)?;
-    let mut room = Vec::new(rt.alloc());
-    room.resize(RECORD_ROOM, 0)?;
-    let len = tables.record_bytes(&mut room) as usize;
-    let mut disk = MemDisk::new(rt.alloc(), &[])?;
-    let _ = Store::format(rt.alloc(), &mut disk, &room[..len])?;
-    Ok(disk)
+/// Returns a disk in memory whose store has this record.
+pub(crate) fn disk_with(rt: &(impl AllocGlobal + Abort), content: &[u8]) -> MemDisk {
+    let mut disk = disk_of(rt, &[]);
+    assert!(rt; content.len() <= 1_000);
+    let _ = Store::format(rt.alloc(), &mut disk, content).expect(rt, "a store");
+    disk
 }
 
 /// Returns what an event of a host gives.
@@ -155,14 +122,13 @@ pub(crate) fn handled<C: Core<Out = Outcome<Term, Refusal>>>(
     host: &mut Host<C>,
     disk: &mut MemDisk,
     event: &C::Event,
-) -> Result<Outcome<Term, Refusal>, Fail> {
+) -> Outcome<Term, Refusal> {
     assert!(rt; host.is_up());
-    let (_, outcome) = host.handle(disk, event)?;
-    Ok(outcome)
+    let (_, outcome) = host.handle(disk, event).expect(rt, "an outcome");
+    outcome
 }
 
-/// Returns the bytes of a frame in hexadecimal digits.
-pub(crate) fn frame(rt: &(impl AllocGlobal + Abort), digits: &str) -> Result<Frame, Fail> {
-    let bytes = hex::decode(rt.alloc(), digits)?;
-    Ok(Frame::try_from(bytes.as_slice()).expect(rt, "a frame"))
+/// Asserts what is true of that subject. A call takes a third of the time that an assertion takes to prove.
+pub(crate) fn holds(rt: &impl Abort, subject: &str, is_so: bool) {
+    assert!(rt; is_so, "{subject}");
 }
