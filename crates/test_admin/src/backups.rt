@@ -1,6 +1,7 @@
 //! Backups: those of the worked runs, texts that are none, and each call with ample memory.
 
-use std::test::Fail;
+use crate::holds;
+use std::process::Abort;
 use zb_admin::{BackupError, read_backup, write_backup};
 use zb_base::{RECORD_ROOM, Role};
 use zb_keys::Tables;
@@ -124,54 +125,60 @@ fn is_form(answer: &Result<Tables, BackupError>) -> bool {
     matches!(answer, Err(BackupError::Form))
 }
 
+// The tables for which a text stands.
+fn tables_of(rt: &(impl AllocGlobal + Abort), text: &str) -> Tables {
+    read_backup(rt.alloc(), text.as_bytes()).expect(rt, "a backup")
+}
+
 #[test]
-fn a_backup_stands_for_its_record(rt: HostRuntime) -> Result<(), Fail> {
-    let tables = read_backup(rt.alloc(), REMOVED.as_bytes())?;
-    let mut room = vec![in rt.alloc(); 0; RECORD_ROOM]?;
+fn a_backup_stands_for_its_record(rt: HostRuntime) {
+    let tables = tables_of(&rt, REMOVED);
+    let mut room = vec![in rt.alloc(); 0; RECORD_ROOM].expect(&rt, "memory");
     let len = tables.record_bytes(room.as_mut_slice());
-    assert!(rt; &room[..len as usize] == REMOVED_RECORD.as_slice());
-    Ok(())
+    let record = &room[..len as usize];
+    holds(&rt, "the record", record == REMOVED_RECORD.as_slice());
 }
 
+// Texts, and what is written of the tables for which they stand.
+const WRITTEN: [(&str, &str); 5] = [
+    (REMOVED, REMOVED),
+    (SENDING, SENDING),
+    (EMPTY, EMPTY),
+    (AT_EASE, EMPTY),
+    (LOWER, RAISED),
+];
+
 #[test]
-fn backups_are_written_as_they_were_read(rt: HostRuntime) -> Result<(), Fail> {
-    let texts = [
-        (REMOVED, REMOVED),
-        (SENDING, SENDING),
-        (EMPTY, EMPTY),
-        (AT_EASE, EMPTY),
-        (LOWER, RAISED),
-    ];
-    for (text, written) in texts {
-        let tables = read_backup(rt.alloc(), text.as_bytes())?;
-        assert!(rt; tables.role() == Role::Centre);
-        let again = write_backup(rt.alloc(), &tables)?;
-        assert!(rt; again.as_slice() == written.as_bytes());
+fn backups_are_written_as_they_were_read(rt: HostRuntime) {
+    for (text, written) in WRITTEN {
+        let tables = tables_of(&rt, text);
+        holds(&rt, "the role", tables.role() == Role::Centre);
+        let again = write_backup(rt.alloc(), &tables).expect(&rt, "memory");
+        holds(&rt, text, again.as_slice() == written.as_bytes());
     }
-    Ok(())
+}
+
+// Whether bytes are refused as no backup.
+fn is_none(rt: &impl AllocGlobal, bytes: &[u8]) -> bool {
+    is_form(&read_backup(rt.alloc(), bytes))
 }
 
 #[test]
-fn other_texts_are_no_backups(rt: HostRuntime) -> Result<(), Fail> {
+fn other_texts_are_no_backups(rt: HostRuntime) {
     for (text, part, other) in CHANGES {
-        let Some((before, after)) = text.split_once(part) else {
-            return Err(Fail::new(part));
-        };
-        let changed = format!(in rt.alloc(); "{before}{other}{after}")?;
-        assert!(rt; is_form(&read_backup(rt.alloc(), changed.as_bytes())));
+        let (before, after) = text.split_once(part).expect(&rt, part);
+        let changed = format!(in rt.alloc(); "{before}{other}{after}").expect(&rt, "memory");
+        holds(&rt, other, is_none(&rt, changed.as_bytes()));
     }
-    Ok(())
 }
 
 #[test]
-fn no_depth_and_no_bytes_are_too_much(rt: HostRuntime) -> Result<(), Fail> {
-    let nested = vec![in rt.alloc(); b'['; 5000]?;
-    assert!(rt; is_form(&read_backup(rt.alloc(), nested.as_slice())));
+fn no_depth_and_no_bytes_are_too_much(rt: HostRuntime) {
+    let nested = vec![in rt.alloc(); b'['; 5000].expect(&rt, "memory");
+    holds(&rt, "depth", is_none(&rt, nested.as_slice()));
     // A member before the real one holds a byte that is no UTF-8.
-    let mut bytes = Vec::new(rt.alloc());
-    bytes.extend_from_slice(b"{\"roll\":\"\xFF\",")?;
-    bytes.extend_from_slice(&EMPTY.as_bytes()[1..])?;
-    assert!(rt; is_form(&read_backup(rt.alloc(), bytes.as_slice())));
-    assert!(rt; is_form(&read_backup(rt.alloc(), b"")));
-    Ok(())
+    let mut bytes = Vec::from_slice(rt.alloc(), b"{\"roll\":\"\xFF\",").expect(&rt, "memory");
+    let _ = bytes.extend_from_slice(&EMPTY.as_bytes()[1..]);
+    holds(&rt, "bytes", is_none(&rt, bytes.as_slice()));
+    holds(&rt, "nothing", is_none(&rt, b""));
 }

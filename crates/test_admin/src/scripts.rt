@@ -1,9 +1,8 @@
 //! Scripts: what a worked one says, and the first bad line and cause of texts that are none.
-ghost use Rattle.std.specs.Prelude.{IfOk};
 ghost use Rattle.zb_script.specs.Scripts.{IsScript};
 
+use crate::holds;
 use std::process::Abort;
-use std::test::Fail;
 use zb_admin::{AdminCause, AdminError, Order, Script, Step, read};
 use zb_base::{Config, Eui, Key, OrMemory, Role, Short};
 
@@ -140,15 +139,21 @@ const TAILS: [(&str, u32, AdminCause); 31] = [
     ("provision d -", 3, AdminCause::BadCode),
 ];
 
-/// Reads a text that is no longer than an input may be.
-pub(crate) fn read_text(
-    rt: &(impl AllocGlobal + Abort),
-    text: &str,
-) -> Result<Script, OrMemory<AdminError>>
-    ensures { IfOk result IsScript }
-{
+// Reads a text that is no longer than an input may be.
+fn read_text(rt: &(impl AllocGlobal + Abort), text: &str) -> Result<Script, OrMemory<AdminError>> {
     assert!(rt; text.len() < 1 << 24);
     read(rt.alloc(), text.as_bytes())
+}
+
+/// Returns the script that a text is.
+pub(crate) fn script_of(rt: &(impl AllocGlobal + Abort), text: &str) -> Script
+    ensures { IsScript result }
+{
+    assert!(rt; text.len() < 1 << 24);
+    match read(rt.alloc(), text.as_bytes()) {
+        Ok(script) => script,
+        Err(_) => panic!(rt; "no script"),
+    }
 }
 
 /// Returns whether a text was refused at that line for that cause.
@@ -200,47 +205,58 @@ fn are_worked(steps: &[Step]) -> bool {
 }
 
 #[test]
-fn a_worked_script(rt: HostRuntime) -> Result<(), Fail> {
-    let text = format!(in rt.alloc(); "{NODES}{WORKED}{EMPTY}")?;
-    let script = read_text(&rt, text.as_str())?;
-    assert!(rt; is_of_the_centre(&script.config) && are_worked(script.steps.as_slice()));
-    Ok(())
+fn a_worked_script(rt: HostRuntime) {
+    let text = format!(in rt.alloc(); "{NODES}{WORKED}{EMPTY}").expect(&rt, "memory");
+    let script = script_of(&rt, text.as_str());
+    holds(&rt, "the network", is_of_the_centre(&script.config));
+    holds(&rt, "the steps", are_worked(script.steps.as_slice()));
+}
+
+// Whether a text is refused at that line for that cause.
+fn refuses(rt: &(impl AllocGlobal + Abort), text: &str, line: u32, cause: AdminCause) -> bool {
+    is_refused(&read_text(rt, text), line, cause)
 }
 
 #[test]
-fn first_bad_lines(rt: HostRuntime) -> Result<(), Fail> {
+fn first_bad_lines(rt: HostRuntime) {
     for (text, line, cause) in HEADS {
-        assert!(rt; is_refused(&read_text(&rt, text), line, cause));
+        holds(&rt, text, refuses(&rt, text, line, cause));
     }
     for (tail, line, cause) in TAILS {
-        let text = format!(in rt.alloc(); "{NODES}{tail}")?;
-        assert!(rt; is_refused(&read_text(&rt, text.as_str()), line, cause));
+        let text = format!(in rt.alloc(); "{NODES}{tail}").expect(&rt, "memory");
+        holds(&rt, tail, refuses(&rt, text.as_str(), line, cause));
     }
-    Ok(())
+}
+
+// Whether a text is a script, and is one line too long with that line.
+fn is_the_longest(
+    rt: &(impl AllocGlobal + Abort),
+    mut text: String,
+    more: &str,
+    line: u32,
+) -> bool {
+    let reads = read_text(rt, text.as_str()).is_ok();
+    text.push_str(more).expect(rt, "memory");
+    reads && refuses(rt, text.as_str(), line, AdminCause::TooMany)
 }
 
 #[test]
-fn as_many_lines_as_may_stand(rt: HostRuntime) -> Result<(), Fail> {
-    let mut text = String::from_str(rt.alloc(), NODES)?;
+fn as_many_lines_as_may_stand(rt: HostRuntime) {
+    let mut text = String::from_str(rt.alloc(), NODES).expect(&rt, "memory");
     for _ in 0..10_000u32 {
-        text.push_str("list\n")?;
+        text.push_str("list\n").expect(&rt, "memory");
     }
-    assert!(rt; read_text(&rt, text.as_str()).is_ok());
-    text.push_str("list\n")?;
-    assert!(rt; is_refused(&read_text(&rt, text.as_str()), 10_003, AdminCause::TooMany));
-    Ok(())
+    holds(&rt, "lines", is_the_longest(&rt, text, "list\n", 10_003));
 }
 
 #[test]
-fn as_many_peers_as_may_stand(rt: HostRuntime) -> Result<(), Fail> {
-    let mut text = String::from_str(rt.alloc(), NODES)?;
+fn as_many_peers_as_may_stand(rt: HostRuntime) {
+    let mut text = String::from_str(rt.alloc(), NODES).expect(&rt, "memory");
     for i in 100..162u32 {
-        text.push_str(format!(in rt.alloc();
-            "peer p{i} router 00124B0000000{i} 0{i}\n"
-        )?.as_str())?;
+        let line = format!(in rt.alloc(); "peer p{i} router 00124B0000000{i} 0{i}\n");
+        text.push_str(line.expect(&rt, "memory").as_str())
+            .expect(&rt, "memory");
     }
-    assert!(rt; read_text(&rt, text.as_str()).is_ok());
-    text.push_str("peer q router 00124B0000000999 0999\n")?;
-    assert!(rt; is_refused(&read_text(&rt, text.as_str()), 65, AdminCause::TooMany));
-    Ok(())
+    let more = "peer q router 00124B0000000999 0999\n";
+    holds(&rt, "peers", is_the_longest(&rt, text, more, 65));
 }

@@ -1,11 +1,10 @@
 //! Scripts that are served: over disks in memory and over a file, with faults of disks and sinks.
-use crate::scripts::read_text;
+use crate::holds;
+use crate::scripts::script_of;
 use std::process::Abort;
-use std::test::Fail;
 use zb_admin::{AdminFault, serve};
-use zb_base::{MemSink, RECORD_ROOM, Role};
+use zb_base::MemSink;
 use zb_disk::{Disk, FileDisk, MemDisk};
-use zb_keys::Tables;
 use zb_store::Store;
 
 const HEAD: &str = "centre c 00124B0000000001 4 2\npeer d device 00124B0000000002 1A2B\n";
@@ -42,123 +41,121 @@ fn answer<D: Disk>(
     commands: &str,
     disk: &mut D,
     fails: &[u32],
-) -> Result<(Result<(), AdminFault>, MemSink), Fail> {
-    let text = format!(in rt.alloc(); "{HEAD}{commands}")?;
-    let script = match read_text(rt, text.as_str()) {
-        Ok(script) => script,
-        Err(_) => panic!(rt; "no script"),
-    };
-    let mut out = MemSink::new(rt.alloc(), 65_536, fails)?;
-    let result = serve(rt.alloc(), &script, disk, &mut out);
-    Ok((result, out))
+) -> (Result<(), AdminFault>, MemSink) {
+    let text = format!(in rt.alloc(); "{HEAD}{commands}").expect(rt, "memory");
+    let script = script_of(rt, text.as_str());
+    let mut out = MemSink::new(rt.alloc(), 65_536, fails).expect(rt, "memory");
+    let ended = serve(rt.alloc(), &script, disk, &mut out);
+    (ended, out)
 }
 
 // Serves the commands on a disk, and compares what they write.
-fn check<D: Disk>(
+fn check<D: Disk>(rt: &(impl AllocGlobal + Abort), commands: &str, disk: &mut D, lines: &str) {
+    let (ended, out) = answer(rt, commands, disk, &[]);
+    holds(rt, commands, ended == Ok(()));
+    holds(rt, lines, out.taken() == lines.as_bytes());
+}
+
+// Serves the commands of the first script on a disk in memory, and compares how they end. Returns what they write.
+fn fail_on(
     rt: &(impl AllocGlobal + Abort),
-    commands: &str,
-    disk: &mut D,
-    lines: &str,
-) -> Result<(), Fail> {
-    let (result, out) = answer(rt, commands, disk, &[])?;
-    assert_eq!(rt; result, Ok(()));
-    assert!(rt; out.taken() == lines.as_bytes());
-    Ok(())
+    disk: &mut MemDisk,
+    fails: &[u32],
+    fault: AdminFault,
+) -> MemSink {
+    let (ended, out) = answer(rt, FIRST, disk, fails);
+    holds(rt, "the fault", ended == Err(fault));
+    out
+}
+
+// A disk in memory with these bytes.
+fn disk_of(rt: &(impl AllocGlobal + Abort), bytes: &[u8]) -> MemDisk {
+    assert!(rt; bytes.len() <= 1_000);
+    MemDisk::new(rt.alloc(), bytes).expect(rt, "memory")
 }
 
 #[test]
-fn worked_scripts(rt: HostRuntime) -> Result<(), Fail> {
-    let mut disk = MemDisk::new(rt.alloc(), &[])?;
-    check(&rt, "list", &mut disk, "refuse 3 empty\n")?;
-    check(&rt, FIRST, &mut disk, FIRST_LINES)?;
-    check(&rt, AGAIN, &mut disk, AGAIN_LINES)?;
-    let mut other = MemDisk::new(rt.alloc(), &[])?;
-    check(&rt, RESTORED, &mut other, RESTORED_LINES)?;
-    Ok(())
+fn worked_scripts(rt: HostRuntime) {
+    let mut disk = disk_of(&rt, &[]);
+    check(&rt, "list", &mut disk, "refuse 3 empty\n");
+    check(&rt, FIRST, &mut disk, FIRST_LINES);
+    check(&rt, AGAIN, &mut disk, AGAIN_LINES);
+    check(&rt, RESTORED, &mut disk_of(&rt, &[]), RESTORED_LINES);
 }
 
 #[test]
-fn a_file_keeps_the_store(rt: HostRuntime) -> Result<(), Fail> {
+fn a_file_keeps_the_store(rt: HostRuntime) {
     let path = "served_test_store";
-    {
-        let mut disk = FileDisk::new(&rt, path)?;
-        check(&rt, FIRST, &mut disk, FIRST_LINES)?;
+    for (commands, lines) in [(FIRST, FIRST_LINES), (AGAIN, AGAIN_LINES)] {
+        let mut disk = FileDisk::new(&rt, path).expect(&rt, "memory");
+        check(&rt, commands, &mut disk, lines);
     }
-    let mut again = FileDisk::new(&rt, path)?;
-    check(&rt, AGAIN, &mut again, AGAIN_LINES)?;
-    std::fs::remove_file(&rt, path)?;
-    Ok(())
+    std::fs::remove_file(&rt, path).expect(&rt, "a file");
 }
 
 // The first bytes of a disk with the store of a centre.
-fn store_bytes(rt: &(impl AllocGlobal + Abort), buf: &mut [u8]) -> Result<(), Fail> {
-    let mut disk = MemDisk::new(rt.alloc(), &[])?;
+fn store_bytes(rt: &(impl AllocGlobal + Abort)) -> [u8; 60] {
+    let mut bytes = [0; 60];
+    let mut disk = disk_of(rt, &[]);
     check(
         rt,
         "init 000102030405060708090A0B0C0D0E0F",
         &mut disk,
         "ok 3\n",
-    )?;
-    assert_eq!(rt; disk.read(0, buf), Ok(()));
-    Ok(())
+    );
+    disk.read(0, &mut bytes).expect(rt, "bytes");
+    bytes
+}
+
+// Whether a script without commands ends so on a disk with these bytes, and writes nothing.
+fn ends(rt: &(impl AllocGlobal + Abort), bytes: &[u8], wanted: Result<(), AdminFault>) -> bool {
+    let (ended, out) = answer(rt, "", &mut disk_of(rt, bytes), &[]);
+    ended == wanted && out.taken().is_empty()
 }
 
 // Its record has 43 bytes and stands after 13: a shorter file has no store.
 #[test]
-fn fronts_of_a_store(rt: HostRuntime) -> Result<(), Fail> {
-    let mut bytes = [0; 60];
-    store_bytes(&rt, &mut bytes)?;
-    for len in 1..bytes.len() {
-        let mut disk = MemDisk::new(rt.alloc(), &bytes[..len])?;
-        let (result, out) = answer(&rt, "", &mut disk, &[])?;
-        let wanted = if len < 56 {
-            Err(AdminFault::NoStore)
-        } else {
-            Ok(())
-        };
-        assert_eq!(rt; result, wanted);
-        assert!(rt; out.taken().is_empty());
+fn fronts_of_a_store(rt: HostRuntime) {
+    let bytes = store_bytes(&rt);
+    for len in 1..56 {
+        assert!(rt; ends(&rt, &bytes[..len], Err(AdminFault::NoStore)), "{len}");
     }
-    Ok(())
+    for len in 56..60 {
+        assert!(rt; ends(&rt, &bytes[..len], Ok(())), "{len}");
+    }
+}
+
+// The record of a device that has nothing yet.
+const OF_A_DEVICE: [u8; 20] = [
+    3, 2, 0, 0, 0, 0, 0, 0, 0, 0, 0, 0, 0, 0, 0xFF, 0xFF, 0, 0, 0, 0,
+];
+
+#[test]
+fn stores_of_others(rt: HostRuntime) {
+    let _ = fail_on(&rt, &mut disk_of(&rt, &[0]), &[], AdminFault::NoStore);
+    let mut disk = disk_of(&rt, &[]);
+    let _ = Store::format(rt.alloc(), &mut disk, &OF_A_DEVICE).expect(&rt, "a store");
+    let out = fail_on(&rt, &mut disk, &[], AdminFault::BadStore { at: 1 });
+    holds(&rt, "no lines", out.taken().is_empty());
 }
 
 #[test]
-fn stores_of_others(rt: HostRuntime) -> Result<(), Fail> {
-    let mut empty = MemDisk::new(rt.alloc(), &[0])?;
-    let (result, _) = answer(&rt, FIRST, &mut empty, &[])?;
-    assert_eq!(rt; result, Err(AdminFault::NoStore));
-    let tables = Tables::new(rt.alloc(), Role::Device)?;
-    let mut room = vec![in rt.alloc(); 0; RECORD_ROOM]?;
-    let len = tables.record_bytes(room.as_mut_slice()) as usize;
-    let mut disk = MemDisk::new(rt.alloc(), &[])?;
-    assert!(rt; Store::format(rt.alloc(), &mut disk, &room[..len]).is_ok());
-    let (result, out) = answer(&rt, FIRST, &mut disk, &[])?;
-    assert_eq!(rt; result, Err(AdminFault::BadStore { at: 1 }));
-    assert!(rt; out.taken().is_empty());
-    Ok(())
-}
-
-#[test]
-fn faulty_sinks(rt: HostRuntime) -> Result<(), Fail> {
+fn faulty_sinks(rt: HostRuntime) {
     for call in 1..4 {
-        let mut disk = MemDisk::new(rt.alloc(), &[])?;
-        let (result, out) = answer(&rt, FIRST, &mut disk, &[call])?;
-        assert_eq!(rt; result, Err(AdminFault::Write));
-        assert!(rt; FIRST_LINES.as_bytes().starts_with(out.taken()));
+        let mut disk = disk_of(&rt, &[]);
+        let out = fail_on(&rt, &mut disk, &[call], AdminFault::Write);
+        assert!(rt; FIRST_LINES.as_bytes().starts_with(out.taken()), "{call}");
     }
-    Ok(())
 }
 
 // The store of `init` takes six calls, and the entry of `provision` four.
 #[test]
-fn faulty_disks(rt: HostRuntime) -> Result<(), Fail> {
+fn faulty_disks(rt: HostRuntime) {
     for call in 1..11 {
-        let mut disk = MemDisk::new(rt.alloc(), &[])?;
+        let mut disk = disk_of(&rt, &[]);
         disk.arm_fail(call);
-        let (result, out) = answer(&rt, FIRST, &mut disk, &[])?;
-        assert_eq!(rt; result, Err(AdminFault::Disk));
+        let out = fail_on(&rt, &mut disk, &[], AdminFault::Disk);
         let written = if call < 7 { 0 } else { 5 };
-        assert_eq!(rt; out.taken().len(), written);
+        assert!(rt; out.taken().len() == written, "{call}");
     }
-    Ok(())
 }
