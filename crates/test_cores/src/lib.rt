@@ -1,5 +1,5 @@
-//! Tests of cores over their hosts, each on a disk in memory: frames of strangers, crashes at each device call, records
-//! of the first version.
+//! Tests of cores over their hosts, each on a disk in memory: frames of strangers, crashes at each device call,
+//! records of the first version.
 #![tactic(auto)]
 
 #[cfg(test)]
