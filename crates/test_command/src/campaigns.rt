@@ -1,7 +1,6 @@
 //! Campaigns over the public calls. What is wanted comes from worked examples outside of this repository.
-use crate::runs::over;
+use crate::runs::{ends, gives};
 use std::sync::atomic::{AtomicU32, Ordering};
-use std::test::Fail;
 use zb_base::MemSink;
 use zb_campaign::campaign;
 use zb_command::Status;
@@ -24,50 +23,60 @@ const SEVEN_RUNS: &[u8] = b"0 end 51 15 9 20 yes yes
 total 7 426 288 563
 ";
 
+/// Words and outputs.
+const CAMPAIGNS: [(&[&str], &[u8]); 4] = [
+    (&["campaign", "4", "0", "1"], FOUR_RUNS),
+    (&["campaign", "4", "0", "4"], FOUR_RUNS),
+    (&["campaign", "7", "12", "3"], SEVEN_RUNS),
+    (&["campaign", "7", "12", "64"], SEVEN_RUNS),
+];
+
 #[test]
-fn every_number_of_jobs_gives_the_same_lines(rt: HostRuntime) -> Result<(), Fail> {
-    let runs: [(&[&str], &[u8]); 4] = [
-        (&["campaign", "4", "0", "1"], FOUR_RUNS),
-        (&["campaign", "4", "0", "4"], FOUR_RUNS),
-        (&["campaign", "7", "12", "3"], SEVEN_RUNS),
-        (&["campaign", "7", "12", "64"], SEVEN_RUNS),
-    ];
-    for (words, output) in runs {
-        let ran = over(&rt, words, b"", &[], &[])?;
-        assert!(rt; ran.status == Status::Ok && ran.sink.taken() == output);
+fn every_number_of_jobs_gives_the_same_lines(rt: HostRuntime) {
+    for (place, (words, output)) in CAMPAIGNS.iter().enumerate() {
+        assert!(rt; gives(&rt, words, b"", output), "run {place}");
     }
-    Ok(())
+}
+
+/// Words of no campaign.
+const OTHERS: [&[&str]; 13] = [
+    &["campaign"],
+    &["campaign", "4"],
+    &["campaign", "4", "0"],
+    &["campaign", "4", "0", "1", "1"],
+    &["campaign", "0", "0", "1"],
+    &["campaign", "1001", "0", "1"],
+    &["campaign", "04", "0", "1"],
+    &["campaign", "4", "4294966296", "1"],
+    &["campaign", "4", "00", "1"],
+    &["campaign", "4", "", "1"],
+    &["campaign", "4", "0", "0"],
+    &["campaign", "4", "0", "65"],
+    &["campaign", "4", "0", "+1"],
+];
+
+#[test]
+fn other_words_of_a_campaign_are_refused(rt: HostRuntime) {
+    for (place, words) in OTHERS.iter().enumerate() {
+        assert!(rt;
+            ends(&rt, (words, b""), (&[], &[]), Status::Usage, b""),
+            "words {place}"
+        );
+    }
 }
 
 #[test]
-fn other_words_of_a_campaign_are_refused(rt: HostRuntime) -> Result<(), Fail> {
-    let runs: [&[&str]; 13] = [
-        &["campaign"],
-        &["campaign", "4"],
-        &["campaign", "4", "0"],
-        &["campaign", "4", "0", "1", "1"],
-        &["campaign", "0", "0", "1"],
-        &["campaign", "1001", "0", "1"],
-        &["campaign", "04", "0", "1"],
-        &["campaign", "4", "4294966296", "1"],
-        &["campaign", "4", "00", "1"],
-        &["campaign", "4", "", "1"],
-        &["campaign", "4", "0", "0"],
-        &["campaign", "4", "0", "65"],
-        &["campaign", "4", "0", "+1"],
-    ];
-    for words in runs {
-        let ran = over(&rt, words, b"", &[], &[])?;
-        assert!(rt; ran.status == Status::Usage && ran.sink.taken().is_empty());
-    }
-    Ok(())
-}
-
-#[test]
-fn a_sink_that_fails_has_a_front_of_a_campaign(rt: HostRuntime) -> Result<(), Fail> {
-    let ran = over(&rt, &["campaign", "4", "0", "2"], b"", &[], &[1])?;
-    assert!(rt; ran.status == Status::WriteFault && FOUR_RUNS.starts_with(ran.sink.taken()));
-    Ok(())
+fn a_sink_that_fails_has_a_front_of_a_campaign(rt: HostRuntime) {
+    let words: &[&str] = &["campaign", "4", "0", "2"];
+    assert!(rt;
+        ends(
+            &rt,
+            (words, b""),
+            (&[], &[1]),
+            Status::WriteFault,
+            FOUR_RUNS
+        )
+    );
 }
 
 /// A gate for two shares, which holds the one that comes first until the other one has come.
@@ -126,10 +135,10 @@ impl Gate for Held {
 }
 
 #[test]
-fn two_shares_of_a_campaign_run_at_once(rt: HostRuntime) -> Result<(), Fail> {
+fn two_shares_of_a_campaign_run_at_once(rt: HostRuntime) {
     let gate = Held::new();
-    let mut sink = MemSink::new(rt.alloc(), 4096, &[])?;
+    let mut sink = MemSink::new(rt.alloc(), 4096, &[]).expect(&rt, "memory");
     let ended = campaign(&rt, rt.alloc(), 4, 0, 2, &gate, &mut sink);
-    assert!(rt; ended == Ok(()) && sink.taken() == FOUR_RUNS && gate.each_passed());
-    Ok(())
+    assert!(rt; ended == Ok(()) && sink.taken() == FOUR_RUNS);
+    assert!(rt; gate.each_passed());
 }

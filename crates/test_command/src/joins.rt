@@ -1,7 +1,6 @@
 //! A join through a router over sources and sinks each of whose calls fails once. What is wanted comes from a worked
 //! example outside of this repository.
-use crate::runs::over;
-use std::test::Fail;
+use crate::runs::{ends, over};
 use zb_command::Status;
 
 const JOIN: &[u8] = b"\
@@ -179,40 +178,44 @@ const JOIN_PLAYED: &[u8] = b"\
 end 17 19 13 0 yes yes
 ";
 
+/// The words of each run.
+const PLAY: &[&str] = &["play"];
+
 #[test]
-fn a_join_ends_at_each_call_of_the_sink_that_fails(rt: HostRuntime) -> Result<(), Fail> {
+fn a_join_ends_at_each_call_of_the_sink_that_fails(rt: HostRuntime) {
     // the start, 17 events and the end are a call each
-    for call in 1..21_u32 {
-        let wanted = if call < 20 {
-            Status::WriteFault
-        } else {
-            Status::Ok
-        };
-        let ran = over(&rt, &["play"], JOIN, &[], &[call])?;
-        assert!(rt; ran.status == wanted && JOIN_PLAYED.starts_with(ran.sink.taken()));
+    for call in 1..20_u32 {
+        let is_so = ends(
+            &rt,
+            (PLAY, JOIN),
+            (&[], &[call]),
+            Status::WriteFault,
+            JOIN_PLAYED,
+        );
+        assert!(rt; is_so, "at {call}");
     }
-    Ok(())
+    assert!(rt; ends(&rt, (PLAY, JOIN), (&[], &[20]), Status::Ok, JOIN_PLAYED));
 }
 
 #[test]
-fn a_join_ends_at_each_call_of_the_source_that_fails(rt: HostRuntime) -> Result<(), Fail> {
+fn a_join_ends_at_each_call_of_the_source_that_fails(rt: HostRuntime) {
     // the text comes at the first call, and its end at the second one
     for call in 1..3_u32 {
-        let ran = over(&rt, &["play"], JOIN, &[call], &[])?;
-        assert!(rt; ran.status == Status::ReadFault && ran.sink.taken().is_empty());
+        assert!(rt;
+            ends(&rt, (PLAY, JOIN), (&[call], &[]), Status::ReadFault, b""),
+            "at {call}"
+        );
     }
-    let ran = over(&rt, &["play"], JOIN, &[3], &[])?;
+    let ran = over(&rt, PLAY, JOIN, &[3], &[]);
     assert!(rt; ran.status == Status::Ok && ran.sink.taken() == JOIN_PLAYED);
-    Ok(())
 }
 
 #[test]
-fn a_frame_forged_behind_a_join_is_played(rt: HostRuntime) -> Result<(), Fail> {
-    let mut schedule = Vec::from_slice(rt.alloc(), JOIN)?;
-    schedule.extend_from_slice(FORGED)?;
-    let ran = over(&rt, &["play"], schedule.as_slice(), &[], &[])?;
+fn a_frame_forged_behind_a_join_is_played(rt: HostRuntime) {
+    let mut schedule = Vec::from_slice(rt.alloc(), JOIN).expect(&rt, "memory");
+    schedule.extend_from_slice(FORGED).expect(&rt, "memory");
+    let ran = over(&rt, PLAY, schedule.as_slice(), &[], &[]);
     assert!(rt;
         ran.status == Status::Ok && ran.sink.taken().ends_with(b"\nend 19 19 15 1 yes no\n")
     );
-    Ok(())
 }
