@@ -1,43 +1,56 @@
 //! What a node is declared with, in its first record, and a network key that comes again.
 
-use std::test::Fail;
-use zb_base::{Key, RECORD_ROOM, Role};
+use crate::{is_recorded, new_tables, redo};
+use std::process::Abort;
+use zb_base::{Key, Role};
 use zb_keys::{Declaration, HeldNetwork, Tables};
-use zb_record::Version;
 use zb_rows::{activates, dropped_place, has_net, live_of};
 
+const OLD: [u8; 16] = [0xD0; 16];
+
+const SECOND: [u8; 16] = [0xD1; 16];
+
+// Entries: a key comes, becomes active and starts, as its first or as its second one does; and the third drops the
+// first.
+const FIRST_COMES: [&[u8]; 7] = [&[3, 5], &OLD, &[0, 6], &OLD, &[0x0E], &OLD, &[0; 4]];
+
+const SECOND_COMES: [&[u8]; 7] = [
+    &[3, 5],
+    &SECOND,
+    &[1, 6],
+    &SECOND,
+    &[0x0E],
+    &SECOND,
+    &[0; 4],
+];
+
+const THIRD_COMES: [&[u8]; 5] = [&[2, 3], &OLD, &[5], &[0xD2; 16], &[2]];
+
+// Whether tables have that key, and whether their next network key would be active at once.
+fn has_and_activates(tables: &Tables, key: &[u8; 16]) -> (bool, bool) {
+    (has_net(tables, &Key(*key)), activates(tables))
+}
+
+// The place of the old key, where it was dropped.
+fn dropped(tables: &Tables) -> Option<u32> {
+    dropped_place(tables, &Key(OLD))
+}
+
+// Whether a key with that sequence number is in use.
+fn is_in_use(tables: &Tables, sequence: u8) -> bool {
+    live_of(tables, sequence).is_some()
+}
+
 #[test]
-fn network_keys_that_come_again(rt: HostRuntime) -> Result<(), Fail> {
-    let old = Key([0xD0; 16]);
-    let mut tables = Tables::new(rt.alloc(), Role::Device)?;
-    check!(rt; activates(&tables));
-    // The first key comes, becomes active and starts.
-    let mut payload = [0; 57];
-    payload[..2].copy_from_slice(&[3, 5]);
-    payload[2..18].fill(0xD0);
-    payload[19] = 6;
-    payload[20..36].fill(0xD0);
-    payload[36] = 0x0E;
-    payload[37..53].fill(0xD0);
-    check!(rt; tables.redo(Version::Third, &payload).is_ok());
-    check!(rt; has_net(&tables, &old) && !activates(&tables));
-    check!(rt; dropped_place(&tables, &old).is_none());
-    // The second does, and the third drops the first.
-    payload[2..18].fill(0xD1);
-    payload[18] = 1;
-    payload[20..36].fill(0xD1);
-    payload[37..53].fill(0xD1);
-    check!(rt; tables.redo(Version::Third, &payload).is_ok());
-    let mut third = [0; 36];
-    third[..2].copy_from_slice(&[2, 3]);
-    third[2..18].fill(0xD0);
-    third[18] = 5;
-    third[19..35].fill(0xD2);
-    third[35] = 2;
-    check!(rt; tables.redo(Version::Third, &third).is_ok());
-    check!(rt; dropped_place(&tables, &old) == Some(0));
-    check!(rt; live_of(&tables, 0).is_none() && live_of(&tables, 2).is_some());
-    Ok(())
+fn network_keys_that_come_again(rt: HostRuntime) {
+    let mut tables = new_tables(&rt, Role::Device);
+    check!(rt; has_and_activates(&tables, &OLD) == (false, true));
+    check!(rt; redo(&mut tables, &FIRST_COMES));
+    check!(rt; has_and_activates(&tables, &OLD) == (true, false));
+    check!(rt; dropped(&tables).is_none());
+    check!(rt; redo(&mut tables, &SECOND_COMES) && redo(&mut tables, &THIRD_COMES));
+    check!(rt; dropped(&tables) == Some(0));
+    check!(rt; !is_in_use(&tables, 0) && is_in_use(&tables, 2));
 }
 
 // The record, from outside, of a centre with a network key and its first block of four counters.
@@ -47,21 +60,24 @@ const CENTRE: [u8; 43] = [
     0x00, 0x03, 0x04, 0x00, 0x00, 0x00, 0x00, 0x00, 0x00, 0x00, 0x00,
 ];
 
-#[test]
-fn declared_centre_reserves_its_first_block(rt: HostRuntime) -> Result<(), Fail> {
-    let key = Key([0, 1, 2, 3, 4, 5, 6, 7, 8, 9, 10, 11, 12, 13, 14, 15]);
+// The tables of that centre before it reserves.
+fn declared(rt: &(impl AllocGlobal + Abort)) -> Tables {
     let declaration = Declaration {
         role: Role::Centre,
-        network: Some(HeldNetwork { key, sequence: 0 }),
+        network: Some(HeldNetwork {
+            key: Key([0, 1, 2, 3, 4, 5, 6, 7, 8, 9, 10, 11, 12, 13, 14, 15]),
+            sequence: 0,
+        }),
         code: None,
         nwk: 0,
         aps: 0,
     };
-    let mut tables = Tables::from_declaration(rt.alloc(), &declaration)?;
-    check!(rt; tables.redo(Version::Third, &[1, 1, 0, 4, 0, 0, 0]).is_ok());
-    let mut room = Vec::new(rt.alloc());
-    room.resize(RECORD_ROOM, 0)?;
-    let len = tables.record_bytes(&mut room) as usize;
-    check!(rt; room.get(..len) == Some(&CENTRE[..]));
-    Ok(())
+    Tables::from_declaration(rt.alloc(), &declaration).expect(rt, "memory")
+}
+
+#[test]
+fn declared_centre_reserves_its_first_block(rt: HostRuntime) {
+    let mut tables = declared(&rt);
+    check!(rt; redo(&mut tables, &[&[1, 1, 0, 4, 0, 0, 0]]));
+    check!(rt; is_recorded(&rt, &tables, &CENTRE));
 }

@@ -1,10 +1,10 @@
 //! Records from outside: read, written again, cut, and broken at each rule.
 
 use crate::worked::FULL;
+use crate::{is_recorded, new_tables, next_and_limit, tables_of};
+use arrayvec::ArrayVec;
 use std::alloc::Global;
-use std::process::Abort;
-use std::test::Fail;
-use zb_base::{Layer, OrMemory, RECORD_ROOM, Role};
+use zb_base::{OrMemory, Role};
 use zb_keys::Tables;
 use zb_node_types::KeyError;
 
@@ -65,26 +65,19 @@ fn field_at(len: u32) -> u32 {
 }
 
 #[test]
-fn record_comes_back(rt: HostRuntime) -> Result<(), Fail> {
-    let tables = Tables::from_record(rt.alloc(), &FULL)?;
-    let mut room = Vec::new(rt.alloc());
-    room.resize(RECORD_ROOM, 0)?;
-    let len = tables.record_bytes(&mut room) as usize;
-    check!(rt; room.get(..len) == Some(&FULL[..]));
-    Ok(())
+fn record_comes_back(rt: HostRuntime) {
+    check!(rt; is_recorded(&rt, &tables_of(&rt, &FULL), &FULL));
 }
 
+// The record of a device that has nothing yet.
+const EMPTY: [u8; 20] = [
+    3, 2, 0, 0, 0, 0, 0, 0, 0, 0, 0, 0, 0, 0, 0xFF, 0xFF, 0, 0, 0, 0,
+];
+
 #[test]
-fn record_of_a_new_device(rt: HostRuntime) -> Result<(), Fail> {
-    let tables = Tables::new(rt.alloc(), Role::Device)?;
-    let mut room = Vec::new(rt.alloc());
-    room.resize(RECORD_ROOM, 0)?;
-    let len = tables.record_bytes(&mut room) as usize;
-    let record = [
-        3, 2, 0, 0, 0, 0, 0, 0, 0, 0, 0, 0, 0, 0, 0xFF, 0xFF, 0, 0, 0, 0,
-    ];
-    check!(rt; room.get(..len) == Some(&record[..]));
-    Ok(())
+fn record_of_a_new_device(rt: HostRuntime) {
+    let tables = new_tables(&rt, Role::Device);
+    check!(rt; is_recorded(&rt, &tables, &EMPTY));
 }
 
 #[test]
@@ -94,79 +87,123 @@ fn cut_records(rt: HostRuntime) {
     }
 }
 
+// Where a record of these parts is at fault.
+fn fault_in(alloc: Global, parts: &[&[u8]]) -> Option<u32> {
+    let mut bytes: ArrayVec<u8, 300> = ArrayVec::new();
+    for part in parts {
+        let _ = bytes.try_extend_from_slice(part);
+    }
+    fault_of(alloc, bytes.as_slice())
+}
+
 #[test]
 fn bytes_behind_a_record(rt: HostRuntime) {
-    let mut bytes = [0; 236];
-    bytes[..235].copy_from_slice(&FULL);
-    check!(rt; fault_of(rt.alloc(), &bytes) == Some(235));
+    check!(rt; fault_in(rt.alloc(), &[&FULL, &[0]]) == Some(235));
+}
+
+// The full record with other bytes from a place on.
+fn changed(at: usize, other: &[u8]) -> [u8; 235] {
+    let mut bytes = FULL;
+    for (place, byte) in other.iter().enumerate() {
+        if let Some(changed) = bytes.get_mut(at.saturating_add(place)) {
+            *changed = *byte;
+        }
+    }
+    bytes
+}
+
+// Where the full record with these other bytes is at fault.
+fn fault_with(alloc: Global, at: usize, other: &[u8]) -> Option<u32> {
+    fault_of(alloc, &changed(at, other))
 }
 
 #[test]
 fn broken_rules(rt: HostRuntime) {
     for (at, byte, fault, why) in BROKEN {
-        let mut bytes = FULL;
-        if let Some(changed) = bytes.get_mut(at) {
-            *changed = byte;
-        }
-        crate::holds(&rt, why, fault_of(rt.alloc(), &bytes) == Some(fault));
+        let found = fault_with(rt.alloc(), at, &[byte]);
+        crate::holds(&rt, why, found == Some(fault));
     }
 }
 
 #[test]
 fn equal_keys(rt: HostRuntime) {
-    let mut bytes = FULL;
-    bytes[60..76].fill(0xA1);
-    check!(rt; fault_of(rt.alloc(), &bytes) == Some(60));
-    let mut bytes = FULL;
-    bytes[178..194].fill(0xB1);
-    check!(rt; fault_of(rt.alloc(), &bytes) == Some(178));
+    check!(rt; fault_with(rt.alloc(), 60, &[0xA1; 16]) == Some(60));
+    check!(rt; fault_with(rt.alloc(), 178, &[0xB1; 16]) == Some(178));
+}
+
+// The full record up to its pairs, how many they are, the first pair, and the next one's first device.
+const PAIRS: [&[u8]; 5] = [
+    &[2, 0],
+    &[0x11, 0, 0, 0, 0, 0, 0, 0, 0x12, 0, 0, 0, 0, 0, 0, 0],
+    &[0xC0; 16],
+    &[1],
+    &[0x11, 0, 0, 0, 0, 0, 0, 0],
+];
+
+// Where a record is at fault that has a second pair of the first one's device and this one.
+fn fault_of_pair(alloc: Global, second: u8) -> Option<u32> {
+    let [count, pair, key, live, first] = PAIRS;
+    let device = [second, 0, 0, 0, 0, 0, 0, 0];
+    let front = FULL.get(..200).unwrap_or(&[]);
+    fault_in(
+        alloc,
+        &[
+            front,
+            count,
+            pair,
+            key,
+            live,
+            first,
+            &device,
+            &[0xC1; 16],
+            &[1],
+        ],
+    )
 }
 
 #[test]
 fn second_pair_of_two_devices(rt: HostRuntime) {
-    let mut bytes = [0; 268];
-    bytes[..235].copy_from_slice(&FULL);
-    bytes[200] = 2;
-    bytes[235..251].copy_from_slice(&FULL[202..218]);
-    bytes[251..267].fill(0xC1);
-    bytes[267] = 1;
-    check!(rt; fault_of(rt.alloc(), &bytes) == Some(243));
+    check!(rt; fault_of_pair(rt.alloc(), 0x12) == Some(243));
     // of another device it stands
-    bytes[243] = 0x13;
-    check!(rt; fault_of(rt.alloc(), &bytes) == None);
+    check!(rt; fault_of_pair(rt.alloc(), 0x13) == None);
 }
 
-#[test]
-fn bytes_that_are_all_ones(rt: HostRuntime) {
-    // The first 60 bytes: the fields that may have any value, and where another is at fault. 255 network keys are
-    // taken for more than there are.
-    for at in 0..60usize {
-        let mut bytes = FULL;
-        bytes[at] = 0xFF;
-        let fault = match at {
-            0 | 1 | 2 | 11 | 33 | 55 => Some(at as u32),
-            12 => Some(100),
-            13 => Some(12),
-            14 | 15 => Some(14),
-            _ => None,
-        };
-        check!(rt; fault_of(rt.alloc(), &bytes) == fault);
+// Where the full record is at fault with FF at a place: the fields that may have any value, and where another is at
+// fault. 255 network keys are taken for more than there are.
+fn fault_at(at: usize) -> Option<u32> {
+    match at {
+        0 | 1 | 2 | 11 | 33 | 55 => Some(at as u32),
+        12 => Some(100),
+        13 => Some(12),
+        14 | 15 => Some(14),
+        _ => None,
     }
 }
 
 #[test]
-fn first_version_has_one_limit(rt: HostRuntime) -> Result<(), Fail> {
-    // The centre with a live and active network key and the NWK limit 8.
-    let mut bytes = [0x11; 37];
-    bytes[..16].copy_from_slice(&[1, 0, 0, 8, 0, 0, 0, 0, 0, 0, 0, 0, 1, 0, 0, 0]);
-    bytes[32..].copy_from_slice(&[0, 1, 0, 0, 0]);
-    let tables = Tables::from_record(rt.alloc(), &bytes)?;
-    let outgoing = tables.outgoing(Layer::Nwk, 4);
-    check!(rt; outgoing.next == 8 && outgoing.limit == 8);
+fn bytes_that_are_all_ones(rt: HostRuntime) {
+    // the first 60 bytes
+    for at in 0..60usize {
+        check!(rt; fault_with(rt.alloc(), at, &[0xFF]) == fault_at(at));
+    }
+}
+
+// A record of version 1 of the centre with a live and active network key and the NWK limit 8, and the same of
+// version 3.
+const VERSION_1: [u8; 37] = [
+    1, 0, 0, 8, 0, 0, 0, 0, 0, 0, 0, 0, 1, 0, 0, 0, 0x11, 0x11, 0x11, 0x11, 0x11, 0x11, 0x11, 0x11,
+    0x11, 0x11, 0x11, 0x11, 0x11, 0x11, 0x11, 0x11, 0, 1, 0, 0, 0,
+];
+
+const VERSION_3: [u8; 43] = [
+    3, 0, 0, 8, 0, 0, 0, 0, 0, 0, 0, 0, 1, 0, 0, 0, 0x11, 0x11, 0x11, 0x11, 0x11, 0x11, 0x11, 0x11,
+    0x11, 0x11, 0x11, 0x11, 0x11, 0x11, 0x11, 0x11, 0, 3, 8, 0, 0, 0, 0, 0, 0, 0, 0,
+];
+
+#[test]
+fn first_version_has_one_limit(rt: HostRuntime) {
+    let tables = tables_of(&rt, &VERSION_1);
+    check!(rt; next_and_limit(&tables) == (8, 8));
     check!(rt; tables.declared() == 8);
-    let mut room = Vec::new(rt.alloc());
-    room.resize(RECORD_ROOM, 0)?;
-    let len = tables.record_bytes(&mut room) as usize;
-    check!(rt; len == 43 && room[0] == 3);
-    Ok(())
+    check!(rt; is_recorded(&rt, &tables, &VERSION_3));
 }
