@@ -18,16 +18,16 @@ AreThose w h ds xs = (q : ℕ) → xs q ≡ condition_of w h ds q
 
 -- ---- conditions that are set
 
-if_same : (b : Bool) (x y : Condition) → b ≡ true → cond b x y ≡ x
+pub if_same : (b : Bool) (x y : Condition) → b ≡ true → cond b x y ≡ x
 if_same true x y e = refl
 if_same false x y e = absurd (cc)
 
-if_other : (b : Bool) (x y : Condition) → b ≡ false → cond b x y ≡ y
+pub if_other : (b : Bool) (x y : Condition) → b ≡ false → cond b x y ≡ y
 if_other true x y e = absurd (cc)
 if_other false x y e = refl
 
 -- set to what it is
-set_same : (xs : ℕ → Condition) (n m : ℕ) (x : Condition) → x ≡ xs n → with_condition xs n x m ≡ xs m
+pub set_same : (xs : ℕ → Condition) (n m : ℕ) (x : Condition) → x ≡ xs n → with_condition xs n x m ≡ xs m
 set_same xs n m x same = by_test (nat_eq m n) refl
   where
     by_test : (b : Bool) → nat_eq m n ≡ b → with_condition xs n x m ≡ xs m
@@ -76,9 +76,9 @@ of_none (play.ForgeOpen to from source label base aps_counter command) q e = ref
 -- ---- one event
 
 -- The event comes to the model's step.
-record IsStep (w : Schedule) (h : List Line) (g : Step) (one : Passed) : Type 0 where
-  lines_are : one.lines ≡ g.lines
-  nodes_are : AreThose w (h ++ g.lines) g.disks one.nodes
+pub record IsStep (w : Schedule) (h : List Line) (g : Step) (one : Passed) : Type 0 where
+  pub lines_are : one.lines ≡ g.lines
+  pub nodes_are : AreThose w (h ++ g.lines) g.disks one.nodes
 
 node_step : (tools : Tools) (w : Schedule) (h : List Line) (ds : List Disk) (xs : ℕ → Condition) (number n : ℕ)
     (event : Event) → AreThose w h ds xs → is_of n event ≡ true
@@ -114,7 +114,7 @@ outside_passed tools w h ds xs number event those none =
       nodes_are = λ q. those q ∙ sym (spared tools w h ds number event q (none q));
     }
 
-passed_step : (tools : Tools) (w : Schedule) (h : List Line) (ds : List Disk) (xs : ℕ → Condition) (number : ℕ)
+pub passed_step : (tools : Tools) (w : Schedule) (h : List Line) (ds : List Disk) (xs : ℕ → Condition) (number : ℕ)
     (event : Event) (o : Option ℕ) → node_of event ≡ o → AreThose w h ds xs
     → IsStep w h (step tools w h ds number event) (passed tools w h xs number event o)
 passed_step tools w h ds xs number event None none those =

@@ -205,6 +205,8 @@ impl Bench for Swap {
 
     ghost asked = { λ bench. None };
 
+    ghost gave = { λ bench. None };
+
     ghost gives = { λ bench event node. if nat_eq event bench.event && nat_eq node 0 then bench.disk else None };
 
     fn swap(&mut self, event: u32, node: u8) -> Option<MemDisk> {

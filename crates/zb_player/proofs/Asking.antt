@@ -7,7 +7,7 @@ use Rattle.law_schedules.proofs.Meets.{is_schedule}
 use Rattle.zb_disk.specs.Memory.{Medium}
 use Rattle.zb_model.specs.Data.{Station}
 use Rattle.zb_model.specs.Play.{Node, no_station, stations}
-use Rattle.zb_player.specs.Benches.{Asks, AsksFor, Question, put_at, question_at, questions, under, under_at}
+use Rattle.zb_player.specs.Benches.{Asks, AsksFor, Gave, GaveAt, GaveFor, Question, put_at, question_at, questions, under, under_at}
 use Rattle.zb_player.proofs.EventAt.{same_index, seat_of}
 use Rattle.zb_player.proofs.Looping.{mapped_at}
 use Rattle.zb_player.proofs.Named.{found_at}
@@ -60,6 +60,21 @@ asks_once seats number e it a b one asks = λ known are few.
     let found = one known are in
     subst (λ s. Asks a b (question_at number s ++ [])) (sym found)
     (asks (omega (arith, few, seat_below known e it found)))
+
+-- so does it give nothing, or what it is asked for
+pub gave_nothing : (seats : Seats) (number : ℕ) (e : Event) (gives : ℕ → ℕ → Option Medium)
+    (a : Option (ℕ → Option Medium)) → ((known : List Station) → AreSeats seats known → seat_for known e ≡ None)
+    → GaveFor seats number e gives a a
+gave_nothing seats number e gives a none = λ known are few.
+    subst (λ s. GaveAt a a number gives s) (sym (none known are)) refl
+
+pub gave_once : (seats : Seats) (number : ℕ) (e : Event) (it : Seat) (gives : ℕ → ℕ → Option Medium)
+    (a b : Option (ℕ → Option Medium)) → ((known : List Station) → AreSeats seats known → seat_for known e ≡ Some it)
+    → (it.place < 256 → Gave a b number (gives number it.place))
+    → GaveFor seats number e gives a b
+gave_once seats number e it gives a b one gave = λ known are few.
+    let found = one known are in
+    subst (λ s. GaveAt a b number gives s) (sym found) (gave (omega (arith, few, seat_below known e it found)))
 
 plus_zero : (n : ℕ) → n + 0 ≡ n
 plus_zero n = omega arith

@@ -17,22 +17,22 @@ use Rattle.zb_player_events.specs.declared.ledger.Ledger.{Ledger}
 use Rattle.zb_model.specs.Data.{Role, Station}
 use Rattle.zb_model.specs.Lines.{Line}
 use Rattle.zb_model.specs.Play as play
-use Rattle.zb_model.specs.Play.{Disk, Event, Schedule, groups, setting_of, start, stations, step}
+use Rattle.zb_model.specs.Play.{Disk, Event, Schedule, groups, start, stations, step}
 use Rattle.law_run.proofs.Basics.{nat_eq-refl}
 use Rattle.zb_model_real.specs.Real.{real}
 use Rattle.law_schedules.specs.Schedules.{event_for, schedule_of, stations_for}
-use Rattle.law_run_steps.specs.Conditions.{condition_of}
+use Rattle.law_run_steps.specs.Conditions.{Condition, condition_of}
 use Rattle.law_run_steps.specs.Steps.{is_of}
-use Rattle.zb_player_events.specs.Nodes.{IsSeat, NodeValue, model_task}
+use Rattle.zb_player_events.specs.Nodes.{NodeValue, model_task}
 use Rattle.zb_player.specs.Playing.{AreCalled, AreCalledBy, FitsRun, IsEventAt, RunStands}
 use Rattle.zb_player.specs.Runs.{AreMade, Answers, HaveMade, IsPlayed, acts_of, disks_after, lines_of}
 use Rattle.zb_player.specs.declared.run.Run.{Run}
-use Rattle.zb_player.proofs.Goings.{here}
+use Rattle.zb_player.proofs.Goings.{before_here, role_here}
 use Rattle.zb_player.proofs.Looping.{mapped_at}
 use Rattle.zb_player.proofs.Named.{of_others}
 use Rattle.zb_player.proofs.RunSteps.{fits_at}
-use Rattle.zb_player.proofs.Seating.{euis_differ, seated_at, setting_at, stations_differ}
-use Rattle.zb_player.proofs.Stand.{EuisDiffer, StandsAt, as_many}
+use Rattle.zb_player.proofs.Seating.{euis_differ}
+use Rattle.zb_player.proofs.Stand.{EuisDiffer, as_many}
 use Rattle.zb_sched.specs.Schedules as sched
 use Rattle.zb_sched.specs.Valid.{IsSchedule}
 use Rattle.zb_sched_line.specs.Said as said
@@ -146,9 +146,9 @@ other_calls w h ds n event is = ap (λ b. cond b (event_calls real w h (conditio
 -- what a ledger promises of the device calls of one node
 abbrev pub NodeCalls : Act → ℕ → List Key → Ledger → NodeValue → Medium → Medium → Type 0
 NodeCalls a number draws old node m m' =
-    (w : Schedule) (h : List Line) (ds : List Disk) (n : ℕ) (event : Event) → Before w h ds number n old node m
-    → map (λ (k : Key). k.0) draws ≡ w.draws → act_for n a ≡ Some event → IsFor (setting_of w n).me.role event
-    → Calls (event_calls real w h (condition_of w h ds n) event) m m'
+    (w : Schedule) (h : List Line) (x : Condition) (latest n : ℕ) (event : Event) → Before w h x latest n old node m
+    → map (λ (k : Key). k.0) draws ≡ w.draws → act_for n a ≡ Some event → IsFor x.setting.me.role event
+    → Calls (event_calls real w h x event) m m'
 
 -- an event of the node at a place
 pub went_calls : (p : sched.Schedule) (h : List Line) (ds : List Disk) (number place : ℕ) (q : Station) (a : Act)
@@ -163,18 +163,13 @@ went_calls p h ds number place q a event old disks disks' node m m' few is stand
     disks_are =
     let w = schedule_of p in
     let known = stations w in
-    let pairs = stations_differ p is in
-    let found : StandsAt w h ds number q node m = here w h ds number place q old.nodes.items disks node m at.bound
-    at.station same_node same_disk stands.nodes in
-    let me : (setting_of w q.eui).me ≡ q = subst (λ (x : Station). (setting_of w x.eui).me ≡ x) at.station
-    (setting_at w place q at.bound pairs) in
-    let seat = subst (λ (x : Station). IsSeat x node → Rattle.zb_player_events.specs.Told.IsSeated w x.eui node)
-    at.station (seated_at p place q node is at.bound) in
-    let before : Before w h ds number q.eui old.ledger node m =
-    record { told = stands.told; is_in = found.is_in; seat = seat found.seat; few = few } in
-    let made : Calls (event_calls real w h (condition_of w h ds q.eui) event) m m' =
-    goes w h ds q.eui event before stands.draws at.event_is
-    (subst (λ (r : Role). IsFor r event) (sym (ap (λ (s : Station). s.role) me)) at.role) in
+    let xs : ℕ → Condition = condition_of w h ds in
+    let before = before_here p h xs number place q a event old disks node m (omega (arith, few)) is stands at same_node
+    same_disk in
+    let made : Calls (event_calls real w h (xs q.eui) event) m m' =
+    goes w h (xs q.eui) number q.eui event before stands.draws at.event_is
+    (subst (λ (r : Role). IsFor r event) (sym (role_here p xs place q is stands.settings at.bound at.station))
+    at.role) in
     let f : ℕ → ℕ = λ n. calls_of real w h ds n event in
     let own : Calls (f q.eui) m m' =
     made ∙ ap (counted_on m.calls) (own_calls w h ds q.eui event (own_event q.eui a event at.event_is)) in
@@ -182,7 +177,7 @@ went_calls p h ds number place q a event old disks disks' node m m' few is stand
     subst (λ (x : Medium). Calls (f (get_or known place q).eui) x m') (sym same_disk)
     (subst (λ (x : Station). Calls (f x.eui) m m') (sym at.station) own) in
     subst (AreCalledBy p h ds event disks) (sym disks_are)
-    (one_called f known disks place q m m' at.bound (as_many w h ds number known old.nodes.items disks stands.nodes).1
+    (one_called f known disks place q m m' at.bound (as_many xs number known old.nodes.items disks stands.nodes).1
     (euis_differ p is)
     (λ n other. other_calls w h ds n event
     (of_others q.eui n a event at.event_is (subst (λ (x : Station). n ≡ x.eui → ⊥) at.station other))) there)
@@ -199,7 +194,7 @@ pub outside_calls : (p : sched.Schedule) (h : List Line) (ds : List Disk) (numbe
 outside_calls p h ds number event old disks stands none =
     let w = schedule_of p in
     none_called (λ (n : ℕ). calls_of real w h ds n event) (stations w) disks
-    (as_many w h ds number (stations w) old.nodes.items disks stands.nodes).1
+    (as_many (condition_of w h ds) number (stations w) old.nodes.items disks stands.nodes).1
     (all_none w h ds event (stations w) none)
 
 -- ---- the events so far
@@ -235,7 +230,7 @@ unfolding run_calls
 none_made events run disks p h ds played stands =
     let w = schedule_of p in
     none_called (λ (n : ℕ). zero) (stations w) disks
-    (as_many w h ds 1 (stations w) run.nodes.items disks stands.nodes).1 (zeros (stations w))
+    (as_many (condition_of w h ds) 1 (stations w) run.nodes.items disks stands.nodes).1 (zeros (stations w))
   where
     zeros : (qs : List Station) → AllByRecursion (λ (q : Station). zero ≡ zero) qs
     zeros [] = tt

@@ -1,5 +1,5 @@
 -- The start of a run and its end, as the program has them.
-use Rattle.std.proofs.Common.{◌≡◌, ℕ, List, [], ◌∷◌, ◌++◌, map, drop, length, take, sym, ap, ◌∙◌, subst, append-nil}
+use Rattle.std.proofs.Common.{◌≡◌, ℕ, List, [], ◌∷◌, ◌++◌, map, drop, length, take, refl, sym, ap, ◌∙◌, subst, append-nil}
 use Rattle.std.proofs.Math.Seq.{take-append_seam}
 use Rattle.zb_base.specs.declared.key.Key.{Key}
 use Rattle.zb_disk.specs.Memory.{Medium}
@@ -38,6 +38,7 @@ started schedule declared run disks nodes kept all seats draws =
     let p = sched.schedule_of schedule in
     record {
       told = record { known = start-stations (schedule_of p); kept = kept };
+      settings = λ n. refl;
       nodes = all;
       seats = subst (AreSeats run.seats) (ap (λ ds. map station_for (map node_of ds)) nodes ∙ sym (same_stations p))
           seats;

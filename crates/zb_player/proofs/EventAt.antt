@@ -23,6 +23,7 @@ use Rattle.zb_player_events.specs.Nodes.{has_children, model_task, suits}
 use Rattle.zb_node_types.specs.Changes.{model_role}
 use Rattle.zb_player.specs.Playing.{FitsRun, IsEventAt}
 use Rattle.law_run_steps.specs.Steps.{is_of}
+use Rattle.law_run_swaps.specs.Swaps.{node_of}
 use Rattle.zb_player.proofs.Named.{adopts, found_at, joins, named_from, of_family, of_partners}
 use Rattle.zb_player.proofs.Seating.{setting_at, stations_differ}
 use Rattle.zb_sched.specs.Judge as judge
@@ -284,6 +285,33 @@ of_outside ms (said.Fails name call) q o = absurd (false≢true o)
 of_outside ms (said.Asks name partner) q o = absurd (false≢true o)
 of_outside ms (said.Shares name partner) q o = absurd (false≢true o)
 of_outside ms (said.Tells name partner bytes) q o = absurd (false≢true o)
+
+pub none_outside : (ms : List sched.Node) (e : Event) → is_outside e ≡ true
+    → node_of (event_for (map station_for ms) e) ≡ None
+unfolding event_for
+none_outside ms (said.Injects bytes) o = refl
+none_outside ms (said.ForgesNet to from source key sequence counter content) o = refl
+none_outside ms (said.ForgesBoth to from source key sequence counter label base aps_counter command) o = refl
+none_outside ms (said.ForgesOpen to from source label base aps_counter command) o = refl
+none_outside ms (said.Says name to bytes) o = absurd (false≢true o)
+none_outside ms (said.Delivers frame name) o = absurd (false≢true o)
+none_outside ms (said.Ticks name) o = absurd (false≢true o)
+none_outside ms (said.Knocks name) o = absurd (false≢true o)
+none_outside ms (said.Rejoins name) o = absurd (false≢true o)
+none_outside ms (said.Adopts parent name rejoin) o = absurd (false≢true o)
+none_outside ms (said.Provisions name code) o = absurd (false≢true o)
+none_outside ms (said.Repeats name) o = absurd (false≢true o)
+none_outside ms said.Rolls o = absurd (false≢true o)
+none_outside ms said.Switches o = absurd (false≢true o)
+none_outside ms (said.Removes name parent) o = absurd (false≢true o)
+none_outside ms (said.Resets name) o = absurd (false≢true o)
+none_outside ms (said.Boots name) o = absurd (false≢true o)
+none_outside ms (said.Dumps name) o = absurd (false≢true o)
+none_outside ms (said.Stops name calls torn) o = absurd (false≢true o)
+none_outside ms (said.Fails name call) o = absurd (false≢true o)
+none_outside ms (said.Asks name partner) o = absurd (false≢true o)
+none_outside ms (said.Shares name partner) o = absurd (false≢true o)
+none_outside ms (said.Tells name partner bytes) o = absurd (false≢true o)
 
 centre_seat_by : (k : ℕ) (m : sched.Node) (o : Option Seat) (b c : Bool) → b ≡ c → (c ≡ false → o ≡ None → ⊥)
     → (if b then Some (record { place = k; eui = record { 0 = m.eui } }) else o) ≡ None → ⊥

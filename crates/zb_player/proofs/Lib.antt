@@ -13,3 +13,6 @@ pub mod Whole
 pub mod Ending
 pub mod Summing
 pub mod Asking
+pub mod GivenLines
+pub mod GivenSteps
+pub mod GivenWhole

@@ -14,6 +14,7 @@ use Rattle.zb_model.specs.Data.{Bytes, Station}
 use Rattle.zb_model.specs.Play as play
 use Rattle.law_schedules.specs.Schedules.{station_for}
 use Rattle.law_run_steps.specs.Steps.{is_of}
+use Rattle.law_run_swaps.specs.Swaps.{node_of}
 use Rattle.zb_player_events.specs.Nodes.{model_task}
 use Rattle.zb_sched.specs.Judge as judge
 use Rattle.zb_sched.specs.Judge.{are_child_and_parent, are_partners, has_its_nodes, is_joiner, is_parent, role_named}
@@ -85,6 +86,19 @@ of_others n q (act.Stop calls torn) event e other = let same : play.ArmStop n ca
 of_others n q (act.Fail call) event e other = let same : play.ArmFail n call ≡ event =
     cc in subst (λ (x : play.Event). is_of q x ≡ false) same (not_of n q other)
 of_others n q act.Outside event e other = absurd (none_some event e)
+
+-- it is of this one
+pub of_node : (n : ℕ) (a : Act) (event : play.Event) → act_for n a ≡ Some event → node_of event ≡ Some n
+of_node n (act.Own task) event e = let same : play.Own n (model_task task) ≡ event = cc in ap node_of (sym same)
+of_node n act.Roll event e = let same : play.RollOver n ≡ event = cc in ap node_of (sym same)
+of_node n (act.Deliver frame) event e = let same : play.Deliver frame n ≡ event = cc in ap node_of (sym same)
+of_node n act.Reset event e = let same : play.Reset n ≡ event = cc in ap node_of (sym same)
+of_node n act.Boot event e = let same : play.PowerOn n ≡ event = cc in ap node_of (sym same)
+of_node n act.Dump event e = let same : play.ShowRecord n ≡ event = cc in ap node_of (sym same)
+of_node n (act.Stop calls torn) event e = let same : play.ArmStop n calls torn.items ≡ event = cc in ap node_of
+    (sym same)
+of_node n (act.Fail call) event e = let same : play.ArmFail n call ≡ event = cc in ap node_of (sym same)
+of_node n act.Outside event e = absurd (none_some event e)
 
 -- Names that a schedule declares are found.
 

@@ -7,7 +7,8 @@ use Rattle.zb_model.specs.Data.{Bytes}
 use Rattle.zb_model.specs.Lines.{Line}
 use Rattle.zb_model.specs.Play.{Disk}
 use Rattle.law_schedules.specs.Schedules.{schedule_of}
-use Rattle.zb_player.specs.Playing.{RunStands}
+use Rattle.law_run_steps.specs.Conditions.{Condition, condition_of}
+use Rattle.zb_player.specs.Playing.{RunIn, RunStands}
 use Rattle.zb_player.specs.declared.run.Run.{Run}
 use Rattle.zb_sched.specs.Schedules as sched
 use Rattle.zb_player_scribe.specs.Pages.{cleared, IsClear, IsFor, Takes, TakesFront}
@@ -66,19 +67,25 @@ pub record IsSameRun (one other : Run) : Type 0 where
   pub draws : other.draws.now ≡ one.draws.now
   pub scribe : other.ledger.scribe ≡ one.ledger.scribe
 
-pub paged : (p : sched.Schedule) (h : List Line) (ds : List Disk) (number : ℕ) (one other : Run) (disks : List Medium)
-    → IsSameRun one other
-    → RunStands p h ds number one disks → RunStands p h ds number other disks
-paged p h ds number one other disks same stands = record {
+pub paged_in : (p : sched.Schedule) (h : List Line) (xs : ℕ → Condition) (latest : ℕ) (one other : Run)
+    (disks : List Medium) → IsSameRun one other → RunIn p h xs latest one disks → RunIn p h xs latest other disks
+paged_in p h xs latest one other disks same stands = record {
   told = record {
     known = stands.told.known;
     kept = subst (λ k. Rattle.zb_player_scribe.specs.Kept.Kept h k) (sym same.scribe) stands.told.kept;
   };
+  settings = stands.settings;
   nodes =
-      subst (λ v. Rattle.zb_player_events.specs.Nodes.AllStand (schedule_of p) h ds number
+      subst (λ v. Rattle.zb_player_events.specs.Nodes.AllIn xs latest
       (Rattle.zb_model.specs.Play.stations (schedule_of p)) v.items disks) (sym same.nodes) stands.nodes;
   seats =
       subst (λ v. Rattle.zb_player_events.specs.Seats.AreSeats v
       (Rattle.zb_model.specs.Play.stations (schedule_of p))) (sym same.seats) stands.seats;
   draws = ap (map (λ (k : Rattle.zb_base.specs.declared.key.Key.Key). k.0)) same.draws ∙ stands.draws;
 }
+
+pub paged : (p : sched.Schedule) (h : List Line) (ds : List Disk) (number : ℕ) (one other : Run) (disks : List Medium)
+    → IsSameRun one other
+    → RunStands p h ds number one disks → RunStands p h ds number other disks
+paged p h ds number one other disks same stands =
+    paged_in p h (condition_of (schedule_of p) h ds) number one other disks same stands

@@ -1,5 +1,5 @@
 -- What a bench is asked in a run, and the disks that it puts under the nodes.
-use Rattle.std.specs.Prelude.{◌≡◌, ℕ, ◌+◌, ◌≤◌, List, [], ◌∷◌, ◌++◌, length, slice_set, Option, Some, None, ⊤}
+use Rattle.std.specs.Prelude.{◌≡◌, ℕ, ◌+◌, ◌≤◌, if◌then◌else◌, nat_eq, List, [], ◌∷◌, ◌++◌, length, slice_set, Option, Some, None, ⊤}
 use Rattle.zb_disk.specs.Memory.{Medium}
 use Rattle.zb_model.specs.Data.{Station}
 use Rattle.zb_player_events.specs.Acts.{seat_for}
@@ -54,6 +54,33 @@ put_at place disks (Some m) = slice_set disks place m
 abbrev pub under_at : (ℕ → ℕ → Option Medium) → ℕ → List Medium → Option Seat → List Medium
 under_at gives number disks None = disks
 under_at gives number disks (Some seat) = put_at seat.place disks (gives number seat.place)
+
+-- the disk that is given before an event: none before one of the outside
+abbrev pub given_at : (ℕ → ℕ → Option Medium) → ℕ → Option Seat → Option Medium
+given_at gives number None = None
+given_at gives number (Some seat) = gives number seat.place
+
+abbrev pub given_for : (ℕ → ℕ → Option Medium) → List Station → ℕ → Event → Option Medium
+given_for gives known number e = given_at gives number (seat_for known e)
+
+-- Where a bench tells what it gave before each event, this is what it gave before the event of that number.
+abbrev pub Gave : Option (ℕ → Option Medium) → Option (ℕ → Option Medium) → ℕ → Option Medium → Type 0
+Gave (Some old) (Some new') number given = (k : ℕ) → new' k ≡ (if nat_eq k number then given else old k)
+Gave None None number given = ⊤
+Gave _ _ number given = ⊥
+
+-- Before an event of the outside it isn't asked.
+abbrev pub GaveAt : Option (ℕ → Option Medium) → Option (ℕ → Option Medium) → ℕ → (ℕ → ℕ → Option Medium)
+    → Option Seat → Type 0
+GaveAt old new' number gives None = new' ≡ old
+GaveAt old new' number gives (Some seat) = Gave old new' number (gives number seat.place)
+
+-- the same for each way to see at most 256 nodes in these seats
+abbrev pub GaveFor : Seats → ℕ → Event → (ℕ → ℕ → Option Medium) → Option (ℕ → Option Medium)
+    → Option (ℕ → Option Medium) → Type 0
+GaveFor seats number e gives before after =
+    (known : List Station) → AreSeats seats known → length known ≤ 256
+    → GaveAt before after number gives (seat_for known e)
 
 -- The disks over which an event is answered: under its node is the one that the bench gives, if it gives one.
 abbrev pub under : (ℕ → ℕ → Option Medium) → List Station → ℕ → Event → List Medium → List Medium

@@ -10,30 +10,52 @@ use Rattle.zb_player_events.specs.Calls.{calls_of}
 use Rattle.zb_player_events.specs.Told.{Calls, IsTold}
 use Rattle.zb_model.specs.Data.{Station}
 use Rattle.zb_model.specs.Lines.{Line}
-use Rattle.zb_model.specs.Play.{Disk, Step, Event, stations, step}
+use Rattle.zb_model.specs.Play.{Disk, Schedule, Step, Event, setting_of, stations, step}
 use Rattle.zb_model_real.specs.Real.{real}
 use Rattle.zb_model.specs.Schedules.{CountsCalls, SuitsRole}
 use Rattle.law_schedules.specs.Schedules.{event_for, schedule_of, stations_for}
-use Rattle.zb_player_events.specs.Nodes.{AllStand}
+use Rattle.law_run_steps.specs.Conditions.{Condition, condition_of}
+use Rattle.law_run_swaps.specs.Swaps.{Passed, node_of, passed}
+use Rattle.zb_player_events.specs.Nodes.{AllIn}
 use Rattle.zb_player.specs.declared.run.Run.{Run}
 use Rattle.zb_trace_model.specs.Said.{text_of}
 use Rattle.zb_sched.specs.Schedules as sched
 use Rattle.zb_sched.specs.Valid.{FitsSchedule}
 use Rattle.zb_sched_line.specs.Said as said
 
--- The run of a schedule stands, after these lines and with these disks of the model, before the event of that number.
-pub record RunStands (p : sched.Schedule) (h : List Line) (ds : List Disk) (number : ℕ) (run : Run)
+-- Each condition has the setting that the schedule gives the node.
+abbrev pub AreSettings : Schedule → (ℕ → Condition) → Type 0
+AreSettings w xs = (n : ℕ) → (xs n).setting ≡ setting_of w n
+
+-- The run of a schedule stands, after these lines and with its nodes in these conditions. No generation on a disk is
+-- past the latest by more than one.
+pub record RunIn (p : sched.Schedule) (h : List Line) (xs : ℕ → Condition) (latest : ℕ) (run : Run)
     (disks : List Medium) : Type 0 where
   pub told : IsTold (schedule_of p) h run.ledger
-  pub nodes : AllStand (schedule_of p) h ds number (stations (schedule_of p)) run.nodes.items disks
+  pub settings : AreSettings (schedule_of p) xs
+  pub nodes : AllIn xs latest (stations (schedule_of p)) run.nodes.items disks
   pub seats : AreSeats run.seats (stations (schedule_of p))
   pub draws : map (λ (k : Key). k.0) run.draws.now ≡ p.draws
+
+-- It stands as these lines say with these disks of the model, before the event of that number.
+abbrev pub RunStands : sched.Schedule → List Line → List Disk → ℕ → Run → List Medium → Type 0
+RunStands p h ds number run disks = RunIn p h (condition_of (schedule_of p) h ds) number run disks
 
 -- The run went on by a step.
 pub record RunGoes (p : sched.Schedule) (g : Step) (h : List Line) (number : ℕ) (old new : Run)
     (disks : List Medium) : Type 0 where
   pub page : new.ledger.page ≡ append_known old.ledger.page (text_of (stations (schedule_of p)) g.lines)
   pub stands : RunStands p (h ++ g.lines) g.disks (number + 1) new disks
+
+-- what comes of an event whose node is in one of these conditions
+abbrev pub passed_by : sched.Schedule → List Line → (ℕ → Condition) → ℕ → Event → Passed
+passed_by p h xs number event = passed real (schedule_of p) h xs number event (node_of event)
+
+-- The run went on by what passed.
+pub record RunPasses (p : sched.Schedule) (g : Passed) (h : List Line) (latest : ℕ) (old new : Run)
+    (disks : List Medium) : Type 0 where
+  pub page : new.ledger.page ≡ append_known old.ledger.page (text_of (stations (schedule_of p)) g.lines)
+  pub stands : RunIn p (h ++ g.lines) g.nodes (latest + 1) new disks
 
 -- Each disk made so many device calls as is said for the EUI of its node.
 abbrev pub AreCalled : (ℕ → ℕ) → List Station → List Medium → List Medium → Type 0

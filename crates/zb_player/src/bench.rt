@@ -1,7 +1,7 @@
 //! What may put another disk under a node.
 ghost use Rattle.std.specs.Prelude.{◌≡◌, ℕ, true, Bool, List, [], ◌∷◌, Option, None};
 ghost use Rattle.zb_disk.specs.Memory.{Medium};
-ghost use Rattle.zb_player.specs.Benches.{Asks, Question};
+ghost use Rattle.zb_player.specs.Benches.{Asks, Gave, Question};
 
 use zb_disk::MemDisk;
 
@@ -19,6 +19,9 @@ pub trait Bench {
     /// What it answers to the next question.
     ghost gives: { Self → ℕ → ℕ → Option Medium };
 
+    /// What it gave before the event of each number, where it tells it.
+    ghost gave: { Self → Option (ℕ → Option Medium) };
+
     /// Returns the disk that takes the place of the node's, or none where that one stays.
     ///
     /// The event has the number `event`, from 1; the node is the one at the place `node`, from 0.
@@ -26,7 +29,8 @@ pub trait Bench {
         ensures none { still self.old ≡ true → result ≡ None }
         ensures stays { still self.old ≡ true → still self.new ≡ true }
         ensures asked { Asks (asked self.old) (asked self.new) (record { event = event; place = node } ∷ []) }
-        ensures gives { result ≡ gives self.old event node };
+        ensures gives { result ≡ gives self.old event node }
+        ensures gave { Gave (gave self.old) (gave self.new) event (gives self.old event node) };
 }
 
 /// Leaves each node its disk.
@@ -39,6 +43,8 @@ impl Bench for Still {
     ghost asked = { λ bench. None };
 
     ghost gives = { λ bench event node. None };
+
+    ghost gave = { λ bench. None };
 
     fn swap(&mut self, _event: u32, _node: u8) -> Option<MemDisk> {
         None

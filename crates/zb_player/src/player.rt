@@ -4,6 +4,7 @@ ghost use Rattle.zb_base.specs.Outside.{Rose, Unrisen};
 ghost use Rattle.zb_player_events.specs.Told.{lines_told};
 ghost use Rattle.zb_player.specs.Benches.{AsksFor, AsksAll};
 ghost use Rattle.zb_player.specs.Runs.{Answers, AreMade, IsFront, IsWhole, Played, PrintsAll, Sums};
+ghost use Rattle.zb_player.specs.Swapping.{AnswersGiven, IsSwapped, IsSwappedFront, PrintsGiven, SumsSwapped};
 ghost use Rattle.zb_sched.specs.Schedules as sched;
 ghost use Rattle.zb_sched.specs.Valid.{IsSchedule};
 ghost use Rattle.zb_sched_line.specs.Views.{event_of};
@@ -45,6 +46,15 @@ pub fn play<B: Bench, W: Sink>(
         (W.taken out.old) (W.taken out.new)) }
     ensures summary { B.still bench.old ≡ true → IfOk result (Sums (sched.schedule_of schedule.now)) }
     ensures disks { B.still bench.old ≡ true → OnOk result (Played (sched.schedule_of schedule.now) disks.new.items) }
+
+    // Where the bench tells what it gives, and gives disks under nodes that are down alone, from which they can boot, what
+    // is written is the transcript of a run whose nodes are given these disks, or a prefix of it; and the summary is
+    // its last line.
+    ensures swapped { OnOk result (IsSwapped (sched.schedule_of schedule.now) (B.gave bench.new)
+        (W.taken out.old) (W.taken out.new)) }
+    ensures swapped_front { OnErr result (IsSwappedFront (sched.schedule_of schedule.now) (B.gave bench.new)
+        (W.taken out.old) (W.taken out.new)) }
+    ensures swapped_summary { IfOk result (SumsSwapped (sched.schedule_of schedule.now) (B.gave bench.new)) }
 
     // Whatever the bench gives, it is asked once before each event of a node, and before no other.
     ensures asked { OnOk result (AsksAll (sched.schedule_of schedule.now) (B.asked bench.old) (B.asked bench.new)) }
@@ -109,6 +119,11 @@ fn play_onto<B: Bench, W: Sink>(
         (W.taken out.old) (W.taken out.new)) }
     ensures summary { B.still bench.old ≡ true → IfOk result (Sums (sched.schedule_of schedule.now)) }
     ensures disks { B.still bench.old ≡ true → OnOk result (Played (sched.schedule_of schedule.now) disks.new.items) }
+    ensures swapped { OnOk result (IsSwapped (sched.schedule_of schedule.now) (B.gave bench.new)
+        (W.taken out.old) (W.taken out.new)) }
+    ensures swapped_front { OnErr result (IsSwappedFront (sched.schedule_of schedule.now) (B.gave bench.new)
+        (W.taken out.old) (W.taken out.new)) }
+    ensures swapped_summary { IfOk result (SumsSwapped (sched.schedule_of schedule.now) (B.gave bench.new)) }
     ensures asked { OnOk result (AsksAll (sched.schedule_of schedule.now) (B.asked bench.old) (B.asked bench.new)) }
     ensures later { W.faults out.old ≤ W.faults out.new }
     ensures cause { result ≡ Err PlayFault.Write → Rose (W.faults out.old) (W.faults out.new) }
@@ -139,6 +154,10 @@ fn answer_all<'a, B: Bench, W: Sink>(
     ensures clear { OnOk result (IsClear run.new.ledger.page) }
     ensures whole { OnOk result (B.still bench.old ≡ true → Answers run.old disks.old
         (map event_of events.now) (length events.now) run.new disks.new (W.taken out.old) (W.taken out.new)) }
+    ensures swapped { OnOk result (AnswersGiven run.old disks.old (map event_of events.now) (B.gave bench.new)
+        (length events.now) run.new disks.new (W.taken out.old) (W.taken out.new)) }
+    ensures swapped_front { OnErr result (PrintsGiven run.old disks.old (map event_of events.now) (B.gave bench.new)
+        (W.taken out.old) (W.taken out.new)) }
     ensures asked { OnOk result (AsksFor run.old.seats 1 (map event_of events.now) (B.asked bench.old)
         (B.asked bench.new)) }
     ensures calls { OnOk result (B.still bench.old ≡ true → AreMade disks.old run.old (map event_of events.now)

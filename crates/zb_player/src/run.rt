@@ -1,5 +1,5 @@
 //! A run while it goes on.
-ghost use Rattle.std.specs.Prelude.{◌≡◌, ◌≤◌, ◌+◌, ◌<◌, [], ◌∷◌, ℕ, List, Some, true, IfOk, OnOk, map};
+ghost use Rattle.std.specs.Prelude.{◌≡◌, ◌≤◌, ◌+◌, ◌<◌, [], ◌∷◌, ℕ, List, Option, Some, true, IfOk, OnOk, map};
 ghost use Rattle.std.specs.List.{AllByRecursion};
 ghost use Rattle.std.specs.Io.KnownBytes.{append_known};
 ghost use Rattle.zb_base.specs.declared.key.Key.{Key as key};
@@ -11,8 +11,11 @@ ghost use Rattle.zb_model.specs.Play.{Disk, stations, step};
 ghost use Rattle.zb_model_real.specs.Real.{real};
 ghost use Rattle.law_schedules.specs.Schedules.{event_for, schedule_of, stations_for};
 ghost use Rattle.zb_player_events.specs.Told.{HasRoom, lines_told};
-ghost use Rattle.zb_player.specs.Benches.{Asks, AsksFor, put_at, under};
-ghost use Rattle.zb_player.specs.Playing.{AreCalledBy, FitsRun, IsEventAt, RunGoes, RunStands, step_of};
+ghost use Rattle.law_run_steps.specs.Conditions.{Condition};
+ghost use Rattle.law_run_swaps.specs.Swaps.{Stood, node_of};
+ghost use Rattle.zb_player.specs.Benches.{Asks, AsksFor, Gave, GaveFor, given_for, put_at, under};
+ghost use Rattle.zb_player.specs.Playing.{AreCalledBy, FitsRun, IsEventAt, RunGoes, RunIn, RunPasses, RunStands, passed_by, step_of};
+ghost use Rattle.zb_player.specs.Swapping.{FitsAt, passed_with};
 ghost use Rattle.zb_player.specs.Runs.{text_in};
 ghost use Rattle.zb_sched.specs.Schedules as sched;
 ghost use Rattle.zb_sched.specs.Valid.{IsSchedule};
@@ -94,6 +97,16 @@ impl<'a> Run<'a> {
         ensures asked { AsksFor self.old.seats number (event_of event.now ∷ []) (B.asked bench.old)
             (B.asked bench.new) }
         ensures seats { self.new.seats ≡ self.old.seats }
+        ensures gave { GaveFor self.old.seats number (event_of event.now) (B.gives bench.old) (B.gave bench.old)
+            (B.gave bench.new) }
+        ensures passes { OnOk result ((p : sched.Schedule) (h : List Line) (xs : ℕ → Condition) (latest : ℕ)
+            (gift : Option Stood) → IsSchedule p → FitsRun p number (event_of event.now)
+            → latest < 9223372036854775808 → RunIn p h xs latest self.old disks.old
+            → FitsAt latest gift
+            (given_for (B.gives bench.old) (stations (schedule_of p)) number (event_of event.now)) xs
+            (node_of (event_for (stations_for p) (event_of event.now)))
+            → RunPasses p (passed_with p gift h xs number (event_for (stations_for p) (event_of event.now))) h latest
+            self.old self.new disks.new) }
         ensures swapped { OnOk result ((p : sched.Schedule) (h : List Line) (ds : List Disk) → IsSchedule p
             → FitsRun p number (event_of event.now) → RunStands p h ds number self.old
             (under (B.gives bench.old) (stations (schedule_of p)) number (event_of event.now) disks.old)
@@ -128,10 +141,10 @@ impl<'a> Run<'a> {
         requires room { HasRoom self.old.ledger }
         ensures seats { self.new.seats ≡ self.old.seats }
         ensures few { OnOk result (lines_told self.new.ledger ≤ lines_told self.old.ledger + 24) }
-        ensures goes { OnOk result ((p : sched.Schedule) (h : List Line) (ds : List Disk) (event : model.Event)
-            (q : station) → IsSchedule p → RunStands p h ds number self.old disks.old
-            → IsEventAt p place q act event
-            → RunGoes p (step_of p h ds number event) h number self.old self.new disks.new) }
+        ensures goes { OnOk result ((p : sched.Schedule) (h : List Line) (xs : ℕ → Condition) (latest : ℕ)
+            (event : model.Event) (q : station) → latest < 9223372036854775808 → IsSchedule p
+            → RunIn p h xs latest self.old disks.old → IsEventAt p place q act event
+            → RunPasses p (passed_by p h xs number event) h latest self.old self.new disks.new) }
         ensures calls { OnOk result ((p : sched.Schedule) (h : List Line) (ds : List Disk) (event : model.Event)
             (q : station) → IsSchedule p → RunStands p h ds number self.old disks.old
             → IsEventAt p place q act event → AreCalledBy p h ds event disks.old disks.new) }
@@ -151,6 +164,8 @@ fn swap<B: Bench>(disks: &mut [MemDisk], bench: &mut B, number: u32, seat: Seat)
     ensures still { B.still bench.old ≡ true → B.still bench.new ≡ true }
     ensures asked { seat.place < 256 → Asks (B.asked bench.old) (B.asked bench.new)
         (record { event = number; place = seat.place } ∷ []) }
+    ensures gave { seat.place < 256 → Gave (B.gave bench.old) (B.gave bench.new) number
+        (B.gives bench.old number seat.place) }
     ensures put { seat.place < 256 → disks.new ≡ put_at seat.place disks.old (B.gives bench.old number seat.place) }
 {
     if let Ok(node) = u8::try_from(seat.place) {

@@ -15,11 +15,10 @@ use Rattle.zb_model.specs.Answer.{answer}
 use Rattle.zb_model.specs.Data as model
 use Rattle.zb_model.specs.Lines.{Line}
 use Rattle.zb_model.specs.Play as play
-use Rattle.zb_model.specs.Play.{Disk, Armed, NotArmed, StopAfter, FailAt, NoCalls, EntryCalls, RecordCalls, BootCalls, PowerOn, Schedule, count_of, falls, frame_at, setting_of, supply}
-use Rattle.zb_model.specs.Readings.{is_up}
+use Rattle.zb_model.specs.Play.{Armed, NotArmed, StopAfter, FailAt, NoCalls, EntryCalls, RecordCalls, BootCalls, PowerOn, Schedule, count_of, falls, frame_at, supply}
 use Rattle.zb_model_real.specs.Real.{real}
 use Rattle.zb_player_events.specs.Calls.{event_calls, fallen_call, frame_calls, made_of, task_calls}
-use Rattle.law_run_steps.specs.Conditions.{Condition, calls_by, condition_of}
+use Rattle.law_run_steps.specs.Conditions.{Condition, calls_by}
 use Rattle.zb_player_node.specs.Answers.{HasBooted, HasHandled}
 use Rattle.zb_player_node.specs.Tasks.{suits}
 use Rattle.zb_player_node.specs.Values.{NodeValue}
@@ -77,83 +76,77 @@ while_up b made old new up is = is ∙ ap (λ x. counted_on old (cond x made 0))
 while_down : (b : Bool) (made old : ℕ) → b ≡ false → old ≡ counted_on old (cond b made 0)
 while_down b made old down = ap (λ x. counted_on old (cond x made 0)) (sym down)
 
-pub down_calls : (w : Schedule) (h : List Line) (ds : List Disk) (number n : ℕ) (task : model.Task) (k : Ledger)
-    (node : NodeValue) (m : Medium) → Before w h ds number n k node m → false ≡ is_some node.machine
-    → Calls (task_calls real (condition_of w h ds n) task) m m
-down_calls w h ds number n task k node m before off =
-    let x = condition_of w h ds n in
-    while_down (is_up h n) (made_of x.disk.armed (calls_by x.commits (answer real x.setting x.state task).edits))
-    m.calls (power_of w h ds number n k node m false before off)
+pub down_calls : (w : Schedule) (h : List Line) (x : Condition) (latest n : ℕ) (task : model.Task) (k : Ledger)
+    (node : NodeValue) (m : Medium) → Before w h x latest n k node m → false ≡ is_some node.machine
+    → Calls (task_calls real x task) m m
+down_calls w h x latest n task k node m before off =
+    while_down (x.up) (made_of x.disk.armed (calls_by x.commits (answer real x.setting x.state task).edits))
+    m.calls (power_of w h x latest n k node m false before off)
 
-pub whole_calls : (w : Schedule) (h : List Line) (ds : List Disk) (number n : ℕ) (task : model.Task)
+pub whole_calls : (w : Schedule) (h : List Line) (x : Condition) (latest n : ℕ) (task : model.Task)
     (result : Option Handled) (p : CorePlan) (k : Ledger)
-    (node after : NodeValue) (m m' : Medium) → Before w h ds number n k node m → suits (setting_of w n).me.role task
+    (node after : NodeValue) (m m' : Medium) → Before w h x latest n k node m → suits x.setting.me.role task
     ≡ true → true ≡ is_some node.machine → result ≡ Some Whole
-    → HasHandled task node m result p after m' → Calls (task_calls real (condition_of w h ds n) task) m m'
-whole_calls w h ds number n task result p k node after m m' before is on made handled =
-    let x = condition_of w h ds n in
+    → HasHandled task node m result p after m' → Calls (task_calls real x task) m m'
+whole_calls w h x latest n task result p k node after m m' before is on made handled =
     let calls = calls_by x.commits (answer real x.setting x.state task).edits in
     let how : HasHandled task node m (Some Whole) p after m' =
     subst (λ (r : Option Handled). HasHandled task node m r p after m') made handled in
-    let was = how x number before.is_in (can_have w h ds number n task k node m before is) in
-    while_up (is_up h n) (made_of x.disk.armed calls) m.calls m'.calls
-    (power_of w h ds number n k node m true before on)
+    let was = how x latest before.is_in (can_have w h x latest n task k node m before is) in
+    while_up (x.up) (made_of x.disk.armed calls) m.calls m'.calls
+    (power_of w h x latest n k node m true before on)
     (whole_counted x.disk.armed calls m.calls m'.calls was.missed was.calls)
 
-pub cut_calls : (w : Schedule) (h : List Line) (ds : List Disk) (number n : ℕ) (task : model.Task)
+pub cut_calls : (w : Schedule) (h : List Line) (x : Condition) (latest n : ℕ) (task : model.Task)
     (result : Option Handled) (p : CorePlan) (fall : Fall) (k : Ledger)
-    (node after : NodeValue) (m m' : Medium) → Before w h ds number n k node m → suits (setting_of w n).me.role task
+    (node after : NodeValue) (m m' : Medium) → Before w h x latest n k node m → suits x.setting.me.role task
     ≡ true → true ≡ is_some node.machine → result ≡ Some (Cut fall)
-    → HasHandled task node m result p after m' → Calls (task_calls real (condition_of w h ds n) task) m m'
-cut_calls w h ds number n task result p fall k node after m m' before is on made handled =
-    let x = condition_of w h ds n in
+    → HasHandled task node m result p after m' → Calls (task_calls real x task) m m'
+cut_calls w h x latest n task result p fall k node after m m' before is on made handled =
     let calls = calls_by x.commits (answer real x.setting x.state task).edits in
     let how : HasHandled task node m (Some (Cut fall)) p after m' =
     subst (λ (r : Option Handled). HasHandled task node m r p after m') made handled in
-    let was = how x number before.is_in (can_have w h ds number n task k node m before is) in
-    while_up (is_up h n) (made_of x.disk.armed calls) m.calls m'.calls
-    (power_of w h ds number n k node m true before on)
+    let was = how x latest before.is_in (can_have w h x latest n task k node m before is) in
+    while_up (x.up) (made_of x.disk.armed calls) m.calls m'.calls
+    (power_of w h x latest n k node m true before on)
     (cut_counted x.disk.armed calls m.calls m'.calls was.fell before.is_in.arming was.calls)
 
 -- ---- boots
 
-pub no_boot_calls : (w : Schedule) (h : List Line) (ds : List Disk) (number n : ℕ) (k : Ledger) (node : NodeValue)
-    (m : Medium) → Before w h ds number n k node m → true ≡ is_some node.machine
-    → Calls (event_calls real w h (condition_of w h ds n) (PowerOn n)) m m
+pub no_boot_calls : (w : Schedule) (h : List Line) (x : Condition) (latest n : ℕ) (k : Ledger) (node : NodeValue)
+    (m : Medium) → Before w h x latest n k node m → true ≡ is_some node.machine
+    → Calls (event_calls real w h x (PowerOn n)) m m
 unfolding event_calls
-no_boot_calls w h ds number n k node m before on =
-    let x = condition_of w h ds n in
+no_boot_calls w h x latest n k node m before on =
     ap (λ b. counted_on m.calls (cond b 0 (made_of x.disk.armed (BootCalls x.disk.both_open))))
-    (sym (power_of w h ds number n k node m true before on))
+    (sym (power_of w h x latest n k node m true before on))
 
 at_boot : (b : Bool) (made old new : ℕ) → b ≡ false → new ≡ counted_on old made → new ≡ counted_on old (cond b 0 made)
 at_boot b made old new down is = is ∙ ap (λ x. counted_on old (cond x 0 made)) (sym down)
 
-pub boot_calls : (w : Schedule) (h : List Line) (ds : List Disk) (number n : ℕ) (result : Option Fall) (k : Ledger)
-    (node after : NodeValue) (m m' : Medium) → Before w h ds number n k node m → false ≡ is_some node.machine
+pub boot_calls : (w : Schedule) (h : List Line) (x : Condition) (latest n : ℕ) (result : Option Fall) (k : Ledger)
+    (node after : NodeValue) (m m' : Medium) → Before w h x latest n k node m → false ≡ is_some node.machine
     → result ≡ None → HasBooted node m result after m'
-    → Calls (event_calls real w h (condition_of w h ds n) (PowerOn n)) m m'
+    → Calls (event_calls real w h x (PowerOn n)) m m'
 unfolding event_calls
-boot_calls w h ds number n result k node after m m' before off made booting =
-    let x = condition_of w h ds n in
-    let down = power_of w h ds number n k node m false before off in
+boot_calls w h x latest n result k node after m m' before off made booting =
+    let down = power_of w h x latest n k node m false before off in
     let how : HasBooted node m None after m' = subst (λ (r : Option Fall). HasBooted node m r after m') made booting in
-    let was = how x number before.is_in down in
-    at_boot (is_up h n) (made_of x.disk.armed (BootCalls x.disk.both_open)) m.calls m'.calls down
+    let was = how x latest before.is_in down in
+    at_boot (x.up) (made_of x.disk.armed (BootCalls x.disk.both_open)) m.calls m'.calls down
     (whole_counted x.disk.armed (BootCalls x.disk.both_open) m.calls m'.calls was.missed was.calls)
 
-pub cut_boot_calls : (w : Schedule) (h : List Line) (ds : List Disk) (number n : ℕ) (result : Option Fall)
-    (fall : Fall) (k : Ledger) (node after : NodeValue) (m m' : Medium) → Before w h ds number n k node m
+pub cut_boot_calls : (w : Schedule) (h : List Line) (x : Condition) (latest n : ℕ) (result : Option Fall)
+    (fall : Fall) (k : Ledger) (node after : NodeValue) (m m' : Medium) → Before w h x latest n k node m
     → false ≡ is_some node.machine → result ≡ Some fall → HasBooted node m result after m'
-    → Calls (event_calls real w h (condition_of w h ds n) (PowerOn n)) m m'
+    → Calls (event_calls real w h x (PowerOn n)) m m'
 unfolding event_calls
-cut_boot_calls w h ds number n result fall k node after m m' before off made booting =
-    let x = condition_of w h ds n in
-    let down = power_of w h ds number n k node m false before off in
+cut_boot_calls w h x latest n result fall k node after m m' before off made booting =
+    let down = power_of w h x latest n k node m false before off in
     let how : HasBooted node m (Some fall) after m' = subst (λ (r : Option Fall). HasBooted node m r after m') made
     booting in
-    let was = how x number before.is_in down in
-    at_boot (is_up h n) (made_of x.disk.armed (BootCalls x.disk.both_open)) m.calls m'.calls down
+    let was = how x latest before.is_in down in
+    at_boot (x.up) (made_of x.disk.armed (BootCalls x.disk.both_open)) m.calls m'.calls down
     (cut_counted x.disk.armed (BootCalls x.disk.both_open) m.calls m'.calls was.fell before.is_in.arming was.calls)
 
 -- ---- the event that it is
@@ -170,34 +163,34 @@ pub none_called : (w : Schedule) (h : List Line) (x : Condition) (this event : p
 none_called w h x this event old new none same is = by_event_calls w h x this event old new same
     (is ∙ ap (counted_on old.calls) (sym none))
 
-pub own_calls : (w : Schedule) (h : List Line) (ds : List Disk) (n : ℕ) (task : model.Task) (event : play.Event)
-    (old new : Medium) → play.Own n task ≡ event → IsFor (setting_of w n).me.role event
-    → (suits (setting_of w n).me.role task ≡ true → Calls (task_calls real (condition_of w h ds n) task) old new)
-    → Calls (event_calls real w h (condition_of w h ds n) event) old new
+pub own_calls : (w : Schedule) (h : List Line) (x : Condition) (n : ℕ) (task : model.Task) (event : play.Event)
+    (old new : Medium) → play.Own n task ≡ event → IsFor x.setting.me.role event
+    → (suits x.setting.me.role task ≡ true → Calls (task_calls real x task) old new)
+    → Calls (event_calls real w h x event) old new
 unfolding event_calls
-own_calls w h ds n task event old new same fits calls =
-    by_event_calls w h (condition_of w h ds n) (play.Own n task) event old new same
-    (calls (subst (λ (e : play.Event). IsFor (setting_of w n).me.role e) (sym same) fits))
+own_calls w h x n task event old new same fits calls =
+    by_event_calls w h x (play.Own n task) event old new same
+    (calls (subst (λ (e : play.Event). IsFor x.setting.me.role e) (sym same) fits))
 
-pub roll_calls : (w : Schedule) (h : List Line) (ds : List Disk) (n : ℕ) (draw : Option Key) (event : play.Event)
-    (old new : Medium) → play.RollOver n ≡ event → IsFor (setting_of w n).me.role event
+pub roll_calls : (w : Schedule) (h : List Line) (x : Condition) (n : ℕ) (draw : Option Key) (event : play.Event)
+    (old new : Medium) → play.RollOver n ≡ event → IsFor x.setting.me.role event
     → option_map (λ (key : Key). key.0) draw ≡ supply w h
-    → (suits (setting_of w n).me.role (model.DoRoll (option_map (λ (key : Key). key.0) draw)) ≡ true
-    → Calls (task_calls real (condition_of w h ds n) (model.DoRoll (option_map (λ (key : Key). key.0) draw))) old
+    → (suits x.setting.me.role (model.DoRoll (option_map (λ (key : Key). key.0) draw)) ≡ true
+    → Calls (task_calls real x (model.DoRoll (option_map (λ (key : Key). key.0) draw))) old
     new)
-    → Calls (event_calls real w h (condition_of w h ds n) event) old new
+    → Calls (event_calls real w h x event) old new
 unfolding event_calls
-roll_calls w h ds n draw event old new same fits is calls =
-    by_event_calls w h (condition_of w h ds n) (play.RollOver n) event old new same
-    (subst (λ (d : Option model.Bytes). Calls (task_calls real (condition_of w h ds n) (model.DoRoll d)) old new) is
-    (calls (subst (λ (e : play.Event). IsFor (setting_of w n).me.role e) (sym same) fits)))
+roll_calls w h x n draw event old new same fits is calls =
+    by_event_calls w h x (play.RollOver n) event old new same
+    (subst (λ (d : Option model.Bytes). Calls (task_calls real x (model.DoRoll d)) old new) is
+    (calls (subst (λ (e : play.Event). IsFor x.setting.me.role e) (sym same) fits)))
 
-pub deliver_calls : (w : Schedule) (h : List Line) (ds : List Disk) (n frame : ℕ) (event : play.Event)
+pub deliver_calls : (w : Schedule) (h : List Line) (x : Condition) (n frame : ℕ) (event : play.Event)
     (old new : Medium) → play.Deliver frame n ≡ event
-    → Calls (frame_calls real (condition_of w h ds n) (supply w h) (frame_at h frame)) old new
-    → Calls (event_calls real w h (condition_of w h ds n) event) old new
+    → Calls (frame_calls real x (supply w h) (frame_at h frame)) old new
+    → Calls (event_calls real w h x event) old new
 unfolding event_calls
-deliver_calls w h ds n frame event old new same calls = by_event_calls w h (condition_of w h ds n)
+deliver_calls w h x n frame event old new same calls = by_event_calls w h x
     (play.Deliver frame n) event old new same calls
 
 pub reset_none : (w : Schedule) (h : List Line) (x : Condition) (n : ℕ) → event_calls real w h x (play.Reset n) ≡ 0

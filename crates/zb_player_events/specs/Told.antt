@@ -7,10 +7,11 @@ use Rattle.zb_armed_host.specs.declared.fall.Fall.{Fall}
 use Rattle.zb_armed_host.specs.declared.fall.Fall.TheVariants.{Stopped as stopped, Failed as failed}
 use Rattle.zb_model.specs.Data.{AtEvent, Reason}
 use Rattle.zb_model.specs.Lines.{Line, Stopped, DownDisk}
-use Rattle.zb_model.specs.Play.{Schedule, Disk, Step, setting_of, stations}
+use Rattle.zb_model.specs.Play.{Schedule, setting_of, stations}
 use Rattle.zb_model.specs.Readings.{stations_of}
 use Rattle.zb_model.specs.State.{is_centre}
-use Rattle.law_run_steps.specs.Conditions.{condition_of}
+use Rattle.law_run_steps.specs.Conditions.{Condition}
+use Rattle.law_run_swaps.specs.Turns.{Turn}
 use Rattle.zb_player_node.specs.Nodes.{IsIn}
 use Rattle.zb_player_node.specs.Values.{NodeValue}
 use Rattle.zb_node_types.specs.Changes.{model_place, place_of, reason}
@@ -59,13 +60,15 @@ pub record IsSeated (w : Schedule) (n : ℕ) (node : NodeValue) : Type 0 where
   pub spelled : is_name node.peer.name.bytes ≡ true
   pub centre : is_centre (setting_of w n).me.role ≡ true → the_centre (stations w) ≡ n
 
--- before an event of the node of this EUI, over its disk
-pub record Before (w : Schedule) (h : List Line) (ds : List Disk) (number n : ℕ) (k : Ledger) (node : NodeValue)
+-- Before an event of the node of this EUI, which is in this condition over its disk. The generations of the disk are
+-- far from the last one.
+pub record Before (w : Schedule) (h : List Line) (x : Condition) (latest n : ℕ) (k : Ledger) (node : NodeValue)
     (m : Medium) : Type 0 where
   pub told : IsTold w h k
-  pub is_in : IsIn (condition_of w h ds n) number node m
+  pub is_in : IsIn x latest node m
+  pub setting : x.setting ≡ setting_of w n
   pub seat : IsSeated w n node
-  pub few : number < 4294967296
+  pub few : latest < 9223372036854775808
 
 -- the count of a disk's calls after so many more; it stops at 2^64 - 1
 abbrev pub counted_on : ℕ → ℕ → ℕ
@@ -76,8 +79,8 @@ counted_on count (suc more) = risen count (suc more)
 abbrev pub Calls : ℕ → Medium → Medium → Type 0
 Calls made old new = new.calls ≡ counted_on old.calls made
 
--- The event's lines were told, and the node is in the condition that they leave.
-pub record Goes (w : Schedule) (g : Step) (h : List Line) (number n : ℕ) (old new : Ledger) (node : NodeValue)
+-- The event's lines were told, and the node is in the condition that its turn leaves.
+pub record Goes (w : Schedule) (t : Turn) (h : List Line) (latest : ℕ) (old new : Ledger) (node : NodeValue)
     (m : Medium) : Type 0 where
-  pub adds : Adds w h g.lines old new
-  pub is_in : IsIn (condition_of w (h ++ g.lines) g.disks n) (number + 1) node m
+  pub adds : Adds w h t.lines old new
+  pub is_in : IsIn t.left (latest + 1) node m

@@ -6,10 +6,11 @@ ghost use Rattle.zb_player_events.specs.Acts.{IsFor, act_for};
 ghost use Rattle.zb_player_events.specs.Told.{Adds, Before, Calls, Goes, HasRoom, IsTold, lines_told};
 ghost use Rattle.zb_model.specs.Lines as log;
 ghost use Rattle.zb_model.specs.Play as model;
-ghost use Rattle.zb_model.specs.Play.{Disk, Schedule, setting_of, stations, step};
+ghost use Rattle.zb_model.specs.Play.{Schedule, stations};
 ghost use Rattle.zb_model_real.specs.Real.{real};
 ghost use Rattle.zb_player_events.specs.Calls.{event_calls};
-ghost use Rattle.law_run_steps.specs.Conditions.{condition_of};
+ghost use Rattle.law_run_steps.specs.Conditions.{Condition};
+ghost use Rattle.law_run_swaps.specs.Turns.{event_turn};
 ghost use Rattle.zb_node_types.specs.Changes.{model_place, place_of, reason};
 ghost use Rattle.zb_trace_model.specs.Naming.{IsCalled};
 ghost use Rattle.zb_trace_model.specs.Said.{IsLineOf};
@@ -91,14 +92,14 @@ impl Ledger {
         requires room { HasRoom self.old }
         ensures few { OnOk result (lines_told self.new ≤ lines_told self.old + 24) }
         ensures seat { node.new.peer ≡ node.old.peer }
-        ensures goes { OnOk result ((w : Schedule) (h : List log.Line) (ds : List Disk) (n : ℕ) (event : model.Event)
-            → Before w h ds number n self.old node.old disk.old → map (λ (k : key). k.0) draws.now ≡ w.draws
-            → act_for n act ≡ Some event → IsFor (setting_of w n).me.role event
-            → Goes w (step real w h ds number event) h number n self.old self.new node.new disk.new) }
-        ensures calls { OnOk result ((w : Schedule) (h : List log.Line) (ds : List Disk) (n : ℕ) (event : model.Event)
-            → Before w h ds number n self.old node.old disk.old → map (λ (k : key). k.0) draws.now ≡ w.draws
-            → act_for n act ≡ Some event → IsFor (setting_of w n).me.role event
-            → Calls (event_calls real w h (condition_of w h ds n) event) disk.old disk.new) }
+        ensures goes { OnOk result ((w : Schedule) (h : List log.Line) (x : Condition) (latest n : ℕ)
+            (event : model.Event) → Before w h x latest n self.old node.old disk.old
+            → map (λ (k : key). k.0) draws.now ≡ w.draws → act_for n act ≡ Some event → IsFor x.setting.me.role event
+            → Goes w (event_turn real w h x number event) h latest self.old self.new node.new disk.new) }
+        ensures calls { OnOk result ((w : Schedule) (h : List log.Line) (x : Condition) (latest n : ℕ)
+            (event : model.Event) → Before w h x latest n self.old node.old disk.old
+            → map (λ (k : key). k.0) draws.now ≡ w.draws → act_for n act ≡ Some event → IsFor x.setting.me.role event
+            → Calls (event_calls real w h x event) disk.old disk.new) }
     {
         match act {
             Act::Own(task) => self.handle(node, disk, number, task),

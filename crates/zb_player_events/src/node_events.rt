@@ -2,14 +2,14 @@
 ghost use Rattle.std.specs.Prelude.{◌≡◌, ◌≤◌, ◌<◌, ◌+◌, ◌∷◌, [], ℕ, List, None, OnOk, if◌then◌else◌, map, true};
 ghost use Rattle.zb_base.specs.declared.key.Key.{Key as key};
 ghost use Rattle.zb_disk.specs.Memory.{Medium as medium};
-ghost use Rattle.zb_model.specs.Answer.{counting_of};
 ghost use Rattle.zb_model.specs.Data.{Down as model_down, NoFrame as model_no_frame, Received, WrongState as model_wrong_state};
 ghost use Rattle.zb_model.specs.Lines as log;
 ghost use Rattle.zb_model.specs.Play as model;
-ghost use Rattle.zb_model.specs.Play.{Disk, Schedule, deliver_step, frame_at, setting_of, stations, step, supply, task_step};
+ghost use Rattle.zb_model.specs.Play.{Schedule, frame_at, stations, supply};
 ghost use Rattle.zb_model_real.specs.Real.{real};
 ghost use Rattle.zb_player_events.specs.Calls.{event_calls, frame_calls, task_calls};
-ghost use Rattle.law_run_steps.specs.Conditions.{condition_of};
+ghost use Rattle.law_run_steps.specs.Conditions.{Condition};
+ghost use Rattle.law_run_swaps.specs.Turns.{deliver_turn, event_turn, task_turn};
 ghost use Rattle.zb_player_node.specs.Tasks.{model_task, suits};
 ghost use Rattle.zb_player_events.specs.Told.{Adds, Before, Calls, Goes, HasRoom, IsFallen, IsRefusedFor, IsTold, fall_line, lines_told};
 ghost use Rattle.zb_trace_model.specs.Naming.{IsCalled};
@@ -48,15 +48,15 @@ impl Ledger {
     ) -> Result<(), NoMemory>
         requires room { HasRoom self.old }
         ensures few { OnOk result (lines_told self.new ≤ lines_told self.old + 24) }
-        ensures goes { OnOk result ((w : Schedule) (h : List log.Line) (ds : List Disk) (n : ℕ)
-            → Before w h ds event n self.old node.old disk.old
-            → suits (setting_of w n).me.role (model_task task) ≡ true
-            → Goes w (task_step real counting_of w h ds event n (model_task task)) h event n
+        ensures goes { OnOk result ((w : Schedule) (h : List log.Line) (x : Condition) (latest n : ℕ)
+            → Before w h x latest n self.old node.old disk.old
+            → suits x.setting.me.role (model_task task) ≡ true
+            → Goes w (task_turn real h x event n (model_task task)) h latest
             self.old self.new node.new disk.new) }
-        ensures calls { OnOk result ((w : Schedule) (h : List log.Line) (ds : List Disk) (n : ℕ)
-            → Before w h ds event n self.old node.old disk.old
-            → suits (setting_of w n).me.role (model_task task) ≡ true
-            → Calls (task_calls real (condition_of w h ds n) (model_task task)) disk.old disk.new) }
+        ensures calls { OnOk result ((w : Schedule) (h : List log.Line) (x : Condition) (latest n : ℕ)
+            → Before w h x latest n self.old node.old disk.old
+            → suits x.setting.me.role (model_task task) ≡ true
+            → Calls (task_calls real x (model_task task)) disk.old disk.new) }
         ensures seat { node.new.peer ≡ node.old.peer }
     {
         let name = node.name();
@@ -103,13 +103,13 @@ impl Ledger {
     ) -> Result<(), NoMemory>
         requires room { HasRoom self.old }
         ensures few { OnOk result (lines_told self.new ≤ lines_told self.old + 24) }
-        ensures goes { OnOk result ((w : Schedule) (h : List log.Line) (ds : List Disk) (n : ℕ)
-            → Before w h ds event n self.old node.old disk.old → map (λ (k : key). k.0) draws.now ≡ w.draws
-            → Goes w (deliver_step real counting_of w h ds event n (frame_at h frame)) h event n
+        ensures goes { OnOk result ((w : Schedule) (h : List log.Line) (x : Condition) (latest n : ℕ)
+            → Before w h x latest n self.old node.old disk.old → map (λ (k : key). k.0) draws.now ≡ w.draws
+            → Goes w (deliver_turn real w h x event n (frame_at h frame)) h latest
             self.old self.new node.new disk.new) }
-        ensures calls { OnOk result ((w : Schedule) (h : List log.Line) (ds : List Disk) (n : ℕ)
-            → Before w h ds event n self.old node.old disk.old → map (λ (k : key). k.0) draws.now ≡ w.draws
-            → Calls (frame_calls real (condition_of w h ds n) (supply w h) (frame_at h frame)) disk.old disk.new) }
+        ensures calls { OnOk result ((w : Schedule) (h : List log.Line) (x : Condition) (latest n : ℕ)
+            → Before w h x latest n self.old node.old disk.old → map (λ (k : key). k.0) draws.now ≡ w.draws
+            → Calls (frame_calls real x (supply w h) (frame_at h frame)) disk.old disk.new) }
         ensures seat { node.new.peer ≡ node.old.peer }
     {
         match self.scribe.frame(frame) {
@@ -130,13 +130,13 @@ impl Ledger {
         requires room { HasRoom self.old }
         ensures few { OnOk result (lines_told self.new ≤ lines_told self.old + 24) }
         ensures seat { node.new.peer ≡ node.old.peer }
-        ensures goes { OnOk result ((w : Schedule) (h : List log.Line) (ds : List Disk) (n : ℕ)
-            → Before w h ds event n self.old node.old disk.old → map (λ (k : key). k.0) draws.now ≡ w.draws
-            → Goes w (task_step real counting_of w h ds event n (Received bytes.items (supply w h))) h event n
+        ensures goes { OnOk result ((w : Schedule) (h : List log.Line) (x : Condition) (latest n : ℕ)
+            → Before w h x latest n self.old node.old disk.old → map (λ (k : key). k.0) draws.now ≡ w.draws
+            → Goes w (task_turn real h x event n (Received bytes.items (supply w h))) h latest
             self.old self.new node.new disk.new) }
-        ensures calls { OnOk result ((w : Schedule) (h : List log.Line) (ds : List Disk) (n : ℕ)
-            → Before w h ds event n self.old node.old disk.old → map (λ (k : key). k.0) draws.now ≡ w.draws
-            → Calls (task_calls real (condition_of w h ds n) (Received bytes.items (supply w h)))
+        ensures calls { OnOk result ((w : Schedule) (h : List log.Line) (x : Condition) (latest n : ℕ)
+            → Before w h x latest n self.old node.old disk.old → map (λ (k : key). k.0) draws.now ≡ w.draws
+            → Calls (task_calls real x (Received bytes.items (supply w h)))
             disk.old disk.new) }
     {
         let draw = self.draw(draws);
@@ -148,9 +148,9 @@ impl Ledger {
         requires room { HasRoom self.old }
         ensures few { OnOk result (lines_told self.new ≤ lines_told self.old + 24) }
         ensures node { node.new ≡ node.old }
-        ensures goes { OnOk result ((w : Schedule) (h : List log.Line) (ds : List Disk) (n : ℕ) (m : medium)
-            → Before w h ds event n self.old node.old m
-            → Goes w (deliver_step real counting_of w h ds event n None) h event n self.old self.new node.new m) }
+        ensures goes { OnOk result ((w : Schedule) (h : List log.Line) (x : Condition) (latest n : ℕ) (m : medium)
+            → Before w h x latest n self.old node.old m
+            → Goes w (deliver_turn real w h x event n None) h latest self.old self.new node.new m) }
     {
         let refusal = missed(node.is_up());
         self.refuse(event, node.name(), refusal)
@@ -164,9 +164,9 @@ impl Ledger {
         requires room { HasRoom self.old }
         ensures few { OnOk result (lines_told self.new ≤ lines_told self.old + 24) }
         ensures seat { node.new.peer ≡ node.old.peer }
-        ensures goes { OnOk result ((w : Schedule) (h : List log.Line) (ds : List Disk) (n : ℕ)
-            → Before w h ds event n self.old node.old disk.old
-            → Goes w (step real w h ds event (model.Reset n)) h event n self.old self.new node.new disk.new) }
+        ensures goes { OnOk result ((w : Schedule) (h : List log.Line) (x : Condition) (latest n : ℕ)
+            → Before w h x latest n self.old node.old disk.old
+            → Goes w (event_turn real w h x event (model.Reset n)) h latest self.old self.new node.new disk.new) }
         ensures calls { OnOk result (Calls 0 disk.old disk.new) }
     {
         let name = node.name();
@@ -185,12 +185,12 @@ impl Ledger {
         requires room { HasRoom self.old }
         ensures few { OnOk result (lines_told self.new ≤ lines_told self.old + 24) }
         ensures seat { node.new.peer ≡ node.old.peer }
-        ensures goes { OnOk result ((w : Schedule) (h : List log.Line) (ds : List Disk) (n : ℕ)
-            → Before w h ds event n self.old node.old disk.old
-            → Goes w (step real w h ds event (model.PowerOn n)) h event n self.old self.new node.new disk.new) }
-        ensures calls { OnOk result ((w : Schedule) (h : List log.Line) (ds : List Disk) (n : ℕ)
-            → Before w h ds event n self.old node.old disk.old
-            → Calls (event_calls real w h (condition_of w h ds n) (model.PowerOn n)) disk.old disk.new) }
+        ensures goes { OnOk result ((w : Schedule) (h : List log.Line) (x : Condition) (latest n : ℕ)
+            → Before w h x latest n self.old node.old disk.old
+            → Goes w (event_turn real w h x event (model.PowerOn n)) h latest self.old self.new node.new disk.new) }
+        ensures calls { OnOk result ((w : Schedule) (h : List log.Line) (x : Condition) (latest n : ℕ)
+            → Before w h x latest n self.old node.old disk.old
+            → Calls (event_calls real w h x (model.PowerOn n)) disk.old disk.new) }
     {
         let name = node.name();
         if node.is_up() {
@@ -209,9 +209,9 @@ impl Ledger {
     pub fn dump(&mut self, node: &Node, disk: &mut MemDisk, event: u32) -> Result<(), NoMemory>
         requires room { HasRoom self.old }
         ensures few { OnOk result (lines_told self.new ≤ lines_told self.old + 24) }
-        ensures goes { OnOk result ((w : Schedule) (h : List log.Line) (ds : List Disk) (n : ℕ)
-            → Before w h ds event n self.old node.now disk.old
-            → Goes w (step real w h ds event (model.ShowRecord n)) h event n self.old self.new node.now disk.new) }
+        ensures goes { OnOk result ((w : Schedule) (h : List log.Line) (x : Condition) (latest n : ℕ)
+            → Before w h x latest n self.old node.now disk.old
+            → Goes w (event_turn real w h x event (model.ShowRecord n)) h latest self.old self.new node.now disk.new) }
         ensures calls { OnOk result (Calls 0 disk.old disk.new) }
     {
         let record = node.dump(self.alloc, disk)?;

@@ -1,5 +1,5 @@
 -- What the calls of a host leave is the condition that the model says.
-use Rattle.std.proofs.Common.{◌≡◌, ◌≢◌, ◌+◌, ◌&&◌, ℕ, Bool, true, false, if◌then◌else◌, List, [], ◌∷◌, length, get_or, Option, Some, None, Result, Ok, Err, is_some, refl, sym, ◌∙◌, ap, subst, arith}
+use Rattle.std.proofs.Common.{◌≡◌, ◌≢◌, ◌≤◌, ◌+◌, ◌&&◌, ℕ, Bool, true, false, if◌then◌else◌, List, [], ◌∷◌, length, get_or, Option, Some, None, Result, Ok, Err, is_some, refl, sym, ◌∙◌, ap, subst, arith}
 use Rattle.std.proofs.lemmas.Bool.{false≢true, ne_eqb}
 use Rattle.zb_base.specs.Outside.{risen}
 use Rattle.zb_base.specs.declared.fault.OrMemory.{OrMemory}
@@ -32,9 +32,11 @@ use Rattle.zb_model_real.specs.Real.{real}
 use Rattle.law_tables_suffice.proofs.Answered.{answered_same, boot_same}
 use Rattle.law_run_steps.specs.Conditions.{Condition, after_arming, after_cut, after_cut_boot, after_fall, after_power_on, after_reset, after_storing, after_whole, calls_by, commits_with}
 use Rattle.zb_setting.specs.Settings.{setting_for}
-use Rattle.zb_player_node.proofs.Standing.{after_alike, boot_alike, calls_are, same_given, stored_as, stored_later, stored_next, writes_are}
+use Rattle.law_run_swaps.specs.Swaps.{Stood, after_swap}
+use Rattle.zb_player_node.proofs.Showing.{same_answer}
+use Rattle.zb_player_node.proofs.Standing.{after_alike, boot_alike, calls_are, same_given, stored_as, stored_from, stored_later, stored_next, writes_are}
 use Rattle.zb_player_node.specs.Answers.{CanHave, CanStart, HasBooted, HasGiven, HasMade, IsPlanFor, IsStarted, IsStillDown, IsUpAgain, WasAnswered, WasCut, start_condition}
-use Rattle.zb_player_node.specs.Nodes.{IsIn, IsPowered, IsRunning, IsStored, words_for}
+use Rattle.zb_player_node.specs.Nodes.{Holds, IsIn, IsPowered, IsRunning, IsStored, words_for}
 use Rattle.zb_player_node.specs.Tasks.{suits}
 use Rattle.zb_player_node.specs.Values.{NodeValue, Running}
 use Rattle.zb_node_types.specs.Changes.{edits, model_role}
@@ -122,14 +124,15 @@ core_is c setting state one other =
     (λ (z : NodeState). let k : CoreValue = record { setting = setting; tables = z } in k) other
 
 -- where the answer leads that was given of what is shown
-leads_to : (x : Condition) (number : ℕ) (task : model.Task) (p : CorePlan) (d : CoreValue) → CanHave x number task
+leads_to : (x : Condition) (task : model.Task) (p : CorePlan) (d : CoreValue)
     → IsPlanFor x.setting.me.role task (record { setting = x.setting; tables = shown x.state }) p d
     → d ≡ record { setting = x.setting; tables = shown (answered (answer real x.setting x.state task) x.state) }
-leads_to x number task p d can plan =
+leads_to x task p d plan =
     let c : CoreValue = record { setting = x.setting; tables = shown x.state } in
     let core : NodeState → CoreValue = λ (z : NodeState). record { setting = x.setting; tables = z } in
     answer_leads c d p task plan.answer_is plan.after_is ∙ ap
-    (λ (a : Answer). core (shown (answered a (shown x.state)))) can.shown ∙ ap core
+    (λ (a : Answer). core (shown (answered a (shown x.state))))
+    (same_answer x.setting x.state task plan.storable.kept.rules) ∙ ap core
     (answered_same (answer real x.setting x.state task) x.state)
 
 -- An event by its plan: the answer, the device calls, and the state that it leads to and that is stored.
@@ -146,18 +149,19 @@ record Went (x : Condition) (number : ℕ) (a : Answer) (s : Standing) (before :
 
 went : (x : Condition) (number : ℕ) (task : model.Task) (s : Standing) (r : Running) (p : CorePlan)
     (after : Hosted CoreValue) (m : Medium) → IsStored x.setting.me.role x.state x.commits number s → IsRunning x s r m
-    → CanHave x number task → IsPlanFor x.setting.me.role task r.host.core p after.core
+    → IsPlanFor x.setting.me.role task r.host.core p after.core
     → Went x number (answer real x.setting x.state task) s r.host p after
-went x number task s r p after m stored run can given =
+went x number task s r p after m stored run given =
     let role = x.setting.me.role in
     let a = answer real x.setting x.state task in
     let c : CoreValue = record { setting = x.setting; tables = shown x.state } in
     let items = p.changes.items in
     let plan : IsPlanFor role task c p after.core = subst (λ (k : CoreValue). IsPlanFor role task k p after.core)
     run.core given in
-    let answer_is : IsAnswer p a = subst (IsAnswer p) can.shown plan.answer_is in
+    let answer_is : IsAnswer p a =
+    subst (IsAnswer p) (same_answer x.setting x.state task plan.storable.kept.rules) plan.answer_is in
     let whole = writes_are r.host s run.entry_next run.current.place in
-    let leads = leads_to x number task p after.core can plan in
+    let leads = leads_to x task p after.core plan in
     let made = stored_after items (accepts p) (seals p) c after.core plan.after_is in
     let next = next_of (words_for role) s r.host items after in
     record {
@@ -200,7 +204,7 @@ answered_in x number task node r r' p old new is can role_stays given =
     let power = running_of x.up x s r old is.powered in
     let run = power.0 in
     let handled = given.1 s (up_of x number task s r old is.stored run is.unarmed is.arming can) in
-    let it = went x number task s r p r'.host old is.stored run can given.0 in
+    let it = went x number task s r p r'.host old is.stored run given.0 in
     let next = next_of (words_for role) s r.host p.changes.items r'.host in
     record {
       missed = sym (ap (falls x.disk.armed) it.calls) ∙ handled.missed;
@@ -316,7 +320,7 @@ was_cut task node r after p cut kept old new gave kept_are x number is can =
     given.1 s (up_of x number task s r old is.stored run is.unarmed is.arming can) in
     let fallen : HasFallen (words_for role) s armed r.host old q.changes.items cut.fallen after new =
     subst (λ (l : List Change). HasFallen (words_for role) s armed r.host old l cut.fallen after new) same gave_way in
-    let it = went x number task s r q after old is.stored run can given.0.1 in
+    let it = went x number task s r q after old is.stored run given.0.1 in
     let next = next_of (words_for role) s r.host q.changes.items after in
     let calls = calls_by x.commits a.edits in
     let stands_so = ap (λ (b : Bool). b && arms_stand (armed_of node.arms)) fallen.fired in
@@ -434,6 +438,48 @@ in_later x number node m is = record {
   powered = is.powered;
   unarmed = is.unarmed;
   gates = is.gates;
+  armed = is.armed;
+  arming = is.arming;
+  setting = is.setting;
+  role = is.role;
+}
+
+-- generations further from the last one are left
+pub in_from : (x : Condition) (number later : ℕ) (node : NodeValue) (m : Medium) → number ≤ later
+    → IsIn x number node m → IsIn x later node m
+in_from x number later node m from is = record {
+  standing = is.standing;
+  stored = stored_from x.setting.me.role x.state x.commits number later is.standing from is.stored;
+  powered = is.powered;
+  unarmed = is.unarmed;
+  gates = is.gates;
+  armed = is.armed;
+  arming = is.arming;
+  setting = is.setting;
+  role = is.role;
+}
+
+-- ---- another disk
+
+pub holds_from : (role : Role) (number later : ℕ) (m : Medium) (s : Stood) → number ≤ later → Holds role number m s
+    → Holds role later m s
+holds_from role number later m s from holds = record {
+  standing = holds.standing;
+  stored = stored_from role s.state s.commits number later holds.standing from holds.stored;
+  rest = holds.rest;
+  gates = holds.gates;
+}
+
+pub over_another : (x : Condition) (number : ℕ) (node : NodeValue) (old new : Medium) (s : Stood)
+    → IsIn x number node old → x.up ≡ false → Holds x.setting.me.role number new s
+    → IsIn (after_swap (Some s) x) number node new
+over_another x number node old new s is off holds = record {
+  standing = holds.standing;
+  stored = holds.stored;
+  powered = down_by x.up (after_swap (Some s) x) holds.standing node.machine new off
+      (none_of x.up x is.standing node.machine old off is.powered) holds.rest;
+  unarmed = holds.rest.unarmed;
+  gates = holds.gates;
   armed = is.armed;
   arming = is.arming;
   setting = is.setting;

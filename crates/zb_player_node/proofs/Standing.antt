@@ -1,5 +1,5 @@
 -- What represents the state of a node: after changes, after a boot, and later on.
-use Rattle.std.proofs.Common.{◌≡◌, ◌+◌, ◌%◌, ◌==◌, ◌++◌, ◌||◌, ℕ, Bool, true, false, List, [], ◌∷◌, length, Some, Result, Ok, Err, refl, sym, ◌∙◌, ap, arith}
+use Rattle.std.proofs.Common.{◌≡◌, ◌≤◌, ◌+◌, ◌%◌, ◌==◌, ◌++◌, ◌||◌, ℕ, Bool, true, false, List, [], ◌∷◌, length, Some, Result, Ok, Err, refl, sym, ◌∙◌, ap, arith}
 use Rattle.std.proofs.lemmas.Bool.Decides.{nat_tests}
 use Rattle.std.proofs.lemmas.List.{append-nil, length-append}
 use Rattle.std.proofs.lemmas.List.Folds.{concat-append}
@@ -61,6 +61,17 @@ stored_later role t commits number s is =
       newest = is.newest;
       entries = is.entries;
       generation = omega (arith, is.generation);
+    }
+
+pub stored_from : (role : Role) (t : NodeState) (commits number later : ℕ) (s : Standing) → number ≤ later
+    → IsStored role t commits number s → IsStored role t commits later s
+stored_from role t commits number later s from is =
+    record {
+      reads = is.reads;
+      gives_it = is.gives_it;
+      newest = is.newest;
+      entries = is.entries;
+      generation = omega (arith, is.generation, from);
     }
 
 -- a boot leaves the same

@@ -40,12 +40,11 @@ use Rattle.zb_stored_tables.specs.Stored.{IsStorable}
 
 -- ---- of a node
 
--- A task that a node in this condition may have: it is of its role, and its answer asks for nothing that tables
--- forget.
+-- A task that a node in this condition may have: it is of its role. The generations of its disk are far from the last
+-- one.
 pub record CanHave (x : Condition) (number : ℕ) (task : model.Task) : Type 0 where
-  pub early : number < 2 ^ 32
+  pub early : number < 9223372036854775808
   pub suits : suits x.setting.me.role task ≡ true
-  pub shown : answer real x.setting (shown x.state) task ≡ answer real x.setting x.state task
 
 -- An event was handled: nothing falls on it, it gave this answer, the node is in the condition after it, and so many
 -- device calls were made.

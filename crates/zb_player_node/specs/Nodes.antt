@@ -12,6 +12,7 @@ use Rattle.zb_model.specs.Play.{Schedule, Disk}
 use Rattle.zb_model.specs.Record.{payload, record_of}
 use Rattle.zb_model.specs.State.{NodeState, after_boot, shown}
 use Rattle.law_run_steps.specs.Conditions.{Condition, condition_of}
+use Rattle.law_run_swaps.specs.Swaps.{Stood}
 use Rattle.zb_setting.specs.Settings.{setting_for}
 use Rattle.zb_player_node.specs.Values.{NodeValue, Running}
 use Rattle.zb_node_types.specs.Changes.{edits, model_role}
@@ -61,15 +62,27 @@ pub record IsIn (x : Condition) (number : ℕ) (node : NodeValue) (m : Medium) :
   pub setting : setting_for node.config ≡ x.setting
   pub role : model_role node.peer.role ≡ x.setting.me.role
 
+-- Another disk that a node of this role can boot from: it is at rest, and this stands on it. No generation on it is
+-- past that number by more than one.
+pub record Holds (role : Role) (number : ℕ) (m : Medium) (s : Stood) : Type 0 where
+  pub standing : Standing
+  pub stored : IsStored role s.state s.commits number standing
+  pub rest : IsAtRest standing m
+  pub gates : both_gates_open m.bytes ≡ s.both_open
+
 -- the node is the declared one: its name, its address and its role
 pub record IsSeat (p : Station) (node : NodeValue) : Type 0 where
   pub name : node.peer.name.bytes ≡ p.name
   pub eui : node.peer.eui.0 ≡ p.eui
   pub role : model_role node.peer.role ≡ p.role
 
--- Nodes and disks, place by place, are as the model says after these lines.
+-- Nodes and disks, place by place: each node is in the condition of its EUI.
+abbrev pub AllIn : (ℕ → Condition) → ℕ → List Station → List NodeValue → List Medium → Type 0
+AllIn xs number [] [] [] = ⊤
+AllIn xs number (p ∷ ps) (node ∷ nodes) (m ∷ ms) = IsSeat p node × IsIn (xs p.eui) number node m
+    × AllIn xs number ps nodes ms
+AllIn xs number _ _ _ = ⊥
+
+-- they are as the model says after these lines
 abbrev pub AllStand : Schedule → List Line → List Disk → ℕ → List Station → List NodeValue → List Medium → Type 0
-AllStand w h ds number [] [] [] = ⊤
-AllStand w h ds number (p ∷ ps) (node ∷ nodes) (m ∷ ms) = IsSeat p node
-    × IsIn (condition_of w h ds p.eui) number node m × AllStand w h ds number ps nodes ms
-AllStand w h ds number _ _ _ = ⊥
+AllStand w h ds number ps nodes ms = AllIn (condition_of w h ds) number ps nodes ms

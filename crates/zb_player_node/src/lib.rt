@@ -8,7 +8,7 @@ mod node;
 mod roles;
 mod task;
 
-pub use law::{a_host_has_power, a_later_event};
+pub use law::{a_host_has_power, a_later_event, another_disk_sets_the_condition};
 pub use machine::{Machine, NodePlan};
 pub use node::{Handled, Node};
 pub use task::Task;

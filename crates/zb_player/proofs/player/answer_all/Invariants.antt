@@ -3,6 +3,7 @@ use Rattle.zb_base.specs.Outside.{Unrisen}
 use Rattle.zb_player_events.specs.Told.{lines_told}
 use Rattle.zb_player.specs.Benches.{AsksFor}
 use Rattle.zb_player.specs.Runs.{Answers, AreMade}
+use Rattle.zb_player.specs.Swapping.{AnswersGiven}
 use Rattle.zb_sched_line.specs.Views.{event_of}
 use Rattle.zb_player_scribe.specs.Pages.{IsClear}
 use Rattle.zb_player.proofs.player.answer_all.Given as goal
@@ -19,6 +20,8 @@ invariant-loop-index g l = record {
       l.index l.run l.disks (g.W.Sink.taken l.initial.out) (g.W.Sink.taken l.out);
   calls : g.B.Bench.still l.initial.bench ≡ true → AreMade l.initial.disks l.initial.run (map event_of l.events)
       l.index l.disks;
+  given : AnswersGiven l.initial.run l.initial.disks (map event_of l.events) (g.B.Bench.gave l.bench) l.index l.run
+      l.disks (g.W.Sink.taken l.initial.out) (g.W.Sink.taken l.out);
   later : g.W.Sink.faults l.initial.out ≤ g.W.Sink.faults l.out;
   unrisen : Unrisen (g.W.Sink.faults l.initial.out) (g.W.Sink.faults l.out);
 }

@@ -1,4 +1,4 @@
-use Rattle.std.proofs.Common.{◌≡◌, List, [], ◌∷◌, map, length, refl, sym, ap, ◌∙◌, subst}
+use Rattle.std.proofs.Common.{◌≡◌, ℕ, Option, Some, List, [], ◌∷◌, map, length, refl, sym, ap, ◌∙◌, subst}
 use Rattle.std.proofs.lemmas.List.{length-map}
 use Rattle.std.specs.Io.KnownBytes.{Appends, append_known}
 use Rattle.std.specs.List.{AllByRecursion}
@@ -14,6 +14,9 @@ use Rattle.zb_player.proofs.Paging.{clear_of, handed, handed_front, paged, still
 use Rattle.zb_player.proofs.RunSteps.{on_err}
 use Rattle.zb_player.proofs.Whole.{Ended, all_answered, begin, front_end, front_last, front_middle, front_start, last, played_disks, summed, sums_up, whole_run}
 use Rattle.zb_player.specs.Benches.{Asks, questions}
+use Rattle.zb_player.specs.Swapping.{AreGifts}
+use Rattle.zb_player.proofs.GivenWhole.{GivenEnded, all_given, for_gifts, given_end, given_last, given_nothing, given_part, given_start, given_unended, given_whole, summed_given, sums_given}
+use Rattle.law_run_swaps.specs.Swaps.{Stood}
 use Rattle.zb_player.proofs.Asking.{few_stations}
 use Rattle.zb_player.proofs.player.play_onto.Goals as goal
 use Rattle.zb_sched.specs.Schedules as sched
@@ -280,3 +283,234 @@ returns-clause-asked g c =
     (questions (stations (schedule_of p)) 1 es)) played.events_are
     (c.in_ok-answer_all.ensures.asked (stations (schedule_of p)) c.in_ok-run.ensures.stands.seats
     (few_stations p c.requires.schedule))
+
+-- ---- with the disks that a bench gives
+
+pub returns-in_err-run-clause-swapped_front : goal.returns-in_err-run-clause-swapped_front
+returns-in_err-run-clause-swapped_front g c =
+    let p = sched.schedule_of c.args.schedule.now in
+    on_err _ _ (for_gifts p (g.B.Bench.gave c.args.bench.now) _
+    (λ gifts given told fits. given_nothing p gifts (g.W.Sink.taken c.args.out.now)))
+
+pub returns-in_err-hand_out-clause-swapped_front : goal.returns-in_err-hand_out-clause-swapped_front
+returns-in_err-hand_out-clause-swapped_front g c =
+    let p = sched.schedule_of c.args.schedule.now in
+    on_err _ _ (for_gifts p (g.B.Bench.gave c.args.bench.now) _ (λ gifts given told fits.
+    given_start p gifts (g.W.Sink.taken c.args.out.now) (g.W.Sink.taken c.hand_out.new.out)
+    (handed_front c.args.page c.in_ok-run.run'.ledger.page (text_in p (begin p)) (g.W.Sink.taken c.args.out.now)
+    (g.W.Sink.taken c.hand_out.new.out) c.in_ok-run.ensures.page c.requires.clear
+    c.in_err-hand_out.ensures.front.0)))
+
+pub returns-in_err-answer_all-clause-swapped_front : goal.returns-in_err-answer_all-clause-swapped_front
+returns-in_err-answer_all-clause-swapped_front g c =
+    let p = sched.schedule_of c.args.schedule.now in
+    let events = c.as_slice-events.result.now in
+    let before = g.W.Sink.taken c.args.out.now in
+    let played = are_played c.args.schedule.now events c.requires.schedule c.as_slice-events.ensures in
+    let run1 : Run = record {
+      nodes = c.in_ok-run.run'.nodes;
+      seats = c.in_ok-run.run'.seats;
+      draws = c.in_ok-run.run'.draws;
+      ledger =
+          record {
+            alloc = c.in_ok-run.run'.ledger.alloc;
+            scribe = c.in_ok-run.run'.ledger.scribe;
+            page = c.hand_out.new.self;
+            plan = c.in_ok-run.run'.ledger.plan;
+          };
+    } in
+    let stands1 : RunStands p (begin p) [] 1 run1 c.deref_mut.result.now =
+    subst (RunStands p (begin p) [] 1 run1) (sym c.deref_mut.ensures.value)
+    (paged p (begin p) [] 1 c.in_ok-run.run' run1 c.start.new.disks.items
+    (record { nodes = refl; seats = refl; draws = refl; scribe = refl }) c.in_ok-run.ensures.stands) in
+    let out : Appends before (g.W.Sink.taken c.hand_out.new.out) (text_in p (begin p)) =
+    handed c.args.page c.in_ok-run.run'.ledger.page (text_in p (begin p)) before (g.W.Sink.taken c.hand_out.new.out)
+    c.in_ok-run.ensures.page c.requires.clear c.requires.fit
+    c.in_ok-hand_out.ensures.whole.0 in
+    let gave = g.B.Bench.gave c.answer_all.new.bench in
+    on_err _ _ (for_gifts p gave _ (λ gifts given told fits.
+    given_part p gifts given gave run1 c.deref_mut.result.now (map event_of events) before
+    (g.W.Sink.taken c.hand_out.new.out) (g.W.Sink.taken c.answer_all.new.out) told fits
+    played stands1 out c.in_err-answer_all.ensures.swapped_front))
+
+pub returns-in_err-print-clause-swapped_front : goal.returns-in_err-print-clause-swapped_front
+returns-in_err-print-clause-swapped_front g c =
+    let p = sched.schedule_of c.args.schedule.now in
+    let events = c.as_slice-events.result.now in
+    let before = g.W.Sink.taken c.args.out.now in
+    let played = are_played c.args.schedule.now events c.requires.schedule c.as_slice-events.ensures in
+    let run1 : Run = record {
+      nodes = c.in_ok-run.run'.nodes;
+      seats = c.in_ok-run.run'.seats;
+      draws = c.in_ok-run.run'.draws;
+      ledger =
+          record {
+            alloc = c.in_ok-run.run'.ledger.alloc;
+            scribe = c.in_ok-run.run'.ledger.scribe;
+            page = c.hand_out.new.self;
+            plan = c.in_ok-run.run'.ledger.plan;
+          };
+    } in
+    let stands1 : RunStands p (begin p) [] 1 run1 c.deref_mut.result.now =
+    subst (RunStands p (begin p) [] 1 run1) (sym c.deref_mut.ensures.value)
+    (paged p (begin p) [] 1 c.in_ok-run.run' run1 c.start.new.disks.items
+    (record { nodes = refl; seats = refl; draws = refl; scribe = refl }) c.in_ok-run.ensures.stands) in
+    let out : Appends before (g.W.Sink.taken c.hand_out.new.out) (text_in p (begin p)) =
+    handed c.args.page c.in_ok-run.run'.ledger.page (text_in p (begin p)) before (g.W.Sink.taken c.hand_out.new.out)
+    c.in_ok-run.ensures.page c.requires.clear c.requires.fit
+    c.in_ok-hand_out.ensures.whole.0 in
+    let gave = g.B.Bench.gave c.answer_all.new.bench in
+    let ended : (gifts : ℕ → Option Stood) (given : ℕ → Option Medium) → gave ≡ Some given → AreGifts p gifts given
+    → GivenEnded p gifts c.answer_all.new.run before (g.W.Sink.taken c.answer_all.new.out) = λ gifts given told fits.
+    all_given p gifts given gave run1 c.answer_all.new.run c.deref_mut.result.now c.answer_all.new.disks
+    (map event_of events) (length events) before
+    (g.W.Sink.taken c.hand_out.new.out) (g.W.Sink.taken c.answer_all.new.out) told fits
+    played (sym (length-map events event_of)) stands1 out c.in_ok-answer_all.ensures.swapped in
+    on_err _ _ (for_gifts p gave _ (λ gifts given told fits.
+    given_unended p gifts c.answer_all.new.run before (g.W.Sink.taken c.answer_all.new.out)
+    (ended gifts given told fits)))
+
+pub returns-in_err-hand_out-2-clause-swapped_front : goal.returns-in_err-hand_out-2-clause-swapped_front
+returns-in_err-hand_out-2-clause-swapped_front g c =
+    let p = sched.schedule_of c.args.schedule.now in
+    let events = c.as_slice-events.result.now in
+    let before = g.W.Sink.taken c.args.out.now in
+    let played = are_played c.args.schedule.now events c.requires.schedule c.as_slice-events.ensures in
+    let run1 : Run = record {
+      nodes = c.in_ok-run.run'.nodes;
+      seats = c.in_ok-run.run'.seats;
+      draws = c.in_ok-run.run'.draws;
+      ledger =
+          record {
+            alloc = c.in_ok-run.run'.ledger.alloc;
+            scribe = c.in_ok-run.run'.ledger.scribe;
+            page = c.hand_out.new.self;
+            plan = c.in_ok-run.run'.ledger.plan;
+          };
+    } in
+    let stands1 : RunStands p (begin p) [] 1 run1 c.deref_mut.result.now =
+    subst (RunStands p (begin p) [] 1 run1) (sym c.deref_mut.ensures.value)
+    (paged p (begin p) [] 1 c.in_ok-run.run' run1 c.start.new.disks.items
+    (record { nodes = refl; seats = refl; draws = refl; scribe = refl }) c.in_ok-run.ensures.stands) in
+    let out : Appends before (g.W.Sink.taken c.hand_out.new.out) (text_in p (begin p)) =
+    handed c.args.page c.in_ok-run.run'.ledger.page (text_in p (begin p)) before (g.W.Sink.taken c.hand_out.new.out)
+    c.in_ok-run.ensures.page c.requires.clear c.requires.fit
+    c.in_ok-hand_out.ensures.whole.0 in
+    let gave = g.B.Bench.gave c.answer_all.new.bench in
+    let ended : (gifts : ℕ → Option Stood) (given : ℕ → Option Medium) → gave ≡ Some given → AreGifts p gifts given
+    → GivenEnded p gifts c.answer_all.new.run before (g.W.Sink.taken c.answer_all.new.out) = λ gifts given told fits.
+    all_given p gifts given gave run1 c.answer_all.new.run c.deref_mut.result.now c.answer_all.new.disks
+    (map event_of events) (length events) before
+    (g.W.Sink.taken c.hand_out.new.out) (g.W.Sink.taken c.answer_all.new.out) told fits
+    played (sym (length-map events event_of)) stands1 out c.in_ok-answer_all.ensures.swapped in
+    let summed_up : (gifts : ℕ → Option Stood) (given : ℕ → Option Medium) → gave ≡ Some given → AreGifts p gifts given
+    → last_line c.of-summary.result ≡ given_last p gifts = λ gifts given told fits.
+    sums_given p gifts c.answer_all.new.run before (g.W.Sink.taken c.answer_all.new.out)
+    c.of-summary.result (length events) (ended gifts given told fits)
+    (sym (length-map events event_of) ∙ ap (λ (es : List Event). length es) played.events_are) c.of-summary.ensures in
+    let known = stations (schedule_of p) in
+    let shown : (gifts : ℕ → Option Stood) (given : ℕ → Option Medium) → gave ≡ Some given → AreGifts p gifts given
+    → c.print.new.self ≡ append_known c.answer_all.new.run.ledger.page (text_in p (given_last p gifts ∷ [])) =
+    λ gifts given told fits.
+    c.in_ok-print.ensures ∙ ap (append_known c.answer_all.new.run.ledger.page)
+    (last_text known c.line.result (last_line c.of-summary.result) (given_last p gifts) (c.line.ensures known)
+    (summed_up gifts given told fits)) in
+    on_err _ _ (for_gifts p gave _ (λ gifts given told fits.
+    given_end p gifts c.answer_all.new.run before (g.W.Sink.taken c.answer_all.new.out)
+    (g.W.Sink.taken c.hand_out-2.new.out) (ended gifts given told fits)
+    (handed_front c.answer_all.new.run.ledger.page c.print.new.self (text_in p (given_last p gifts ∷ []))
+    (g.W.Sink.taken c.answer_all.new.out) (g.W.Sink.taken c.hand_out-2.new.out) (shown gifts given told fits)
+    c.in_ok-answer_all.ensures.clear c.in_err-hand_out-2.ensures.front.0)))
+
+pub returns-clause-swapped : goal.returns-clause-swapped
+returns-clause-swapped g c =
+    let p = sched.schedule_of c.args.schedule.now in
+    let events = c.as_slice-events.result.now in
+    let before = g.W.Sink.taken c.args.out.now in
+    let played = are_played c.args.schedule.now events c.requires.schedule c.as_slice-events.ensures in
+    let run1 : Run = record {
+      nodes = c.in_ok-run.run'.nodes;
+      seats = c.in_ok-run.run'.seats;
+      draws = c.in_ok-run.run'.draws;
+      ledger =
+          record {
+            alloc = c.in_ok-run.run'.ledger.alloc;
+            scribe = c.in_ok-run.run'.ledger.scribe;
+            page = c.hand_out.new.self;
+            plan = c.in_ok-run.run'.ledger.plan;
+          };
+    } in
+    let stands1 : RunStands p (begin p) [] 1 run1 c.deref_mut.result.now =
+    subst (RunStands p (begin p) [] 1 run1) (sym c.deref_mut.ensures.value)
+    (paged p (begin p) [] 1 c.in_ok-run.run' run1 c.start.new.disks.items
+    (record { nodes = refl; seats = refl; draws = refl; scribe = refl }) c.in_ok-run.ensures.stands) in
+    let out : Appends before (g.W.Sink.taken c.hand_out.new.out) (text_in p (begin p)) =
+    handed c.args.page c.in_ok-run.run'.ledger.page (text_in p (begin p)) before (g.W.Sink.taken c.hand_out.new.out)
+    c.in_ok-run.ensures.page c.requires.clear c.requires.fit
+    c.in_ok-hand_out.ensures.whole.0 in
+    let gave = g.B.Bench.gave c.answer_all.new.bench in
+    let ended : (gifts : ℕ → Option Stood) (given : ℕ → Option Medium) → gave ≡ Some given → AreGifts p gifts given
+    → GivenEnded p gifts c.answer_all.new.run before (g.W.Sink.taken c.answer_all.new.out) = λ gifts given told fits.
+    all_given p gifts given gave run1 c.answer_all.new.run c.deref_mut.result.now c.answer_all.new.disks
+    (map event_of events) (length events) before
+    (g.W.Sink.taken c.hand_out.new.out) (g.W.Sink.taken c.answer_all.new.out) told fits
+    played (sym (length-map events event_of)) stands1 out c.in_ok-answer_all.ensures.swapped in
+    let summed_up : (gifts : ℕ → Option Stood) (given : ℕ → Option Medium) → gave ≡ Some given → AreGifts p gifts given
+    → last_line c.of-summary.result ≡ given_last p gifts = λ gifts given told fits.
+    sums_given p gifts c.answer_all.new.run before (g.W.Sink.taken c.answer_all.new.out)
+    c.of-summary.result (length events) (ended gifts given told fits)
+    (sym (length-map events event_of) ∙ ap (λ (es : List Event). length es) played.events_are) c.of-summary.ensures in
+    let known = stations (schedule_of p) in
+    let shown : (gifts : ℕ → Option Stood) (given : ℕ → Option Medium) → gave ≡ Some given → AreGifts p gifts given
+    → c.print.new.self ≡ append_known c.answer_all.new.run.ledger.page (text_in p (given_last p gifts ∷ [])) =
+    λ gifts given told fits.
+    c.in_ok-print.ensures ∙ ap (append_known c.answer_all.new.run.ledger.page)
+    (last_text known c.line.result (last_line c.of-summary.result) (given_last p gifts) (c.line.ensures known)
+    (summed_up gifts given told fits)) in
+    for_gifts p gave _ (λ gifts given told fits.
+    given_whole p gifts c.answer_all.new.run before (g.W.Sink.taken c.answer_all.new.out)
+    (g.W.Sink.taken c.hand_out-2.new.out) (ended gifts given told fits)
+    (handed c.answer_all.new.run.ledger.page c.print.new.self (text_in p (given_last p gifts ∷ []))
+    (g.W.Sink.taken c.answer_all.new.out) (g.W.Sink.taken c.hand_out-2.new.out) (shown gifts given told fits)
+    c.in_ok-answer_all.ensures.clear (ended gifts given told fits).page c.in_ok-hand_out-2.ensures.whole.0))
+
+pub returns-clause-swapped_summary : goal.returns-clause-swapped_summary
+returns-clause-swapped_summary g c =
+    let p = sched.schedule_of c.args.schedule.now in
+    let events = c.as_slice-events.result.now in
+    let before = g.W.Sink.taken c.args.out.now in
+    let played = are_played c.args.schedule.now events c.requires.schedule c.as_slice-events.ensures in
+    let run1 : Run = record {
+      nodes = c.in_ok-run.run'.nodes;
+      seats = c.in_ok-run.run'.seats;
+      draws = c.in_ok-run.run'.draws;
+      ledger =
+          record {
+            alloc = c.in_ok-run.run'.ledger.alloc;
+            scribe = c.in_ok-run.run'.ledger.scribe;
+            page = c.hand_out.new.self;
+            plan = c.in_ok-run.run'.ledger.plan;
+          };
+    } in
+    let stands1 : RunStands p (begin p) [] 1 run1 c.deref_mut.result.now =
+    subst (RunStands p (begin p) [] 1 run1) (sym c.deref_mut.ensures.value)
+    (paged p (begin p) [] 1 c.in_ok-run.run' run1 c.start.new.disks.items
+    (record { nodes = refl; seats = refl; draws = refl; scribe = refl }) c.in_ok-run.ensures.stands) in
+    let out : Appends before (g.W.Sink.taken c.hand_out.new.out) (text_in p (begin p)) =
+    handed c.args.page c.in_ok-run.run'.ledger.page (text_in p (begin p)) before (g.W.Sink.taken c.hand_out.new.out)
+    c.in_ok-run.ensures.page c.requires.clear c.requires.fit
+    c.in_ok-hand_out.ensures.whole.0 in
+    let gave = g.B.Bench.gave c.answer_all.new.bench in
+    let ended : (gifts : ℕ → Option Stood) (given : ℕ → Option Medium) → gave ≡ Some given → AreGifts p gifts given
+    → GivenEnded p gifts c.answer_all.new.run before (g.W.Sink.taken c.answer_all.new.out) = λ gifts given told fits.
+    all_given p gifts given gave run1 c.answer_all.new.run c.deref_mut.result.now c.answer_all.new.disks
+    (map event_of events) (length events) before
+    (g.W.Sink.taken c.hand_out.new.out) (g.W.Sink.taken c.answer_all.new.out) told fits
+    played (sym (length-map events event_of)) stands1 out c.in_ok-answer_all.ensures.swapped in
+    let summed_up : (gifts : ℕ → Option Stood) (given : ℕ → Option Medium) → gave ≡ Some given → AreGifts p gifts given
+    → last_line c.of-summary.result ≡ given_last p gifts = λ gifts given told fits.
+    sums_given p gifts c.answer_all.new.run before (g.W.Sink.taken c.answer_all.new.out)
+    c.of-summary.result (length events) (ended gifts given told fits)
+    (sym (length-map events event_of) ∙ ap (λ (es : List Event). length es) played.events_are) c.of-summary.ensures in
+    for_gifts p gave _ (λ gifts given told fits.
+    summed_given p gifts c.of-summary.result (summed_up gifts given told fits))

@@ -9,8 +9,8 @@ use Rattle.zb_trace_watch.proofs.Starting.{on_ok}
 pub returns-clause-goes : goal.returns-clause-goes
 returns-clause-goes c =
     on_ok c.refuse.result _ _
-    (λ adds w h ds n m before.
-    missed_goes w h ds c.args.event n c.is_up.result c.args.self.now c.refuse.new.self c.args.node.now m before
+    (λ adds w h x latest n m before.
+    missed_goes w h x latest c.args.event n c.is_up.result c.args.self.now c.refuse.new.self c.args.node.now m before
     c.is_up.ensures
     (refused_as w h c.args.event n (if c.is_up.result then NoFrame else Down) c.missed-refusal.result c.args.self.now
     c.refuse.new.self c.missed-refusal.ensures

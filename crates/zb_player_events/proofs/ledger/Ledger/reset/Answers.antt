@@ -11,8 +11,8 @@ use Rattle.zb_trace_watch.proofs.Starting.{on_ok}
 pub returns-then-not-is_up-clause-goes : goal.returns-then-not-is_up-clause-goes
 returns-then-not-is_up-clause-goes c =
     on_ok c.refuse.result _ _
-    (λ adds w h ds n before.
-    no_reset_goes w h ds c.args.event n c.args.self.now c.refuse.new.self c.args.node.now c.args.disk.now before
+    (λ adds w h x latest n before.
+    no_reset_goes w h x latest c.args.event n c.args.self.now c.refuse.new.self c.args.node.now c.args.disk.now before
     c.if-not-is_up.ensures
     (refused_as w h c.args.event n Down c.down.result c.args.self.now c.refuse.new.self c.down.ensures
     (adds w h n before.told (named_as w n _ _ c.name-name.ensures before.seat.called))))
@@ -21,8 +21,8 @@ returns-then-not-is_up-clause-goes c =
 pub returns-clause-goes : goal.returns-clause-goes
 returns-clause-goes c =
     on_ok c.tell.result _ _
-    (λ adds w h ds n before.
-    reset_goes w h ds c.args.event n c.args.self.now c.tell.new.self c.args.node.now c.reset.new.self c.args.disk.now
+    (λ adds w h x latest n before.
+    reset_goes w h x latest c.args.event n c.args.self.now c.tell.new.self c.args.node.now c.reset.new.self c.args.disk.now
     c.reset.new.disk before c.if-not-is_up.ensures
     (adds w h (DownReset c.args.event n) before.told
     (c.reset_line.ensures (stations w) n (named_as w n _ _ c.name-name.ensures before.seat.called)) refl)
