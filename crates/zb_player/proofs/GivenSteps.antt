@@ -1,6 +1,5 @@
 -- What is written of a run whose nodes are given disks, event by event, is the text of its lines.
-use Rattle.std.proofs.Common.{◌≡◌, ℕ, zero, suc, ◌+◌, ◌<◌, ◌≤◌, Bool, true, false, cond, nat_eq, List, [], ◌∷◌, ◌++◌, length, map, take, get_or, Option, Some, None, refl, sym, ap, ◌∙◌, subst, arith, append_assoc, append-nil, add-one}
-use Rattle.std.specs.Prelude.{if◌then◌else◌}
+use Rattle.std.proofs.Common.{◌≡◌, ℕ, ◌+◌, ◌<◌, ◌≤◌, Bool, true, false, cond, nat_eq, List, [], ◌++◌, length, map, take, get_or, Option, Some, None, refl, sym, ap, ◌∙◌, subst, arith, append_assoc, append-nil, add-one}
 use Rattle.std.specs.Io.KnownBytes.{Appends}
 use Rattle.std.proofs.KnownBytes.{Appends-nil, Appends-trans}
 use Rattle.std.proofs.lemmas.Bool.Decides.{nat_tests}
@@ -22,8 +21,8 @@ use Rattle.zb_player_events.specs.declared.seats.Seat.{Seat}
 use Rattle.zb_player_events.specs.declared.seats.Seats.{Seats}
 use Rattle.zb_player.specs.Benches.{Gave, GaveAt, GaveFor, given_at, given_for}
 use Rattle.zb_player.specs.Playing.{FitsRun, RunIn, RunPasses}
-use Rattle.zb_player.specs.Runs.{IsPlayed, acts_of, text_in}
-use Rattle.zb_player.specs.Swapping.{AgreesTo, AnswersGiven, AreFit, Fits, FitsAt, IsAnswered, IsGiven, PrintsGiven, nodes_after, nodes_in, passed_with, swapped_in}
+use Rattle.zb_player.specs.Runs.{text_in}
+use Rattle.zb_player.specs.Swapping.{AgreesTo, AnswersGiven, Fits, FitsAt, IsAnswered, IsGiven, PrintsGiven, nodes_after, nodes_in, passed_with, swapped_in}
 use Rattle.zb_player.specs.declared.run.Run.{Run}
 use Rattle.zb_player.proofs.Answering.{no_node}
 use Rattle.zb_player.proofs.Asking.{few_stations}

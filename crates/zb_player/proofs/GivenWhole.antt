@@ -1,5 +1,5 @@
 -- The text of a whole run whose nodes are given disks, in its parts.
-use Rattle.std.proofs.Common.{◌≡◌, ℕ, ◌+◌, ◌≤◌, List, [], ◌∷◌, ◌++◌, length, take, Option, Some, None, refl, sym, ap, ◌∙◌, subst, arith, append_assoc, append-nil}
+use Rattle.std.proofs.Common.{◌≡◌, ℕ, ◌+◌, List, [], ◌∷◌, ◌++◌, length, take, Option, Some, None, refl, sym, ap, ◌∙◌, subst, arith, append_assoc, append-nil}
 use Rattle.std.specs.Io.KnownBytes.{Appends}
 use Rattle.std.proofs.KnownBytes.{Appends-nil, Appends-trans}
 use Rattle.std.proofs.Math.Seq.{take-length}
@@ -14,9 +14,9 @@ use Rattle.zb_model_real.specs.Real.{real}
 use Rattle.law_run_steps.specs.Conditions.{Condition, condition_of}
 use Rattle.law_run_swaps.specs.Swaps.{Stood, first_nodes, swapped_lines, swapped_transcript}
 use Rattle.law_schedules.specs.Schedules.{event_for, schedule_of, stations_for}
-use Rattle.zb_player.specs.Playing.{RunIn, RunStands}
+use Rattle.zb_player.specs.Playing.{RunStands}
 use Rattle.zb_player.specs.Runs.{IsPlayed, acts_of, last_line, text_in}
-use Rattle.zb_player.specs.Swapping.{AgreesTo, AnswersGiven, AreFit, AreGifts, ForGifts, IsGiven, PrintsGiven, nodes_in, swapped_in}
+use Rattle.zb_player.specs.Swapping.{AgreesTo, AnswersGiven, AreFit, AreGifts, ForGifts, IsGiven, PrintsGiven, swapped_in}
 use Rattle.zb_player.specs.declared.run.Run.{Run}
 use Rattle.zb_player.specs.declared.summary.Summary.{Summary}
 use Rattle.zb_player.proofs.Goings.{run_as}

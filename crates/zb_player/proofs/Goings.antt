@@ -6,7 +6,7 @@ use Rattle.std.specs.Io.KnownBytes.{append_known}
 use Rattle.zb_base.specs.declared.key.Key.{Key}
 use Rattle.zb_disk.specs.Memory.{Medium}
 use Rattle.zb_player_events.specs.Acts.{IsFor, act_for}
-use Rattle.zb_player_events.specs.Told.{Adds, Before, Goes, IsTold}
+use Rattle.zb_player_events.specs.Told.{Adds, Before, Goes}
 use Rattle.zb_player_events.specs.declared.acts.Act.{Act}
 use Rattle.zb_player_events.specs.declared.ledger.Ledger.{Ledger}
 use Rattle.zb_player_events.specs.declared.seats.Seats.{Seats}
@@ -22,9 +22,9 @@ use Rattle.law_run_steps.specs.Conditions.{Condition, condition_of}
 use Rattle.law_run_swaps.proofs.Turns.{left_setting}
 use Rattle.law_run_swaps.proofs.Unswapped.{IsStep, if_other, if_same, passed_step}
 use Rattle.law_run_swaps.specs.Swaps.{Passed, node_of, passed, with_condition}
-use Rattle.law_run_swaps.specs.Turns.{Turn, event_turn}
+use Rattle.law_run_swaps.specs.Turns.{event_turn}
 use Rattle.zb_player_events.specs.Nodes.{AllIn, IsIn, IsSeat, NodeValue}
-use Rattle.zb_player.specs.Playing.{AreSettings, IsEventAt, RunGoes, RunIn, RunPasses, RunStands, passed_by, step_of}
+use Rattle.zb_player.specs.Playing.{AreSettings, IsEventAt, RunGoes, RunIn, RunPasses, passed_by, step_of}
 use Rattle.zb_player.specs.declared.run.Run.{Run}
 use Rattle.zb_player.proofs.Named.{of_node}
 use Rattle.zb_player.proofs.Seating.{euis_differ, seated_at, setting_at, stations_differ}

@@ -47,9 +47,9 @@ pub fn play<B: Bench, W: Sink>(
     ensures summary { B.still bench.old ≡ true → IfOk result (Sums (sched.schedule_of schedule.now)) }
     ensures disks { B.still bench.old ≡ true → OnOk result (Played (sched.schedule_of schedule.now) disks.new.items) }
 
-    // Where the bench tells what it gives, and gives disks under nodes that are down alone, from which they can boot, what
-    // is written is the transcript of a run whose nodes are given these disks, or a prefix of it; and the summary is
-    // its last line.
+    // Where the bench tells what it gives, and gives disks under nodes that are down alone, from which they can boot,
+    // what is written is the transcript of a run whose nodes are given these disks, or a prefix of it; and the summary
+    // is its last line.
     ensures swapped { OnOk result (IsSwapped (sched.schedule_of schedule.now) (B.gave bench.new)
         (W.taken out.old) (W.taken out.new)) }
     ensures swapped_front { OnErr result (IsSwappedFront (sched.schedule_of schedule.now) (B.gave bench.new)

@@ -1,5 +1,5 @@
 -- What each kind of event of a node comes to: its lines are told, and the node is in the condition that its turn leaves.
-use Rattle.std.proofs.Common.{◌≡◌, ℕ, ◌+◌, ◌-◌, Bool, true, false, if◌then◌else◌, List, [], ◌∷◌, ◌++◌, map, length, Option, Some, None, option_map, is_some, nat_eq, slice_get, refl, sym, ap, ◌∙◌, subst}
+use Rattle.std.proofs.Common.{◌≡◌, ℕ, ◌+◌, ◌-◌, Bool, true, false, if◌then◌else◌, List, [], ◌∷◌, ◌++◌, map, length, Option, Some, None, option_map, is_some, nat_eq, slice_get, sym, ap, ◌∙◌, subst}
 use Rattle.std.specs.List.{list_any}
 use Rattle.arrayvec.specs.ArrayString.{ArrayString}
 use Rattle.zb_base.specs.declared.key.Key.{Key}
@@ -29,7 +29,7 @@ use Rattle.law_run_steps.proofs.Centre.{none-of-others}
 use Rattle.law_run_steps.specs.Conditions.{Condition, after_arming, after_cut, after_cut_boot, after_power_on, after_reset, after_whole, calls_by}
 use Rattle.law_run_steps.specs.Steps.{cut_lines, is_of_the_centre, whole_lines}
 use Rattle.law_run_swaps.proofs.Turns.{answer_cut, answer_whole, boot_by, boot_cut, boot_whole, reset_by, task_down, task_up}
-use Rattle.law_run_swaps.specs.Turns.{Turn, answer_turn, boot_turn, deliver_turn, event_turn, refused_turn, task_turn, turn}
+use Rattle.law_run_swaps.specs.Turns.{Turn, deliver_turn, event_turn, refused_turn, task_turn, turn}
 use Rattle.zb_player_node.proofs.Conditions.{in_later, power_is}
 use Rattle.zb_player_node.specs.Answers.{CanHave, Changes, HasBooted, HasHandled}
 use Rattle.zb_player_node.specs.Nodes.{IsIn}

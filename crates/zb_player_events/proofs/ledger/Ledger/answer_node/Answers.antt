@@ -30,7 +30,8 @@ returns-in-Roll-clause-goes c =
     by_event w h x latest c.args.number n (RollOver n) event c.args.self.now c.handle-in-Roll.new.self
     c.handle-in-Roll.new.node c.handle-in-Roll.new.disk
     (event_is n c.args.act act.Roll (RollOver n) event c.in-Roll.is refl is)
-    (λ suits. roll_goes w h x latest c.args.number n c.args.self.now c.handle-in-Roll.new.self c.handle-in-Roll.new.node
+    (λ suits. roll_goes w h x latest c.args.number n c.args.self.now c.handle-in-Roll.new.self
+    c.handle-in-Roll.new.node
     c.handle-in-Roll.new.disk
     (subst (λ (draw : Option Bytes). Goes w (task_turn real h x c.args.number n (DoRoll draw)) h
     latest c.args.self.now c.handle-in-Roll.new.self c.handle-in-Roll.new.node c.handle-in-Roll.new.disk)
@@ -54,7 +55,8 @@ pub returns-in-Reset-clause-goes : goal.returns-in-Reset-clause-goes
 returns-in-Reset-clause-goes c =
     on_ok c.reset.result _ _
     (λ goes w h x latest n event before draws is fits.
-    by_event w h x latest c.args.number n (Reset n) event c.args.self.now c.reset.new.self c.reset.new.node c.reset.new.disk
+    by_event w h x latest c.args.number n (Reset n) event c.args.self.now c.reset.new.self c.reset.new.node
+    c.reset.new.disk
     (event_is n c.args.act act.Reset (Reset n) event c.in-Reset.is refl is)
     (λ suits. goes w h x latest n before) fits)
     c.reset.ensures.goes
@@ -63,7 +65,8 @@ pub returns-in-Boot-clause-goes : goal.returns-in-Boot-clause-goes
 returns-in-Boot-clause-goes c =
     on_ok c.boot.result _ _
     (λ goes w h x latest n event before draws is fits.
-    by_event w h x latest c.args.number n (PowerOn n) event c.args.self.now c.boot.new.self c.boot.new.node c.boot.new.disk
+    by_event w h x latest c.args.number n (PowerOn n) event c.args.self.now c.boot.new.self c.boot.new.node
+    c.boot.new.disk
     (event_is n c.args.act act.Boot (PowerOn n) event c.in-Boot.is refl is)
     (λ suits. goes w h x latest n before) fits)
     c.boot.ensures.goes
@@ -72,7 +75,8 @@ pub returns-in-Dump-clause-goes : goal.returns-in-Dump-clause-goes
 returns-in-Dump-clause-goes c =
     on_ok c.dump.result _ _
     (λ goes w h x latest n event before draws is fits.
-    by_event w h x latest c.args.number n (ShowRecord n) event c.args.self.now c.dump.new.self c.args.node.now c.dump.new.disk
+    by_event w h x latest c.args.number n (ShowRecord n) event c.args.self.now c.dump.new.self c.args.node.now
+    c.dump.new.disk
     (event_is n c.args.act act.Dump (ShowRecord n) event c.in-Dump.is refl is)
     (λ suits. goes w h x latest n before) fits)
     c.dump.ensures.goes
@@ -84,7 +88,8 @@ returns-in-Stop-clause-goes c =
     c.args.self.now c.arm_stop.new.self c.args.disk.now
     (event_is n c.args.act (act.Stop c.in-Stop.calls c.in-Stop.torn) (ArmStop n c.in-Stop.calls c.in-Stop.torn.items)
     event c.in-Stop.is refl is)
-    (λ suits. stop_goes w h x latest c.args.number n c.in-Stop.calls c.in-Stop.torn.items c.args.self.now c.args.node.now
+    (λ suits. stop_goes w h x latest c.args.number n c.in-Stop.calls c.in-Stop.torn.items c.args.self.now
+    c.args.node.now
     c.arm_stop.new.self c.args.disk.now before c.arm_stop.ensures.leaves) fits
 
 pub returns-in-Fail-clause-goes : goal.returns-in-Fail-clause-goes
@@ -93,7 +98,8 @@ returns-in-Fail-clause-goes c =
     by_event w h x latest c.args.number n (ArmFail n c.in-Fail.call) event c.args.self.now c.args.self.now
     c.arm_fail.new.self c.args.disk.now
     (event_is n c.args.act (act.Fail c.in-Fail.call) (ArmFail n c.in-Fail.call) event c.in-Fail.is refl is)
-    (λ first. failure_goes w h x latest c.args.number n c.in-Fail.call c.args.self.now c.args.node.now c.arm_fail.new.self
+    (λ first. failure_goes w h x latest c.args.number n c.in-Fail.call c.args.self.now c.args.node.now
+    c.arm_fail.new.self
     c.args.disk.now before
     (λ x k m there. c.arm_fail.ensures.leaves x k m there first)) fits
 

@@ -35,7 +35,8 @@ pub returns-in-Some-clause-goes : goal.returns-in-Some-clause-goes
 returns-in-Some-clause-goes c =
     on_ok c.tell-in-Some.result _ _
     (λ adds w h x latest n before.
-    cut_boot_goes w h x latest c.args.event n c.in_ok-boot.field-0 c.in-Some.fall c.args.self.now c.tell-in-Some.new.self
+    cut_boot_goes w h x latest c.args.event n c.in_ok-boot.field-0 c.in-Some.fall c.args.self.now
+    c.tell-in-Some.new.self
     c.args.node.now c.boot.new.self c.args.disk.now c.boot.new.disk before c.if-is_up.ensures c.in-Some.is
     c.in_ok-boot.ensures.booted
     (adds w h (fall_line c.in-Some.fall c.args.event n) before.told

@@ -10,7 +10,8 @@ pub returns-clause-goes : goal.returns-clause-goes
 returns-clause-goes c =
     on_ok c.tell.result _ _
     (λ adds w h x latest n before.
-    dump_goes w h x latest c.args.event n c.from_vec.result c.args.self.now c.tell.new.self c.args.node.now c.args.disk.now
+    dump_goes w h x latest c.args.event n c.from_vec.result c.args.self.now c.tell.new.self c.args.node.now
+    c.args.disk.now
     c.dump.new.disk before
     (λ x k there. let is = c.in_ok-record.ensures.record_is x k there in (c.from_vec.ensures ∙ is.0, is.1))
     (adds w h (Dump c.args.event n c.from_vec.result) before.told

@@ -22,7 +22,8 @@ pub returns-clause-goes : goal.returns-clause-goes
 returns-clause-goes c =
     on_ok c.tell.result _ _
     (λ adds w h x latest n before.
-    reset_goes w h x latest c.args.event n c.args.self.now c.tell.new.self c.args.node.now c.reset.new.self c.args.disk.now
+    reset_goes w h x latest c.args.event n c.args.self.now c.tell.new.self c.args.node.now c.reset.new.self
+    c.args.disk.now
     c.reset.new.disk before c.if-not-is_up.ensures
     (adds w h (DownReset c.args.event n) before.told
     (c.reset_line.ensures (stations w) n (named_as w n _ _ c.name-name.ensures before.seat.called)) refl)
