@@ -18,6 +18,7 @@ use Rattle.zb_text.proofs.ReadAgain as again
 use Rattle.zb_text.proofs.ReadAgain.{IsLine-words}
 use Rattle.zb_trace.specs.Text.{Word, spelled, trailing, line_of, words, text, texts, IsProper, AllProper}
 use Rattle.zb_trace.specs.declared.line.Line.{Line}
+use Rattle.zb_trace_read.specs.Places.{read_into}
 use Rattle.zb_trace_read.specs.Reading.{read_words}
 use Rattle.zb_trace_read.proofs.Printed.{words_again}
 
@@ -173,14 +174,15 @@ rest_is_shorter bytes page rest l printed e =
     let whole = ap (length {A = ℕ}) (e ∙ ap (λ front. front ++ rest) printed) in omega
     (arith, whole, length_of_text l rest)
 
-pub shows_none : (o : Option Line) (x : Option (List Word)) → Shows words o x → o ≡ None → x ≡ None
-shows_none None x shows e = shows
-shows_none (Some l) x shows e = cc e
+pub read_none : (r : Option Unit) (l : Line) (x : Option (List Word)) → Shows words (read_into r l) x → r ≡ None
+    → x ≡ None
+read_none None l x shows e = shows
+read_none (Some u) l x shows e = cc e
 
-pub shows_some : (o : Option Line) (x : Option (List Word)) (l : Line) → Shows words o x → o ≡ Some l → x
-    ≡ Some (words l)
-shows_some None x l shows e = cc e
-shows_some (Some m) x l shows e = shows ∙ ap (option_map words) e
+pub read_some : (r : Option Unit) (u : Unit) (l : Line) (x : Option (List Word)) → Shows words (read_into r l) x
+    → r ≡ Some u → x ≡ Some (words l)
+read_some None u l x shows e = cc e
+read_some (Some v) u l x shows e = shows
 
 -- the printed line is the one that the text begins with
 pub is_front : (bytes line page : List ℕ) (after : List (List ℕ)) (read l : Line) (more : List ℕ) → IsProper l → bytes

@@ -11,4 +11,4 @@ mod reading;
 mod start;
 
 pub use fault::TraceError;
-pub use reading::{read_lines, take_line};
+pub use reading::{no_line, read_lines, take_into, take_line};

@@ -4,39 +4,45 @@ ghost use Rattle.std.specs.List.{AllByRecursion};
 ghost use Rattle.std.specs.Option.{option_map, option_and_then};
 ghost use Rattle.zb_text.specs.Words.{left, Shows};
 ghost use Rattle.zb_trace.specs.Text.{Chosen, Fixed, MayStand, place_text, places, refusal_words, term_words};
+ghost use Rattle.zb_trace_read.specs.Places.{read_into};
 ghost use Rattle.zb_trace_read.specs.Grammar.{AnAddress, a_count, a_refusal, a_term, plain_reason, policy_reason, shaped};
 
 use crate::fields::{count, eui, key, label, layer, octet, place, some_bytes};
-use zb_base::Place;
+use zb_base::{Eui, Frame, Key, Label, Layer, Place};
 use zb_node_types::Refusal;
 use zb_seal::Term;
 use zb_text::words::Words;
 
-/// Reads the words of a term, with nothing after them.
+/// Reads the words of a term into a place, with nothing after them.
 #[tactic(auto, unfolding(zb_trace::specs::Text::term_words))]
-pub(crate) fn read_term(reader: &mut Words<'_>) -> Option<Term>
-    ensures value { Shows term_words result (shaped a_term (left reader.old)) }
-    ensures fits { IfSome result (λ t. AllByRecursion MayStand (term_words t)) }
+pub(crate) fn read_term(reader: &mut Words<'_>, term: &mut Term) -> Option<()>
+    ensures value { Shows term_words (read_into result term.new) (shaped a_term (left reader.old)) }
+    ensures fits { IfSome result (λ _. AllByRecursion MayStand (term_words term.new)) }
 {
-    let layer = layer(reader)?;
-    let label = label(reader)?;
-    let base = key(reader)?;
-    let source = eui(reader)?;
-    let counter = count(reader)?;
-    let control = octet(reader)?;
-    let header = some_bytes(reader)?;
-    let content = some_bytes(reader)?;
+    term.layer = layer(reader)?;
+    term.label = label(reader)?;
+    term.base = key(reader)?;
+    term.source = eui(reader)?;
+    term.counter = count(reader)?;
+    term.control = octet(reader)?;
+    term.header = some_bytes(reader)?;
+    term.content = some_bytes(reader)?;
     reader.end()?;
-    Some(Term {
-        layer,
-        base,
-        label,
-        source,
-        counter,
-        control,
-        header,
-        content,
-    })
+    Some(())
+}
+
+/// Makes a term that others may be read into.
+pub(crate) fn no_term() -> Term {
+    Term {
+        layer: Layer::Nwk,
+        base: Key([0; 16]),
+        label: Label::Data,
+        source: Eui(0),
+        counter: 0,
+        control: 0,
+        header: Frame::new(),
+        content: Frame::new(),
+    }
 }
 
 /// Reads the words of a refusal, with nothing after them.

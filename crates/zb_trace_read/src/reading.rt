@@ -8,6 +8,7 @@ ghost use Rattle.zb_trace.specs.declared.line.Line.{Line as ALine};
 ghost use Rattle.zb_trace_read.specs.Faults.{IsTraceFault, IsNoMemory};
 ghost use Rattle.zb_trace_read.specs.Grammar.{all_bytes_of};
 ghost use Rattle.zb_trace_read.specs.Reading as spec;
+ghost use Rattle.zb_trace_read.specs.Places.{read_into};
 
 use crate::TraceError;
 use crate::fields::{answer, count};
@@ -61,8 +62,7 @@ fn first_bad(before: usize) -> OrMemory<TraceError>
 
 /// Takes the line whose text a text begins with, and answers it with what is after it; or none.
 ///
-/// The line is printed again and compared, so that only its exact text is taken. The page is room for that: what
-/// stands on it is lost. So a transcript can be read line by line, with no list of lines.
+/// The page is room, as for `take_into`.
 ///
 /// # Errors
 /// Out of memory.
@@ -76,16 +76,55 @@ pub fn take_line<'a>(
         (λ o. MatchOption o ((l : ALine) (more : List ℕ) → IsProper l → text.now ≡ text_of l ++ more → ⊥)
         (λ t. length t.1.now < length text.now)) }
 {
+    let mut line = no_line();
+    match take_into(alloc, page, text, &mut line)? {
+        Some(rest) => Ok(Some((line, rest))),
+        None => Ok(None),
+    }
+}
+
+/// Makes a line that others may be read into.
+pub fn no_line() -> Line {
+    Line::End {
+        events: 0,
+        seals: 0,
+        accepts: 0,
+        refusals: 0,
+        ideal: false,
+        private: false,
+    }
+}
+
+/// Takes the line whose text a text begins with into a place, and answers what is after it; or none.
+///
+/// The line is printed again and compared, so that only its exact text is taken. The page is room for that: what
+/// stands on it is lost. So a transcript can be read line by line, with no list of lines, and in one place: after
+/// `None` what stands there says nothing.
+///
+/// # Errors
+/// Out of memory.
+pub fn take_into<'a>(
+    alloc: Global,
+    page: &mut Vec<u8>,
+    text: &'a [u8],
+    line: &mut Line,
+) -> Result<Option<&'a [u8]>, AllocError>
+    ensures found { IfOk result
+        (λ o. IfSome o (λ rest. IsProper line.new × (text.now ≡ text_of line.new ++ rest.now))) }
+    ensures none { IfOk result
+        (λ o. MatchOption o ((l : ALine) (more : List ℕ) → IsProper l → text.now ≡ text_of l ++ more → ⊥)
+        (λ rest. length rest.now < length text.now)) }
+{
     let Some((front, _)) = next_line(text) else {
         return Ok(None);
     };
-    let Some(line) = read_line(alloc, front)? else {
+    let Some(_) = read_line(alloc, front, line)? else {
         return Ok(None);
     };
     page.clear();
-    put_line(page, &line)?;
+    put_line(page, line)?;
     match without_front(text, page.as_slice()) {
-        Some(rest) => Ok(Some((line, rest))),
+        Some(rest) => Ok(Some(rest)),
         None => Ok(None),
     }
 }
@@ -104,41 +143,51 @@ fn without_front<'a>(text: &'a [u8], front: &[u8]) -> Option<&'a [u8]>
 
 /// Reads a line without its line feed; its hexadecimal digits may still be in either case.
 #[tactic(auto, unfolding(crate::specs::Reading::read_words))]
-pub(crate) fn read_line(alloc: Global, line: &[u8]) -> Result<Option<Line>, AllocError>
-    ensures value { IfOk result (λ o. Shows words o (spec.read_words (words_of (Some line.now)))) }
-    ensures fits { IfOk result (λ o. IfSome o (λ l. AllByRecursion MayStand (words l))) }
+pub(crate) fn read_line(
+    alloc: Global,
+    text: &[u8],
+    line: &mut Line,
+) -> Result<Option<()>, AllocError>
+    ensures value { IfOk result (λ o. Shows words (read_into o line.new)
+        (spec.read_words (words_of (Some text.now)))) }
+    ensures fits { IfOk result (λ o. IfSome o (λ _. AllByRecursion MayStand (words line.new))) }
 {
-    let mut reader = Words::new(line);
+    let mut reader = Words::new(text);
     let Some(first) = reader.word() else {
         return Ok(None);
     };
     if first == b"end".as_slice() {
-        return Ok(read_end(&mut reader));
+        return Ok(read_end(&mut reader, line));
     }
     match number(u32::MAX, first) {
-        Some(event) => read_event(alloc, event, &mut reader),
+        Some(event) => read_event(alloc, event, &mut reader, line),
         None => Ok(None),
     }
 }
 
-fn read_event(alloc: Global, event: u32, reader: &mut Words<'_>) -> Result<Option<Line>, AllocError>
-    ensures value { IfOk result (λ o. Shows words o (spec.of_event event (left reader.old))) }
-    ensures fits { IfOk result (λ o. IfSome o (λ l. AllByRecursion MayStand (words l))) }
+fn read_event(
+    alloc: Global,
+    event: u32,
+    reader: &mut Words<'_>,
+    line: &mut Line,
+) -> Result<Option<()>, AllocError>
+    ensures value { IfOk result (λ o. Shows words (read_into o line.new) (spec.of_event event (left reader.old))) }
+    ensures fits { IfOk result (λ o. IfSome o (λ _. AllByRecursion MayStand (words line.new))) }
 {
     let Some(kind) = reader.word() else {
         return Ok(None);
     };
     if kind == b"dump".as_slice() {
-        read_dump(alloc, event, reader)
+        read_dump(alloc, event, reader, line)
     } else {
-        Ok(read_of_nobody(event, kind, reader))
+        Ok(read_of_nobody(event, kind, reader, line))
     }
 }
 
 /// Reads the end of a transcript.
-fn read_end(reader: &mut Words<'_>) -> Option<Line>
-    ensures value { Shows words result (spec.of_end (left reader.old)) }
-    ensures fits { IfSome result (λ l. AllByRecursion MayStand (words l)) }
+fn read_end(reader: &mut Words<'_>, line: &mut Line) -> Option<()>
+    ensures value { Shows words (read_into result line.new) (spec.of_end (left reader.old)) }
+    ensures fits { IfSome result (λ _. AllByRecursion MayStand (words line.new)) }
 {
     let events = count(reader)?;
     let seals = count(reader)?;
@@ -147,20 +196,26 @@ fn read_end(reader: &mut Words<'_>) -> Option<Line>
     let ideal = answer(reader)?;
     let private = answer(reader)?;
     reader.end()?;
-    Some(Line::End {
+    *line = Line::End {
         events,
         seals,
         accepts,
         refusals,
         ideal,
         private,
-    })
+    };
+    Some(())
 }
 
 /// Reads the record of a node's disk, which may be of any length.
-fn read_dump(alloc: Global, event: u32, reader: &mut Words<'_>) -> Result<Option<Line>, AllocError>
-    ensures value { IfOk result (λ o. Shows words o (spec.of_dump event (left reader.old))) }
-    ensures fits { IfOk result (λ o. IfSome o (λ l. AllByRecursion MayStand (words l))) }
+fn read_dump(
+    alloc: Global,
+    event: u32,
+    reader: &mut Words<'_>,
+    line: &mut Line,
+) -> Result<Option<()>, AllocError>
+    ensures value { IfOk result (λ o. Shows words (read_into o line.new) (spec.of_dump event (left reader.old))) }
+    ensures fits { IfOk result (λ o. IfSome o (λ _. AllByRecursion MayStand (words line.new))) }
 {
     let Some(node) = reader.name() else {
         return Ok(None);
@@ -174,7 +229,8 @@ fn read_dump(alloc: Global, event: u32, reader: &mut Words<'_>) -> Result<Option
     if reader.end().is_none() {
         return Ok(None);
     }
-    Ok(Some(Line::Dump { event, node, bytes }))
+    *line = Line::Dump { event, node, bytes };
+    Ok(Some(()))
 }
 
 /// Reads the bytes that a word spells, as many as there are.
