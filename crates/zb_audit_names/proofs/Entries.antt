@@ -3,11 +3,12 @@ use Rattle.std.proofs.Common.{◌≡◌, ℕ, ◌+◌, Bool, true, false, not, �
 use Rattle.std.specs.BTreeMap.{BTreeMap, get, is_at, btree_map_len}
 use Rattle.std.specs.List.{find}
 use Rattle.std.specs.Option.{option_map, option_or, is_some}
+use Rattle.std.specs.Ordering.{nat_cmp}
 use Rattle.std.specs.Cmp.Lexicographic.{texts_ties}
 use Rattle.std.specs.Prelude.{if◌then◌else◌}
 use Rattle.std.proofs.lemmas.List.Folds.{find-append}
 use Rattle.std.proofs.lemmas.List.Sums.{fold-append}
-use Rattle.std.specs.Prelude.{Result, Ok, Err, OnOk, IfOk}
+use Rattle.std.specs.Prelude.{Result, Ok, Err, OnOk, IfOk, IfSome}
 use Rattle.zb_base.specs.declared.address.Eui.{Eui}
 use Rattle.zb_base.specs.declared.address.Short.{Short}
 use Rattle.zb_base.specs.declared.node.Role.{Role}
@@ -18,20 +19,30 @@ use Rattle.zb_model.specs.Data.{Bytes, Station}
 use Rattle.zb_model.specs.State.{is_centre}
 use Rattle.zb_node_types.specs.Changes.{model_role}
 use Rattle.zb_audit_names.specs.Naming.{centre_name, declared_in, declares, eui_of, is_centres, is_name, named_by, names_in, or_added, or_new, place_in, station_named, with_name, with_station}
-use Rattle.zb_audit_names.specs.Standing.{name_cmp, IsEntry, IsStation, Stands, Tells}
+use Rattle.zb_audit_names.specs.Standing.{name_cmp, IsEntry, IsKnown, IsStation, Stands, Tells}
 use Rattle.zb_audit_names.specs.declared.directory.Directory.{Directory}
+use Rattle.zb_audit_names.specs.declared.directory.Known.{Known}
 use Rattle.zb_audit_names.specs.declared.node.Node.{Node}
 use Rattle.zb_audit_names.specs.declared.node.Who.{Who}
 use Rattle.zb_audit_names.proofs.Places.{apart, itself, place_end, place_kept, same_bytes}
 
-pub stands_for_none : (names : BTreeMap ArrayString Who) → names.entries ≡ []
-    → Stands (record { names = names; has_centre = false }) [] []
+-- nothing was looked up
+none_known : (looked_up : BTreeMap ℕ Known) → looked_up.entries ≡ [] → (names : List Bytes) (known : List Station)
+    (number : ℕ) → IsKnown (get nat_cmp looked_up number) names known
+none_known looked_up none names known number =
+    let nobody : get nat_cmp looked_up number ≡ None = rw none refl in
+    subst (λ (o : Option Known). IsKnown o names known) (sym nobody) tt
+
+pub stands_for_none : (names : BTreeMap ArrayString Who) (looked_up : BTreeMap ℕ Known) → names.entries ≡ []
+    → looked_up.entries ≡ []
+    → Stands (record { names = names; has_centre = false; looked_up = looked_up }) [] []
 unfolding place_in station_named centre_name
-stands_for_none names none = record {
+stands_for_none names looked_up none nothing_yet = record {
   entries = λ name. rw none refl;
   count = rw none refl;
   centre = refl;
   silent = λ name new. refl;
+  looked_up = none_known looked_up nothing_yet [] [];
 }
 
 nothing : {A B : Type 0} (f : A → B) (o : Option A) → None ≡ option_map f o → o ≡ None
@@ -145,8 +156,10 @@ pub stands_new : (d : Directory) (place : ℕ) (entries : BTreeMap ArrayString W
     → ((q : ArrayString) → get name_cmp entries q
     ≡ cond (is_at (name_cmp name) q) (Some (record { place = place; node = None; is_centre = false }))
     (get name_cmp d.names q))
-    → Stands (record { names = entries; has_centre = d.has_centre }) (names ++ name.bytes ∷ []) known
-stands_new d place entries old names known name last stands new none len updates =
+    → (looked_up : BTreeMap ℕ Known) → looked_up.entries ≡ []
+    → Stands (record { names = entries; has_centre = d.has_centre; looked_up = looked_up }) (names ++ name.bytes ∷ [])
+    known
+stands_new d place entries old names known name last stands new none len updates looked_up cleared =
     let who : Who = record { place = place; node = None; is_centre = false } in
     record {
       entries = λ q.
@@ -160,6 +173,7 @@ stands_new d place entries old names known name last stands new none len updates
       centre = stands.centre;
       silent =
           λ other is_none. stands.silent other (still_new names name.bytes other (place_in names other) refl is_none);
+      looked_up = none_known looked_up cleared (names ++ name.bytes ∷ []) known;
     }
 
 -- the names with a new one, and with one that isn't
@@ -318,9 +332,10 @@ pub stands_declared : (d : Directory) (entries : BTreeMap ArrayString Who) (old 
     → ((q : ArrayString) → get name_cmp entries q
     ≡ cond (is_at (name_cmp name) q) (Some (record { place = place; node = Some node; is_centre = is }))
     (get name_cmp d.names q))
-    → Stands (record { names = entries; has_centre = has }) names (known ++ s ∷ [])
+    → (looked_up : BTreeMap ℕ Known) → looked_up.entries ≡ []
+    → Stands (record { names = entries; has_centre = has; looked_up = looked_up }) names (known ++ s ∷ [])
 stands_declared d entries old has is name place node names known s its there none stands centre now before len
-    updates =
+    updates looked_up cleared =
     let who : Who = record { place = place; node = Some node; is_centre = is } in
     let first : is ≡ (is_centre (model_role node.role) && not (is_some (centre_name known))) =
     centre ∙ ap (λ (b : Bool). is_centre (model_role node.role) && not b) stands.centre in
@@ -350,6 +365,7 @@ stands_declared d entries old has is name place node names known s its there non
           (λ same. let gone : place_in names name.bytes ≡ None = subst (λ (n : Bytes). place_in names n ≡ None)
           (sym same ∙ its.name_is) new in some_none place (sym there ∙ gone)))
           ∙ stands.silent other new;
+      looked_up = none_known looked_up cleared names (known ++ s ∷ []);
     }
   where
     some_none : (i : ℕ) → Some i ≡ None → ⊥
@@ -392,6 +408,63 @@ tells_with_new d place name names known last none stands =
     subst (λ (n : List Bytes). Tells (record { place = place; node = None; is_centre = false }) n known name.bytes)
     (sym (with_new names name.bytes new))
     (tells_new d place names known name last stands new)
+
+-- A name that was looked up may be kept.
+pub stands_with_known : (d : Directory) (looked_up : BTreeMap ℕ Known) (number : ℕ) (name : ArrayString) (who : Who)
+    (names : List Bytes) (known : List Station) → get name_cmp d.names name ≡ Some who
+    → ((q : ℕ) → get nat_cmp looked_up q
+    ≡ cond (is_at (nat_cmp number) q) (Some (record { name = name; who = who })) (get nat_cmp d.looked_up q))
+    → Stands d names known → Stands (record d { looked_up = looked_up }) names known
+stands_with_known d looked_up number name who names known is updates stands = record {
+  entries = stands.entries;
+  count = stands.count;
+  centre = stands.centre;
+  silent = stands.silent;
+  looked_up = λ q. subst (λ (o : Option Known). IsKnown o names known) (sym (updates q))
+      (either q (is_at (nat_cmp number) q));
+}
+  where
+    either : (q : ℕ) (here : Bool)
+        → IsKnown (cond here (Some (record { name = name; who = who })) (get nat_cmp d.looked_up q)) names known
+    either q true = told_there d names known name who stands is
+    either q false = stands.looked_up q
+
+-- It is who the directory says.
+told_known : (k : Known) (name : ArrayString) (who : Who) (names : List Bytes) (known : List Station)
+    → Tells k.who names known k.name.bytes
+    → (if bytes_eq k.name.bytes name.bytes then Some k.who else None) ≡ Some who
+    → Tells who names known name.bytes
+told_known k name who names known told found = by (bytes_eq k.name.bytes name.bytes) refl found
+  where
+    one_who : (a b : Who) → Some a ≡ Some b → a ≡ b
+    one_who a b e = cc e
+
+    by : (b : Bool) → bytes_eq k.name.bytes name.bytes ≡ b → (if b then Some k.who else None) ≡ Some who
+        → Tells who names known name.bytes
+    by true same it = subst (λ (n : Bytes). Tells who names known n) (same_bytes k.name.bytes name.bytes same)
+        (subst (λ (w : Who). Tells w names known k.name.bytes) (one_who k.who who it) told)
+    by false same it = cc it
+
+pub told_found : (d : Directory) (number : ℕ) (name : ArrayString) (r : Option Who) (k : Known)
+    → get nat_cmp d.looked_up number ≡ Some k
+    → r ≡ (if bytes_eq k.name.bytes name.bytes then Some k.who else None)
+    → IfSome r (λ who. (names : List Bytes) (known : List Station) → Stands d names known
+    → Tells who names known name.bytes)
+told_found d number name None k there e = tt
+told_found d number name (Some who) k there e =
+    λ names known stands.
+    told_known k name who names known
+    (subst (λ (o : Option Known). IsKnown o names known) there (stands.looked_up number)) (sym e)
+
+pub stands_with_told : (d : Directory) (name : Bytes) (who : Who) (names : List Bytes) (known : List Station)
+    → Tells who names known name → Stands d names known → Stands d (with_name names name) known
+stands_with_told d name who names known told stands = subst (λ (n : List Bytes). Stands d n known)
+    (sym (with_old names name who.place told.place)) stands
+
+pub tells_with_told : (name : Bytes) (who : Who) (names : List Bytes) (known : List Station)
+    → Tells who names known name → Tells who (with_name names name) known name
+tells_with_told name who names known told = subst (λ (n : List Bytes). Tells who n known name)
+    (sym (with_old names name who.place told.place)) told
 
 pub stands_with_old : (d : Directory) (name : ArrayString) (who : Who) (names : List Bytes) (known : List Station)
     → get name_cmp d.names name ≡ Some who → Stands d names known

@@ -1,5 +1,5 @@
 -- What the program keeps of names and declared nodes.
-use Rattle.std.specs.Prelude.{◌≡◌, List, length, Option, Some, None}
+use Rattle.std.specs.Prelude.{◌≡◌, ℕ, List, length, Option, Some, None}
 use Rattle.std.specs.BTreeMap.{get, btree_map_len}
 use Rattle.std.specs.Cmp.Lexicographic.{slice_cmp}
 use Rattle.std.specs.Option.{option_map, is_some}
@@ -11,6 +11,7 @@ use Rattle.zb_node_types.specs.Changes.{model_role}
 use Rattle.zb_trace.specs.declared.line.Line.{Line}
 use Rattle.zb_audit_names.specs.Naming.{place_in, station_named, eui_of, is_centres, centre_name, speaker}
 use Rattle.zb_audit_names.specs.declared.directory.Directory.{Directory}
+use Rattle.zb_audit_names.specs.declared.directory.Known.{Known}
 use Rattle.zb_audit_names.specs.declared.node.Node.{Node}
 use Rattle.zb_audit_names.specs.declared.node.Who.{Who}
 
@@ -49,6 +50,11 @@ abbrev pub IsEntry : Option Who → List Bytes → List Station → Bytes → Ty
 IsEntry None names known name = place_in names name ≡ None
 IsEntry (Some who) names known name = Tells who names known name
 
+-- A name that was looked up is who the directory says.
+abbrev pub IsKnown : Option Known → List Bytes → List Station → Type 0
+IsKnown None names known = Unit {0}
+IsKnown (Some k) names known = Tells k.who names known k.name.bytes
+
 -- The directory has these names and these declared nodes.
 pub record Stands (d : Directory) (names : List Bytes) (known : List Station) : Type 0 where
   pub entries : (name : ArrayString) → IsEntry (get name_cmp d.names name) names known name.bytes
@@ -56,3 +62,4 @@ pub record Stands (d : Directory) (names : List Bytes) (known : List Station) : 
   pub centre : d.has_centre ≡ is_some (centre_name known)
   -- a name that no line speaks of is that of no declared node
   pub silent : (name : Bytes) → place_in names name ≡ None → station_named known name ≡ None
+  pub looked_up : (number : ℕ) → IsKnown (get nat_cmp d.looked_up number) names known

@@ -1,5 +1,5 @@
 //! The names that lines speak of, and what was declared of them.
-ghost use Rattle.std.specs.Prelude.{◌≡◌, ◌++◌, ◌∷◌, [], ◌&&◌, List, None, Some, OnOk, IfOk, not};
+ghost use Rattle.std.specs.Prelude.{◌≡◌, ◌++◌, ◌∷◌, [], ◌&&◌, List, None, Some, OnOk, IfOk, IfSome, bytes_eq, if◌then◌else◌, not};
 ghost use Rattle.std.specs.BTreeMap.{get};
 ghost use Rattle.zb_model.specs.Data.{Bytes, Station};
 ghost use Rattle.zb_model.specs.State.{is_centre};
@@ -22,6 +22,30 @@ pub struct Directory {
     pub names: BTreeMap<Name, Who>,
     /// Whether a centre was declared.
     pub has_centre: bool,
+    /// Names that were looked up since the last change, each under a number that its bytes make.
+    pub looked_up: BTreeMap<u64, Known>,
+}
+
+/// A name, and who it is.
+#[derive(Clone, Copy)]
+pub struct Known {
+    /// The name.
+    pub name: Name,
+    /// Who it is.
+    pub who: Who,
+}
+
+impl Known {
+    /// Returns who this is, where it has that name.
+    fn who_of(&self, name: &Name) -> Option<Who>
+        ensures { result ≡ (if bytes_eq self.now.name.bytes name.now.bytes then Some self.now.who else None) }
+    {
+        if self.name == *name {
+            Some(self.who)
+        } else {
+            None
+        }
+    }
 }
 
 impl Directory {
@@ -32,6 +56,7 @@ impl Directory {
         Directory {
             names: BTreeMap::new(alloc),
             has_centre: false,
+            looked_up: BTreeMap::new(alloc),
         }
     }
 
@@ -68,8 +93,36 @@ impl Directory {
         ensures tells { IfOk result (λ who. (names : List Bytes) (known : List Station) → Stands self.old names known
             → Tells who (with_name names name.now.bytes) known name.now.bytes) }
     {
-        match self.names.get(name).copied() {
+        match self.remembered(name) {
             Some(who) => Ok(who),
+            None => self.look_up(name),
+        }
+    }
+
+    /// Returns who a name is, where it was looked up.
+    fn remembered(&self, name: &Name) -> Option<Who>
+        ensures { IfSome result (λ who. (names : List Bytes) (known : List Station) → Stands self.now names known
+            → Tells who names known name.now.bytes) }
+    {
+        match self.looked_up.get(&number_of(name)).copied() {
+            Some(known) => known.who_of(name),
+            None => None,
+        }
+    }
+
+    /// Returns who a name is, by all names. A name that is new gets the next place.
+    fn look_up(&mut self, name: &Name) -> Result<Who, NoMemory>
+        ensures stands { OnOk result ((names : List Bytes) (known : List Station) → Stands self.old names known
+            → Stands self.new (with_name names name.now.bytes) known) }
+        ensures tells { IfOk result (λ who. (names : List Bytes) (known : List Station) → Stands self.old names known
+            → Tells who (with_name names name.now.bytes) known name.now.bytes) }
+    {
+        match self.names.get(name).copied() {
+            Some(who) => {
+                self.looked_up
+                    .insert(number_of(name), Known { name: *name, who })?;
+                Ok(who)
+            }
             None => self.new_name(*name),
         }
     }
@@ -88,6 +141,7 @@ impl Directory {
             is_centre: false,
         };
         self.names.insert(name, who)?;
+        self.looked_up.clear();
         Ok(who)
     }
 
@@ -143,6 +197,7 @@ impl Directory {
         };
         self.names.insert(name, who)?;
         self.has_centre = self.has_centre || is_centre;
+        self.looked_up.clear();
         Ok(())
     }
 
@@ -151,4 +206,13 @@ impl Directory {
     {
         role == Role::Centre && !self.has_centre
     }
+}
+
+/// Returns a number that the bytes of a name make. Two names may have one number.
+fn number_of(name: &Name) -> u64 {
+    let mut number: u64 = 0;
+    for byte in name.as_str().as_bytes() {
+        number = (number << 8) | u64::from(*byte);
+    }
+    number
 }

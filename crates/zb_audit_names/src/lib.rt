@@ -10,6 +10,6 @@ mod directory;
 mod lines;
 mod node;
 
-pub use directory::Directory;
+pub use directory::{Directory, Known};
 pub use lines::{event, speaker};
 pub use node::{Node, Who};
