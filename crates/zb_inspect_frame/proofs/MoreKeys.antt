@@ -1,6 +1,7 @@
 -- Further keys are tried only on what is still closed.
 use Rattle.std.proofs.Common.{◌≡◌, ℕ, suc, ◌+◌, ◌≤◌, List, [], ◌∷◌, ◌++◌, Option, Some, None, Result, Ok, Err, length, take, drop, refl, ap, sym, subst, ◌∙◌, arith, add-zero, Bool, true, false, ◌==◌, if◌then◌else◌, IfSome, length-take}
 use Rattle.std.proofs.lemmas.List.{take-append-drop}
+use Rattle.std.specs.Bool.{OnTrue}
 use Rattle.std.specs.Option.{option_map, option_and_then}
 use Rattle.arrayvec.specs.ArrayVec.{ArrayVec}
 use Rattle.zb_aps.specs.Reading as aps_reading
@@ -19,6 +20,7 @@ use Rattle.zb_seal.specs.Opening.{seen_nwk, seen_aps, content_of}
 use Rattle.zb_seal.specs.declared.envelope.Envelope.{Envelope}
 use Rattle.zb_inspect_frame.specs.Layers.{unsealed, opened_by, tried, is_closed, looked, found_nwk, found_aps}
 use Rattle.zb_inspect_frame.specs.Shows.{payload_in, given_in, data_in, tunnel_of, tunnelled, source_known, below, shown_under, frame_shown}
+use Rattle.zb_inspect_frame.specs.Settling.{ShowsOn}
 use Rattle.zb_inspect_frame.specs.declared.layer.Finding.{Finding}
 use Rattle.zb_inspect_frame.specs.declared.layer.Finding.TheVariants.{Malformed, NotSecured, NoSource, Closed, Opened}
 use Rattle.zb_inspect_frame.specs.declared.shown.Below.{Below}
@@ -283,7 +285,7 @@ closed_before number fresh (Closed s source) e = refl
 closed_before number fresh (Opened key term) e = e
 
 -- A frame whose NWK layer stays closed shows what it showed.
-pub still_closed : (known : ℕ) (addrs : List (Short × Eui)) (keys : List Key) (bytes : List ℕ) (seen : Shown) → known
+still_closed : (known : ℕ) (addrs : List (Short × Eui)) (keys : List Key) (bytes : List ℕ) (seen : Shown) → known
     ≤ length keys
     → seen ≡ frame_shown addrs (take known keys) bytes → is_closed (tried known (drop known keys) seen.nwk) ≡ true
     → whole (tried known (drop known keys) seen.nwk) seen.below ≡ frame_shown addrs keys bytes
@@ -300,6 +302,15 @@ still_closed known addrs keys bytes seen within is closed =
     ap (whole (tried known (drop known keys) seen.nwk)) below_is
     ∙ sym (closed_frame addrs keys (tried known (drop known keys) seen.nwk) r closed)
     ∙ frame_anew known addrs keys bytes seen within is
+
+pub still_shown : (known : ℕ) (keys : List Key) (seen : Shown) (nwk : Finding) (closed : Bool) → known ≤ length keys
+    → nwk ≡ tried known (drop known keys) seen.nwk → closed ≡ is_closed nwk
+    → OnTrue closed (ShowsOn known keys seen (whole nwk seen.below))
+still_shown known keys seen nwk false within found is = tt
+still_shown known keys seen nwk true within found is =
+    λ addrs bytes before.
+    ap (λ n. whole n seen.below) found
+    ∙ still_closed known addrs keys bytes seen within before (ap is_closed (sym found) ∙ sym is)
 
 -- What is below the NWK layer, where no Tunnel was known in it.
 pub below_anew : (o : Option (List ℕ)) (known : ℕ) (keys : List Key) (given : Option Eui) (seen : Below)

@@ -34,3 +34,8 @@ ShowsNoMore seen = (known : ℕ) (addrs : List (Short × Eui)) (keys : List Key)
 abbrev pub ShowsNothing : Shown → Type 0
 ShowsNothing seen = (addrs : List (Short × Eui)) (keys : List Key) (bytes : List ℕ) → seen
     ≡ frame_shown addrs keys bytes → frame_shown addrs [] bytes ≡ seen
+
+-- Where the first one is what a frame shows under the first keys, the second one is what it shows under all of them.
+abbrev pub ShowsOn : ℕ → List Key → Shown → Shown → Type 0
+ShowsOn known keys old new = (addrs : List (Short × Eui)) (bytes : List ℕ)
+    → old ≡ frame_shown addrs (take known keys) bytes → new ≡ frame_shown addrs keys bytes

@@ -1,10 +1,12 @@
 //! What a frame shows once more keys are known: only the layers that are still closed are tried, and only under the
 //! keys that are new.
 ghost use Rattle.std.specs.Prelude.{◌≡◌, ◌<◌, ◌≤◌, ◌^◌, take, drop, length, IfSome};
+ghost use Rattle.std.specs.Bool.{OnTrue};
 ghost use Rattle.std.specs.Option.{option_map};
 ghost use Rattle.zb_aps.specs.Reading as reading;
 ghost use Rattle.zb_nwk.specs.Reading as nwk_reading;
 ghost use Rattle.zb_inspect_frame.specs.Layers.{found_aps, tried};
+ghost use Rattle.zb_inspect_frame.specs.Settling.{ShowsOn};
 ghost use Rattle.zb_inspect_frame.specs.Shows.{payload_in, given_in, tunnelled, below, frame_shown, with_nwk};
 
 use crate::addresses::Addresses;
@@ -14,31 +16,24 @@ use std::mem;
 use zb_base::Frame;
 use zb_seal::SealingKeys;
 
-/// Shows a frame under all keys, where it is known what it shows under the first `known` of them.
+/// Tries the keys after the first `known` on the NWK layer of a frame, and returns whether it stays closed.
 ///
-/// Requires fewer than 2^32 keys, since each has its number in 32 bits.
-pub fn show_more(
-    addrs: &Addresses<'_>,
-    keys: &[SealingKeys],
-    known: u32,
-    frame: &Frame,
-    seen: &mut Shown,
-)
+/// Such a frame shows nothing more, whatever its bytes are; of another one `show_below` shows the rest.
+pub fn stays_closed(keys: &[SealingKeys], known: u32, seen: &mut Shown) -> bool
     requires within { known ≤ length keys.now }
     requires fits { length keys.now < 2 ^ 32 }
-    requires before { seen.old ≡ frame_shown addrs.now (take known keys.now) frame.now.items }
-    ensures { seen.new ≡ frame_shown addrs.now keys.now frame.now.items }
+    ensures tried { seen.new ≡ with_nwk (tried known (drop known keys.now)) seen.old }
+    ensures closed { OnTrue result (ShowsOn known keys.now seen.old seen.new) }
 {
     try_further(keys, known, &mut seen.nwk);
-    if is_closed(&seen.nwk) {
-        return;
-    }
-    show_below(addrs, keys, known, frame, seen);
+    is_closed(&seen.nwk)
 }
 
 /// Shows what is below the NWK layer of a frame under all keys, where it is known under the first `known` of them.
+///
+/// Requires fewer than 2^32 keys, since each has its number in 32 bits.
 #[tactic(auto, using(crate::proofs::MoreKeys::frame_anew))]
-fn show_below(
+pub fn show_below(
     addrs: &Addresses<'_>,
     keys: &[SealingKeys],
     known: u32,

@@ -12,7 +12,7 @@ mod shown;
 
 pub use addresses::Addresses;
 pub use carried::{Carried, carried_keys};
-pub use further::show_more;
+pub use further::{show_below, stays_closed};
 pub use layer::Finding;
 pub use lines::{put_frames, put_unopened};
 pub use settled::{is_settled, is_unopened};

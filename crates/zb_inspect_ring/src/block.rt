@@ -12,11 +12,11 @@ ghost use Rattle.zb_base.specs.Limits.{most_frames};
 use crate::ring::Lead;
 use std::alloc::{AllocError, Global};
 use std::mem;
-use zb_base::{Frame, Key, NoMemory};
+use zb_base::{Key, NoMemory};
 use zb_capture::{FrameRun, Frames};
 use zb_inspect_frame::{
     Addresses, Carried, Shown, carried_keys, is_settled, is_unopened, put_frames, put_unopened,
-    show, show_more,
+    show, show_below, stays_closed,
 };
 use zb_seal::SealingKeys;
 
@@ -198,21 +198,35 @@ fn refresh_all(
     ensures { seen.new ≡ frames_shown addrs.now keys.now (take (length seen.old) (drop from frames.now)) }
 {
     for i in 0..seen.len() {
-        let frame = frames.from(from + i).at(0);
-        refresh(addrs, keys, known, &frame, &mut seen[i]);
+        refresh(frames, addrs, keys, known, from + i, &mut seen[i]);
     }
 }
 
-fn refresh(addrs: &Addresses<'_>, keys: &[SealingKeys], known: u32, frame: &Frame, seen: &mut Shown)
+/// Looks again at the frame at a place. Its bytes are read only where a layer of it was opened.
+fn refresh(
+    frames: &Frames,
+    addrs: &Addresses<'_>,
+    keys: &[SealingKeys],
+    known: u32,
+    place: usize,
+    seen: &mut Shown,
+)
     requires within { known ≤ length keys.now }
     requires fits { length keys.now < 2 ^ 32 }
-    requires before { seen.old ≡ frame_shown addrs.now (take known keys.now) frame.now.items }
-    ensures { seen.new ≡ frame_shown addrs.now keys.now frame.now.items }
+    requires place { place < length frames.now }
+    requires before { (other : ArrayVec ℕ)
+        → seen.old ≡ frame_shown addrs.now (take known keys.now) (get_or frames.now place other).items }
+    ensures { (other : ArrayVec ℕ)
+        → seen.new ≡ frame_shown addrs.now keys.now (get_or frames.now place other).items }
 {
     if is_settled(seen) {
         return;
     }
-    show_more(addrs, keys, known, frame, seen);
+    if stays_closed(keys, known, seen) {
+        return;
+    }
+    let frame = frames.from(place).at(0);
+    show_below(addrs, keys, known, &frame, seen);
 }
 
 /// Keeps what the frames of a block show at the first look, and adds the keys that their opened contents carry.
