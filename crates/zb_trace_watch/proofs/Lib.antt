@@ -14,3 +14,4 @@ pub mod Effects
 pub mod Found
 pub mod Logged
 pub mod Starting
+pub mod Commands

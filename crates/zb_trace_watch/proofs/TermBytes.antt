@@ -1,9 +1,13 @@
 -- The bytes of terms tell them apart by all their parts.
 use Rattle.zb_model.specs.State.{same_layer, same_label}
-use Rattle.std.proofs.Common.{◌≡◌, ℕ, zero, suc, ◌+◌, ◌*◌, ◌/◌, ◌%◌, ◌≤◌, List, [], ◌∷◌, ◌++◌, length, Bool, true, false, ◌&&◌, ◌||◌, nat_eq, bytes_eq, refl, ap, sym, ◌∙◌, append_assoc, arith, div-add-mod', length-append}
+use Rattle.std.proofs.Common.{◌≡◌, ℕ, zero, suc, ◌+◌, ◌-◌, ◌*◌, ◌/◌, ◌%◌, ◌≤◌, List, [], ◌∷◌, ◌++◌, length, Bool, true, false, ◌&&◌, ◌||◌, cond, Option, Some, None, nat_eq, bytes_eq, refl, ap, sym, ◌∙◌, append_assoc, arith, div-add-mod', length-append}
+use Rattle.std.specs.Global.{Vec}
 use Rattle.std.specs.List.{list_any}
+use Rattle.std.specs.BTreeMap.{is_at}
+use Rattle.std.specs.Option.{is_some}
 use Rattle.std.specs.BTreeSet.{insert_key}
-use Rattle.std.specs.Ordering.{is_eq, match_ordering}
+use Rattle.std.specs.Cmp.Lexicographic.{slice_cmp}
+use Rattle.std.specs.Ordering.{is_eq, match_ordering, nat_cmp}
 use Rattle.std.specs.declared.cmp.Ordering.{Ordering}
 use Rattle.std.specs.declared.cmp.Ordering.TheVariants.{Less, Equal, Greater}
 use lib.Dec.{eqb-zero-suc, eqb-suc-zero, eqb-suc-suc}
@@ -11,9 +15,10 @@ use Rattle.zb_base.specs.declared.label.Label.{Label}
 use Rattle.zb_base.specs.declared.label.Label.TheVariants as label
 use Rattle.zb_base.specs.declared.label.Layer.{Layer}
 use Rattle.zb_base.specs.declared.label.Layer.TheVariants as layer
-use Rattle.zb_trace_watch.specs.Terms.{low_bytes, layer_number, label_number, sized, term_bytes}
+use Rattle.zb_trace_watch.specs.Terms.{is_kept, low_bytes, layer_number, label_number, sized, term_bytes, term_head}
 use Rattle.zb_trace_watch.proofs.TermOrder.{and_false, fifth}
-use Rattle.zb_trace_watch.proofs.Truth.{same_truth, same_number, itself_number, both, and_left, and_right}
+use Rattle.zb_trace_watch.proofs.Alike.{bytes_alike}
+use Rattle.zb_trace_watch.proofs.Truth.{number_so, same_bytes, same_truth, same_number, itself_number, both, and_left, and_right}
 use Rattle.zb_model.specs.Secrets.{same_term}
 use Rattle.zb_node_types.specs.Changes.{model_layer}
 use Rattle.zb_model_real.specs.Terms.{model_term, model_label}
@@ -169,6 +174,65 @@ bytes_tell a b =
     (nat_eq a.control b.control
     && (bytes_eq a.header.items b.header.items && bytes_eq a.content.items b.content.items))
 
+-- Terms with one spelling have one head.
+
+parts_of : (c l b k s r : Bool) → (c && (l && (b && (k && (s && r))))) ≡ true
+    → (c ≡ true) × (l ≡ true) × (s ≡ true)
+parts_of true true true true true r h = (refl, refl, refl)
+parts_of true true true true false r h = cc h
+parts_of true true true false s r h = cc h
+parts_of true true false k s r h = cc h
+parts_of true false b k s r h = cc h
+parts_of false l b k s r h = cc h
+
+pub same_head : (a b : Term) → bytes_eq (term_bytes a) (term_bytes b) ≡ true → term_head a ≡ term_head b
+same_head a b h =
+    let parts = parts_of (nat_eq a.counter b.counter) (same_layer (model_layer a.layer) (model_layer b.layer))
+    (bytes_eq a.base.0 b.base.0) (same_label (model_label a.label) (model_label b.label))
+    (nat_eq a.source.0 b.source.0)
+    (nat_eq a.control b.control
+    && (bytes_eq a.header.items b.header.items && bytes_eq a.content.items b.content.items))
+    (sym (in_order a b) ∙ h) in
+    let counters : a.counter ≡ b.counter = same_number a.counter b.counter parts.0 in
+    let layers : layer_number a.layer ≡ layer_number b.layer =
+    same_number (layer_number a.layer) (layer_number b.layer) (layer_alike a.layer b.layer ∙ parts.1) in
+    let sources : a.source.0 ≡ b.source.0 = same_number a.source.0 b.source.0 parts.2 in
+    λ i. (sources i % 16777216 * 256 + layers i) * 4294967296 + (4294967295 - counters i)
+
+-- The first bytes that are kept under a number are kept beside what was there.
+
+first_kept : (here : Bool) (old : Option (Vec ℕ)) (new : Vec ℕ) (bytes : List ℕ) (others : Bool)
+    → (here ≡ true → old ≡ None) → (here ≡ false → bytes_eq bytes new.items ≡ false)
+    → (is_kept (cond here (Some new) old) bytes || others)
+    ≡ ((is_kept old bytes || others) || bytes_eq bytes new.items)
+first_kept true old new bytes others none apart =
+    or_swap (bytes_eq bytes new.items) others
+    ∙ ap (λ (o : Option (Vec ℕ)). (is_kept o bytes || others) || bytes_eq bytes new.items) (sym (none refl))
+first_kept false old new bytes others none apart =
+    or_swap false (is_kept old bytes || others)
+    ∙ ap (λ (b : Bool). (is_kept old bytes || others) || b) (sym (apart refl))
+
+none_there : {A : Type 0} (o : Option A) → is_some o ≡ false → o ≡ None
+none_there None e = refl
+none_there (Some x) e = cc e
+
+pub first_added : (old new : ℕ → Option (Vec ℕ)) (head : ℕ) (bytes : Vec ℕ) (h : ℕ) (b : List ℕ) (others : Bool)
+    → new h ≡ cond (is_at (nat_cmp head) h) (Some bytes) (old h) → is_some (old head) ≡ false
+    → (bytes_eq b bytes.items ≡ true → h ≡ head)
+    → (is_kept (new h) b || others) ≡ ((is_kept (old h) b || others) || bytes_eq b bytes.items)
+first_added old new head bytes h b others updated none alone =
+    ap (λ (k : Option (Vec ℕ)). is_kept k b || others) updated
+    ∙ first_kept (is_at (nat_cmp head) h) (old h) bytes b others
+    (λ here. ap old (sym (same_number head h (sym (number_so head h) ∙ here))) ∙ none_there (old head) none)
+    (λ there. apart (bytes_eq b bytes.items) refl there)
+  where
+    apart : (same : Bool) → bytes_eq b bytes.items ≡ same → is_at (nat_cmp head) h ≡ false
+        → bytes_eq b bytes.items ≡ false
+    apart false e there = e
+    apart true e there = let yes : is_at (nat_cmp head) h ≡ true =
+        number_so head h ∙ (ap (nat_eq head) (alone e) ∙ itself_number head) in
+        cc (sym there ∙ yes)
+
 -- After an insertion a set has what it had, and what was inserted, under each test that answers alike where keys are
 -- equal.
 pub inserted_alike : {K : Type 0} (cmp : K → K → Ordering) (test : K → Bool)
@@ -184,6 +248,19 @@ inserted_alike cmp test alike (x ∷ xs) key = by (cmp key x) refl (inserted_ali
     by Equal e rest = or_again (test x) (list_any test xs) ∙ ap (λ (b : Bool). (test x || list_any test xs) || b)
         (sym (alike key x (ap is_eq e)))
     by Greater e rest = ap (λ (r : Bool). test x || r) rest ∙ or_assoc (test x) (list_any test xs) (test key)
+
+pub other_added : (first : Bool) (others new : List (Vec ℕ)) (bytes : Vec ℕ) (b : List ℕ)
+    → new ≡ insert_key (λ (x y : Vec ℕ). slice_cmp nat_cmp x.items y.items) others bytes
+    → (first || list_any (λ (kept : Vec ℕ). bytes_eq b kept.items) new)
+    ≡ ((first || list_any (λ (kept : Vec ℕ). bytes_eq b kept.items) others) || bytes_eq b bytes.items)
+other_added first others new bytes b inserted =
+    ap (λ (r : Bool). first || r)
+    (ap (list_any (λ (kept : Vec ℕ). bytes_eq b kept.items)) inserted
+    ∙ inserted_alike (λ (x y : Vec ℕ). slice_cmp nat_cmp x.items y.items)
+    (λ (kept : Vec ℕ). bytes_eq b kept.items)
+    (λ x y h. ap (bytes_eq b) (same_bytes x.items y.items (sym (bytes_alike x.items y.items) ∙ h)))
+    others bytes)
+    ∙ or_assoc first (list_any (λ (kept : Vec ℕ). bytes_eq b kept.items) others) (bytes_eq b bytes.items)
 
 -- Pieces that are put at the end of bytes with room for 287.
 

@@ -1,7 +1,9 @@
 -- The bytes by which a set keeps a term, and what such a set has.
-use Rattle.std.specs.Prelude.{ℕ, zero, suc, ◌/◌, ◌%◌, Bool, List, [], ◌∷◌, ◌++◌, length, bytes_eq}
+use Rattle.std.specs.Prelude.{ℕ, zero, suc, ◌+◌, ◌-◌, ◌*◌, ◌/◌, ◌%◌, Bool, false, ◌||◌, List, [], ◌∷◌, ◌++◌, length, bytes_eq, Option, Some, None}
+use Rattle.std.specs.BTreeMap.{get}
 use Rattle.std.specs.List.{list_any}
 use Rattle.std.specs.Global.{Vec}
+use Rattle.std.specs.Ordering.{nat_cmp}
 use Rattle.zb_base.specs.declared.label.Label.{Label}
 use Rattle.zb_base.specs.declared.label.Label.TheVariants as label
 use Rattle.zb_base.specs.declared.label.Layer.{Layer}
@@ -34,6 +36,21 @@ term_bytes t =
     low_bytes 3 t.counter ++ (layer_number t.layer ∷ (sized t.base.0 ++ (label_number t.label
     ∷ (low_bytes 7 t.source.0 ++ (t.control ∷ (sized t.header.items ++ t.content.items))))))
 
+-- A number in which two terms mostly differ: some of its source, its layer, and how many counters come after its own.
+abbrev pub term_head : Term → ℕ
+term_head t = (t.source.0 % 16777216 * 256 + layer_number t.layer) * 4294967296 + (4294967295 - t.counter)
+
+-- whether these bytes are kept
+abbrev pub is_kept : Option (Vec ℕ) → List ℕ → Bool
+is_kept None bytes = false
+is_kept (Some kept) bytes = bytes_eq bytes kept.items
+
+-- whether bytes with this head are kept
+abbrev pub has_spelled : Terms → ℕ → List ℕ → Bool
+has_spelled set head bytes =
+    is_kept (get nat_cmp set.firsts head) bytes || list_any (λ (kept : Vec ℕ). bytes_eq bytes kept.items)
+    set.others.keys
+
 -- whether the set has the term
 abbrev pub has_term : Terms → Term → Bool
-has_term set t = list_any (λ (kept : Vec ℕ). bytes_eq (term_bytes t) kept.items) set.terms.keys
+has_term set t = has_spelled set (term_head t) (term_bytes t)

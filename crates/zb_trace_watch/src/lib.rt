@@ -6,6 +6,7 @@
 //! of a run, by addresses.
 #![tactic(auto)]
 
+mod carrying;
 pub mod exposure;
 pub mod holdings;
 pub mod keys;
@@ -18,6 +19,7 @@ pub mod terms;
 pub mod watch;
 pub mod words;
 
+pub use carrying::carried_key;
 pub use speaker::{NOBODY, Speaker};
 pub use watch::Watch;
 pub use words::EndWords;

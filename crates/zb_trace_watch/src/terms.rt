@@ -1,13 +1,16 @@
 //! Sets of terms.
-ghost use Rattle.std.specs.Prelude.{◌≡◌, [], ◌||◌, ◌++◌, ◌+◌, ◌≤◌, length, OnOk, false};
+ghost use Rattle.std.specs.Prelude.{◌≡◌, ℕ, List, [], ◌||◌, ◌++◌, ◌+◌, ◌-◌, ◌≤◌, bytes_eq, is_some, length, OnOk, false, true};
+ghost use Rattle.std.specs.List.{list_any};
 ghost use Rattle.zb_model.specs.Secrets.{same_term};
 ghost use Rattle.zb_model_real.specs.Terms.{model_term};
 ghost use Rattle.zb_seal.specs.declared.term.Term.{Term};
-ghost use Rattle.zb_trace_watch.specs.Terms.{has_term, label_number, layer_number, low_bytes, term_bytes};
+ghost use Rattle.zb_trace_watch.specs.Terms.{has_spelled, has_term, is_kept, label_number, layer_number, low_bytes, term_bytes, term_head};
+ghost use Rattle.std.specs.BTreeMap.{get};
+ghost use Rattle.std.specs.Ordering.{nat_cmp};
 
 use arrayvec::ArrayVec;
 use std::alloc::{AllocError, Global};
-use std::collections::BTreeSet;
+use std::collections::{BTreeMap, BTreeSet};
 use zb_base::{Label, Layer};
 use zb_seal::Term;
 
@@ -15,10 +18,14 @@ use zb_seal::Term;
 type TermBytes = ArrayVec<u8, 287>;
 
 /// A set of terms. Terms are one where all their parts are: bytes on the air don't count.
+///
+/// Most terms differ in a number, their head. So a look-up compares numbers, and bytes once.
 #[derive(Drop)]
 pub struct Terms {
-    /// The terms, each as its bytes, in order.
-    pub terms: BTreeSet<Vec<u8>>,
+    /// The first term with each head, as its bytes.
+    pub firsts: BTreeMap<u64, Vec<u8>>,
+    /// The other terms, each as its bytes, in order.
+    pub others: BTreeSet<Vec<u8>>,
     // Where the bytes of a new term are put.
     alloc: Global,
 }
@@ -29,7 +36,8 @@ impl Terms {
         ensures { (t : Term) → has_term result t ≡ false }
     {
         Terms {
-            terms: BTreeSet::new(alloc),
+            firsts: BTreeMap::new(alloc),
+            others: BTreeSet::new(alloc),
             alloc,
         }
     }
@@ -40,7 +48,28 @@ impl Terms {
     {
         let mut bytes = ArrayVec::new();
         put_bytes(&mut bytes, term);
-        self.terms.contains(bytes.as_slice())
+        self.has_bytes(head_of(term), bytes.as_slice())
+    }
+
+    fn has_bytes(&self, head: u64, bytes: &[u8]) -> bool
+        ensures { result ≡ has_spelled self.now head bytes.now }
+    {
+        self.is_first(head, bytes) || self.is_other(bytes)
+    }
+
+    fn is_first(&self, head: u64, bytes: &[u8]) -> bool
+        ensures { result ≡ is_kept (get nat_cmp self.now.firsts head) bytes.now }
+    {
+        match self.firsts.get(&head) {
+            Some(kept) => bytes == kept.as_slice(),
+            None => false,
+        }
+    }
+
+    fn is_other(&self, bytes: &[u8]) -> bool
+        ensures { result ≡ list_any (λ kept. bytes_eq bytes.now kept.items) self.now.others.keys }
+    {
+        self.others.contains(bytes)
     }
 
     /// Adds a term.
@@ -51,9 +80,50 @@ impl Terms {
         let mut room = ArrayVec::new();
         put_bytes(&mut room, term);
         let bytes = Vec::from_slice(self.alloc, room.as_slice())?;
-        self.terms.insert(bytes)?;
+        let head = head_of(term);
+        if self.firsts.contains_key(&head) {
+            self.keep_other(bytes)?;
+            return Ok(());
+        }
+        self.keep_first(head, bytes)?;
         Ok(())
     }
+
+    /// Keeps the first bytes with a head. The clause is for bytes that have one head.
+    fn keep_first(&mut self, head: u64, bytes: Vec<u8>) -> Result<(), AllocError>
+        requires { is_some (get nat_cmp self.old.firsts head) ≡ false }
+        ensures { OnOk result ((h : ℕ) (b : List ℕ) → (bytes_eq b bytes.items ≡ true → h ≡ head)
+            → has_spelled self.new h b ≡ (has_spelled self.old h b || bytes_eq b bytes.items)) }
+    {
+        self.firsts.insert(head, bytes)?;
+        Ok(())
+    }
+
+    /// Keeps bytes with a head that others have.
+    fn keep_other(&mut self, bytes: Vec<u8>) -> Result<(), AllocError>
+        ensures { OnOk result ((h : ℕ) (b : List ℕ)
+            → has_spelled self.new h b ≡ (has_spelled self.old h b || bytes_eq b bytes.items)) }
+    {
+        self.others.insert(bytes)?;
+        Ok(())
+    }
+}
+
+/// Returns the head of a term.
+///
+/// A later term of a node has a smaller one, so it is found at the first look into a block of the map.
+fn head_of(term: &Term) -> u64
+    ensures { result ≡ term_head term.now }
+{
+    let part = term.source.0 % 16777216;
+    let high = part * 256 + u64::from(layer_number(term.layer));
+    high * 4294967296 + u64::from(counters_after(term.counter))
+}
+
+fn counters_after(counter: u32) -> u32
+    ensures { result ≡ 4294967295 - counter }
+{
+    u32::MAX - counter
 }
 
 // Puts the bytes of a term into room that is empty.

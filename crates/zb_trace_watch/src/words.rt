@@ -8,13 +8,13 @@ ghost use Rattle.zb_trace_watch.specs.declared.speaker.Speaker.{Speaker as AnySp
 ghost use Rattle.zb_trace_watch.specs.Sayings.{private as private_of, said_by, start, JoinerCounts, Sayings};
 ghost use Rattle.zb_trace_watch.specs.Standing.{Follows, Represents};
 
+use crate::carrying::carried_key;
 use crate::exposure::Exposure;
 use crate::origins::Origins;
 use crate::passing::Passing;
 use crate::speaker::Speaker;
 use std::alloc::Global;
 use zb_base::{Attribute, Eui, Key, NoMemory};
-use zb_carried_keys::carried;
 use zb_seal::Term;
 use zb_trace::Line;
 
@@ -207,7 +207,7 @@ impl EndWords {
             → Follows tools counts said (said_by tools said who (lines.Seal event node term.now))
             self.old self.new) }
     {
-        let key = carried(term);
+        let key = carried_key(term);
         self.exposure.carry(alloc, term.base, key)?;
         self.origins.term(alloc, term, key)?;
         Ok(())
@@ -217,7 +217,7 @@ impl EndWords {
         ensures { OnOk result ((tools : Tools) (counts : ℕ → Bool) (said : Sayings) (who : AnySpeaker) (event : ℕ)
             → Follows tools counts said (said_by tools said who (lines.Forge event term.now)) self.old self.new) }
     {
-        let key = carried(term);
+        let key = carried_key(term);
         self.exposure.forge(&term.base);
         self.passing.forged_key(key)?;
         self.exposure.carry(alloc, term.base, key)?;
