@@ -21,9 +21,9 @@ use crate::reach::Reach;
 use std::alloc::Global;
 use zb_audit_names::Who;
 use zb_base::{Eui, Key, Layer, NoMemory};
-use zb_carried_keys::carried;
 use zb_seal::Term;
 use zb_trace::Line;
+use zb_trace_watch::carried_key;
 
 /// What is needed of the lines so far to tell where lockout first fails.
 ///
@@ -221,7 +221,7 @@ impl Lockout {
         ensures past { self.new.past ≡ self.old.past }
         ensures first { self.new.first ≡ self.old.first }
     {
-        match carried(term) {
+        match carried_key(term) {
             Some(key) => Ok(self.reach.carry(alloc, term.base, key)?),
             None => Ok(true),
         }

@@ -17,8 +17,8 @@ use crate::groups::goes_on;
 use std::alloc::{AllocError, Global};
 use zb_audit_names::{Node, Who, event};
 use zb_base::{Eui, Key};
-use zb_carried_keys::carried;
 use zb_trace::Line;
+use zb_trace_watch::carried_key;
 
 /// What stood before the group of the last line, and what the lines of that group state.
 #[derive(Drop)]
@@ -96,8 +96,8 @@ impl Past {
                 ..
             } => self.pair(*first, *second, *key),
             Line::Removed { device, .. } => self.state(Fact::Removed(*device)),
-            Line::Seal { term, .. } => self.carry(term.base, carried(term)),
-            Line::Forge { term, .. } => self.carry(term.base, carried(term)),
+            Line::Seal { term, .. } => self.carry(term.base, carried_key(term)),
+            Line::Forge { term, .. } => self.carry(term.base, carried_key(term)),
             _ => Ok(()),
         }
     }
