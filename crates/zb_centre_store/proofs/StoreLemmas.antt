@@ -57,6 +57,39 @@ use Rattle.zb_stored_tables.specs.Stored as stored
 later : (a b n : ℕ) → Unrisen a b → Rose b n → Rose a n
 later a b n same rose = omega (arith, same, rose)
 
+-- ---- the disk's count of faults
+
+-- the same fault of another call
+pub same_fault : {S T : Type 0} (f g : AdminFault) → (◌≡◌ {A = Result S AdminFault} (Err f) (Err g) → ⊥)
+    → ◌≡◌ {A = Result T AdminFault} (Err f) (Err g) → ⊥
+same_fault {S} f g not is =
+    let same : f ≡ g = cc in
+    let again : ◌≡◌ {A = Result S AdminFault} (Err f) (Err g) = ap (λ (x : AdminFault). Err x) same in
+    not again
+
+boot_stands : (tells : Telling) (old new : View) (f : HostFault) → host.IsBootFault tells (restored Centre) old new f
+    → (fault_of f ≡ AdminDisk → ⊥) → Unrisen old.faults new.faults
+boot_stands tells old new (Disk changes) h not = absurd (not refl)
+boot_stands tells old new NoMemory h not = h
+boot_stands tells old new NoRecord h not = h.1
+boot_stands tells old new (BadRecord at) h not = h.1
+boot_stands tells old new Worn h not = absurd h
+
+event_stands : (whole : Bool) (store : Option Place) (old new : View) (f : HostFault)
+    → host.IsHandleFault whole store old new f → (fault_of f ≡ AdminDisk → ⊥) → Unrisen old.faults new.faults
+event_stands whole store old new (Disk changes) h not = absurd (not refl)
+event_stands whole store old new NoMemory h not = absurd h
+event_stands whole store old new NoRecord h not = absurd h
+event_stands whole store old new (BadRecord at) h not = absurd h
+event_stands whole store old new Worn h not = h.2
+
+-- an event that wasn't handled, and its fault as it is told
+pub unhandled_stands : {T : Type 0} (whole : Bool) (store : Option Place) (old new : View) (f : HostFault)
+    (g : AdminFault) → g ≡ fault_of f → host.IsHandleFault whole store old new f
+    → (◌≡◌ {A = Result T AdminFault} (Err g) (Err AdminDisk) → ⊥) → Unrisen old.faults new.faults
+unhandled_stands whole store old new f g same h not =
+    event_stands whole store old new f h (λ is. not (ap (λ (x : AdminFault). Err x) (same ∙ is)))
+
 -- ---- a boot
 
 -- what bytes give that give a core, and those that give none
@@ -135,7 +168,7 @@ module _ (tells : Telling) (config : Config) (old new : View) (centre : Hosted C
     store = store;
     moments = moments;
     faults = tt;
-    unrisen = unrisen;
+    unrisen = λ not. unrisen;
   }
 
 -- ---- the judgement of a store
@@ -183,7 +216,7 @@ judged_empty tells c old new only_now reads still same size = record {
   store = tt;
   moments = λ can told. still_leaves old new (WasThereOrEmpty old) still only_now (there old can);
   faults = tt;
-  unrisen = same;
+  unrisen = λ not. same;
 }
   where
     empty : CanBeServed old → old.seen ≡ [] → old.images old.seen → IsEmpty new
@@ -246,7 +279,7 @@ judged_up tells c old mid new centre same still some booted = record {
   store = booted.store;
   moments = judged_moments tells old mid new still some booted.moments;
   faults = tt;
-  unrisen = booted.unrisen ∙ same;
+  unrisen = λ not. booted.unrisen (λ e. cc e) ∙ same;
 }
   where
     stands_so : IsTrue tells.content → CanBeServed old → IsUp c centre.core.tables centre new
@@ -267,7 +300,7 @@ judged_failed tells c old mid new r f same still some booted is = record {
   moments = judged_moments tells old mid new still some booted.moments;
   faults = judge_fault tells old mid new f same still some
       (subst (λ (x : Result (Hosted CoreValue) AdminFault). IfErr x (IsBootFault tells mid new)) is booted.faults);
-  unrisen = tt;
+  unrisen = λ not. booted.unrisen (λ e. same_fault f AdminDisk not (sym is ∙ e)) ∙ same;
 }
 
 -- a size that isn't 0
@@ -305,7 +338,7 @@ judged_then tells c old mid new (Ok o) same still judged = record {
       (weakened mid new (WasThereOrEmpty mid) (WasThereOrEmpty old) (was_there_still old mid still)
       (judged.moments (can_still old mid still can) told));
   faults = tt;
-  unrisen = judged.unrisen ∙ same;
+  unrisen = λ not. judged.unrisen not ∙ same;
 }
 judged_then tells c old mid new (Err f) same still judged = record {
   found = tt;
@@ -316,7 +349,7 @@ judged_then tells c old mid new (Err f) same still judged = record {
       (weakened mid new (WasThereOrEmpty mid) (WasThereOrEmpty old) (was_there_still old mid still)
       (judged.moments (can_still old mid still can) told));
   faults = judge_fault_then tells old mid new f same still judged.faults;
-  unrisen = tt;
+  unrisen = λ not. judged.unrisen not ∙ same;
 }
 
 pub judged_unread : (tells : Telling) (c : Setting) (old new : View)
@@ -329,7 +362,7 @@ judged_unread tells c old new only_now still rose = record {
   store = tt;
   moments = λ can told. still_leaves old new (WasThereOrEmpty old) still only_now (there old can);
   faults = rose;
-  unrisen = tt;
+  unrisen = λ not. absurd (not refl);
 }
 
 -- ---- a new store
@@ -379,9 +412,14 @@ module _ (tells : Telling) (c : Setting) (s : NodeState) (widths : FitsBytes s) 
         (tables_so centre.core.tables told (booted.found told)) (booted.up told (all_whole told));
     store = booted.store;
     faults = tt;
-    unrisen = booted.unrisen ∙ same;
+    unrisen = λ not. booted.unrisen not ∙ same;
   }
-  laid_out old (Err f) same booted = record { up = tt; store = tt; faults = fault f booted.faults; unrisen = tt }
+  laid_out old (Err f) same booted = record {
+    up = tt;
+    store = tt;
+    faults = fault f booted.faults;
+    unrisen = λ not. booted.unrisen not ∙ same;
+  }
     where
       fault : (f : AdminFault) → IsBootFault tells mid new f → IsLayOutFault tells old new f
       fault AdminDisk h = later old.faults mid.faults new.faults same h
@@ -597,7 +635,7 @@ booted_failed tells c old new f g same moments fault = record {
   store = tt;
   moments = moments;
   faults = subst (IsBootFault tells old new) (sym same) (boot_fault tells old new f fault);
-  unrisen = tt;
+  unrisen = λ not. boot_stands tells old new f fault (λ is. not (ap (λ (x : AdminFault). Err x) (same ∙ is)));
 }
 
 -- ---- tables for a new store

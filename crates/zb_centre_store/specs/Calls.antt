@@ -1,5 +1,5 @@
 -- What the calls for a centre's store leave of the disk, and of what stands on it.
-use Rattle.std.specs.Prelude.{ℕ, ◌≡◌, ◌⊎◌, Bool, true, false, List, [], Option, Some, None, Result, Ok, Err, IfOk, IfErr, OnOk, IsTrue, is_some, option_map, ⊤}
+use Rattle.std.specs.Prelude.{ℕ, ◌≡◌, ◌≢◌, ◌⊎◌, Bool, true, false, List, [], Option, Some, None, Result, Ok, Err, IfOk, IfErr, OnOk, IsTrue, is_some, option_map, ⊤}
 use Rattle.std.specs.List.{concat}
 use Rattle.zb_base.specs.Outside.{Rose, Unrisen}
 use Rattle.zb_centre_store.specs.Standing.{CanBeServed, IsUp, IsWornOut, Stands, StandsAsEither, found_on, found_tables}
@@ -20,7 +20,7 @@ use Rattle.zb_store.specs.Store.{AllWhole, WasThere}
 use Rattle.zb_stored_tables.specs.Cores.{CoreValue}
 use Rattle.zb_stored_tables.specs.Stored.{state_given}
 
--- ---- the store is booted, judged, laid out; where memory is short the disk's count of faults stands
+-- ---- the store is booted, judged, laid out; the disk's count of faults stands wherever `Disk` isn't answered
 
 abbrev pub IsBootFault : Telling → View → View → AdminFault → Type 0
 IsBootFault tells old new Disk = Rose old.faults new.faults
@@ -43,11 +43,16 @@ pub record HasBooted (tells : Telling) (c : Setting) (old : View) (result : Resu
   pub store : IfOk result (λ centre. is_some centre.store ≡ true)
   pub moments : AllWhole old → IsTrue tells.content → LeavesOnly old new (WasThere old)
   pub faults : IfErr result (IsBootFault tells old new)
-  pub unrisen : OnOk result (Unrisen old.faults new.faults)
+  pub unrisen : result ≢ Err Disk → Unrisen old.faults new.faults
 
 -- the tables of the centre, if one is up
 abbrev pub tables_in : Option (Hosted CoreValue) → Option NodeState
 tables_in centre = option_map (λ (h : Hosted CoreValue). h.core.tables) centre
+
+-- a centre that is up has this setting
+abbrev pub HasSetting : Setting → Option (Hosted CoreValue) → Type 0
+HasSetting c None = ⊤
+HasSetting c (Some centre) = centre.core.setting ≡ c
 
 -- a centre that is up has its store
 abbrev pub HasStore : Option (Hosted CoreValue) → Type 0
@@ -76,7 +81,7 @@ pub record IsJudged (tells : Telling) (c : Setting) (old : View)
   pub store : IfOk result HasStore
   pub moments : CanBeServed old → IsTrue tells.content → LeavesOnly old new (WasThereOrEmpty old)
   pub faults : IfErr result (IsJudgeFault tells old new)
-  pub unrisen : OnOk result (Unrisen old.faults new.faults)
+  pub unrisen : result ≢ Err Disk → Unrisen old.faults new.faults
 
 -- A disk that tells its content represents the record that was just written.
 abbrev pub IsLayOutFault : Telling → View → View → AdminFault → Type 0
@@ -93,7 +98,7 @@ pub record HasLaidOut (tells : Telling) (c : Setting) (s : NodeState) (old : Vie
   pub up : IfOk result (λ centre. IsTrue tells.content → IsUp c s centre new)
   pub store : IfOk result (λ centre. is_some centre.store ≡ true)
   pub faults : IfErr result (IsLayOutFault tells old new)
-  pub unrisen : OnOk result (Unrisen old.faults new.faults)
+  pub unrisen : result ≢ Err Disk → Unrisen old.faults new.faults
 
 -- ---- an event of the centre
 

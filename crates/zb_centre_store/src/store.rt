@@ -1,6 +1,6 @@
 //! The centre over its store: how it is judged, made anew, and handles an event.
-ghost use Rattle.std.specs.Prelude.{◌≡◌, ◌≤◌, List, ℕ, length, true, is_some, IfErr, IfOk, IsTrue, OnOk};
-ghost use Rattle.zb_centre_store.specs.Calls.{HasBooted, HasHandled, HasLaidOut, IsJudged, IsLayOutFault};
+ghost use Rattle.std.specs.Prelude.{◌≡◌, ◌≢◌, ◌≤◌, List, ℕ, length, true, is_some, Err, IfErr, IfOk, IsTrue, OnOk};
+ghost use Rattle.zb_centre_store.specs.Calls.{HasBooted, HasHandled, HasLaidOut, HasSetting, IsJudged, IsLayOutFault};
 ghost use Rattle.zb_centre_store.specs.Makings.{first_tables, tables_of};
 ghost use Rattle.zb_backup.specs.Reading.{IsOfCentre};
 ghost use Rattle.zb_base.specs.Config.{IsConfig};
@@ -37,6 +37,7 @@ fn boot<D: Disk>(alloc: Global, config: &Config, disk: &mut D) -> Result<Host<Ce
     requires config { IsConfig config.now }
     requires role { IsOfRole model.Centre config.now }
     ensures booted { HasBooted D.tells (setting_for config.now) (D.state disk.old) result (D.state disk.new) }
+    ensures configured { IfOk result (λ centre. centre.core.setting ≡ setting_for config.now) }
     ensures count { (D.state disk.old).faults ≤ (D.state disk.new).faults }
 {
     match Host::boot(alloc, config, disk) {
@@ -59,6 +60,7 @@ pub fn judge<D: Disk>(
     requires config { IsConfig config.now }
     requires role { IsOfRole model.Centre config.now }
     ensures judged { IsJudged D.tells (setting_for config.now) (D.state disk.old) result (D.state disk.new) }
+    ensures configured { IfOk result (HasSetting (setting_for config.now)) }
     ensures count { (D.state disk.old).faults ≤ (D.state disk.new).faults }
 {
     match disk.size() {
@@ -78,6 +80,7 @@ fn judge_sized<D: Disk>(
     requires role { IsOfRole model.Centre config.now }
     requires size { IsTrue D.tells.content → size ≡ length (D.state disk.old).seen }
     ensures judged { IsJudged D.tells (setting_for config.now) (D.state disk.old) result (D.state disk.new) }
+    ensures configured { IfOk result (HasSetting (setting_for config.now)) }
     ensures count { (D.state disk.old).faults ≤ (D.state disk.new).faults }
 {
     if size == 0 {
@@ -101,7 +104,8 @@ fn format<D: Disk>(
         → IsHeld (formatted (record_of tables.now)) (D.state disk.new)) }
     ensures faults { IfErr result (IsLayOutFault D.tells (D.state disk.old) (D.state disk.new)) }
     ensures count { (D.state disk.old).faults ≤ (D.state disk.new).faults }
-    ensures unrisen { OnOk result (Unrisen (D.state disk.old).faults (D.state disk.new).faults) }
+    ensures unrisen { result ≢ Err AdminFault.Disk
+        → Unrisen (D.state disk.old).faults (D.state disk.new).faults }
 {
     let len = tables.record_bytes(room) as usize;
     match Store::format(alloc, disk, &room[..len]) {
@@ -129,6 +133,7 @@ fn lay_out<D: Disk>(
     requires widths { FitsBytes tables.now }
     ensures made { HasLaidOut D.tells (setting_for config.now) tables.now (D.state disk.old) result
         (D.state disk.new) }
+    ensures configured { IfOk result (λ centre. centre.core.setting ≡ setting_for config.now) }
     ensures count { (D.state disk.old).faults ≤ (D.state disk.new).faults }
 {
     tables.keep_rules();
@@ -172,6 +177,7 @@ pub fn init<D: Disk>(
     requires key { length key.0 ≡ 16 }
     ensures made { HasLaidOut D.tells (setting_for config.now) (first_tables key.0) (D.state disk.old) result
         (D.state disk.new) }
+    ensures configured { IfOk result (λ centre. centre.core.setting ≡ setting_for config.now) }
     ensures count { (D.state disk.old).faults ≤ (D.state disk.new).faults }
 {
     match Tables::from_declaration(alloc, &first_declaration(key)) {
@@ -216,6 +222,7 @@ pub fn restore<D: Disk>(
     requires kept { (s : NodeState) × IsOfCentre s × (kept.now ≡ record_of s) }
     ensures made { HasLaidOut D.tells (setting_for config.now) (skipped by (tables_of (record_read kept.now)))
         (D.state disk.old) result (D.state disk.new) }
+    ensures configured { IfOk result (λ centre. centre.core.setting ≡ setting_for config.now) }
     ensures count { (D.state disk.old).faults ≤ (D.state disk.new).faults }
 {
     match skipped(alloc, by, kept) {
@@ -252,7 +259,8 @@ pub fn handle<D: Disk>(
     ensures handled { (c : Setting) → HasHandled D.tells c (task_of event.now) host.old (D.state disk.old) result
         host.new (D.state disk.new) }
     ensures count { (D.state disk.old).faults ≤ (D.state disk.new).faults }
-    ensures unrisen { OnOk result (Unrisen (D.state disk.old).faults (D.state disk.new).faults) }
+    ensures unrisen { result ≢ Err AdminFault.Disk
+        → Unrisen (D.state disk.old).faults (D.state disk.new).faults }
 {
     keep_rules(host);
     match host.handle(disk, event) {

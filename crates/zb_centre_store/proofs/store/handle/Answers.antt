@@ -3,7 +3,7 @@ use Rattle.arrayvec.specs.ArrayVec.{ArrayVec}
 use Rattle.zb_disk.proofs.Moments.{still_refl}
 use Rattle.zb_disk.specs.View.{IsStill}
 use Rattle.zb_node_types.specs.declared.change.Change.{Change}
-use Rattle.zb_centre_store.proofs.StoreLemmas.{handled_err, handled_ok}
+use Rattle.zb_centre_store.proofs.StoreLemmas.{handled_err, handled_ok, unhandled_stands}
 use Rattle.zb_centre_store.proofs.store.handle.Goals as goal
 
 pub returns-in-Ok-clause-handled : goal.returns-in-Ok-clause-handled
@@ -24,3 +24,8 @@ returns-in-Err-clause-handled g c = λ setting.
     handled_err g.D.Disk.tells setting c.args.event.now c.args.host.now c.handle.new.self e.planned.0 e.planned.1
     e.planned.2 (g.D.Disk.state c.args.disk.now) (g.D.Disk.state c.handle.new.disk) c.in-Err.fault c.of_host.result
     c.of_host.ensures (g.met.D.Disk.reads_image c.args.disk.now) e.step.moments e.faults e.worn
+
+pub returns-in-Err-clause-unrisen : goal.returns-in-Err-clause-unrisen
+returns-in-Err-clause-unrisen g c =
+    unhandled_stands _ _ (g.D.Disk.state c.args.disk.now) (g.D.Disk.state c.handle.new.disk) c.in-Err.fault
+    c.of_host.result c.of_host.ensures c.in-Err.ensures.faults

@@ -9,4 +9,4 @@ returns-in-Ok-clause-made g c =
     (record
     { rules = c.keep_rules.ensures.rules; forgets = c.keep_rules.ensures.forgets; widths = c.requires.widths })
     c.requires.booted)
-    (g.D.Disk.state c.args.disk.now) c.boot.result c.in-Ok.ensures.unrisen c.boot.ensures.booted
+    (g.D.Disk.state c.args.disk.now) c.boot.result (c.in-Ok.ensures.unrisen (λ is. cc is)) c.boot.ensures.booted
