@@ -92,10 +92,11 @@ pub record HasTaken (found : Found) (session : Session) (d : Done) (old : View) 
   pub text : OnOk result (page ≡ front ++ d.text)
   pub between : LeavesOnly old new (HoldsEither old (living_of session).tables d.after.tables)
 
--- a centre that is up has its store, and was declared
+-- a centre that is up has its store and the setting of its network, which was declared
 abbrev pub CanServe : Script → Option (Hosted CoreValue) → Type 0
 CanServe network None = ⊤
 CanServe network (Some host) = (is_some host.store ≡ true) × (has_centre network ≡ true)
+    × (host.core.setting ≡ setting_of network)
 
 abbrev pub CanGoOn : Session → Type 0
 CanGoOn session = CanServe session.network session.centre

@@ -1,5 +1,5 @@
 //! A session: what each line does to it.
-ghost use Rattle.std.specs.Prelude.{◌≡◌, ◌≤◌, ◌++◌, ℕ, List, None, Some, Ok, Err, is_some, true, IsTrue, OnOk, IfErr, IfOk};
+ghost use Rattle.std.specs.Prelude.{◌≡◌, ◌≢◌, ◌≤◌, ◌++◌, ℕ, List, None, Some, Ok, Err, is_some, true, IsTrue, OnOk, IfErr, IfOk};
 ghost use Rattle.zb_backup.specs.Format.{backup_text};
 ghost use Rattle.zb_base.specs.Outside.{Unrisen};
 ghost use Rattle.zb_centre_store.specs.Tasks.{task_of};
@@ -169,9 +169,11 @@ fn happen<D: Disk>(
         → HasHappened c s (task_of event.now) place.now.log place.now.event place.now.frame (D.state disk.old)
         page.old.items result host.new (D.state disk.new) page.new.items }
     ensures store { OnOk result (is_some host.new.store ≡ true) }
+    ensures configured { OnOk result (host.new.core.setting ≡ host.old.core.setting) }
     ensures faults { IfErr result (IsHappeningFault D.tells (D.state disk.old) (D.state disk.new) host.old) }
     ensures count { (D.state disk.old).faults ≤ (D.state disk.new).faults }
-    ensures unrisen { OnOk result (Unrisen (D.state disk.old).faults (D.state disk.new).faults) }
+    ensures unrisen { result ≢ Err AdminFault.Disk
+        → Unrisen (D.state disk.old).faults (D.state disk.new).faults }
 {
     match handle(host, disk, event) {
         Ok(plan) => tell(page, place, plan),
@@ -276,7 +278,8 @@ impl Session {
             → (self.old.centre ≡ None) × IsStill (D.state disk.old) (D.state disk.new)) }
         ensures faults { IfErr result (IsLineFault D.tells self.old (D.state disk.old) (D.state disk.new)) }
         ensures count { (D.state disk.old).faults ≤ (D.state disk.new).faults }
-        ensures unrisen { OnOk result (Unrisen (D.state disk.old).faults (D.state disk.new).faults) }
+        ensures unrisen { result ≢ Err AdminFault.Disk
+            → Unrisen (D.state disk.old).faults (D.state disk.new).faults }
     {
         if self.is_open() {
             return refuse(page, number, Cause::Opened);
@@ -312,7 +315,8 @@ impl Session {
             → (self.old.centre ≡ None) × IsStill (D.state disk.old) (D.state disk.new)) }
         ensures faults { IfErr result (IsLineFault D.tells self.old (D.state disk.old) (D.state disk.new)) }
         ensures count { (D.state disk.old).faults ≤ (D.state disk.new).faults }
-        ensures unrisen { OnOk result (Unrisen (D.state disk.old).faults (D.state disk.new).faults) }
+        ensures unrisen { result ≢ Err AdminFault.Disk
+            → Unrisen (D.state disk.old).faults (D.state disk.new).faults }
     {
         let Some(host) = &mut self.centre else {
             return refuse(page, number, Cause::Closed);
@@ -380,7 +384,8 @@ impl Session {
             → (self.old.centre ≡ None) × IsStill (D.state disk.old) (D.state disk.new)) }
         ensures faults { IfErr result (IsLineFault D.tells self.old (D.state disk.old) (D.state disk.new)) }
         ensures count { (D.state disk.old).faults ≤ (D.state disk.new).faults }
-        ensures unrisen { OnOk result (Unrisen (D.state disk.old).faults (D.state disk.new).faults) }
+        ensures unrisen { result ≢ Err AdminFault.Disk
+            → Unrisen (D.state disk.old).faults (D.state disk.new).faults }
     {
         match line {
             Line::Blank => Ok(()),
@@ -423,7 +428,8 @@ impl Session {
             → (self.old.centre ≡ None) × IsStill (D.state disk.old) (D.state disk.new)) }
         ensures faults { IfErr result (IsLineFault D.tells self.old (D.state disk.old) (D.state disk.new)) }
         ensures count { (D.state disk.old).faults ≤ (D.state disk.new).faults }
-        ensures unrisen { OnOk result (Unrisen (D.state disk.old).faults (D.state disk.new).faults) }
+        ensures unrisen { result ≢ Err AdminFault.Disk
+            → Unrisen (D.state disk.old).faults (D.state disk.new).faults }
     {
         self.lines = next_number(self.lines);
         match read_line(line) {

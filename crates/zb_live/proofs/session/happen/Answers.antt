@@ -1,4 +1,8 @@
+use Rattle.std.proofs.Common.{ap, refl}
 use Rattle.zb_centre_store.specs.Tasks.{task_of}
+use Rattle.zb_centre_store.specs.declared.fault.AdminFault.TheVariants.{Disk}
+use Rattle.zb_centre_store.proofs.StoreLemmas.{same_fault}
+use Rattle.zb_stored_tables.specs.Cores.{CoreValue}
 use Rattle.zb_live.proofs.SessionLemmas.{always, event_lines_lack, event_lines_stand, handled_fault, no_setting, told_short}
 use Rattle.zb_live.proofs.session.happen.Goals as goal
 
@@ -15,11 +19,12 @@ pub returns-in-Ok-clause-store : goal.returns-in-Ok-clause-store
 returns-in-Ok-clause-store g c = always c.tell.result (c.in-Ok.ensures.handled no_setting).store
 
 pub returns-in-Ok-clause-unrisen : goal.returns-in-Ok-clause-unrisen
-returns-in-Ok-clause-unrisen g c = always c.tell.result c.in-Ok.ensures.unrisen
+returns-in-Ok-clause-unrisen g c = λ not. c.in-Ok.ensures.unrisen (λ is. cc is)
 
 pub returns-in-Ok-clause-faults : goal.returns-in-Ok-clause-faults
 returns-in-Ok-clause-faults g c = told_short g.D.Disk.tells (g.D.Disk.state c.args.disk.now)
-    (g.D.Disk.state c.handle.new.disk) c.args.host.now c.tell.result c.tell.ensures.short c.in-Ok.ensures.unrisen
+    (g.D.Disk.state c.handle.new.disk) c.args.host.now c.tell.result c.tell.ensures.short
+    (c.in-Ok.ensures.unrisen (λ is. cc is))
 
 pub returns-in-Err-clause-happened : goal.returns-in-Err-clause-happened
 returns-in-Err-clause-happened g c = λ told setting s up called centre.
@@ -33,3 +38,12 @@ pub returns-in-Err-clause-faults : goal.returns-in-Err-clause-faults
 returns-in-Err-clause-faults g c = handled_fault g.D.Disk.tells (g.D.Disk.state c.args.disk.now)
     (g.D.Disk.state c.handle.new.disk) c.args.host.now c.in-Err.fault
     (λ setting. (c.in-Err.ensures.handled setting).faults)
+
+pub returns-in-Err-clause-unrisen : goal.returns-in-Err-clause-unrisen
+returns-in-Err-clause-unrisen g c = λ not. c.in-Err.ensures.unrisen (same_fault c.in-Err.fault Disk not)
+
+pub returns-in-Ok-clause-configured : goal.returns-in-Ok-clause-configured
+returns-in-Ok-clause-configured g c =
+    let core = c.args.host.now.core in
+    always c.tell.result
+    (ap (λ (x : CoreValue). x.setting) ((c.in-Ok.ensures.handled core.setting).follows core.tables refl).1)

@@ -1,4 +1,6 @@
 use Rattle.std.proofs.Common.{◌∙◌, refl, sym}
+use Rattle.zb_centre_store.specs.declared.fault.AdminFault.TheVariants.{Disk}
+use Rattle.zb_centre_store.proofs.StoreLemmas.{same_fault}
 use Rattle.zb_disk.proofs.Moments.{still_refl}
 use Rattle.zb_live.specs.Alive.{living_of}
 use Rattle.zb_live.specs.Living.{refused}
@@ -59,3 +61,24 @@ returns-in-Ok-Some-clause-taken g c = λ told found alive.
     c.confirm.result
     (setting_is c.config.result.now c.args.self.now.network _ c.config.ensures.network c.config.ensures.me) judged
     refl c.confirm.ensures.text
+
+pub returns-in-Ok-Some-clause-unrisen : goal.returns-in-Ok-Some-clause-unrisen
+returns-in-Ok-Some-clause-unrisen g c = λ not. c.in-Ok-Some.ensures.judged.unrisen (λ is. cc is)
+
+pub returns-in-Ok-None-clause-unrisen : goal.returns-in-Ok-None-clause-unrisen
+returns-in-Ok-None-clause-unrisen g c = λ not. c.in-Ok-None.ensures.judged.unrisen (λ is. cc is)
+
+pub returns-in-Err-clause-unrisen : goal.returns-in-Err-clause-unrisen
+returns-in-Err-clause-unrisen g c = λ not. c.in-Err.ensures.judged.unrisen (same_fault c.in-Err.fault Disk not)
+
+pub returns-in-Ok-Some-clause-store : goal.returns-in-Ok-Some-clause-store
+returns-in-Ok-Some-clause-store g c =
+    let judged = rw c.in-Ok-Some.field-0-is at c.in-Ok-Some.ensures.judged in
+    let set = rw c.in-Ok-Some.field-0-is at c.in-Ok-Some.ensures.configured in
+    always c.confirm.result (
+      judged.store,
+      sym c.has_centre.ensures ∙ c.if-not-has_centre.false,
+      set
+          ∙ sym
+          (setting_is c.config.result.now c.args.self.now.network _ c.config.ensures.network c.config.ensures.me),
+    )

@@ -1,6 +1,8 @@
-use Rattle.std.proofs.Common.{◌∙◌, rules, Bool, Some, ap, sym}
+use Rattle.std.proofs.Common.{◌≡◌, ◌∙◌, rules, Bool, Some, Err, ap, sym}
 use Rattle.std.specs.Prelude.{if◌then◌else◌}
 use Rattle.zb_centre_store.specs.Tasks.{task_of}
+use Rattle.zb_centre_store.specs.declared.fault.AdminFault.TheVariants.{Disk}
+use Rattle.zb_centre_store.proofs.StoreLemmas.{same_fault}
 use Rattle.zb_live.specs.Living.{setting_of}
 use Rattle.zb_live.specs.declared.session.Session.{Session}
 use Rattle.zb_live_line.specs.Views.{event_of}
@@ -45,3 +47,12 @@ returns-after-sends-clause-taken g c = λ told found alive.
           (sym w.if-sends.false)
     ])
     c.confirm.ensures.text
+
+pub returns-after-sends-clause-unrisen : goal.returns-after-sends-clause-unrisen
+returns-after-sends-clause-unrisen g c = λ not. c.in_ok-sends-in-Ok.ensures.unrisen (λ is. cc is)
+
+pub returns-in_err-sends-in-Ok-clause-unrisen : goal.returns-in_err-sends-in-Ok-clause-unrisen
+returns-in_err-sends-in-Ok-clause-unrisen g c =
+    let same : c.from_residual.result ≡ Err c.in_err-sends-in-Ok.field-0.0 = search rules in
+    λ not. c.in_err-sends-in-Ok.ensures.unrisen
+    (same_fault c.in_err-sends-in-Ok.field-0.0 Disk (λ is. not (same ∙ is)))
