@@ -24,7 +24,7 @@ use Rattle.zb_live_serve.specs.Faults.{fault_of}
 use Rattle.zb_live_serve.specs.Feeding.{IsInLine, IsTakeFault, IsNext, TakesFew}
 use Rattle.zb_live_serve.specs.Moments.{AnsweredFirst, Goes, Input, Moment}
 use Rattle.zb_live_serve.specs.ServedLines.{HasServedLine, IsServeFault}
-use Rattle.zb_live_serve.specs.Serving.{IsLiveFault, Lives}
+use Rattle.zb_live_serve.specs.Serving.{Ended, IsLiveFault, Lives}
 use Rattle.zb_live_serve.specs.WholeLines.{whole_lines}
 use Rattle.zb_live_serve.specs.declared.fault.LiveFault.{LiveFault}
 use Rattle.zb_live_serve.specs.declared.fault.LiveFault.TheVariants.{Read, TooLong, Write, Disk, NoStore, BadStore, Worn, NoMemory}
@@ -248,6 +248,7 @@ module _ {D W : Type 0} (x : Outside D W) (input : Input) (old : D) (before : W)
           (held found session (x.state disk) (now.alive told can) image there));
       moments = λ told can. let s = read_so_far next none few told can in (s.between, s.goes);
       faults = tt;
+      unrisen = λ not. now.unrisen;
     }
 
     -- the session ended between two lines
@@ -265,6 +266,7 @@ module _ {D W : Type 0} (x : Outside D W) (input : Input) (old : D) (before : W)
       last = tt;
       moments = λ told can. let s = so_far told can in (s.between, s.goes);
       faults = fault;
+      unrisen = λ not. now.unrisen;
     }
 
     -- the next line is too long, or there is no memory for it
@@ -402,8 +404,10 @@ module _ {D W : Type 0} (x : Outside D W) (input : Input) (old : D) (before : W)
         (f : LiveFault) → text ≡ strip_carriage_return line.items → IsNext hold (Some line) hold2
         → (IsTrue x.tells.content → (g : Found) → IsAlive g session (x.state disk)
         → HasServedLine x g session (done g text (living_of session)) disk out (Err f) session2 disk2 out2)
-        → IsServeFault x session disk out disk2 out2 f → Lives x input old before (Err f) rest disk2 out2
-    ends_at hold2 line text session2 disk2 out2 f is next served_it fault =
+        → IsServeFault x session disk out disk2 out2 f
+        → ((◌≡◌ {A = Ended} (Err f) (Err Disk) → ⊥) → Unrisen (x.state disk).faults (x.state disk2).faults)
+        → Lives x input old before (Err f) rest disk2 out2
+    ends_at hold2 line text session2 disk2 out2 f is next served_it fault stands =
         let taken = strip_carriage_return line.items in
         let each : (told : IsTrue x.tells.content) (can : CanBeServed (x.state old))
         → HasServedLine x found session (done found taken (living_of session)) disk out (Err f) session2 disk2
@@ -420,6 +424,7 @@ module _ {D W : Type 0} (x : Outside D W) (input : Input) (old : D) (before : W)
           last = tt;
           moments = λ told can. way_at taken disk2 out2 f session2 (now.so_far told can) (each told can);
           faults = serve_fault disk2 out2 f fault;
+          unrisen = λ not. stands not ∙ now.unrisen;
         }
       where
         front_at : (taken : Bytes) (disk2 : D) (out2 : W) (f : LiveFault) (session2 : Session)
@@ -533,6 +538,18 @@ line_fault x session old new out sink fault g is h = subst (IsServeFault x sessi
     by store.Worn h = h
     by store.Write h = absurd h
     by store.NoMemory h = h
+
+-- a fault of a line, as it is told
+pub line_stands : (fault : AdminFault) (g : LiveFault) (old new : ℕ) → g ≡ fault_of fault
+    → ((◌≡◌ {A = Result (Unit {0}) AdminFault} (Err fault) (Err store.Disk) → ⊥) → Unrisen old new)
+    → (◌≡◌ {A = Ended} (Err g) (Err Disk) → ⊥) → Unrisen old new
+line_stands fault g old new is stands not = stands (λ e. not (told_as (same e)))
+  where
+    same : ◌≡◌ {A = Result (Unit {0}) AdminFault} (Err fault) (Err store.Disk) → fault ≡ store.Disk
+    same e = cc
+
+    told_as : fault ≡ store.Disk → ◌≡◌ {A = Ended} (Err g) (Err Disk)
+    told_as e = ap (λ (x : LiveFault). Err x) (is ∙ ap fault_of e)
 
 pub write_fault : {D W : Type 0} (x : Outside D W) (session : Session) (old new : D) (out sink : W)
     (r : Result (Unit {0}) LiveFault) → IfErr r (λ f. (f ≡ Write) × Rose (x.faults out) (x.faults sink))

@@ -1,5 +1,5 @@
 -- What serving a session does to its input, the disk and the output.
-use Rattle.std.specs.Prelude.{ℕ, ◌≡◌, ◌++◌, List, [], Some, Result, Err, IfErr, OnOk, OnErr, IsTrue}
+use Rattle.std.specs.Prelude.{ℕ, ◌≡◌, ◌≢◌, ◌++◌, List, [], Some, Result, Err, IfErr, OnOk, OnErr, IsTrue}
 use Rattle.std.specs.Io.KnownBytes.{Appends}
 use Rattle.zb_base.specs.Outside.{AppendsFront, Rose, Unrisen}
 use Rattle.zb_centre_store.specs.Outside.{Outside}
@@ -58,3 +58,5 @@ pub record Lives {D W : Type 0} (x : Outside D W) (input : Input) (old : D) (bef
       (record { disk = old; out = before; input = input }) between (record { disk = new; out = after; input = rest })
   -- when each fault comes
   pub faults : IfErr result (IsLiveFault x input old before rest new after)
+  -- a fault of the store is reported as nothing else: its count of faults stands at each other answer
+  pub unrisen : result ≢ Err Disk → Unrisen (x.state old).faults (x.state new).faults

@@ -1,5 +1,5 @@
 //! Serving a session: line by line.
-ghost use Rattle.std.specs.Prelude.{◌≡◌, ◌≤◌, [], None, IsTrue, IfErr, OnErr, OnOk};
+ghost use Rattle.std.specs.Prelude.{◌≡◌, ◌≢◌, ◌≤◌, [], None, Err, IsTrue, IfErr, OnErr, OnOk};
 ghost use Rattle.std.specs.Io.KnownBytes.{Appends};
 ghost use Rattle.std.specs.Str.Lines.{strip_carriage_return};
 ghost use Rattle.zb_base.specs.Outside.{AppendsFront, Rose, Unrisen};
@@ -67,7 +67,8 @@ fn serve_line<W: Sink, D: Disk>(
         → (session.old.centre ≡ None) × IsStill (D.state disk.old) (D.state disk.new)) }
     ensures faults { IfErr result (IsServeFault (outside D.tells D.state W.taken W.faults) session.old
         disk.old output.old disk.new output.new) }
-    ensures unrisen { OnOk result (Unrisen (D.state disk.old).faults (D.state disk.new).faults) }
+    ensures unrisen { result ≢ Err LiveFault.Disk
+        → Unrisen (D.state disk.old).faults (D.state disk.new).faults }
     ensures later { W.faults output.old ≤ W.faults output.new }
 {
     match session.take(alloc, disk, line, page) {

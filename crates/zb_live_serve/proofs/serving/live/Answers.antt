@@ -48,7 +48,8 @@ returns-in_err-serve_line-in-Some g c =
     c.in-Some.line c.without_carriage_return.result.now c.serve_line.new.session c.serve_line.new.disk
     c.serve_line.new.output c.in_err-serve_line-in-Some.field-0.0
     (c.without_carriage_return.ensures ∙ ap strip_carriage_return c.as_slice.ensures.value) next
-    c.in_err-serve_line-in-Some.ensures.served c.in_err-serve_line-in-Some.ensures.faults)
+    c.in_err-serve_line-in-Some.ensures.served c.in_err-serve_line-in-Some.ensures.faults
+    c.in_err-serve_line-in-Some.ensures.unrisen)
 
 pub returns-in_err-read_on-in-None : goal.returns-in_err-read_on-in-None
 returns-in_err-read_on-in-None g c =
@@ -94,7 +95,7 @@ loop-preserved g c =
           c.serve_line.new.output
           (c.without_carriage_return.ensures ∙ ap strip_carriage_return c.as_slice.ensures.value) next
           c.in_ok-serve_line-in-Some.ensures.served c.in_ok-serve_line-in-Some.ensures.waits
-          c.in_ok-serve_line-in-Some.ensures.unrisen c.in_ok-serve_line-in-Some.ensures.later,
+          (c.in_ok-serve_line-in-Some.ensures.unrisen (λ is. cc is)) c.in_ok-serve_line-in-Some.ensures.later,
       c.in_ok-serve_line-in-Some.ensures.store,
       c.in_ok-serve_line-in-Some.ensures.empty,
     )

@@ -1,7 +1,7 @@
 use Rattle.zb_centre_store.specs.Outside.{outside}
 use Rattle.zb_live.specs.Alive.{living_of}
 use Rattle.zb_live.specs.Living.{done}
-use Rattle.zb_live_serve.proofs.ServingLemmas.{always, line_cut, line_fault, line_written, write_fault}
+use Rattle.zb_live_serve.proofs.ServingLemmas.{always, line_cut, line_fault, line_stands, line_written, write_fault}
 use Rattle.zb_live_serve.proofs.serving.serve_line.Goals as goal
 
 pub returns-in-Ok-clause-served : goal.returns-in-Ok-clause-served
@@ -20,7 +20,7 @@ pub returns-in-Ok-clause-waits : goal.returns-in-Ok-clause-waits
 returns-in-Ok-clause-waits g c = always c.write_page.result c.in-Ok.ensures.waits
 
 pub returns-in-Ok-clause-unrisen : goal.returns-in-Ok-clause-unrisen
-returns-in-Ok-clause-unrisen g c = always c.write_page.result c.in-Ok.ensures.unrisen
+returns-in-Ok-clause-unrisen g c = λ not. c.in-Ok.ensures.unrisen (λ is. cc is)
 
 pub returns-in-Ok-clause-faults : goal.returns-in-Ok-clause-faults
 returns-in-Ok-clause-faults g c =
@@ -41,3 +41,6 @@ returns-in-Err-clause-faults g c =
     line_fault (outside g.D.Disk.tells g.D.Disk.state g.W.Sink.taken g.W.Sink.faults) c.args.session.now
     c.args.disk.now c.take.new.disk c.args.output.now c.args.output.now c.in-Err.fault _ c.from.ensures
     c.in-Err.ensures.faults
+
+pub returns-in-Err-clause-unrisen : goal.returns-in-Err-clause-unrisen
+returns-in-Err-clause-unrisen g c = line_stands c.in-Err.fault _ _ _ c.from.ensures c.in-Err.ensures.unrisen
