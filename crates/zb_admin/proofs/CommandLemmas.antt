@@ -9,7 +9,7 @@ use Rattle.zb_centre_store.specs.Standing.{IsEmpty, IsUp, IsWornOut, Stands, Sta
 use Rattle.zb_centre_store.specs.Rows.{listed}
 use Rattle.zb_admin.specs.Texts.{ok_line, refuse_line}
 use Rattle.zb_admin.proofs.RunLemmas.{page_more}
-use Rattle.zb_centre_store.proofs.StoreLemmas.{images_stand}
+use Rattle.zb_centre_store.proofs.StoreLemmas.{images_stand, same_fault}
 use Rattle.zb_backup.specs.Format.{backup_text}
 use Rattle.zb_centre_store.proofs.RefusedLemmas.{some_mapped}
 use Rattle.zb_admin.proofs.RefusedLemmas.{is_no_refusal, refused_by}
@@ -189,16 +189,19 @@ kept_command tells c s old new made (Err f) laid (inl is) =
     laid_command tells old new f
     (subst (λ (m : Result (Hosted CoreValue) AdminFault). IfErr m (IsLayOutFault tells old new)) is laid.faults)
 kept_command tells c s old new (Ok h) (Err f) laid (inr is) = subst (IsCommandFault tells old None new) (sym is.1)
-    laid.unrisen
+    (laid.unrisen (λ e. cc e))
 kept_command tells c s old new (Err e) (Err f) laid (inr is) = let none : false ≡ true = is.0 in absurd (cc)
 
-pub kept_unrisen : (tells : Telling) (c : Setting) (s : NodeState) (old new : View)
-    (made : Result (Hosted CoreValue) AdminFault)
-    (r : Result (Unit {0}) AdminFault) → HasLaidOut tells c s old made new → OnOk r (IsOk made)
-    → OnOk r (Unrisen old.faults new.faults)
-kept_unrisen tells c s old new (Ok h) (Ok x) laid is = laid.unrisen
-kept_unrisen tells c s old new (Err f) (Ok x) laid is = let none : false ≡ true = is in absurd (cc)
-kept_unrisen tells c s old new made (Err f) laid is = tt
+-- what was made is no fault, or one that the disk hasn't
+pub kept_unrisen : (old new : ℕ) (made : Result (Hosted CoreValue) AdminFault) (r : Result (Unit {0}) AdminFault)
+    → ((made ≡ Err Disk → ⊥) → Unrisen old new) → OnOk r (IsOk made)
+    → IfErr r (λ f. (made ≡ Err f) ⊎ (IsOk made × (f ≡ NoMemory))) → (r ≡ Err Disk → ⊥) → Unrisen old new
+kept_unrisen old new (Ok h) r stands is fault not = stands (λ e. cc e)
+kept_unrisen old new (Err f) (Ok x) stands is fault not = let none : false ≡ true = is in absurd (cc)
+kept_unrisen old new (Err f) (Err g) stands is (inl same) not =
+    let one : f ≡ g = cc in
+    stands (same_fault {S = Unit {0}} f Disk (λ e. not (ap (λ (x : AdminFault). Err x) (sym one) ∙ e)))
+kept_unrisen old new (Err f) (Err g) stands is (inr (ok, short)) not = let none : false ≡ true = ok in absurd (cc)
 
 -- a command other than these two
 pub carried_refused : (c : Setting) (line : ℕ) (o : Order) (centre : Option (Hosted CoreValue)) (v : View)

@@ -1,18 +1,19 @@
 -- What commands write goes on from what the centre has, whatever the disk tells.
-use Rattle.std.proofs.Common.{◌≡◌, ◌<◌, ◌≤◌, ◌+◌, ℕ, Bool, true, false, List, [], ◌∷◌, ◌++◌, drop, get_or, length, Option, Some, None, Result, Ok, Err, OnOk, OnErr, option_map, refl, sym, ap, ◌∙◌, subst, append_assoc, append-nil}
+use Rattle.std.proofs.Common.{◌≡◌, ◌<◌, ◌≤◌, ◌+◌, ℕ, Bool, true, false, List, [], ◌∷◌, ◌++◌, drop, get_or, length, Option, Some, None, Result, Ok, Err, IfOk, OnOk, OnErr, refl, sym, ap, ◌∙◌, subst, append_assoc, append-nil}
 use Rattle.std.specs.Prelude.{codes, is_some, IsOk}
 use Rattle.std.specs.Io.KnownBytes.{Appends}
 use Rattle.std.proofs.KnownBytes.{Appends-nil, Appends-trans}
 use Rattle.std.proofs.lemmas.List.{drop_all, drop_more}
 use Rattle.zb_admin.specs.Commands.{lays_out}
-use Rattle.zb_admin.specs.Following.{Follows, Writes, WritesAll, WritesFront, core_of, done_by, with_setting}
-use Rattle.zb_admin.specs.Served.{Done, on_empty}
+use Rattle.zb_admin.specs.Following.{Follows, Writes, WritesAll, WritesFront, with_setting}
+use Rattle.zb_admin.specs.Served.{Done, done, on_empty, on_store}
 use Rattle.zb_admin.specs.Serving.{Ended}
 use Rattle.zb_admin.specs.Texts.{refuse_line}
-use Rattle.zb_admin.proofs.CommandLemmas.{no_setting}
+use Rattle.zb_admin.proofs.CommandLemmas.{on_ok_then}
 use Rattle.zb_admin.proofs.RunLemmas.{front_behind, front_within}
 use Rattle.zb_base.specs.Outside.{AppendsFront}
 use Rattle.zb_base.specs.declared.key.Key.{Key}
+use Rattle.zb_centre_store.specs.Calls.{HasSetting, tables_in}
 use Rattle.zb_centre_store.specs.declared.fault.AdminFault.{AdminFault}
 use Rattle.zb_host.specs.Hosts.{Hosted}
 use Rattle.zb_model.specs.Data.{Bytes, Centre}
@@ -37,12 +38,20 @@ writes_as r front text d e same h = subst (λ (x : Done). OnOk r (text ≡ front
 -- a new store was made, and the centre booted from it
 pub made_follows : (made : Result (Hosted CoreValue) AdminFault) (r : Ended) (centre : Option (Hosted CoreValue))
     → OnOk r ((h : Hosted CoreValue) → made ≡ Ok h → centre ≡ Some h) → OnOk r (IsOk made)
-    → OnOk r (is_some (core_of centre) ≡ true)
-made_follows (Ok h) (Ok x) centre kept is = ap (λ (o : Option (Hosted CoreValue)). is_some (core_of o)) (kept h refl)
+    → OnOk r (is_some (tables_in centre) ≡ true)
+made_follows (Ok h) (Ok x) centre kept is = ap (λ (o : Option (Hosted CoreValue)). is_some (tables_in o)) (kept h refl)
 made_follows (Err f) (Ok x) centre kept is = let none : false ≡ true = is in absurd (cc)
 made_follows made (Err f) centre kept is = tt
 
-pub order_follows : (r : Ended) (next : Option CoreValue) (o p : Order) → o ≡ p
+pub made_configured : (c : Setting) (made : Result (Hosted CoreValue) AdminFault) (r : Ended)
+    (centre : Option (Hosted CoreValue)) → IfOk made (λ (h : Hosted CoreValue). h.core.setting ≡ c)
+    → OnOk r ((h : Hosted CoreValue) → made ≡ Ok h → centre ≡ Some h) → OnOk r (IsOk made)
+    → OnOk r (HasSetting c centre)
+made_configured c (Ok h) (Ok x) centre set kept is = subst (HasSetting c) (sym (kept h refl)) set
+made_configured c (Err f) (Ok x) centre set kept is = let none : false ≡ true = is in absurd (cc)
+made_configured c made (Err f) centre set kept is = tt
+
+pub order_follows : (r : Ended) (next : Option NodeState) (o p : Order) → o ≡ p
     → OnOk r (is_some next ≡ lays_out p None) → OnOk r (is_some next ≡ lays_out o None)
 order_follows r next o p same h = subst (λ (q : Order). OnOk r (is_some next ≡ lays_out q None)) (sym same) h
 
@@ -88,73 +97,130 @@ page_front (Ok x) before after front text lines none is h = tt
 page_front (Err f) before after front text lines none is h =
     subst (AppendsFront before after) (is ∙ ap (λ l. l ++ lines) none) h
 
+-- ---- a command of a script, by what the centre has
+
+-- a core of this setting and these tables
+core_parts : (core : CoreValue) (c : Setting) (standing : Option NodeState) → Some core ≡ with_setting c standing
+    → (core.setting ≡ c) × (Some core.tables ≡ standing)
+core_parts core c None e = absurd (cc)
+core_parts core c (Some s) e =
+    let same : core ≡ record { setting = c; tables = s } = cc in
+    (ap (λ (x : CoreValue). x.setting) same, ap (λ (x : CoreValue). Some x.tables) same)
+
+module _ (c : Setting) (step : Step) (was : Option (Hosted CoreValue)) (r : Ended) where
+  -- where one is up
+  module _ (host : Hosted CoreValue) (is : was ≡ Some host) (set : HasSetting c was) where
+    here : host.core.setting ≡ c
+    here = subst (HasSetting c) is set
+
+    pub some_configured : (next : Hosted CoreValue)
+        → OnOk r (Some next.core ≡ with_setting host.core.setting
+        (on_store host.core.setting step.line step.order host.core.tables).after) → OnOk r (HasSetting c (Some next))
+    some_configured next h = on_ok_then r (λ e. (core_parts next.core host.core.setting _ e).0 ∙ here) h
+
+    pub some_follows : (next : Hosted CoreValue)
+        → OnOk r (Some next.core ≡ with_setting host.core.setting
+        (on_store host.core.setting step.line step.order host.core.tables).after)
+        → OnOk r (Follows c step (tables_in was) (tables_in (Some next)))
+    unfolding done
+    some_follows next h =
+        subst (λ (o : Option (Hosted CoreValue)). OnOk r (Follows c step (tables_in o) (Some next.core.tables)))
+        (sym is)
+        (subst
+        (λ (x : Setting). OnOk r (Some next.core.tables ≡ (on_store x step.line step.order host.core.tables).after))
+        here (on_ok_then r (λ e. (core_parts next.core host.core.setting _ e).1) h))
+
+    pub some_writes : (front text : List ℕ)
+        → OnOk r (text ≡ front ++ page (on_store host.core.setting step.line step.order host.core.tables).lines)
+        → OnOk r (text ≡ front ++ page (done c step (tables_in was)).lines)
+    unfolding done
+    some_writes front text h =
+        subst (λ (o : Option (Hosted CoreValue)). OnOk r (text ≡ front ++ page (done c step (tables_in o)).lines))
+        (sym is)
+        (subst
+        (λ (x : Setting). OnOk r (text ≡ front ++ page (on_store x step.line step.order host.core.tables).lines))
+        here h)
+
+  -- where none is
+  module _ (is : was ≡ None) where
+    pub none_follows : (next : Option NodeState) → OnOk r (is_some next ≡ lays_out step.order None)
+        → OnOk r (Follows c step (tables_in was) next)
+    none_follows next h =
+        subst (λ (o : Option (Hosted CoreValue)). OnOk r (Follows c step (tables_in o) next)) (sym is) h
+
+    pub none_writes : (front text : List ℕ) → OnOk r (text ≡ front ++ page (on_empty step.line step.order).lines)
+        → OnOk r (text ≡ front ++ page (done c step (tables_in was)).lines)
+    unfolding done
+    none_writes front text h =
+        subst (λ (o : Option (Hosted CoreValue)). OnOk r (text ≡ front ++ page (done c step (tables_in o)).lines))
+        (sym is) h
+
 -- ---- commands, one after the other
 
-some_core : CoreValue
-some_core = record { setting = no_setting; tables = new_node Centre }
-
 -- there always is a text: each command has lines, and something that follows it
-next_of : (step : Step) (core : Option CoreValue) → (next : Option CoreValue) × Follows step core next
-next_of step (Some core) = (with_setting core.setting (done_by step (Some core)).after, refl)
-next_of step None = by_order (lays_out step.order None)
+next_of : (c : Setting) (step : Step) (standing : Option NodeState) → (next : Option NodeState)
+    × Follows c step standing next
+next_of c step (Some s) = ((done c step (Some s)).after, refl)
+next_of c step None = by_order (lays_out step.order None)
   where
-    by_order : (b : Bool) → (next : Option CoreValue) × (is_some next ≡ b)
-    by_order true = (Some some_core, refl)
+    by_order : (b : Bool) → (next : Option NodeState) × (is_some next ≡ b)
+    by_order true = (Some (new_node Centre), refl)
     by_order false = (None, refl)
 
-some_text : (steps : List Step) (core : Option CoreValue) → (text : Bytes) × Writes steps core text
-some_text [] core = ([], refl)
-some_text (step ∷ steps) core =
-    let next = next_of step core in
-    let rest = some_text steps next.0 in
-    (page (done_by step core).lines ++ rest.0, (next.0, rest.0, next.1, refl, rest.1))
+some_text : (c : Setting) (steps : List Step) (standing : Option NodeState) → (text : Bytes)
+    × Writes c steps standing text
+some_text c [] standing = ([], refl)
+some_text c (step ∷ steps) standing =
+    let next = next_of c step standing in
+    let rest = some_text c steps next.0 in
+    (page (done c step standing).lines ++ rest.0, (next.0, rest.0, next.1, refl, rest.1))
 
 -- What was written so far, and what the further commands write, is what all commands write.
-pub record IsTold (steps : List Step) (first now : Option CoreValue) (i : ℕ) (before after : Option Bytes) : Type 0
-  where
-    pub text : Bytes
-    pub written : Appends before after text
-    pub leads : (more : Bytes) → Writes (drop i steps) now more → Writes steps first (text ++ more)
+pub record IsTold (c : Setting) (steps : List Step) (first now : Option NodeState) (i : ℕ)
+    (before after : Option Bytes) : Type 0 where
+  pub text : Bytes
+  pub written : Appends before after text
+  pub leads : (more : Bytes) → Writes c (drop i steps) now more → Writes c steps first (text ++ more)
 
-pub told_none : (steps : List Step) (first : Option CoreValue) (before : Option Bytes)
-    → IsTold steps first first 0 before before
-told_none steps first before = record { text = []; written = Appends-nil before; leads = λ more writes. writes }
+pub told_none : (c : Setting) (steps : List Step) (first : Option NodeState) (before : Option Bytes)
+    → IsTold c steps first first 0 before before
+told_none c steps first before = record { text = []; written = Appends-nil before; leads = λ more writes. writes }
 
-module _ (steps : List Step) (first now : Option CoreValue) (i : ℕ) (before out : Option Bytes)
-    (told : IsTold steps first now i before out) where
-  pub told_all : length steps ≤ i → WritesAll steps first before out
+module _ (c : Setting) (steps : List Step) (first now : Option NodeState) (i : ℕ) (before out : Option Bytes)
+    (told : IsTold c steps first now i before out) where
+  pub told_all : length steps ≤ i → WritesAll c steps first before out
   told_all long = (
     told.text,
-    subst (Writes steps first) (append-nil told.text)
-        (told.leads [] (subst (λ (ss : List Step). Writes ss now []) (sym (drop_all i steps long)) refl)),
+    subst (Writes c steps first) (append-nil told.text)
+        (told.leads [] (subst (λ (ss : List Step). Writes c ss now []) (sym (drop_all i steps long)) refl)),
     told.written,
   )
 
   module _ (step : Step) (lt : i < length steps) (is : step ≡ get_or steps i step) (after : Option Bytes) where
     abbrev lines : Bytes
-    lines = page (done_by step now).lines
+    lines = page (done c step now).lines
 
     -- what stands at the place, and what follows
-    writes_here : (next : Option CoreValue) (more : Bytes) → Follows step now next
-        → Writes (drop (i + 1) steps) next more → Writes (drop i steps) now (lines ++ more)
+    writes_here : (next : Option NodeState) (more : Bytes) → Follows c step now next
+        → Writes c (drop (i + 1) steps) next more → Writes c (drop i steps) now (lines ++ more)
     writes_here next more follows rest =
-        subst (λ (ss : List Step). Writes ss now (lines ++ more)) (sym (drop_more steps i step lt))
-        (subst (λ (s : Step). Writes (s ∷ drop (i + 1) steps) now (lines ++ more)) is
+        subst (λ (ss : List Step). Writes c ss now (lines ++ more)) (sym (drop_more steps i step lt))
+        (subst (λ (s : Step). Writes c (s ∷ drop (i + 1) steps) now (lines ++ more)) is
         (next, more, follows, refl, rest))
 
-    pub told_more : (next : Option CoreValue) → Follows step now next → Appends out after lines
-        → IsTold steps first next (i + 1) before after
+    pub told_more : (next : Option NodeState) → Follows c step now next → Appends out after lines
+        → IsTold c steps first next (i + 1) before after
     told_more next follows written = record {
       text = told.text ++ lines;
       written = Appends-trans before out after told.text lines told.written written;
-      leads = λ more rest. subst (Writes steps first) (sym (append_assoc told.text lines more))
+      leads = λ more rest. subst (Writes c steps first) (sym (append_assoc told.text lines more))
           (told.leads (lines ++ more) (writes_here next more follows rest));
     }
 
-    pub told_cut : AppendsFront out after lines → WritesFront steps first before after
+    pub told_cut : AppendsFront out after lines → WritesFront c steps first before after
     told_cut front =
-        let next = next_of step now in
-        let rest = some_text (drop (i + 1) steps) next.0 in (
+        let next = next_of c step now in
+        let rest = some_text c (drop (i + 1) steps) next.0 in (
           told.text ++ (lines ++ rest.0),
           told.leads (lines ++ rest.0) (writes_here next.0 rest.0 next.1 rest.1),
           front_behind before out after told.text (lines ++ rest.0) told.written
@@ -162,6 +228,6 @@ module _ (steps : List Step) (first now : Option CoreValue) (i : ℕ) (before ou
         )
 
 -- the script ends before its first command
-pub none_told : (steps : List Step) (before : Option Bytes) → (core : Option CoreValue)
-    × WritesFront steps core before before
-none_told steps before = let text = some_text steps None in (None, (text.0, text.1, (0, Appends-nil before)))
+pub none_told : (c : Setting) (steps : List Step) (before : Option Bytes) → (standing : Option NodeState)
+    × WritesFront c steps standing before before
+none_told c steps before = let text = some_text c steps None in (None, (text.0, text.1, (0, Appends-nil before)))

@@ -5,7 +5,7 @@ use Rattle.std.proofs.lemmas.List.{drop_all, drop_more}
 use Rattle.std.specs.Io.KnownBytes.{Appends}
 use Rattle.zb_centre_store.specs.Calls.{IsJudged, IsJudgeFault, WasThereOrEmpty, tables_in}
 use Rattle.zb_admin.specs.Commands.{IsCarriedOut, IsCommandFault, lays_out}
-use Rattle.zb_admin.specs.Following.{WritesAll, WritesFront, core_of}
+use Rattle.zb_admin.specs.Following.{WritesAll, WritesFront}
 use Rattle.zb_admin.specs.Served.{done}
 use Rattle.zb_admin.specs.Moments.{IsRun}
 use Rattle.zb_centre_store.specs.Outside.{Outside}
@@ -13,7 +13,7 @@ use Rattle.zb_admin.specs.Serving.{Ended, HasServed, IsAdminFault, IsServiceFaul
 use Rattle.zb_centre_store.specs.Standing.{CanBeServed, Stands, found_on}
 use Rattle.zb_centre_store.specs.declared.fault.AdminFault.{AdminFault}
 use Rattle.zb_centre_store.specs.declared.fault.AdminFault.TheVariants.{Disk, NoStore, BadStore, Worn, Write, NoMemory}
-use Rattle.zb_centre_store.proofs.StoreLemmas.{images_stand}
+use Rattle.zb_centre_store.proofs.StoreLemmas.{images_stand, same_fault}
 use Rattle.zb_admin.proofs.FollowLemmas.{none_told}
 use Rattle.zb_admin.proofs.MomentLemmas.{all_of_run, script_goes}
 use Rattle.zb_admin.proofs.RunLemmas.{run_front, run_last, run_whole}
@@ -204,9 +204,9 @@ module _ {D W : Type 0} (x : Outside D W) (script : Script) (old : D) (before : 
     all = λ told can s is. all_of_run x c script.steps s before old new before
         (unopened_run new (h.moments can told) (Some s));
     told = tt;
-    told_front = none_told script.steps (x.taken before);
+    told_front = none_told c script.steps (x.taken before);
     faults = judge_fault new f h.faults;
-    unrisen = tt;
+    unrisen = λ not. h.unrisen (same_fault f Disk not);
   }
 
   same_tables : (a b : Option NodeState) → ◌≡◌ {A = Result (Option NodeState) AdminFault} (Ok a) (Ok b) → a ≡ b
@@ -230,8 +230,8 @@ module _ {D W : Type 0} (x : Outside D W) (script : Script) (old : D) (before : 
   service_fault centre disk new after Worn count judged h =
       λ told. ((tables_in centre, judged.found told), λ can. h told (tables_in centre) (judged.stands_so told can))
   service_fault centre disk new after Write count judged h =
-      (h.0, λ told. (tables_in centre, judged.found told), h.1 ∙ judged.unrisen)
-  service_fault centre disk new after NoMemory count judged h = h ∙ judged.unrisen
+      (h.0, λ told. (tables_in centre, judged.found told), h.1 ∙ judged.unrisen (λ e. cc e))
+  service_fault centre disk new after NoMemory count judged h = h ∙ judged.unrisen (λ e. cc e)
 
   moments_of : (disk new : D) (after : W) (result : Ended) (standing : Option NodeState)
       → LeavesOnly (x.state old) (x.state disk) (WasThereOrEmpty (x.state old))
@@ -247,9 +247,11 @@ module _ {D W : Type 0} (x : Outside D W) (script : Script) (old : D) (before : 
       → (IsTrue x.tells.content → (b : Option NodeState) → Stands (setting_for script.config) b centre (x.state disk)
       → Runs x (setting_for script.config) script.steps b disk before result new after)
       → IfErr result (IsServiceFault x (setting_for script.config) centre disk before new after)
-      → OnOk result (WritesAll script.steps (core_of centre) (x.taken before) (x.taken after))
-      → OnErr result (WritesFront script.steps (core_of centre) (x.taken before) (x.taken after))
-      → OnOk result (Unrisen (x.state disk).faults (x.state new).faults)
+      → OnOk result (WritesAll (setting_for script.config) script.steps (tables_in centre) (x.taken before)
+      (x.taken after))
+      → OnErr result (WritesFront (setting_for script.config) script.steps (tables_in centre) (x.taken before)
+      (x.taken after))
+      → ((result ≡ Err Disk → ⊥) → Unrisen (x.state disk).faults (x.state new).faults)
       → Serves x script old before result new after
   opened centre disk new after (Ok tt) judged count runs faults told_all told_front unrisen = record {
     found = λ told. (tables_in centre, judged.found told);
@@ -273,10 +275,10 @@ module _ {D W : Type 0} (x : Outside D W) (script : Script) (old : D) (before : 
     all = λ told can s is. all_of_run x c script.steps s before old new after
         (moments_of disk new after (Ok tt) (Some s) (judged.moments can told)
         (runs told (Some s) (begun centre disk judged told can (Some s) is)));
-    told = (core_of centre, told_all);
+    told = (tables_in centre, told_all);
     told_front = tt;
     faults = tt;
-    unrisen = unrisen ∙ judged.unrisen;
+    unrisen = λ not. unrisen not ∙ judged.unrisen (λ e. cc e);
   }
   opened centre disk new after (Err f) judged count runs faults told_all told_front unrisen = record {
     found = tt;
@@ -298,9 +300,9 @@ module _ {D W : Type 0} (x : Outside D W) (script : Script) (old : D) (before : 
         (moments_of disk new after (Err f) (Some s) (judged.moments can told)
         (runs told (Some s) (begun centre disk judged told can (Some s) is)));
     told = tt;
-    told_front = (core_of centre, told_front);
+    told_front = (tables_in centre, told_front);
     faults = service_fault centre disk new after f count judged faults;
-    unrisen = tt;
+    unrisen = λ not. unrisen not ∙ judged.unrisen (λ e. cc e);
   }
 
   -- the same of a slice of the script's commands
@@ -311,15 +313,17 @@ module _ {D W : Type 0} (x : Outside D W) (script : Script) (old : D) (before : 
       → (IsTrue x.tells.content → (b : Option NodeState) → Stands (setting_for script.config) b centre (x.state disk)
       → Runs x (setting_for script.config) steps b disk before result new after)
       → IfErr result (IsServiceFault x (setting_for script.config) centre disk before new after)
-      → OnOk result (WritesAll steps (core_of centre) (x.taken before) (x.taken after))
-      → OnErr result (WritesFront steps (core_of centre) (x.taken before) (x.taken after))
-      → OnOk result (Unrisen (x.state disk).faults (x.state new).faults)
+      → OnOk result (WritesAll (setting_for script.config) steps (tables_in centre) (x.taken before)
+      (x.taken after))
+      → OnErr result (WritesFront (setting_for script.config) steps (tables_in centre) (x.taken before)
+      (x.taken after))
+      → ((result ≡ Err Disk → ⊥) → Unrisen (x.state disk).faults (x.state new).faults)
       → Serves x script old before result new after
   opened_over centre disk new after result steps same judged count runs faults told_all told_front unrisen =
       opened centre disk new after result judged count
       (λ told b stood. subst (λ (l : List Step). Runs x c l b disk before result new after) same
       (runs told b stood)) faults
-      (subst (λ (l : List Step). OnOk result (WritesAll l (core_of centre) (x.taken before) (x.taken after))) same
+      (subst (λ (l : List Step). OnOk result (WritesAll c l (tables_in centre) (x.taken before) (x.taken after))) same
       told_all)
-      (subst (λ (l : List Step). OnErr result (WritesFront l (core_of centre) (x.taken before) (x.taken after))) same
-      told_front) unrisen
+      (subst (λ (l : List Step). OnErr result (WritesFront c l (tables_in centre) (x.taken before) (x.taken after)))
+      same told_front) unrisen

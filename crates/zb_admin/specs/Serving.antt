@@ -1,5 +1,5 @@
 -- What serving a script does to the disk and to the output, command by command, and what follows of it.
-use Rattle.std.specs.Prelude.{ℕ, ◌≡◌, ◌⊎◌, List, [], ◌∷◌, Option, Some, Result, Ok, Err, IfErr, OnOk, OnErr, IsTrue}
+use Rattle.std.specs.Prelude.{ℕ, ◌≡◌, ◌≢◌, ◌⊎◌, List, [], ◌∷◌, Option, Some, Result, Ok, Err, IfErr, OnOk, OnErr, IsTrue}
 use Rattle.std.specs.Io.KnownBytes.{Appends}
 use Rattle.zb_centre_store.specs.declared.fault.AdminFault.{AdminFault}
 use Rattle.zb_centre_store.specs.declared.fault.AdminFault.TheVariants.{Disk, NoStore, BadStore, Worn, Write, NoMemory}
@@ -146,12 +146,13 @@ pub record Serves {D W : Type 0} (x : Outside D W) (script : Script) (old : D) (
   pub all : IsTrue x.tells.content → CanBeServed (x.state old) → (s : NodeState) → found_on (x.state old).seen
       ≡ Ok (Some s)
       → LeavesOnly (x.state old) (x.state new) (IsOfRun x (setting_for script.config) script.steps (Some s) old)
-  -- over any store: at Ok what was written are the lines of the commands, going on from some core, and at a fault a
-  -- prefix of such lines
-  pub told : OnOk result ((core : Option CoreValue) × WritesAll script.steps core (x.taken before) (x.taken after))
-  pub told_front : OnErr result
-      ((core : Option CoreValue) × WritesFront script.steps core (x.taken before) (x.taken after))
+  -- over any store: at Ok what was written are the lines of the commands under the script's setting, going on from
+  -- some tables or none, and at a fault a prefix of such lines
+  pub told : OnOk result ((standing : Option NodeState)
+      × WritesAll (setting_for script.config) script.steps standing (x.taken before) (x.taken after))
+  pub told_front : OnErr result ((standing : Option NodeState)
+      × WritesFront (setting_for script.config) script.steps standing (x.taken before) (x.taken after))
   -- when each fault comes
   pub faults : IfErr result (IsAdminFault x old before new after)
-  -- a fault of the store is reported: at Ok no call of it failed
-  pub unrisen : OnOk result (Unrisen (x.state old).faults (x.state new).faults)
+  -- a fault of the store is reported as nothing else: its count of faults stands at each other answer
+  pub unrisen : result ≢ Err Disk → Unrisen (x.state old).faults (x.state new).faults

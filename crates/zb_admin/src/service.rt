@@ -2,9 +2,9 @@
 ghost use Rattle.std.specs.Prelude.{◌≡◌, ◌≢◌, ◌≤◌, ◌⊎◌, ◌++◌, ◌∷◌, [], Option as Maybe, Some, None, Ok, Err, false, true, is_some, option_map, IfErr, IsOk, OnOk, OnErr, IsTrue};
 ghost use Rattle.std.specs.Io.KnownBytes.{Appends};
 ghost use Rattle.std.specs.List.{AllByRecursion};
-ghost use Rattle.zb_centre_store.specs.Calls.{HasStore, IsShort, is_own};
+ghost use Rattle.zb_centre_store.specs.Calls.{HasSetting, HasStore, IsShort, is_own, tables_in};
 ghost use Rattle.zb_admin.specs.Commands.{IsCarriedOut, IsCommandFault, items_of, lays_out};
-ghost use Rattle.zb_admin.specs.Following.{core_of, done_by, with_setting, Follows, WritesAll, WritesFront};
+ghost use Rattle.zb_admin.specs.Following.{with_setting, Follows, WritesAll, WritesFront};
 ghost use Rattle.zb_admin.specs.Served.{done, handled, on_empty, on_store, outcome_lines, sent_lines};
 ghost use Rattle.zb_admin.specs.Serving.{HasServed, IsServiceFault, Runs, Serves, outside};
 ghost use Rattle.zb_centre_store.specs.Standing.{IsEmpty, IsUp, Stands};
@@ -140,7 +140,8 @@ fn handle_event<D: Disk>(
     ensures faults { IfErr result
         (IsCommandFault D.tells (D.state disk.old) (Some host.old) (D.state disk.new)) }
     ensures count { (D.state disk.old).faults ≤ (D.state disk.new).faults }
-    ensures unrisen { OnOk result (Unrisen (D.state disk.old).faults (D.state disk.new).faults) }
+    ensures unrisen { result ≢ Err AdminFault.Disk
+        → Unrisen (D.state disk.old).faults (D.state disk.new).faults }
 {
     match handle(host, disk, event) {
         Ok(plan) => tell(page, line, &plan.out),
@@ -168,7 +169,8 @@ fn on_store<D: Disk>(
     ensures faults { IfErr result
         (IsCommandFault D.tells (D.state disk.old) (Some host.old) (D.state disk.new)) }
     ensures count { (D.state disk.old).faults ≤ (D.state disk.new).faults }
-    ensures unrisen { OnOk result (Unrisen (D.state disk.old).faults (D.state disk.new).faults) }
+    ensures unrisen { result ≢ Err AdminFault.Disk
+        → Unrisen (D.state disk.old).faults (D.state disk.new).faults }
 {
     match &step.order {
         Order::Init { key: _ } => refuse(page, step.line, b"exists"),
@@ -230,14 +232,16 @@ fn on_empty<D: Disk>(
         → IsCarriedOut (setting_for config.now) (lays_out step.now.order None) None
         (on_empty step.now.line step.now.order) (D.state disk.old) page.old.items
         result centre.new (D.state disk.new) page.new.items }
-    ensures follows { OnOk result (is_some (core_of centre.new) ≡ lays_out step.now.order None) }
+    ensures configured { OnOk result (HasSetting (setting_for config.now) centre.new) }
+    ensures follows { OnOk result (is_some (tables_in centre.new) ≡ lays_out step.now.order None) }
     ensures writes { OnOk result (page.new.items
         ≡ page.old.items ++ page_of (on_empty step.now.line step.now.order).lines) }
     ensures store { OnOk result (HasStore centre.new) }
     ensures faults { IfErr result
         (IsCommandFault D.tells (D.state disk.old) None (D.state disk.new)) }
     ensures count { (D.state disk.old).faults ≤ (D.state disk.new).faults }
-    ensures unrisen { OnOk result (Unrisen (D.state disk.old).faults (D.state disk.new).faults) }
+    ensures unrisen { result ≢ Err AdminFault.Disk
+        → Unrisen (D.state disk.old).faults (D.state disk.new).faults }
 {
     match &step.order {
         Order::Init { key } => {
@@ -265,19 +269,23 @@ fn carry_out<D: Disk>(
     requires role { IsOfRole model.Centre config.now }
     requires step { IsStep step.now }
     requires store { HasStore centre.old }
+    requires configured { HasSetting (setting_for config.now) centre.old }
     ensures carried { IsTrue D.tells.content → (b : Maybe NodeState)
         → Stands (setting_for config.now) b centre.old (D.state disk.old)
         → IsCarriedOut (setting_for config.now) (lays_out step.now.order b) b
         (done (setting_for config.now) step.now b) (D.state disk.old) page.old.items
         result centre.new (D.state disk.new) page.new.items }
-    ensures follows { OnOk result (Follows step.now (core_of centre.old) (core_of centre.new)) }
+    ensures configured { OnOk result (HasSetting (setting_for config.now) centre.new) }
+    ensures follows { OnOk result
+        (Follows (setting_for config.now) step.now (tables_in centre.old) (tables_in centre.new)) }
     ensures writes { OnOk result (page.new.items
-        ≡ page.old.items ++ page_of (done_by step.now (core_of centre.old)).lines) }
+        ≡ page.old.items ++ page_of (done (setting_for config.now) step.now (tables_in centre.old)).lines) }
     ensures store { OnOk result (HasStore centre.new) }
     ensures faults { IfErr result
         (IsCommandFault D.tells (D.state disk.old) centre.old (D.state disk.new)) }
     ensures count { (D.state disk.old).faults ≤ (D.state disk.new).faults }
-    ensures unrisen { OnOk result (Unrisen (D.state disk.old).faults (D.state disk.new).faults) }
+    ensures unrisen { result ≢ Err AdminFault.Disk
+        → Unrisen (D.state disk.old).faults (D.state disk.new).faults }
 {
     match centre {
         Some(host) => on_store(alloc, host, disk, step, page),
@@ -314,23 +322,27 @@ fn serve_step<D: Disk, W: Sink>(
     requires role { IsOfRole model.Centre config.now }
     requires step { IsStep step.now }
     requires store { HasStore centre.old }
+    requires configured { HasSetting (setting_for config.now) centre.old }
     requires empty { page.old.items ≡ [] }
     ensures served { IsTrue D.tells.content → (b : Maybe NodeState)
         → Stands (setting_for config.now) b centre.old (D.state disk.old)
         → HasServed (outside D.tells D.state W.taken W.faults) (setting_for config.now) step.now b
         disk.old out.old result centre.new disk.new out.new }
-    // Whatever the disk tells, its lines are those of the definition for what the centre has.
-    ensures follows { OnOk result (Follows step.now (core_of centre.old) (core_of centre.new)) }
+    // Whatever the disk tells, its lines are those of the definition for the tables of the centre.
+    ensures configured { OnOk result (HasSetting (setting_for config.now) centre.new) }
+    ensures follows { OnOk result
+        (Follows (setting_for config.now) step.now (tables_in centre.old) (tables_in centre.new)) }
     ensures writes { OnOk result (Appends (W.taken out.old) (W.taken out.new)
-        (page_of (done_by step.now (core_of centre.old)).lines)) }
+        (page_of (done (setting_for config.now) step.now (tables_in centre.old)).lines)) }
     ensures front { OnErr result (AppendsFront (W.taken out.old) (W.taken out.new)
-        (page_of (done_by step.now (core_of centre.old)).lines)) }
+        (page_of (done (setting_for config.now) step.now (tables_in centre.old)).lines)) }
     ensures store { OnOk result (HasStore centre.new) }
     ensures empty { OnOk result (page.new.items ≡ []) }
     ensures faults { IfErr result (IsServiceFault (outside D.tells D.state W.taken W.faults) (setting_for config.now)
         centre.old disk.old out.old disk.new out.new) }
     ensures count { (D.state disk.old).faults ≤ (D.state disk.new).faults }
-    ensures unrisen { OnOk result (Unrisen (D.state disk.old).faults (D.state disk.new).faults) }
+    ensures unrisen { result ≢ Err AdminFault.Disk
+        → Unrisen (D.state disk.old).faults (D.state disk.new).faults }
     ensures later { W.faults out.old ≤ W.faults out.new }
     ensures out_unrisen { result ≢ Err AdminFault.Write → Unrisen (W.faults out.old) (W.faults out.new) }
 {
@@ -353,16 +365,19 @@ fn serve_steps<D: Disk, W: Sink>(
     requires role { IsOfRole model.Centre config.now }
     requires steps { AllByRecursion IsStep steps.now }
     requires store { HasStore centre.old }
+    requires configured { HasSetting (setting_for config.now) centre.old }
     ensures run { IsTrue D.tells.content → (b : Maybe NodeState)
         → Stands (setting_for config.now) b centre.old (D.state disk.old)
         → Runs (outside D.tells D.state W.taken W.faults) (setting_for config.now) steps.now b
         disk.old out.old result disk.new out.new }
-    ensures told { OnOk result (WritesAll steps.now (core_of centre.old) (W.taken out.old) (W.taken out.new)) }
-    ensures told_front { OnErr result (WritesFront steps.now (core_of centre.old) (W.taken out.old)
-        (W.taken out.new)) }
+    ensures told { OnOk result (WritesAll (setting_for config.now) steps.now (tables_in centre.old)
+        (W.taken out.old) (W.taken out.new)) }
+    ensures told_front { OnErr result (WritesFront (setting_for config.now) steps.now (tables_in centre.old)
+        (W.taken out.old) (W.taken out.new)) }
     ensures faults { IfErr result (IsServiceFault (outside D.tells D.state W.taken W.faults) (setting_for config.now)
         centre.old disk.old out.old disk.new out.new) }
-    ensures unrisen { OnOk result (Unrisen (D.state disk.old).faults (D.state disk.new).faults) }
+    ensures unrisen { result ≢ Err AdminFault.Disk
+        → Unrisen (D.state disk.old).faults (D.state disk.new).faults }
     ensures out_unrisen { result ≢ Err AdminFault.Write → Unrisen (W.faults out.old) (W.faults out.new) }
 {
     let mut page = Vec::new(alloc);
@@ -381,9 +396,9 @@ fn serve_steps<D: Disk, W: Sink>(
 /// written, before the next one begins. Requires a script that `zb_script::read` gives.
 ///
 /// # Errors
-/// `Disk`; `NoStore`, where the disk isn't empty and no slot stands open; `BadStore`, where what stands is no
-/// record of a centre, with the place of the fault; `Worn`, where the whole record has to be written and there is no
-/// further generation; `Write`; `NoMemory`.
+/// `Disk`, and nothing else, where a call of the disk failed; `NoStore`, where the disk isn't empty and no slot stands
+/// open; `BadStore`, where what stands is no record of a centre, with the place of the fault; `Worn`, where the whole
+/// record has to be written and there is no further generation; `Write`; `NoMemory`.
 pub fn serve<D: Disk, W: Sink>(
     alloc: Global,
     script: &Script,

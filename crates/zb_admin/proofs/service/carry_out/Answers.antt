@@ -1,9 +1,7 @@
-use Rattle.std.proofs.Common.{◌≡◌, ◌++◌, Option, Some, OnOk, subst, sym}
-use Rattle.zb_admin.specs.Following.{Follows, core_of, done_by}
+use Rattle.zb_setting.specs.Settings.{setting_for}
 use Rattle.zb_admin.proofs.CommandLemmas.{carried_none, carried_some}
-use Rattle.zb_host.specs.Hosts.{Hosted}
-use Rattle.zb_stored_tables.specs.Cores.{CoreValue}
-use Rattle.zb_text.specs.Pages.{page}
+use Rattle.zb_admin.proofs.FollowLemmas.{none_follows, none_writes, some_configured, some_follows, some_writes}
+use Rattle.zb_centre_store.specs.Calls.{tables_in}
 use Rattle.zb_admin.proofs.service.carry_out.Goals as goal
 
 pub returns-in-Some-clause-carried : goal.returns-in-Some-clause-carried
@@ -15,26 +13,27 @@ pub returns-in-None-clause-carried : goal.returns-in-None-clause-carried
 returns-in-None-clause-carried g c = λ told b stood.
     carried_none _ c.args.step.now b _ _ _ _ _ _ _ c.in-None.is stood (λ empty. c.on_empty.ensures.carried told empty)
 
+pub returns-in-Some-clause-configured : goal.returns-in-Some-clause-configured
+returns-in-Some-clause-configured g c =
+    some_configured (setting_for c.args.config.now) c.args.step.now c.args.centre.now c.on_store.result c.in-Some.host
+    c.in-Some.is c.requires.configured c.on_store.new.host c.on_store.ensures.follows
+
 pub returns-in-Some-clause-follows : goal.returns-in-Some-clause-follows
 returns-in-Some-clause-follows g c =
-    subst (λ (o : Option (Hosted CoreValue)). OnOk c.on_store.result
-    (Follows c.args.step.now (core_of o) (Some c.on_store.new.host.core))) (sym c.in-Some.is)
-    c.on_store.ensures.follows
+    some_follows (setting_for c.args.config.now) c.args.step.now c.args.centre.now c.on_store.result c.in-Some.host
+    c.in-Some.is c.requires.configured c.on_store.new.host c.on_store.ensures.follows
 
 pub returns-in-Some-clause-writes : goal.returns-in-Some-clause-writes
 returns-in-Some-clause-writes g c =
-    subst (λ (o : Option (Hosted CoreValue)). OnOk c.on_store.result
-    (c.on_store.new.page.items ≡ c.args.page.now.items ++ page (done_by c.args.step.now (core_of o)).lines))
-    (sym c.in-Some.is) c.on_store.ensures.writes
+    some_writes (setting_for c.args.config.now) c.args.step.now c.args.centre.now c.on_store.result c.in-Some.host
+    c.in-Some.is c.requires.configured c.args.page.now.items c.on_store.new.page.items c.on_store.ensures.writes
 
 pub returns-in-None-clause-follows : goal.returns-in-None-clause-follows
 returns-in-None-clause-follows g c =
-    subst (λ (o : Option (Hosted CoreValue)). OnOk c.on_empty.result
-    (Follows c.args.step.now (core_of o) (core_of c.on_empty.new.centre))) (sym c.in-None.is)
-    c.on_empty.ensures.follows
+    none_follows (setting_for c.args.config.now) c.args.step.now c.args.centre.now c.on_empty.result c.in-None.is
+    (tables_in c.on_empty.new.centre) c.on_empty.ensures.follows
 
 pub returns-in-None-clause-writes : goal.returns-in-None-clause-writes
 returns-in-None-clause-writes g c =
-    subst (λ (o : Option (Hosted CoreValue)). OnOk c.on_empty.result
-    (c.on_empty.new.page.items ≡ c.args.page.now.items ++ page (done_by c.args.step.now (core_of o)).lines))
-    (sym c.in-None.is) c.on_empty.ensures.writes
+    none_writes (setting_for c.args.config.now) c.args.step.now c.args.centre.now c.on_empty.result c.in-None.is
+    c.args.page.now.items c.on_empty.new.page.items c.on_empty.ensures.writes

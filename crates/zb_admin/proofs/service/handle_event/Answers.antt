@@ -1,5 +1,7 @@
 use Rattle.std.proofs.Common.{◌∙◌, Some, ap, ◌++◌, refl}
 use Rattle.zb_centre_store.specs.Tasks.{task_of}
+use Rattle.zb_centre_store.specs.declared.fault.AdminFault.TheVariants.{Disk}
+use Rattle.zb_centre_store.proofs.StoreLemmas.{same_fault}
 use Rattle.zb_model.specs.Answer.{answer}
 use Rattle.zb_model_real.specs.Real.{real}
 use Rattle.zb_text.specs.Pages.{page}
@@ -29,13 +31,12 @@ pub returns-in-Ok-clause-store : goal.returns-in-Ok-clause-store
 returns-in-Ok-clause-store g c = always c.tell.result (c.in-Ok.ensures.handled no_setting).store
 
 pub returns-in-Ok-clause-unrisen : goal.returns-in-Ok-clause-unrisen
-returns-in-Ok-clause-unrisen g c = always c.tell.result c.in-Ok.ensures.unrisen
+returns-in-Ok-clause-unrisen g c = λ not. c.in-Ok.ensures.unrisen (λ is. cc is)
 
 pub returns-in-Ok-clause-faults : goal.returns-in-Ok-clause-faults
 returns-in-Ok-clause-faults g c =
     short_command g.D.Disk.tells (g.D.Disk.state c.args.disk.now) (g.D.Disk.state c.handle.new.disk)
-    (Some c.args.host.now) c.tell.result
-    c.tell.ensures.short c.in-Ok.ensures.unrisen
+    (Some c.args.host.now) c.tell.result c.tell.ensures.short (c.in-Ok.ensures.unrisen (λ is. cc is))
 
 pub returns-in-Err-clause-carried : goal.returns-in-Err-clause-carried
 returns-in-Err-clause-carried g c =
@@ -60,3 +61,6 @@ returns-in-Ok-clause-writes g c =
     (λ text. text ∙ ap (λ l. c.args.page.now.items ++ page l)
     (told_lines c.args.line c.in-Ok.plan (answer real core.setting core.tables (task_of c.args.event.now)) is))
     c.tell.ensures.text
+
+pub returns-in-Err-clause-unrisen : goal.returns-in-Err-clause-unrisen
+returns-in-Err-clause-unrisen g c = λ not. c.in-Err.ensures.unrisen (same_fault c.in-Err.fault Disk not)

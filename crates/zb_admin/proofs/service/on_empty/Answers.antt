@@ -1,10 +1,9 @@
-use Rattle.std.proofs.Common.{ℕ, List, Option, subst, ap, ◌∙◌}
+use Rattle.std.proofs.Common.{ℕ, List, Option, subst, sym, ap, ◌∙◌}
 use Rattle.std.specs.Prelude.{is_some}
 use Rattle.zb_host.specs.Hosts.{Hosted}
 use Rattle.zb_stored_tables.specs.Cores.{CoreValue}
-use Rattle.zb_admin.specs.Following.{core_of}
-use Rattle.zb_admin.proofs.FollowLemmas.{lines_as, made_follows, none_made, none_written, order_follows, order_writes}
-use Rattle.zb_centre_store.specs.Calls.{HasLaidOut}
+use Rattle.zb_admin.proofs.FollowLemmas.{lines_as, made_configured, made_follows, none_made, none_written, order_follows, order_writes}
+use Rattle.zb_centre_store.specs.Calls.{HasLaidOut, HasSetting, tables_in}
 use Rattle.zb_centre_store.specs.Makings.{tables_of}
 use Rattle.zb_setting.specs.Settings.{setting_for}
 use Rattle.zb_record.specs.Records.{record_read}
@@ -44,9 +43,13 @@ returns-in-Init-clause-faults g c =
 
 pub returns-in-Init-clause-unrisen : goal.returns-in-Init-clause-unrisen
 returns-in-Init-clause-unrisen g c =
-    kept_unrisen g.D.Disk.tells _ _ (g.D.Disk.state c.args.disk.now) (g.D.Disk.state c.init-made.new.disk)
-    c.init-made.result c.keep.result
-    c.init-made.ensures.made c.keep.ensures.made
+    kept_unrisen _ _ c.init-made.result c.keep.result c.init-made.ensures.made.unrisen c.keep.ensures.made
+    c.keep.ensures.fault
+
+pub returns-in-Init-clause-configured : goal.returns-in-Init-clause-configured
+returns-in-Init-clause-configured g c =
+    made_configured (setting_for c.args.config.now) c.init-made.result c.keep.result c.keep.new.centre
+    c.init-made.ensures.configured c.keep.ensures.kept c.keep.ensures.made
 
 pub returns-in-Restore-clause-faults : goal.returns-in-Restore-clause-faults
 returns-in-Restore-clause-faults g c =
@@ -56,9 +59,14 @@ returns-in-Restore-clause-faults g c =
 
 pub returns-in-Restore-clause-unrisen : goal.returns-in-Restore-clause-unrisen
 returns-in-Restore-clause-unrisen g c =
-    kept_unrisen g.D.Disk.tells _ _ (g.D.Disk.state c.args.disk.now) (g.D.Disk.state c.restore-made.new.disk)
-    c.restore-made.result
-    c.keep-in-Restore.result c.restore-made.ensures.made c.keep-in-Restore.ensures.made
+    kept_unrisen _ _ c.restore-made.result c.keep-in-Restore.result c.restore-made.ensures.made.unrisen
+    c.keep-in-Restore.ensures.made c.keep-in-Restore.ensures.fault
+
+pub returns-in-Restore-clause-configured : goal.returns-in-Restore-clause-configured
+returns-in-Restore-clause-configured g c =
+    made_configured (setting_for c.args.config.now) c.restore-made.result c.keep-in-Restore.result
+    c.keep-in-Restore.new.centre c.restore-made.ensures.configured c.keep-in-Restore.ensures.kept
+    c.keep-in-Restore.ensures.made
 
 pub returns-in_default-clause-carried : goal.returns-in_default-clause-carried
 returns-in_default-clause-carried g c = λ told empty.
@@ -69,7 +77,7 @@ returns-in_default-clause-carried g c = λ told empty.
 
 pub returns-in-Init-clause-follows : goal.returns-in-Init-clause-follows
 returns-in-Init-clause-follows g c =
-    order_follows c.keep.result (core_of c.keep.new.centre) _ _ c.in-Init.is
+    order_follows c.keep.result (tables_in c.keep.new.centre) _ _ c.in-Init.is
     (made_follows c.init-made.result c.keep.result c.keep.new.centre c.keep.ensures.kept c.keep.ensures.made)
 
 pub returns-in-Init-clause-writes : goal.returns-in-Init-clause-writes
@@ -78,7 +86,7 @@ returns-in-Init-clause-writes g c = order_writes c.keep.result c.args.page.now.i
 
 pub returns-in-Restore-clause-follows : goal.returns-in-Restore-clause-follows
 returns-in-Restore-clause-follows g c =
-    order_follows c.keep-in-Restore.result (core_of c.keep-in-Restore.new.centre) _ _ c.in-Restore.is
+    order_follows c.keep-in-Restore.result (tables_in c.keep-in-Restore.new.centre) _ _ c.in-Restore.is
     (made_follows c.restore-made.result c.keep-in-Restore.result c.keep-in-Restore.new.centre
     c.keep-in-Restore.ensures.kept c.keep-in-Restore.ensures.made)
 
@@ -89,10 +97,15 @@ returns-in-Restore-clause-writes g c = order_writes c.keep-in-Restore.result c.a
 pub returns-in_default-clause-follows : goal.returns-in_default-clause-follows
 returns-in_default-clause-follows g c =
     always c.refuse.result
-    (ap (λ (o : Option (Hosted CoreValue)). is_some (core_of o)) c.requires.none ∙ none_made c.args.step.now.order
+    (ap (λ (o : Option (Hosted CoreValue)). is_some (tables_in o)) c.requires.none ∙ none_made c.args.step.now.order
     c.in_default.not-Init c.in_default.not-Restore)
 
 pub returns-in_default-clause-writes : goal.returns-in_default-clause-writes
 returns-in_default-clause-writes g c = lines_as c.refuse.result c.args.page.now.items c.refuse.new.page.items _ _
     (none_written c.args.step.now.line c.args.step.now.order c.in_default.not-Init c.in_default.not-Restore)
     c.refuse.ensures.text
+
+pub returns-in_default-clause-configured : goal.returns-in_default-clause-configured
+returns-in_default-clause-configured g c =
+    always c.refuse.result
+    (subst (HasSetting (setting_for c.args.config.now)) (sym c.requires.none) tt)

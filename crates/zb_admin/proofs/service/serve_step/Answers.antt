@@ -28,13 +28,16 @@ returns-in-Err-clause-faults g c =
     c.args.out.now c.in-Err.fault c.in-Err.ensures.faults
 
 pub returns-in-Ok-clause-unrisen : goal.returns-in-Ok-clause-unrisen
-returns-in-Ok-clause-unrisen g c = always c.write_page.result c.in-Ok.ensures.unrisen
+returns-in-Ok-clause-unrisen g c = λ not. c.in-Ok.ensures.unrisen (λ is. cc is)
 
 pub returns-in-Ok-clause-faults : goal.returns-in-Ok-clause-faults
 returns-in-Ok-clause-faults g c =
     write_fault (outside g.D.Disk.tells g.D.Disk.state g.W.Sink.taken g.W.Sink.faults) (setting_for c.args.config.now)
     c.args.centre.now c.args.disk.now c.carry_out.new.disk c.args.out.now c.write_page.new.out c.write_page.result
-    c.write_page.ensures.fault c.in-Ok.ensures.unrisen
+    c.write_page.ensures.fault (c.in-Ok.ensures.unrisen (λ is. cc is))
+
+pub returns-in-Ok-clause-configured : goal.returns-in-Ok-clause-configured
+returns-in-Ok-clause-configured g c = always c.write_page.result c.in-Ok.ensures.configured
 
 pub returns-in-Ok-clause-follows : goal.returns-in-Ok-clause-follows
 returns-in-Ok-clause-follows g c = always c.write_page.result c.in-Ok.ensures.follows
