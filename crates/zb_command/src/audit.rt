@@ -13,7 +13,7 @@ use std::alloc::{AllocError, Global};
 use zb_audit::{AuditFault, Auditor, Verdict};
 use zb_base::{NoMemory, Sink, Source};
 use zb_text::page::{add_number, end_line, hand_out, put};
-use zb_trace_read::take_line;
+use zb_trace_read::{no_line, take_into};
 
 /// Why a text isn't that of a sound transcript.
 #[derive(Clone, Copy, Debug, PartialEq, Eq)]
@@ -84,10 +84,11 @@ fn audit_text(alloc: Global, text: &[u8]) -> Result<Verdict, TextFault>
 {
     let mut auditor = Auditor::new(alloc)?;
     let mut page = Vec::new(alloc);
+    let mut line = no_line();
     let mut rest = text;
     let mut count: u32 = 0;
     while !rest.is_empty() {
-        let Some((line, after)) = take_line(alloc, &mut page, rest)? else {
+        let Some(after) = take_into(alloc, &mut page, rest, &mut line)? else {
             return Err(TextFault::Syntax { line: count + 1 });
         };
         auditor.line(alloc, &line)?;

@@ -13,24 +13,24 @@ loop-rest-init c =
 
 pub loop-rest-preserved-in_ok-line-2 : goal.loop-rest-preserved-in_ok-line-2
 loop-rest-preserved-in_ok-line-2 c =
-    let f : IsProper c.in-Some.line × (c.loop-rest.rest.now ≡ text c.in-Some.line ++ c.in-Some.after.now) =
+    let f : IsProper c.take_into.new.line × (c.loop-rest.rest.now ≡ text c.take_into.new.line ++ c.in-Some.after.now) =
     search rules in
     let bound : c.loop-rest.count + length c.loop-rest.rest.now ≤ length c.args.text.now = c.loop-rest.invariant.1 in
     let less : length c.in-Some.after.now < length c.loop-rest.rest.now = search rules in (
       taken c.args.text.now c.loop-rest.rest.now c.in-Some.after.now c.loop-rest.count c.loop-rest.auditor
-          c.line.new.self c.in-Some.line c.loop-rest.invariant.0 f.0 f.1 c.in_ok-line-2.ensures,
+          c.line.new.self c.take_into.new.line c.loop-rest.invariant.0 f.0 f.1 c.in_ok-line-2.ensures,
       omega arith,
       c.loop-rest.invariant.2,
     )
 
 pub loop-rest-preserved : goal.loop-rest-preserved
 loop-rest-preserved c =
-    let f : IsProper c.in-Some.line × (c.loop-rest.rest.now ≡ text c.in-Some.line ++ c.in-Some.after.now) =
+    let f : IsProper c.take_into.new.line × (c.loop-rest.rest.now ≡ text c.take_into.new.line ++ c.in-Some.after.now) =
     search rules in
     let bound : c.loop-rest.count + length c.loop-rest.rest.now ≤ length c.args.text.now = c.loop-rest.invariant.1 in
     let less : length c.in-Some.after.now < length c.loop-rest.rest.now = search rules in (
       taken c.args.text.now c.loop-rest.rest.now c.in-Some.after.now c.loop-rest.count c.loop-rest.auditor
-          c.line.new.self c.in-Some.line c.loop-rest.invariant.0 f.0 f.1 c.in_ok-line-2.ensures,
+          c.line.new.self c.take_into.new.line c.loop-rest.invariant.0 f.0 f.1 c.in_ok-line-2.ensures,
       omega arith,
       c.loop-rest.invariant.2,
     )
