@@ -39,11 +39,17 @@ fn add(bytes: &mut Vec<u8>, more: &[u8]) {
 fn slot(rt: &impl AllocGlobal, record: &[u8], entries: &[&[u8]]) -> Vec<u8> {
     let mut bytes = Vec::new(rt.alloc());
     add(&mut bytes, &[0xA5, 1, 0, 0, 0, 0, 0, 0, 0]);
-    add(&mut bytes, &u32::try_from(record.len()).unwrap_or(0).to_le_bytes());
+    add(
+        &mut bytes,
+        &u32::try_from(record.len()).unwrap_or(0).to_le_bytes(),
+    );
     add(&mut bytes, record);
     for entry in entries {
         add(&mut bytes, &[0xA5]);
-        add(&mut bytes, &u16::try_from(entry.len()).unwrap_or(0).to_le_bytes());
+        add(
+            &mut bytes,
+            &u16::try_from(entry.len()).unwrap_or(0).to_le_bytes(),
+        );
         add(&mut bytes, entry);
     }
     add(&mut bytes, &[0]);

@@ -1,4 +1,5 @@
--- What each kind of event of a node comes to: its lines are told, and the node is in the condition that its turn leaves.
+-- What each kind of event of a node comes to: its lines are told, and the node is in the condition that its turn
+-- leaves.
 use Rattle.std.proofs.Common.{◌≡◌, ℕ, ◌+◌, ◌-◌, Bool, true, false, if◌then◌else◌, List, [], ◌∷◌, ◌++◌, map, length, Option, Some, None, option_map, is_some, nat_eq, slice_get, sym, ap, ◌∙◌, subst}
 use Rattle.std.specs.List.{list_any}
 use Rattle.arrayvec.specs.ArrayString.{ArrayString}
