@@ -32,6 +32,8 @@ pub(crate) fn serve_input<R: Source, W: Sink, D: Disk>(
     ensures read_fault { result ≡ Status.ReadFault → Rose (R.faults input.old) (R.faults input.new) }
     ensures no_read_fault { result ≢ Status.ReadFault → Unrisen (R.faults input.old) (R.faults input.new) }
     ensures no_write_fault { result ≢ Status.WriteFault → Unrisen (W.faults output.old) (W.faults output.new) }
+    ensures no_store_fault { result ≢ Status.DiskFault
+        → Unrisen (D.state store.old).faults (D.state store.new).faults }
 {
     let bytes = whole_input!(alloc, input);
     match read(alloc, bytes.as_slice()) {

@@ -72,9 +72,11 @@ pub fn run<T: Threads + Sync, R: Source, W: Sink, D: Disk>(
     // The cause of each other answer.
     ensures read_fault { result ≡ Status.ReadFault → Rose (R.faults input.old) (R.faults input.new) }
     ensures write_fault { result ≡ Status.WriteFault → Rose (W.faults output.old) (W.faults output.new) }
-    // A fault of the source or of the sink is reported as nothing else.
+    // A fault of the source, of the sink or of the store is reported as nothing else.
     ensures no_read_fault { result ≢ Status.ReadFault → Unrisen (R.faults input.old) (R.faults input.new) }
     ensures no_write_fault { result ≢ Status.WriteFault → Unrisen (W.faults output.old) (W.faults output.new) }
+    ensures no_store_fault { result ≢ Status.DiskFault
+        → Unrisen (D.state store.old).faults (D.state store.new).faults }
     ensures refused { (job : Invocation) (line : ℕ) (cause : Cause)
         → invocation_of (map string_bytes words.now) ≡ Some job → result ≡ Status.Refused line cause
         → IfSome (wanted job (R.rest input.old)) (λ answer. answer ≡ Refuses line cause) }
@@ -132,6 +134,8 @@ fn carry_out<T: Threads + Sync, R: Source, W: Sink, D: Disk>(
     ensures read_fault { result ≡ Status.ReadFault → Rose (R.faults input.old) (R.faults input.new) }
     ensures no_read_fault { result ≢ Status.ReadFault → Unrisen (R.faults input.old) (R.faults input.new) }
     ensures no_write_fault { result ≢ Status.WriteFault → Unrisen (W.faults output.old) (W.faults output.new) }
+    ensures no_store_fault { result ≢ Status.DiskFault
+        → Unrisen (D.state store.old).faults (D.state store.new).faults }
 {
     match command {
         Command::Play => play_input(alloc, input, output),

@@ -1,7 +1,8 @@
-use Rattle.std.proofs.Common.{◌≤◌, ℕ, sym, subst}
+use Rattle.std.proofs.Common.{◌≤◌, ◌∙◌, ℕ, ap, sym, subst}
 use Rattle.zb_admin.specs.Serving.{outside}
 use Rattle.zb_command.specs.Answers.{longest}
 use Rattle.zb_command.specs.Serving.{Serviced}
+use Rattle.zb_command.specs.Statuses.{served_status}
 use Rattle.zb_command.specs.declared.status.Status.{Status}
 use Rattle.zb_command.proofs.ServedScripts.{served_of, status_says}
 use Rattle.zb_command.proofs.admin.serve_input.Goals as goal
@@ -17,3 +18,7 @@ returns-in-Ok-read-clause-served g c =
     c.serve.result c.serve.new.disk c.serve.new.out c.in-Ok.ensures.whole
     (subst (λ (n : ℕ). n ≤ longest) c.in-Ok.bytes.ok.0 c.in-Ok.ensures.short) c.as_slice.ensures.value
     c.in-Ok-read.ensures.exact c.serve.ensures.served))
+
+pub returns-in-Ok-read-clause-no_store_fault : goal.returns-in-Ok-read-clause-no_store_fault
+returns-in-Ok-read-clause-no_store_fault g c =
+    λ not. c.serve.ensures.served.unrisen (λ is. not (c.ended.ensures ∙ ap served_status is))
