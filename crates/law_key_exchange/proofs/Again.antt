@@ -24,7 +24,7 @@ use Rattle.law_key_exchange.proofs.Sending.{sealed_out}
 
 -- ---- a request that comes again
 
-abbrev offers_again : Setting → ℕ → LinkKey → Bytes → Bool → Outcome
+abbrev pub offers_again : Setting → ℕ → LinkKey → Bytes → Bool → Outcome
 offers_again c device row key true = Stop CounterSpent
 offers_again c device row key false = Does []
     (sends (short_of c device) true (Secret ForLoad row.key (TransportLink key device c.me.eui)))
@@ -45,7 +45,7 @@ again_reason : (c : Setting) (device : ℕ) (row : LinkKey) (key : Bytes) (b : B
 again_reason c device row key true = refl
 again_reason c device row key false = refl
 
-abbrev again_end : Tools → Setting → Setting → Seals → Outcome → Plan
+abbrev pub again_end : Tools → Setting → Setting → Seals → Outcome → Plan
 again_end tools c m k o = comes_to (both_terms tools (net_frame m c k) (request m k)) AtAps o
 
 again_plan : (tools : Tools) → DeliversCommands tools
@@ -110,14 +110,14 @@ again_refused tools delivers c m s k key draw d st rn ra rules h l closed =
     (again_reason c m.me.eui l.row l.offer.key (both_spent s))
     ∙ sym (no_offer_again s m.me.eui k key h l)
 
-pub again_offered : (tools : Tools) → DeliversCommands tools
+-- its plan, where nothing is in the way
+pub again_freely : (tools : Tools) → DeliversCommands tools
     → (c m : Setting) (s : NodeState) (k : Seals) (key : Bytes) (draw : Option Bytes) → AreDeclared c m
     → StationsInRange c m → NwkInRange k → ApsInRange k → keeps_rules s ≡ true → HasNetwork s k.key k.sequence
-    → HasBoth s m.me.eui k.link key → StaysClosed tools m k key → why_no_offer_again s m.me.eui k ≡ None
-    → OffersAgain tools c m s (after_task tools c s (Received (request_bytes tools c m k) draw)) k key
-    (frame_of tools c s (Received (request_bytes tools c m k) draw))
-unfolding after_task answer counting_of
-again_offered tools delivers c m s k key draw d st rn ra rules h l closed none =
+    → (l : HasBoth s m.me.eui k.link key) → StaysClosed tools m k key → why_no_offer_again s m.me.eui k ≡ None
+    → plan_of tools c s (Received (request_bytes tools c m k) draw)
+    ≡ again_end tools c m k (offers_again c m.me.eui l.row l.offer.key false)
+again_freely tools delivers c m s k key draw d st rn ra rules h l closed none =
     let f = net_frame m c k in
     let device = m.me.eui in
     let first = why_not_heard h.found device k.nwk in
@@ -128,13 +128,25 @@ again_offered tools delivers c m s k key draw d st rn ra rules h l closed none =
     let unspent = when_none (both_spent s) CounterSpent (or_second second third more) in
     let terms = net_term f (sealed_content tools (request m k)) ∷ [] in
     let last = again_end tools c m k (offers_again c device l.row l.offer.key (both_spent s)) in
-    let p = again_end tools c m k (offers_again c device l.row l.offer.key false) in
-    let plan : plan_of tools c s (Received (request_bytes tools c m k) draw) ≡ p =
     again_plan tools delivers c m s k key draw d st rn ra rules h l closed
     ∙ free_at f h.found (plan_opened (nat_lt k.aps l.row.kept) terms l.row.kept last)
     (or_first first (or_else second third) free)
     ∙ free_opened terms l.row k.aps last (or_first second third more)
-    ∙ ap (λ b. again_end tools c m k (offers_again c device l.row l.offer.key b)) unspent in
+    ∙ ap (λ b. again_end tools c m k (offers_again c device l.row l.offer.key b)) unspent
+
+pub again_offered : (tools : Tools) → DeliversCommands tools
+    → (c m : Setting) (s : NodeState) (k : Seals) (key : Bytes) (draw : Option Bytes) → AreDeclared c m
+    → StationsInRange c m → NwkInRange k → ApsInRange k → keeps_rules s ≡ true → HasNetwork s k.key k.sequence
+    → HasBoth s m.me.eui k.link key → StaysClosed tools m k key → why_no_offer_again s m.me.eui k ≡ None
+    → OffersAgain tools c m s (after_task tools c s (Received (request_bytes tools c m k) draw)) k key
+    (frame_of tools c s (Received (request_bytes tools c m k) draw))
+unfolding after_task answer counting_of
+again_offered tools delivers c m s k key draw d st rn ra rules h l closed none =
+    let f = net_frame m c k in
+    let device = m.me.eui in
+    let unspent = when_none (both_spent s) CounterSpent (again_free s device k none) in
+    let p = again_end tools c m k (offers_again c device l.row l.offer.key false) in
+    let plan = again_freely tools delivers c m s k key draw d st rn ra rules h l closed none in
     let u = answered (answer_by tools c s (counting_of c s p) p) s in
     let rows : bare u ≡ bare s = bare_after tools c s (counting_of c s p) p [] refl tt in
     subst (λ q. OffersAgain tools c m s (answered (answer_by tools c s (counting_of c s q) q) s) k key
@@ -169,7 +181,7 @@ again_offered tools delivers c m s k key draw d st rn ra rules h l closed none =
 
 -- ---- a proof that comes again
 
-abbrev confirms_again : Setting → ℕ → Bytes → Bool → Outcome
+abbrev pub confirms_again : Setting → ℕ → Bytes → Bool → Outcome
 confirms_again c device key true = Stop CounterSpent
 confirms_again c device key false =
     Does [] (sends (short_of c device) true (Secret ForData key (ConfirmKey 0 4 device)))
@@ -191,7 +203,7 @@ confirms_reason : (c : Setting) (device : ℕ) (key : Bytes) (b : Bool) → reas
 confirms_reason c device key true = refl
 confirms_reason c device key false = refl
 
-abbrev shown_again : Tools → Setting → Setting → Seals → Outcome → Plan
+abbrev pub shown_again : Tools → Setting → Setting → Seals → Outcome → Plan
 shown_again tools c m k o =
     comes_to (net_term (net_frame m c k) (clear_content tools k.nwk (VerifyKey 4 m.me.eui (verify_hash tools k.link)))
     ∷ []) AtAps o
@@ -225,6 +237,32 @@ confirm_again_refused tools delivers c m s k draw d st rn h l =
     ∙ ap (or_else (why_not_heard h.found m.me.eui k.nwk)) (confirms_reason c m.me.eui l.row.key (both_spent s))
     ∙ sym (no_confirmation s m.me.eui k h)
 
+-- its plan, where nothing is in the way
+pub proof_freely : (tools : Tools) → DeliversCommands tools
+    → (c m : Setting) (s : NodeState) (k : Seals) (draw : Option Bytes) → AreDeclared c m → StationsInRange c m
+    → NwkInRange k → HasNetwork s k.key k.sequence → (l : HasProved s m.me.eui k.link)
+    → why_no_confirmation s m.me.eui k ≡ None
+    → plan_of tools c s (Received (proof_bytes tools c m k) draw)
+    ≡ shown_again tools c m k (confirms_again c m.me.eui l.row.key false)
+proof_freely tools delivers c m s k draw d st rn h l none =
+    let f = net_frame m c k in
+    let device = m.me.eui in
+    let first = why_not_heard h.found device k.nwk in
+    let second = why_not_sealed s in
+    let free : or_else first second ≡ None = sym (no_confirmation s device k h) ∙ none in
+    let unspent = when_none (both_spent s) CounterSpent (or_second first second free) in
+    proof_plan tools delivers c m s k draw d st rn h l
+    ∙ free_at f h.found (shown_again tools c m k (confirms_again c device l.row.key (both_spent s)))
+    (or_first first second free)
+    ∙ ap (λ b. shown_again tools c m k (confirms_again c device l.row.key b)) unspent
+
+-- and the counters aren't at their end then
+pub proof_unspent : (s : NodeState) (device : ℕ) (k : Seals) → HasNetwork s k.key k.sequence
+    → why_no_confirmation s device k ≡ None → both_spent s ≡ false
+proof_unspent s device k h none =
+    when_none (both_spent s) CounterSpent
+    (or_second (why_not_heard h.found device k.nwk) (why_not_sealed s) (sym (no_confirmation s device k h) ∙ none))
+
 pub confirmed_again : (tools : Tools) → DeliversCommands tools
     → (c m : Setting) (s : NodeState) (k : Seals) (draw : Option Bytes) → AreDeclared c m → StationsInRange c m
     → NwkInRange k → HasNetwork s k.key k.sequence → HasProved s m.me.eui k.link
@@ -235,16 +273,9 @@ unfolding after_task answer counting_of
 confirmed_again tools delivers c m s k draw d st rn h l none =
     let f = net_frame m c k in
     let device = m.me.eui in
-    let first = why_not_heard h.found device k.nwk in
-    let second = why_not_sealed s in
-    let free : or_else first second ≡ None = sym (no_confirmation s device k h) ∙ none in
-    let unspent = when_none (both_spent s) CounterSpent (or_second first second free) in
+    let unspent = proof_unspent s device k h none in
     let p = shown_again tools c m k (confirms_again c device l.row.key false) in
-    let plan : plan_of tools c s (Received (proof_bytes tools c m k) draw) ≡ p =
-    proof_plan tools delivers c m s k draw d st rn h l
-    ∙ free_at f h.found (shown_again tools c m k (confirms_again c device l.row.key (both_spent s)))
-    (or_first first second free)
-    ∙ ap (λ b. shown_again tools c m k (confirms_again c device l.row.key b)) unspent in
+    let plan = proof_freely tools delivers c m s k draw d st rn h l none in
     let u = answered (answer_by tools c s (counting_of c s p) p) s in
     let rows : bare u ≡ bare s = bare_after tools c s (counting_of c s p) p [] refl tt in
     subst (λ q. Confirms tools c m s (answered (answer_by tools c s (counting_of c s q) q) s) k

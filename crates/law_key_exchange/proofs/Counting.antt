@@ -56,7 +56,7 @@ nets_after : (v : NodeState) (a n : Term) → a.layer ≡ Aps → n.layer ≡ Nw
 unfolding after_sealing
 nets_after v a n e f = rw (e, f) refl
 
-both_go_on : (tools : Tools) (c : Setting) (s : NodeState) (k : Counting) (accepts : List Term) (place : Place)
+pub both_go_on : (tools : Tools) (c : Setting) (s : NodeState) (k : Counting) (accepts : List Term) (place : Place)
     (moves : List Move) (net : NetKey) (to : ℕ) (label : Label) (link : Bytes) (command : Command) (key : Bytes)
     (sequence : ℕ) → active_row s ≡ Some net → both_spent s ≡ false → net.key ≡ key
     → k.counter Nwk ≡ next_counter Nwk s → k.counter Aps ≡ next_counter Aps s

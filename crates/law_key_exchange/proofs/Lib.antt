@@ -16,3 +16,4 @@ pub mod Joining
 mod Cases
 pub mod Calm
 pub mod Counting
+pub mod CountingAnswers

@@ -126,10 +126,10 @@ still_offered t u centre key sequence link j e =
 
 -- ---- the proof is delivered to the centre
 
-abbrev proved_moves : ℕ → LinkKey → LinkKey → List Move
+abbrev pub proved_moves : ℕ → LinkKey → LinkKey → List Move
 proved_moves device row offer = DropLink row.partner row.key ∷ Row device offer.key Verified ∷ []
 
-abbrev confirms : Setting → ℕ → LinkKey → LinkKey → Bool → Outcome
+abbrev pub confirms : Setting → ℕ → LinkKey → LinkKey → Bool → Outcome
 confirms c device row offer true = Stop CounterSpent
 confirms c device row offer false =
     Does (proved_moves device row offer)
@@ -152,7 +152,7 @@ confirm_reason : (c : Setting) (device : ℕ) (row offer : LinkKey) (b : Bool)
 confirm_reason c device row offer true = refl
 confirm_reason c device row offer false = refl
 
-abbrev shown_to : Tools → Setting → Setting → Seals → Outcome → Plan
+abbrev pub shown_to : Tools → Setting → Setting → Seals → Outcome → Plan
 shown_to tools c m k o =
     comes_to (net_term (net_frame m c k) (clear_content tools k.nwk (VerifyKey 4 m.me.eui (verify_hash tools k.link)))
     ∷ []) AtAps o
@@ -251,6 +251,24 @@ unfolding bare
 proved_links s u p key o e = links_of u (moved_all (DropLink p o.row.key ∷ Row p o.offer.key Verified ∷ []) (bare s))
     e ∙ place_taken s p key o (is_told (dropped_first s p o.row) p)
 
+-- the plan, where nothing is in the way
+pub proved_freely : (tools : Tools) → DeliversCommands tools
+    → (c m : Setting) (s : NodeState) (k : Seals) (draw : Option Bytes) → AreDeclared c m → StationsInRange c m
+    → NwkInRange k → (h : HasNetwork s k.key k.sequence) → (o : HasOffer s m.me.eui k.link)
+    → or_else (why_not_heard h.found m.me.eui k.nwk) (why_not_sealed s) ≡ None
+    → plan_of tools c s (Received (proof_bytes tools c m k) draw)
+    ≡ shown_to tools c m k (confirms c m.me.eui o.row o.offer false)
+proved_freely tools delivers c m s k draw d st rn h o none =
+    let f = net_frame m c k in
+    let device = m.me.eui in
+    let first = why_not_heard h.found device k.nwk in
+    let second = why_not_sealed s in
+    let unspent = when_none (both_spent s) CounterSpent (or_second first second none) in
+    proved_plan tools delivers c m s k draw d st rn h o
+    ∙ free_at f h.found (shown_to tools c m k (confirms c device o.row o.offer (both_spent s)))
+    (or_first first second none)
+    ∙ ap (λ b. shown_to tools c m k (confirms c device o.row o.offer b)) unspent
+
 pub is_proved : (tools : Tools) → DeliversCommands tools
     → (c m : Setting) (s : NodeState) (k : Seals) (draw : Option Bytes) → AreDeclared c m → StationsInRange c m
     → NwkInRange k → keeps_rules s ≡ true → (h : HasNetwork s k.key k.sequence) → (o : HasOffer s m.me.eui k.link)
@@ -265,11 +283,7 @@ is_proved tools delivers c m s k draw d st rn rules h o none =
     let second = why_not_sealed s in
     let unspent = when_none (both_spent s) CounterSpent (or_second first second none) in
     let p = shown_to tools c m k (confirms c device o.row o.offer false) in
-    let plan : plan_of tools c s (Received (proof_bytes tools c m k) draw) ≡ p =
-    proved_plan tools delivers c m s k draw d st rn h o
-    ∙ free_at f h.found (shown_to tools c m k (confirms c device o.row o.offer (both_spent s)))
-    (or_first first second none)
-    ∙ ap (λ b. shown_to tools c m k (confirms c device o.row o.offer b)) unspent in
+    let plan = proved_freely tools delivers c m s k draw d st rn h o none in
     let u = answered (answer_by tools c s (counting_of c s p) p) s in
     let rows : bare u ≡ moved_all (proved_moves device o.row o.offer) (bare s) =
     bare_after tools c s (counting_of c s p) p (proved_moves device o.row o.offer) (gives s device k.link rules o)

@@ -88,7 +88,7 @@ live_still (r ∷ rs) = by_test r.live (live_still rs)
     by_test true e = ap (λ l. still_net r ∷ l) e
     by_test false e = e
 
-usable_still : (s : NodeState) (sequence : ℕ) → usable_of (quiet s) sequence ≡ option_map still_net
+pub usable_still : (s : NodeState) (sequence : ℕ) → usable_of (quiet s) sequence ≡ option_map still_net
     (usable_of s sequence)
 unfolding quiet usable_of usable_nets
 usable_still s sequence = by_may (may_use s)

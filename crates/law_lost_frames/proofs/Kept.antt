@@ -1,5 +1,5 @@
 -- What an answer leaves of the floors in memory of link rows, and of the state where the frame is stale at NWK.
-use Rattle.std.proofs.Common.{◌≡◌, ℕ, ◌+◌, ◌<◌, ◌≤◌, Bool, true, false, not, List, [], ◌∷◌, Option, Some, None, nat_eq, refl, sym, ap, ◌∙◌, subst, arith}
+use Rattle.std.proofs.Common.{◌≡◌, ℕ, ◌+◌, ◌<◌, ◌≤◌, Bool, true, false, not, List, [], ◌∷◌, find, reverse, Option, Some, None, nat_eq, refl, sym, ap, ◌∙◌, subst, arith}
 use Rattle.std.specs.List.{AllByRecursion}
 use Rattle.zb_model.specs.Answer.{Counting, accepted_all, sealed_all, aps_part, stopped_at, answer_by, counting_of, plan_of, answer, answered}
 use Rattle.zb_model.specs.Data.{Bytes, Layer, Nwk, Aps, AtNwk, Attribute, Stale, Term, Move, DropLink, Row, Live, Roll, Told, Untold, Edit, Reserve, Floor, Start, Moved, Received}
@@ -16,6 +16,7 @@ use Rattle.law_change_fits.proofs.Tests.{both}
 use Rattle.law_key_exchange.proofs.Rows.{found_test, is_current}
 use Rattle.law_recovery.specs.Answering.{after_task}
 use Rattle.law_run.proofs.FreshLines.{all-append}
+use Rattle.law_run.proofs.Judged.{all-in, found-element, in-reverse}
 use Rattle.law_lost_frames.proofs.Floors.{AllWithin, all_found, changed, if_then, mapped}
 use Rattle.law_lost_frames.proofs.Twice.{AllAps, part_begins, shown_counter, stop_leaves}
 
@@ -170,4 +171,14 @@ row_kept s device link most row is key all =
     (found_test (is_current device) s.links row is) in
     let mine = (both row.live (nat_eq row.partner device) live.0).1 in
     all_found (KeptWithin device link most) (is_current device) s.links row all is
+    (rw (mine, same_key_of row.key link key) refl)
+
+-- and the row that is tried first
+pub tried_kept : (s : NodeState) (device : ℕ) (link : Bytes) (most : ℕ) (row : LinkKey)
+    → find (is_live_of device) (reverse s.links) ≡ Some row → row.key ≡ link → AllKept device link most s.links
+    → row.kept ≤ most
+tried_kept s device link most row is key all =
+    let found = found-element (is_live_of device) (reverse s.links) row is in
+    let mine = (both row.live (nat_eq row.partner device) found.1).1 in
+    all-in (KeptWithin device link most) s.links all row (in-reverse row s.links found.0)
     (rw (mine, same_key_of row.key link key) refl)

@@ -12,7 +12,9 @@ pub mod Floors
 pub mod Rounds
 mod NetFloors
 mod Kept
+mod StaleFrames
 pub mod StaleTurns
+pub mod StaleAnswers
 mod Twice
 mod Drawing
 mod Foreseen

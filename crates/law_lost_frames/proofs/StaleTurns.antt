@@ -1,6 +1,6 @@
 -- Turns whose frames the centre refuses as stale: each uses a counter of the device, and leaves the centre's floors
 -- within a block of where it began. So they are fewer than the block.
-use Rattle.std.proofs.Common.{◌≡◌, ℕ, zero, suc, ◌+◌, ◌-◌, ◌<◌, ◌≤◌, ◌⊎◌, inl, inr, Bool, true, false, [], ◌∷◌, length, Option, Some, None, nat_lt, refl, sym, ap, ◌∙◌, subst, arith}
+use Rattle.std.proofs.Common.{◌≡◌, ℕ, zero, suc, ◌+◌, ◌-◌, ◌<◌, inl, Bool, true, false, [], ◌∷◌, length, Option, Some, None, nat_lt, refl, sym, ap, ◌∙◌, subst, arith}
 use Rattle.std.specs.Prelude.{is_none}
 use Rattle.std.proofs.lemmas.Bool.{ltb-true}
 use Rattle.zb_model.specs.Answer.{Counting, accepted_all, sealed_all, comes_to, may_seal, out_of, part_of, answer_by, counting_of, answer, answered}
@@ -14,18 +14,17 @@ use Rattle.zb_model.specs.Rules.{Setting, Clear, Does, Outcome, centre_of, found
 use Rattle.zb_model.specs.State.{NetKey, LinkKey, NodeState, active_row, applied_all, at_net, current, may_use, next_at, next_counter, offered, sender_floor, after_sealing, usable_active, usable_of}
 use Rattle.zb_model.specs.Tools.{Tools, verify_hash}
 use Rattle.law_answer_storable.specs.Storing.{OpensAsJudged}
-use Rattle.law_key_exchange.specs.CommandFrames.{DeliversCommands, IsCarried, IsUnsealed, NetFrame, sealed_content, clear_content}
+use Rattle.law_key_exchange.specs.CommandFrames.{DeliversCommands, IsCarried, IsUnsealed, sealed_content, clear_content}
 use Rattle.law_key_exchange.specs.Exchanging.{Seals, ApsInRange, NwkInRange, StationsInRange, net_frame, proof_bytes, request, request_bytes, seals_now}
 use Rattle.law_key_exchange.specs.Meeting.{AreDeclared, HasBoth, HasNetwork, IsOffered, IsSteady}
 use Rattle.law_key_exchange.specs.Obstacles.{in_row, or_else, when, why_no_offer_again, why_no_proof, why_not_heard, why_not_offered, why_not_opened, why_not_sealed}
 use Rattle.law_key_exchange.proofs.Again.{again_refused, confirm_again_refused}
 use Rattle.law_key_exchange.proofs.Calm.{sealed_next}
 use Rattle.law_key_exchange.proofs.Counting.{GoesOn, request_counts}
-use Rattle.law_key_exchange.proofs.Judged.{IsHeard, when_none}
+use Rattle.law_key_exchange.proofs.Judged.{when_none}
 use Rattle.law_key_exchange.proofs.Laws.{confirm_refused, found_link, found_net, no_confirmation, no_offer, offer_refused, shows_again, three}
 use Rattle.law_key_exchange.proofs.Requesting.{heard_up, net_range, timer_answer}
 use Rattle.law_key_exchange.proofs.Rows.{may_use_of}
-use Rattle.law_key_exchange.proofs.Steady.{steady_after}
 use Rattle.law_recovery.specs.Answering.{after_task}
 use Rattle.law_recovery.proofs.Asking.{by_outcome}
 use Rattle.law_recovery_runs.specs.Fronts.{Front}
@@ -37,40 +36,14 @@ use Rattle.law_lost_frames.specs.Stages.{Keys, HaveCome, asked_bytes, device_sea
 use Rattle.law_lost_frames.specs.Rounds.{CameFrom}
 use Rattle.law_lost_frames.specs.Stale.{AreStale, CameFromDevice, IsStale, after_stale}
 use Rattle.law_lost_frames.specs.Turns.{Far, Asking, Offering, Proving, Proved, Done}
-use Rattle.law_lost_frames.specs.Twice.{Hears}
 use Rattle.law_lost_frames.proofs.Floors.{links_within}
-use Rattle.law_lost_frames.proofs.Kept.{AllKept, heard_links, kept_from, row_kept, stale_leaves}
+use Rattle.law_lost_frames.proofs.Kept.{AllKept, kept_from, row_kept, stale_leaves}
 use Rattle.law_lost_frames.proofs.NetFloors.{sender_within}
 use Rattle.law_lost_frames.proofs.Sending.{HasSent, KeysFit, device_sends}
+use Rattle.law_lost_frames.proofs.StaleFrames.{Floors, Late, fewer_by, late_so, left_by_nwk, next_is, no_more, turned_down}
 use Rattle.law_lost_frames.proofs.Turning.{refused_turn}
-use Rattle.law_lost_frames.proofs.Twice.{floor_over, heard_frame, shown_counter}
 
 -- ---- why a frame is stale
-
--- at NWK; or it passes there, and is stale at APS
-abbrev Late : NetKey → LinkKey → ℕ → ℕ → ℕ → Type 0
-Late net row source nwk aps =
-    (nat_lt nwk (sender_floor source net).kept ≡ true)
-    ⊎ ((why_not_heard net source nwk ≡ None) × (nat_lt aps row.kept ≡ true))
-
-late_so : (net : NetKey) (row : LinkKey) (source nwk aps v : ℕ) (rest : Option Reason) → (rest ≡ Some (Stale v) → ⊥)
-    → or_else (why_not_heard net source nwk) (or_else (why_not_opened row aps) rest) ≡ Some (Stale v)
-    → Late net row source nwk aps
-unfolding why_not_heard why_not_opened
-late_so net row source nwk aps v rest other e =
-    by_tests (nat_lt nwk (sender_floor source net).kept) (senders_full source nwk net) (nat_lt aps row.kept) e
-  where
-    floor : ℕ
-    floor = (sender_floor source net).kept
-
-    by_tests : (a b t : Bool)
-        → or_else (or_else (when a (Stale floor)) (when b RowsFull)) (or_else (when t (Stale row.kept)) rest)
-        ≡ Some (Stale v)
-        → (a ≡ true) ⊎ ((or_else (when a (Stale floor)) (when b RowsFull) ≡ None) × (t ≡ true))
-    by_tests true b t f = inl refl
-    by_tests false true t f = absurd (cc)
-    by_tests false false true f = inr (refl, refl)
-    by_tests false false false f = absurd (other f)
 
 late_proof : (net : NetKey) (source nwk v : ℕ) (rest : Option Reason) → (rest ≡ Some (Stale v) → ⊥)
     → or_else (why_not_heard net source nwk) rest ≡ Some (Stale v)
@@ -170,14 +143,7 @@ proof_counts tools c m t key sequence link d j none =
     j.network.is_active free j.network.active_key refl
     (subst (λ a. HasNetwork (answered a t) key sequence) is (shows_again tools c m t key sequence link d j).network))
 
--- ---- what a stale frame leaves of the centre's floors
-
-record Floors (u : NodeState) (device : ℕ) (key : Bytes) (sequence most : ℕ) : Type 0 where
-  floor : (h : HasNetwork u key sequence) → (sender_floor device h.found).kept ≤ most
-
-left_by_nwk : (s u : NodeState) (device : ℕ) (key : Bytes) (sequence most : ℕ) → u ≡ s
-    → Floors s device key sequence most → Floors u device key sequence most
-left_by_nwk s u device key sequence most e f = subst (λ z. Floors z device key sequence most) (sym e) f
+-- ---- what a stale frame leaves of the centre
 
 carried_request : (tools : Tools) → DeliversCommands tools → (cs m : Setting) (g : Seals) → StationsInRange cs m
     → NwkInRange g → ApsInRange g → IsCarried tools (net_frame m cs g) (sealed_content tools (request m g))
@@ -190,71 +156,6 @@ unsealed_request : (tools : Tools) → DeliversCommands tools → (cs m : Settin
 unsealed_request tools delivers cs m g st ra =
     delivers.unsealed (request m g)
     (record { link = ra.link; source = st.device; counter = ra.counter; command = tt })
-
-counter_shown : (tools : Tools) (m : Setting) (g : Seals) → IsUnsealed tools (request m g)
-    → shown_counter (tools.read_aps (sealed_content tools (request m g))) ≡ g.aps
-counter_shown tools m g u = rw (u.reads, u.sealed) refl
-
-record Requested (u : NodeState) (device : ℕ) (key : Bytes) (sequence : ℕ) (link : Bytes) (nwk aps : ℕ) : Type 0 where
-  floors : Floors u device key sequence nwk
-  links : AllKept device link aps u.links
-
-requested : (tools : Tools) → DeliversCommands tools → OpensAsJudged tools → (cs m : Setting) (s : NodeState)
-    (g : Seals) (row : LinkKey) (draw : Option Bytes) (nwk aps : ℕ) → AreDeclared cs m → StationsInRange cs m
-    → NwkInRange g → ApsInRange g → IsSteady cs s → (h : HasNetwork s g.key g.sequence)
-    → current s m.me.eui ≡ Some row → Late h.found row m.me.eui g.nwk g.aps → g.nwk + 1 ≤ nwk → g.aps < aps
-    → Floors s m.me.eui g.key g.sequence nwk → AllKept m.me.eui g.link aps s.links
-    → Requested (after_task tools cs s (Received (request_bytes tools cs m g) draw)) m.me.eui g.key g.sequence g.link
-    nwk aps
-requested tools delivers opens cs m s g row draw nwk aps d st rn ra i h here late low_nwk low_aps floors links =
-    by_late late
-  where
-    f : NetFrame
-    f = net_frame m cs g
-
-    content : Bytes
-    content = sealed_content tools (request m g)
-
-    u : NodeState
-    u = after_task tools cs s (Received (request_bytes tools cs m g) draw)
-
-    up : IsHeard cs s f h.found
-    up = heard_up cs m s g row d h here rn.counter
-
-    a : IsCarried tools f content
-    a = carried_request tools delivers cs m g st rn ra
-
-    over : why_not_heard h.found m.me.eui g.nwk ≡ None → Floors u m.me.eui g.key g.sequence nwk
-    over free = record {
-      floor = λ now.
-          let hears : Hears cs s f = record {
-            to = up.to;
-            apart = up.apart;
-            small = up.small;
-            declared = up.declared;
-            member = up.member;
-            network = h;
-            free = found_net s g m.me.eui h.found h.is_found ∙ free;
-          } in
-          let steady = steady_after tools opens cs s (Received (request_bytes tools cs m g) draw) d.centre_block i in
-          let kept = floor_over u g.key g.sequence m.me.eui (g.nwk + 1) steady.rules now
-          (heard_frame tools opens cs s f content draw a hears) in
-          omega (arith, kept, low_nwk);
-    }
-
-    by_late : Late h.found row m.me.eui g.nwk g.aps → Requested u m.me.eui g.key g.sequence g.link nwk aps
-    by_late (inl e) =
-        let same : u ≡ s = stale_leaves tools cs s f content h.found draw a up e in
-        record {
-          floors = left_by_nwk s u m.me.eui g.key g.sequence nwk same floors;
-          links = subst (λ z. AllKept m.me.eui g.link aps z.links) (sym same) links;
-        }
-    by_late (inr e) = record {
-      floors = over e.0;
-      links = heard_links tools opens cs s f content h.found draw a up e.0 m.me.eui g.link aps
-          (subst (λ n. n < aps) (sym (counter_shown tools m g (unsealed_request tools delivers cs m g st ra))) low_aps)
-          links;
-    }
 
 -- a proof that is stale leaves the centre as it was
 proved_stale : (tools : Tools) → DeliversCommands tools → (cs m : Setting) (s : NodeState) (g : Seals) (row : LinkKey)
@@ -340,22 +241,6 @@ stays_as_far tools opens w c d k far (suc n) x fit h all =
 
 -- ---- one turn
 
--- a counter below a floor that is less than a block above the first one
-fewer_by : (counter first turns floor block : ℕ) → counter < floor → counter ≡ first + turns
-    → floor ≤ first + (block - 1) → turns + 1 < block
-fewer_by counter first turns floor block late is most = omega (arith, late, is, most)
-
-next_is : (before now first turns : ℕ) → now ≡ before + 1 → before ≡ first + turns → now ≡ first + (turns + 1)
-next_is before now first turns e f = omega (arith, e, f)
-
-low_nwk : (counter first turns block : ℕ) → counter ≡ first + turns → turns + 1 < block
-    → counter + 1 ≤ first + (block - 1)
-low_nwk counter first turns block is less = omega (arith, is, less)
-
-low_aps : (counter first turns block : ℕ) → counter ≡ first + turns → turns + 1 < block
-    → counter < first + (block - 1)
-low_aps counter first turns block is less = omega (arith, is, less)
-
 -- a turn whose request is stale
 record RequestNext (w : Schedule) (c d : ℕ) (k : Keys) (t s : NodeState) (nwk aps turns : ℕ) : Type 0 where
   less : turns + 1 < (setting_of w c).me.in_block
@@ -379,29 +264,20 @@ request_next : (tools : Tools) → DeliversCommands tools → OpensAsJudged tool
     nwk aps turns
 request_next tools delivers opens w c d k t u s row draw nwk aps turns declared st rn ra i h here key late is_nwk is_aps
     goes floors links =
-    let block = (setting_of w c).me.in_block in
+    let cs = setting_of w c in
+    let m = setting_of w d in
     let g = seals_now t k.network k.sequence k.link in
-    let less : turns + 1 < block = by_late late in
-    let r = requested tools delivers opens (setting_of w c) (setting_of w d) s g row draw (nwk + (block - 1))
-    (aps + (block - 1)) declared st rn ra i h here late (low_nwk (next_counter Nwk t) nwk turns block is_nwk less)
-    (low_aps (next_counter Aps t) aps turns block is_aps less) floors links in
+    let low = row_kept s (eui_of w d) k.link (aps + (cs.me.in_block - 1)) row here key links in
+    let r = turned_down tools opens cs s (net_frame m cs g) (request m g) row draw nwk aps turns declared.centre_block
+    i (carried_request tools delivers cs m g st rn ra) (unsealed_request tools delivers cs m g st ra) h
+    (heard_up cs m s g row declared h here rn.counter) late is_nwk is_aps floors links low in
     record {
-      less = less;
+      less = r.less;
       nwk_is = next_is (next_counter Nwk t) (next_counter Nwk u) nwk turns goes.nwk is_nwk;
       aps_is = next_is (next_counter Aps t) (next_counter Aps u) aps turns goes.aps is_aps;
       floors = r.floors;
       links = r.links;
     }
-  where
-    by_late : Late h.found row (eui_of w d) (next_counter Nwk t) (next_counter Aps t)
-        → turns + 1 < (setting_of w c).me.in_block
-    by_late (inl e) =
-        fewer_by (next_counter Nwk t) nwk turns (sender_floor (eui_of w d) h.found).kept (setting_of w c).me.in_block
-        (ltb-true (next_counter Nwk t) (sender_floor (eui_of w d) h.found).kept e) is_nwk (floors.floor h)
-    by_late (inr e) =
-        fewer_by (next_counter Aps t) aps turns row.kept (setting_of w c).me.in_block
-        (ltb-true (next_counter Aps t) row.kept e.1) is_aps
-        (row_kept s (eui_of w d) k.link (aps + ((setting_of w c).me.in_block - 1)) row here key links)
 
 record Next (tools : Tools) (w : Schedule) (x : Front) (c d : ℕ) (k : Keys) (far : Far) (nwk aps turns : ℕ) : Type 0
   where
@@ -641,9 +517,6 @@ came_links : (w : Schedule) (x : Front) (c d : ℕ) (k : Keys) → CameFrom Aps 
 came_links w x c d k came =
     kept_from (eui_of w d) k.link (next_counter Aps (state_of x.lines d) + ((setting_of w c).me.in_block - 1))
     (state_of x.lines c).links (links_within w x d c k.link came)
-
-no_more : (n : ℕ) → n ≡ n + 0
-no_more n = omega arith
 
 begins : (w : Schedule) (x : Front) (c d : ℕ) (k : Keys) (far : Far) → HaveCome w x c d k far
     → CameFromDevice far w x c d k

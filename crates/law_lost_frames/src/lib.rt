@@ -9,10 +9,11 @@ ghost use Rattle.law_answer_storable.specs.Storing.{OpensAsJudged};
 ghost use Rattle.law_key_exchange.specs.CommandFrames.{DeliversCommands, IsCarried, NetFrame};
 ghost use Rattle.law_key_exchange.specs.Meeting.{HasNetwork, IsSteady};
 ghost use Rattle.law_lost_frames.specs.Rounds.{CameFrom, CameFromCentre, RejoinsLater, after_rounds};
-ghost use Rattle.law_lost_frames.specs.Stale.{AreStale, CameFromDevice, after_stale};
+ghost use Rattle.law_lost_frames.specs.Stale.{AreAnswersStale, AreStale, CameFromDevice, CameFromTheCentre};
+ghost use Rattle.law_lost_frames.specs.Stale.{after_stale, after_stale_answers};
 ghost use Rattle.law_lost_frames.specs.Stages.{AreFree, HaveCome, IsFree, Keys, Sends};
 ghost use Rattle.law_lost_frames.specs.Stages.{asked_bytes, centre_seals, device_seals, told_bytes};
-ghost use Rattle.law_lost_frames.specs.Stops.{AreInOrder, ComesToCentre, Happening, HaveKept, IsInOrder};
+ghost use Rattle.law_lost_frames.specs.Stops.{AreInOrder, ComesToCentre, Happening, HaveKept, IsAnswered, IsInOrder};
 ghost use Rattle.law_lost_frames.specs.Stops.{after_happening, after_happenings, heard_answer, kept_far};
 ghost use Rattle.law_lost_frames.specs.Stops.{kept_far_all};
 ghost use Rattle.law_lost_frames.specs.Turns.{Answered, Asking, Done, Far, Loses, Turn, after_turn, after_turns};
@@ -147,6 +148,21 @@ pub fn stale_turns_are_fewer_than_a_block()
     ensures stays { (tools : Tools) → OpensAsJudged tools → (w : Schedule) (x : Front) (c d : ℕ) (k : Keys)
         (far : Far) (n : ℕ) → KeysInRange k.network k.sequence k.link → length k.drawn ≡ 16 → HaveCome w x c d k far
         → AreStale tools w c d k far n x → HaveCome w (after_stale tools w c d n x) c d k far }
+{}
+
+/// States that turns whose answers the device refuses as stale are fewer than its incoming block.
+///
+/// All that it accepted of the centre came from the centre. Where the centre answered before, the two have come as far
+/// then as before, so the next answer that isn't stale leads on.
+pub fn stale_answers_are_fewer_than_a_block()
+    ensures fewer { (tools : Tools) → DeliversCommands tools → OpensAsJudged tools → (w : Schedule) (x : Front)
+        (c d : ℕ) (k : Keys) (far : Far) (n : ℕ) → KeysInRange k.network k.sequence k.link → length k.drawn ≡ 16
+        → 1 ≤ (setting_of w d).me.in_block → HaveCome w x c d k far → CameFromTheCentre far w x c d k
+        → AreAnswersStale tools w c d k far n x → n < (setting_of w d).me.in_block }
+    ensures stays { (tools : Tools) → DeliversCommands tools → OpensAsJudged tools → (w : Schedule) (x : Front)
+        (c d : ℕ) (k : Keys) (far : Far) (n : ℕ) → KeysInRange k.network k.sequence k.link → length k.drawn ≡ 16
+        → HaveCome w x c d k far → IsAnswered far → AreAnswersStale tools w c d k far n x
+        → HaveCome w (after_stale_answers tools w c d n x) c d k far }
 {}
 
 /// States that a floor is less than a block above its sender's next counter, where nobody forged.

@@ -1,4 +1,4 @@
-use Rattle.std.proofs.Common.{ℕ, ◌<◌, subst}
+use Rattle.std.proofs.Common.{◌<◌, subst}
 use Rattle.zb_model.specs.Play.{setting_of}
 use Rattle.law_lost_frames.proofs.Floors.{floor_at_most}
 use Rattle.law_lost_frames.proofs.Rounds.{rounds_end}
