@@ -10,13 +10,14 @@ use Rattle.zb_model.specs.Readings.{state_of}
 use Rattle.zb_model.specs.Tools.{Tools}
 use Rattle.law_lost_frames.specs.Rounds.{CameFromCentre, RejoinsLater, after_rounds}
 use Rattle.law_lost_frames.specs.Stages.{AreFree, HaveCome, Keys}
-use Rattle.law_lost_frames.specs.Stale.{AreStale, CameFromDevice}
+use Rattle.law_lost_frames.specs.Stale.{AreAnswersStale, AreStale, CameFromDevice, CameFromTheCentre}
 use Rattle.law_lost_frames.specs.Stops.{AreInOrder, Happening, Timer, Hearing, Taking, Repelling, Idle, after_happening, after_happenings, kept_far_all}
 use Rattle.law_lost_frames.specs.Turns.{Far, Asking, Done, Turn, Unheard, Unanswered, Answered, Refused, Elsewhere, after_turn, after_turns, far_after_all, turn_events}
 use Rattle.law_lost_frames.proofs.Floors.{floor_at_most}
 use Rattle.law_lost_frames.proofs.Halting.{happenings_confirm}
 use Rattle.law_lost_frames.proofs.Rounds.{rounds_end}
 use Rattle.law_lost_frames.proofs.Sending.{KeysFit}
+use Rattle.law_lost_frames.proofs.StaleAnswers.{stale_answers_are_fewer}
 use Rattle.law_lost_frames.proofs.StaleTurns.{stale_turns_are_fewer}
 use Rattle.law_lost_frames.proofs.Turning.{turns_confirm}
 use Rattle.law_real_nodes.proofs.Euis.{different}
@@ -233,6 +234,17 @@ rounds_bounded p is before c d n may came =
 
 -- ---- turns that are stale
 
+gone_so_far : (p : sched.Schedule) → IsSchedule p → (before : List Event) (c d : ℕ) (k : Keys) (far : Far)
+    → MayGoOn (schedule_of p) (after_events real (schedule_of p) (first_front (schedule_of p)) before) c d k far
+    → HaveCome (schedule_of p) (after_events real (schedule_of p) (first_front (schedule_of p)) before) c d k far
+gone_so_far p is before c d k far may = record {
+  met = met_at p is before c d may.centre_named may.device_named may.centre_role may.device_role may.centre_ready
+      may.device_ready;
+  network = may.network;
+  device = may.device;
+  centre = may.centre;
+}
+
 pub stale_turns_bounded : (p : sched.Schedule) → IsSchedule p → (before : List Event) (c d : ℕ) (k : Keys) (far : Far)
     (n : ℕ)
     → MayGoOn (schedule_of p) (after_events real (schedule_of p) (first_front (schedule_of p)) before) c d k far
@@ -243,12 +255,20 @@ pub stale_turns_bounded : (p : sched.Schedule) → IsSchedule p → (before : Li
 stale_turns_bounded p is before c d k far n may came all =
     let w = schedule_of p in
     let x = after_events real w (first_front w) before in
-    let come : HaveCome w x c d k far = record {
-      met = met_at p is before c d may.centre_named may.device_named may.centre_role may.device_role may.centre_ready
-          may.device_ready;
-      network = may.network;
-      device = may.device;
-      centre = may.centre;
-    } in
     stale_turns_are_fewer real delivers_commands opens_as_judged w c d k far n x
-    (record { range = may.in_range; drawn = may.drawn }) come came all
+    (record { range = may.in_range; drawn = may.drawn }) (gone_so_far p is before c d k far may) came all
+
+pub stale_answers_bounded : (p : sched.Schedule) → IsSchedule p → (before : List Event) (c d : ℕ) (k : Keys)
+    (far : Far) (n : ℕ)
+    → MayGoOn (schedule_of p) (after_events real (schedule_of p) (first_front (schedule_of p)) before) c d k far
+    → CameFromTheCentre far (schedule_of p) (after_events real (schedule_of p) (first_front (schedule_of p)) before) c
+    d k
+    → AreAnswersStale real (schedule_of p) c d k far n
+    (after_events real (schedule_of p) (first_front (schedule_of p)) before)
+    → n < (setting_of (schedule_of p) d).me.in_block
+stale_answers_bounded p is before c d k far n may came all =
+    let w = schedule_of p in
+    let x = after_events real w (first_front w) before in
+    stale_answers_are_fewer real delivers_commands opens_as_judged w c d k far n x
+    (record { range = may.in_range; drawn = may.drawn }) (some_block p is d may.device_named)
+    (gone_so_far p is before c d k far may) came all

@@ -6,7 +6,7 @@ ghost use Rattle.std.specs.Prelude.{◌≡◌, ◌<◌, ℕ, suc, ◌++◌, true
 ghost use Rattle.law_key_exchange.specs.CommandFrames.{DeliversCommands};
 ghost use Rattle.law_lost_frames.specs.Rounds.{CameFromCentre};
 ghost use Rattle.law_lost_frames.specs.Stages.{AreFree, Keys};
-ghost use Rattle.law_lost_frames.specs.Stale.{AreStale, CameFromDevice};
+ghost use Rattle.law_lost_frames.specs.Stale.{AreAnswersStale, AreStale, CameFromDevice, CameFromTheCentre};
 ghost use Rattle.law_lost_frames.specs.Stops.{AreInOrder, Happening, kept_far_all};
 ghost use Rattle.law_lost_frames.specs.Turns.{Asking, Done, Far, Turn, far_after_all};
 ghost use Rattle.law_recovery.specs.KeyFrames.{DeliversKeys};
@@ -202,16 +202,23 @@ pub fn stale_rounds_end_in_each_schedule()
         → n < (setting_of (schedule_of p) d).me.in_block }
 {}
 
-/// States that stale turns are fewer than the centre's incoming block in each schedule's run.
+/// States that stale turns are fewer than the incoming block of who refuses them, in each schedule's run.
 ///
-/// After any events the two are at any stage of an exchange of link keys, and the centre refuses the device's frame as
-/// stale, turn by turn. All that the centre accepted of the device came from it.
+/// After any events the two are at any stage of an exchange of link keys. Turn by turn the centre refuses the device's
+/// frame as stale, or the device the centre's answer. All that the one accepted of the other came from it.
 pub fn stale_turns_are_fewer_in_each_schedule()
-    ensures { (p : Schedule) → IsSchedule p → (before : List Event) (c d : ℕ) (k : Keys) (far : Far) (n : ℕ)
+    ensures at_centre { (p : Schedule) → IsSchedule p → (before : List Event) (c d : ℕ) (k : Keys) (far : Far) (n : ℕ)
         → MayGoOn (schedule_of p) (after_events real (schedule_of p) (first_front (schedule_of p)) before) c d k far
         → CameFromDevice far (schedule_of p)
         (after_events real (schedule_of p) (first_front (schedule_of p)) before) c d k
         → AreStale real (schedule_of p) c d k far n
         (after_events real (schedule_of p) (first_front (schedule_of p)) before)
         → n < (setting_of (schedule_of p) c).me.in_block }
+    ensures at_device { (p : Schedule) → IsSchedule p → (before : List Event) (c d : ℕ) (k : Keys) (far : Far) (n : ℕ)
+        → MayGoOn (schedule_of p) (after_events real (schedule_of p) (first_front (schedule_of p)) before) c d k far
+        → CameFromTheCentre far (schedule_of p)
+        (after_events real (schedule_of p) (first_front (schedule_of p)) before) c d k
+        → AreAnswersStale real (schedule_of p) c d k far n
+        (after_events real (schedule_of p) (first_front (schedule_of p)) before)
+        → n < (setting_of (schedule_of p) d).me.in_block }
 {}
