@@ -1,5 +1,5 @@
--- Turns of an exchange of link keys whose frames the centre or the device refuses as stale, as after a boot of it, which
--- leaves its floors above what it accepted.
+-- Turns of an exchange of link keys whose frames the centre or the device refuses as stale, as after a boot of it,
+-- which leaves its floors above what it accepted.
 use Rattle.std.specs.Prelude.{ℕ, zero, suc, ◌≡◌, ◌+◌, false, length, Some, ⊤}
 use Rattle.zb_model.specs.Answer.{answer}
 use Rattle.zb_model.specs.Data.{Bytes, Nwk, Aps, Received, Stale}
