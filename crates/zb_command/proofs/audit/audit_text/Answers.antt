@@ -11,18 +11,6 @@ loop-rest-init c =
     let short : length c.args.text.now < 4294967296 = search rules in
     (begun c.args.text.now c.in_ok-auditor.auditor (c.in_ok-auditor.ensures real), omega arith, short)
 
-pub loop-rest-preserved-in_ok-line-2 : goal.loop-rest-preserved-in_ok-line-2
-loop-rest-preserved-in_ok-line-2 c =
-    let f : IsProper c.take_into.new.line × (c.loop-rest.rest.now ≡ text c.take_into.new.line ++ c.in-Some.after.now) =
-    search rules in
-    let bound : c.loop-rest.count + length c.loop-rest.rest.now ≤ length c.args.text.now = c.loop-rest.invariant.1 in
-    let less : length c.in-Some.after.now < length c.loop-rest.rest.now = search rules in (
-      taken c.args.text.now c.loop-rest.rest.now c.in-Some.after.now c.loop-rest.count c.loop-rest.auditor
-          c.line.new.self c.take_into.new.line c.loop-rest.invariant.0 f.0 f.1 c.in_ok-line-2.ensures,
-      omega arith,
-      c.loop-rest.invariant.2,
-    )
-
 pub loop-rest-preserved : goal.loop-rest-preserved
 loop-rest-preserved c =
     let f : IsProper c.take_into.new.line × (c.loop-rest.rest.now ≡ text c.take_into.new.line ++ c.in-Some.after.now) =
@@ -30,7 +18,7 @@ loop-rest-preserved c =
     let bound : c.loop-rest.count + length c.loop-rest.rest.now ≤ length c.args.text.now = c.loop-rest.invariant.1 in
     let less : length c.in-Some.after.now < length c.loop-rest.rest.now = search rules in (
       taken c.args.text.now c.loop-rest.rest.now c.in-Some.after.now c.loop-rest.count c.loop-rest.auditor
-          c.line.new.self c.take_into.new.line c.loop-rest.invariant.0 f.0 f.1 c.in_ok-line-2.ensures,
+          c.line.new.self c.take_into.new.line c.loop-rest.invariant.0 f.0 f.1 c.in_ok-line.ensures,
       omega arith,
       c.loop-rest.invariant.2,
     )
@@ -50,7 +38,7 @@ returns-in-Err-Broken-clause-fault c =
     c.in-Err-Broken.field-0 c.in-Err-Broken.line c.in-Err-Broken.clause
     c.in-Err-Broken.is c.in-Err-Broken.field-0-is (c.end.ensures real s.lines s.stands) none
 
-pub returns-in_err-line-2-clause-fault : goal.returns-in_err-line-2-clause-fault
-returns-in_err-line-2-clause-fault c =
-    let p = err_from_is_err_and c.from_residual-in_err-line-2.result c.from_residual-in_err-line-2.ensures.1 in
+pub returns-in_err-line-clause-fault : goal.returns-in_err-line-clause-fault
+returns-in_err-line-clause-fault c =
+    let p = err_from_is_err_and c.from_residual-in_err-line.result c.from_residual-in_err-line.ensures.1 in
     rw (p.1, p.2) tt
