@@ -23,6 +23,7 @@ use Rattle.zb_armed_host.specs.declared.fall.Fall.{Fall}
 use Rattle.zb_armed_host.specs.declared.fall.Fall.TheVariants.{Stopped, Failed}
 use Rattle.zb_armed_host.specs.declared.fall.Fallen.{Fallen}
 use Rattle.zb_armed_host.specs.Arms.{IsArming, IsUnarmed, arming_on, falls_within, commit_of, calls_after, fallen_calls}
+use Rattle.zb_base.specs.Sizes.{last_generation}
 
 -- what the laws on calls have of a core, over a disk in memory
 abbrev pub memory_words : {C : Type 0} → Restoring → (C → List ℕ) → (List Change → List ℕ) → Words C Medium
@@ -77,7 +78,7 @@ pub record IsUp {C : Type 0} (words : Words C Medium) (s : Standing) (a : Armed)
   pub current : IsCurrent words.restored words.recorded s host (memory_view m)
   pub unarmed : IsUnarmed m
   pub arming : IsArming a
-  pub lasting : s.generation < 18446744073709551615
+  pub lasting : s.generation < last_generation
 
 -- An event on which nothing fell: the host is up, its changes stand, and so many device calls were made.
 pub record WasHandled {C : Type 0} (words : Words C Medium) (s : Standing) (a : Armed) (before : Hosted C)

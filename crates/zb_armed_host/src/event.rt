@@ -14,8 +14,8 @@ use zb_host::{Core, Host, Plan};
 /// Handles an event of a node that is up, over its disk, with what is armed on that.
 ///
 /// It writes the changes and what goes out into `plan`. Where what was armed falls, or the disk fails otherwise, the
-/// host is down, the power of the disk is back, and nothing of it is armed; `plan` then has the changes that were to be
-/// stored, and nothing that goes out.
+/// host is down, the power of the disk is back, and nothing of it is armed; `plan` then has the changes that were to
+/// be stored, and nothing that goes out.
 ///
 /// # Errors
 /// How it fell, and whether the changes are stored.

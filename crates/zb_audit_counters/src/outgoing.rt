@@ -1,7 +1,7 @@
 //! An outgoing counter: that of the APS layer, or of a network key.
 ghost use Rattle.std.specs.Prelude.{◌≡◌, ◌+◌, ◌≤◌, ℕ, Some, None, min};
 ghost use Rattle.std.specs.Option.{option_map};
-ghost use Rattle.zb_audit_counters.specs.Counting.{ahead, start_value};
+ghost use Rattle.zb_audit_counters.specs.Counting.{ahead, greatest, start_value};
 ghost use Rattle.zb_audit_counters.specs.Standing.{fresh_outgoing, limit_by, next_by, reserves_by, seals_by, since, before_of};
 
 use crate::versioned::Versioned;
@@ -55,7 +55,7 @@ impl Outgoing {
     /// Returns the stored limit before a group.
     fn limit(&self, at: Moment) -> u64
         ensures value { result ≡ limit_by self.now at.group at.declared }
-        ensures in_range { result ≤ 4294967296 }
+        ensures in_range { result ≤ greatest + 1 }
     {
         match self.limit.before(at.group) {
             Some(limit) => widened(limit),
@@ -66,7 +66,7 @@ impl Outgoing {
     /// Returns the next counter before a group.
     pub fn next(&self, at: Moment) -> u64
         ensures value { result ≡ next_by self.now at.group at.boot at.declared }
-        ensures in_range { result ≤ 4294967296 }
+        ensures in_range { result ≤ greatest + 1 }
     {
         match self.since(at) {
             Some(counter) => one_more(counter),
@@ -114,21 +114,21 @@ impl Sealed {
 
 fn widened(counter: u32) -> u64
     ensures value { result ≡ counter }
-    ensures in_range { result ≤ 4294967296 }
+    ensures in_range { result ≤ greatest + 1 }
 {
     u64::from(counter)
 }
 
 fn one_more(counter: u32) -> u64
     ensures value { result ≡ counter + 1 }
-    ensures in_range { result ≤ 4294967296 }
+    ensures in_range { result ≤ greatest + 1 }
 {
     u64::from(counter) + 1
 }
 
 /// Returns the limit or floor that is a block ahead of a counter.
 pub fn ahead(counter: u64, block: u32) -> u64
-    requires { counter ≤ 4294967296 }
+    requires { counter ≤ greatest + 1 }
     ensures { result ≡ ahead counter block }
 {
     (counter + u64::from(block)).min(GREATEST)

@@ -5,6 +5,7 @@ use Rattle.zb_base.specs.declared.node.Config.{Config}
 use Rattle.zb_base.specs.declared.node.Peer.{Peer}
 use Rattle.zb_base.specs.declared.node.Role.{Role}
 use Rattle.zb_base.specs.declared.node.Role.TheVariants.{Centre, Router, Device}
+use Rattle.zb_base.specs.Limits.{most_out_block, most_in_block}
 
 -- no two items have the same reading
 abbrev pub ApartBy : {T V : Type 0} → (T → V) → List T → Type 0
@@ -26,6 +27,6 @@ pub record IsConfig (config : Config) : Type 0 where
   pub one_centre : count_by (λ (peer : Peer). is_centre peer.role) config.peers.items ≡ 1
   pub place : config.me < length config.peers.items
   pub out_least : 1 ≤ config.out_block
-  pub out_most : config.out_block ≤ 65536
+  pub out_most : config.out_block ≤ most_out_block
   pub in_least : 1 ≤ config.in_block
-  pub in_most : config.in_block ≤ 1024
+  pub in_most : config.in_block ≤ most_in_block

@@ -1,4 +1,4 @@
--- The sizes of what a disk keeps: a record, and the journal entries after it.
+-- The sizes of a disk and of what it keeps: a record, and the journal entries after it.
 use Rattle.std.specs.Prelude.{ℕ}
 
 -- the greatest number of bytes of a record
@@ -16,3 +16,15 @@ entries_room = 32
 -- the greatest number of bytes of all entries after a record, each with three bytes before its payload
 abbrev pub payloads_room : ℕ
 payloads_room = 15488
+
+-- the number of bytes of a disk: two slots
+abbrev pub disk_size : ℕ
+disk_size = 131072
+
+-- the number of bytes of a slot
+abbrev pub slot_size : ℕ
+slot_size = 65536
+
+-- the last generation of a slot, 2^64 - 1: no record is written after it
+abbrev pub last_generation : ℕ
+last_generation = 18446744073709551615

@@ -16,6 +16,7 @@ use Rattle.zb_install.specs.declared.code_error.CodeError.{CodeError}
 use Rattle.zb_text.specs.Fields.{eui_of, short_of, key_of}
 use Rattle.zb_text.specs.Hexadecimal.{bytes_of}
 use Rattle.zb_text.specs.Words.{words, field, nothing}
+use Rattle.zb_base.specs.Limits.{most_frames}
 
 -- one step and then what depends on it
 infixl 10 ◌>>=◌
@@ -102,7 +103,7 @@ with_addr c (Some addr) =
 abbrev pub with_frame : Capture → Option (ArrayVec ℕ) → Result Capture CaptureCause
 with_frame c None = Err Syntax
 with_frame c (Some frame) =
-    if nat_lt (length c.frames) 100000 then Ok (record c { frames = c.frames ++ frame ∷ [] }) else Err TooMany
+    if nat_lt (length c.frames) most_frames then Ok (record c { frames = c.frames ++ frame ∷ [] }) else Err TooMany
 
 abbrev pub with_words : Capture → List (List ℕ) → Result Capture CaptureCause
 with_words c [] = Err Syntax
@@ -140,4 +141,4 @@ captured bytes = with_lines 1 empty (lines bytes)
 -- the limits of a capture
 pub record IsCapture (c : Capture) : Type 0 where
   pub keys : length c.keys ≤ 256
-  pub frames : length c.frames ≤ 100000
+  pub frames : length c.frames ≤ most_frames

@@ -3,6 +3,7 @@ use Rattle.std.specs.Prelude.{ℕ, ◌+◌, ◌-◌, ◌≤◌, ◌<◌, ◌≡�
 use Rattle.zb_disk.specs.declared.memory.Extent.{Extent}
 use Rattle.zb_disk.specs.declared.memory.MemDisk.TheInside.{Inside}
 use Rattle.zb_disk.specs.Memory.{Medium, patch}
+use Rattle.zb_base.specs.Sizes.{disk_size, slot_size}
 
 -- the flags of all bytes of a disk of a size: those of a window from a place on, and lowered ones around it
 unfoldable pub flags_around : ℕ → List Bool → ℕ → List Bool
@@ -14,7 +15,7 @@ IsOutside at end k = (k < at) ⊎ (end ≤ k)
 
 -- a place beyond what was written since the disk was made new
 abbrev pub IsBeyond : Extent → ℕ → Type 0
-IsBeyond e k = (e.low ≤ k) × IsOutside 65536 e.high k
+IsBeyond e k = (e.low ≤ k) × IsOutside slot_size e.high k
 
 abbrev pub medium_of : Inside → Medium
 medium_of d = record {
@@ -32,10 +33,10 @@ pub record IsMemDisk (d : Inside) : Type 0 where
   pub order : d.from ≤ d.to
   pub last : d.to ≤ d.len
   pub within : d.len ≤ vec_len d.bytes
-  pub size : vec_len d.bytes ≤ 131072
+  pub size : vec_len d.bytes ≤ disk_size
   pub grown : d.grown ≤ d.len
   -- after what is read, and beyond what was written, all is 00
   pub behind : (k : ℕ) → d.len ≤ k → get_or d.bytes.items k 0 ≡ 0
   pub beyond : (k : ℕ) → IsBeyond d.extent k → get_or d.bytes.items k 0 ≡ 0
-  pub room : 131072 ≤ vec_capacity d.bytes
-  pub room_flags : 131072 ≤ vec_capacity d.written
+  pub room : disk_size ≤ vec_capacity d.bytes
+  pub room_flags : disk_size ≤ vec_capacity d.written

@@ -2,6 +2,7 @@
 use Rattle.std.specs.Prelude.{◌≤◌, ◌≡◌, length, reverse, vec_capacity}
 use Rattle.zb_disk.specs.declared.trail.TrailDisk.TheInside.{Inside}
 use Rattle.zb_disk.specs.Trail.{Trail, replayed, steps_of, total}
+use Rattle.zb_base.specs.Sizes.{disk_size}
 
 abbrev pub trail_of : Inside → Trail
 trail_of d = record {
@@ -17,6 +18,6 @@ trail_of d = record {
 pub record IsTrail (d : Inside) : Type 0 where
   pub now : d.bytes.items ≡ replayed d.start.items (reverse (steps_of d.log.items d.pool.items))
   pub whole : total d.log.items ≡ length d.pool.items
-  pub room : 131072 ≤ vec_capacity d.bytes
+  pub room : disk_size ≤ vec_capacity d.bytes
   pub log_room : d.calls_room ≤ vec_capacity d.log
   pub pool_room : d.bytes_room ≤ vec_capacity d.pool

@@ -2,6 +2,7 @@
 ghost use Rattle.std.specs.Prelude.{◌≡◌, ◌+◌, ◌≤◌, ℕ, List, length, IsTrue, OnOk, IfOk};
 ghost use Rattle.zb_disk.specs.View.{Telling, View, window};
 ghost use Rattle.zb_disk.specs.Calls.{IsRead, IsWrite, IsSync};
+ghost use Rattle.zb_base.specs.Sizes.{disk_size};
 
 use zb_base::Failed;
 
@@ -36,7 +37,7 @@ pub trait Disk {
     /// Writes a range, and lengthens the disk where needed. A failed write leaves its range open to any bytes.
     /// Requires that the range ends within 131,072 bytes.
     fn write(&mut self, at: u64, bytes: &[u8]) -> Result<(), Failed>
-        requires { at + length bytes.now ≤ 131072 }
+        requires { at + length bytes.now ≤ disk_size }
         ensures { IsWrite tells at bytes.now (state self.old) (state self.new) result };
 
     /// Makes what reads now the only image. A failed sync changes no image.

@@ -6,6 +6,7 @@ ghost use Rattle.zb_disk.specs.Calls.{IsRead, IsWrite, IsSync};
 ghost use Rattle.zb_disk.specs.Memory.{Medium, patch, refuses, after_call, is_stopped, armed, tear, torn_by, counted, stored, synced, will_refuse, after_read, after_write, after_sync, powered, fresh, memory_tells, memory_view};
 ghost use Rattle.zb_disk.specs.MemoryInside.{flags_around, IsBeyond, IsOutside};
 ghost use Rattle.zb_disk.specs.MemoryLaws.{image_seen};
+ghost use Rattle.zb_base.specs.Sizes.{disk_size};
 
 use crate::Disk;
 use crate::flags::{add, overlay, put};
@@ -137,7 +138,7 @@ impl MemDisk {
     /// # Errors
     /// `NoMemory`.
     pub fn new(alloc: Global, bytes: &[u8]) -> Result<MemDisk, NoMemory>
-        requires { length bytes.now ≤ 131072 }
+        requires { length bytes.now ≤ disk_size }
         ensures { IfOk result (λ d. d ≡ fresh bytes.now) }
     {
         let mut content = Vec::with_capacity(alloc, SIZE)?;
@@ -197,7 +198,7 @@ impl MemDisk {
         }
     }
 
-    /// Returns whether the disk is going to refuse a write or a sync: what was armed hasn't fallen, or the disk is off.
+    /// Returns whether the disk will refuse a write or a sync: what was armed hasn't fallen, or the disk is off.
     pub fn will_refuse(&self) -> bool
         ensures { result ≡ will_refuse self.now.arming }
     {
@@ -299,7 +300,7 @@ impl MemDisk {
     // Writes a piece.
     #[tactic(auto, unfolding(crate::specs::Memory::stored))]
     fn store(&mut self, start: usize, piece: &[u8])
-        requires { start + length piece.now ≤ 131072 }
+        requires { start + length piece.now ≤ disk_size }
         ensures { self.new ≡ stored self.old start piece.now }
     {
         let end = start + piece.len();
@@ -359,7 +360,7 @@ impl Disk for MemDisk {
     }
 
     fn write(&mut self, at: u64, bytes: &[u8]) -> Result<(), Failed>
-        requires { at + length bytes.now ≤ 131072 }
+        requires { at + length bytes.now ≤ disk_size }
         ensures write { IsWrite memory_tells at bytes.now (memory_view self.old) (memory_view self.new) result }
         ensures after { self.new ≡ after_write self.old at bytes.now }
     {

@@ -4,6 +4,7 @@ ghost use Rattle.zb_disk.specs.View.{window};
 ghost use Rattle.zb_disk.specs.Calls.{IsRead, IsWrite, IsSync};
 ghost use Rattle.zb_disk.specs.Trail.{replayed, has_room, refused, kept_write, kept_sync, fresh_trail, after_write, after_sync, trail_tells, trail_view};
 ghost use Rattle.zb_disk.specs.TrailLaws.{left_now, trail_counts_now, trail_only_now};
+ghost use Rattle.zb_base.specs.Sizes.{disk_size};
 
 use crate::Disk;
 use crate::flags::put;
@@ -56,7 +57,7 @@ impl TrailDisk {
     /// # Errors
     /// `NoMemory`.
     pub fn new(alloc: Global, bytes: &[u8], calls: u32, room: u32) -> Result<TrailDisk, NoMemory>
-        requires { length bytes.now ≤ 131072 }
+        requires { length bytes.now ≤ disk_size }
         ensures { IfOk result (λ d. d ≡ fresh_trail bytes.now calls room) }
     {
         let mut content = Vec::with_capacity(alloc, 131_072)?;
@@ -92,7 +93,7 @@ impl TrailDisk {
 
     // Whether there is room for one more call, which writes so many bytes.
     fn has_room(&self, len: usize) -> bool
-        requires { len ≤ 131072 }
+        requires { len ≤ disk_size }
         ensures { result ≡ has_room self.now len }
     {
         fits(
@@ -107,7 +108,7 @@ impl TrailDisk {
     // Writes a piece, for which there is room.
     #[tactic(auto, unfolding(crate::specs::Trail::kept_write))]
     fn keep_write(&mut self, start: usize, piece: &[u8])
-        requires fits { start + length piece.now ≤ 131072 }
+        requires fits { start + length piece.now ≤ disk_size }
         requires calls { length self.old.steps < self.old.calls_room }
         requires bytes { self.old.taken + length piece.now ≤ self.old.bytes_room }
         ensures { self.new ≡ kept_write self.old start piece.now }
@@ -167,7 +168,7 @@ impl Disk for TrailDisk {
 
     // It is refused exactly where there is no room.
     fn write(&mut self, at: u64, bytes: &[u8]) -> Result<(), Failed>
-        requires { at + length bytes.now ≤ 131072 }
+        requires { at + length bytes.now ≤ disk_size }
         ensures write { IsWrite trail_tells at bytes.now (trail_view self.old) (trail_view self.new) result }
         ensures room { is_err result ≡ not (has_room self.old (length bytes.now)) }
         ensures after { self.new ≡ after_write self.old at bytes.now }
@@ -197,7 +198,7 @@ impl Disk for TrailDisk {
 // Whether one more call fits, and its bytes.
 fn fits(calls: usize, calls_room: u32, taken: usize, len: usize, bytes_room: u32) -> bool
     requires some { taken < 2 ^ 63 }
-    requires small { len ≤ 131072 }
+    requires small { len ≤ disk_size }
     ensures { result ≡ (nat_lt calls calls_room && nat_le (taken + len) bytes_room) }
 {
     calls < calls_room as usize && taken + len <= bytes_room as usize

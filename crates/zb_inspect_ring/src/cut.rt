@@ -30,7 +30,7 @@ pub(crate) fn cut(alloc: Global, frames: u32, jobs: u32) -> Result<Vec<Piece>, N
 
 /// Makes a piece of each share.
 fn unseen_pieces(alloc: Global, shares: Vec<Share>) -> Result<Vec<Piece>, NoMemory>
-    requires { AllByRecursion (IsShareWithin 100000) shares.items }
+    requires { AllByRecursion (IsShareWithin most_frames) shares.items }
     ensures { IfOk result (λ v. AllZip HasShare shares.items v.items) }
 {
     let mut pieces = Vec::with_capacity(alloc, shares.len())?;
@@ -42,7 +42,7 @@ fn unseen_pieces(alloc: Global, shares: Vec<Share>) -> Result<Vec<Piece>, NoMemo
 
 /// Makes a piece of a share: one block, whose frames were not looked at yet.
 fn unseen(alloc: Global, share: Share) -> Result<Piece, NoMemory>
-    requires { IsShareWithin 100000 share }
+    requires { IsShareWithin most_frames share }
     ensures { IfOk result (λ piece. HasShare share piece) }
 {
     let mut blocks = Vec::new(alloc);

@@ -14,6 +14,7 @@ use Rattle.zb_pcap.specs.declared.header.Form.{Form}
 use Rattle.zb_pcap.specs.declared.mac.Mac.{Mac}
 use Rattle.zb_pcap.specs.declared.mac.Mac.TheVariants.{Payload, BadCheck, Other}
 use Rattle.zb_pcap.specs.declared.packets.Packet.{Packet}
+use Rattle.zb_base.specs.Limits.{most_frames}
 
 -- a packet as a record of its file
 abbrev pub record_in : Packet → Record
@@ -63,7 +64,7 @@ extract_packets keys check (Ok packets) = Ok (extract_of keys check packets)
 
 abbrev pub extract_form : List Key → List ℕ → Result Form PcapCause → Result Extraction PcapError
 extract_form keys bytes (Err cause) = Err (fault_at 0 cause)
-extract_form keys bytes (Ok form) = extract_packets keys form.check (records 100000 1 form.order (drop 24 bytes))
+extract_form keys bytes (Ok form) = extract_packets keys form.check (records most_frames 1 form.order (drop 24 bytes))
 
 -- What a capture file gives under some keys, or its first fault. At most 100,000 records are taken.
 unfoldable pub extracted : List Key → List ℕ → Result Extraction PcapError

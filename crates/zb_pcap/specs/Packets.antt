@@ -5,6 +5,7 @@ use Rattle.zb_pcap.specs.declared.fault.PcapCause.{PcapCause}
 use Rattle.zb_pcap.specs.declared.fault.PcapError.{PcapError}
 use Rattle.zb_pcap.specs.declared.header.Form.{Form}
 use Rattle.zb_pcap.specs.declared.pcap.Pcap.{Pcap}
+use Rattle.zb_base.specs.Limits.{most_frames}
 
 -- the kept bytes of each packet, and whether it was cut when it was caught
 abbrev pub kept_of : List Record → List (List ℕ)
@@ -22,7 +23,7 @@ held_packets check (Ok packets) = Ok (held check packets)
 
 abbrev pub held_form : List ℕ → Result Form PcapCause → Result Pcap PcapError
 held_form bytes (Err cause) = Err (fault_at 0 cause)
-held_form bytes (Ok form) = held_packets form.check (records 100000 1 form.order (drop 24 bytes))
+held_form bytes (Ok form) = held_packets form.check (records most_frames 1 form.order (drop 24 bytes))
 
 -- What a capture file holds, or its first fault. At most 100,000 records are taken.
 unfoldable pub pcap_in : List ℕ → Result Pcap PcapError

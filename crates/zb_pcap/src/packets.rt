@@ -24,7 +24,7 @@ pub(crate) fn read_packets<'a>(
     order: Order,
     bytes: &'a [u8],
 ) -> Result<Vec<Packet<'a>>, OrMemory<PcapError>>
-    ensures exact { Answers (λ v. map record_in v.items) result (records 100000 1 order bytes.now) }
+    ensures exact { Answers (λ v. map record_in v.items) result (records most_frames 1 order bytes.now) }
     ensures few { IfOk result (λ v. vec_len v ≤ most_frames) }
 {
     let mut packets = Vec::new(alloc);

@@ -16,6 +16,7 @@ use Rattle.zb_script.specs.declared.error.ScriptCause.{ScriptCause}
 use Rattle.zb_script.specs.declared.error.ScriptCause.TheVariants.{Syntax, DuplicateNode, Block, UnknownNode, BadCode, Backup as NoBackup, TooMany}
 use Rattle.zb_script.specs.declared.script.Order.{Order}
 use Rattle.zb_script.specs.declared.script.Order.TheVariants.{Init, Provision, Remove, List as ListAll, Backup, Restore}
+use Rattle.zb_base.specs.Limits.{most_steps}
 
 -- ---- nodes: first the centre, then its peers, before all commands
 
@@ -54,7 +55,7 @@ after_peer s name role eui short =
 
 -- one step more, of at most 10,000
 abbrev pub with_order : ℕ → Order → Script → Result Script ScriptCause
-with_order line order s = if nat_le 10000 (length s.steps) then Err TooMany
+with_order line order s = if nat_le most_steps (length s.steps) then Err TooMany
     else Ok (record s { steps = s.steps ++ record { line = line; order = order } ∷ [] })
 
 -- the EUI of the router or device of that name

@@ -13,6 +13,7 @@ use Rattle.zb_script.specs.declared.script.Order.{Order}
 use Rattle.zb_script.specs.declared.script.Order.TheVariants.{Init, Provision, Remove, List as ListAll, Backup, Restore}
 use Rattle.zb_script.specs.declared.script.Step.{Step}
 use Rattle.zb_script.specs.declared.script.Script.{Script as Read}
+use Rattle.zb_base.specs.Limits.{most_steps}
 
 -- a node of the network
 pub record Station : Type 0 where
@@ -47,5 +48,5 @@ pub record IsScript (script : Read) : Type 0 where
   pub config : IsConfig script.config
   pub me : script.config.me ≡ 0
   pub centre : IsOfRole model.Centre script.config
-  pub few : length script.steps ≤ 10000
+  pub few : length script.steps ≤ most_steps
   pub steps : AllByRecursion IsStep script.steps

@@ -8,6 +8,7 @@ use Rattle.zb_script.specs.Grammar.{is_joiner}
 use Rattle.zb_script.specs.Judge.{has_centre}
 use Rattle.zb_script.specs.Said.{Sentence, Quiet, Founds, Introduces, Begins, Provisions, Removes, Lists, BacksUp, Restores}
 use Rattle.zb_script.specs.Scripts.{Station, Script, IsStep}
+use Rattle.zb_base.specs.Limits.{most_steps}
 
 -- the centre stands first, and the others are routers and devices
 abbrev pub AreLed : List Station → Type 0
@@ -20,7 +21,7 @@ pub record IsSoFar (s : Script) : Type 0 where
   pub shorts : ApartBy (λ (station : Station). station.short) s.stations
   pub led : AreLed s.stations
   pub blocks : has_centre s ≡ true → are_blocks s.out_block s.in_block ≡ true
-  pub few : length s.steps ≤ 10000
+  pub few : length s.steps ≤ most_steps
   pub steps : AllByRecursion IsStep s.steps
 
 -- a peer is a router or a device

@@ -7,6 +7,7 @@ ghost use Rattle.zb_model.specs.Rules.{acts_as_router, centre_of, from_centre, i
 ghost use Rattle.zb_model.specs.State.{is_centre};
 ghost use Rattle.zb_node_types.specs.Changes.{model_role};
 ghost use Rattle.zb_setting.specs.Settings.{setting_for};
+ghost use Rattle.zb_base.specs.Limits.{most_out_block, most_in_block};
 
 use crate::peers;
 use std::alloc::{AllocError, Global};
@@ -28,6 +29,7 @@ pub struct Network {
 impl Model for Network {
     ghost use Rattle.std.specs.Prelude.{◌≡◌, ◌≤◌, map};
     ghost use Rattle.zb_model.specs.Rules.{Setting, centre_of};
+    ghost use Rattle.zb_base.specs.Limits.{most_out_block, most_in_block};
     ghost use Rattle.zb_setting.specs.Settings.{known, station};
 
     ghost Value = { Setting };
@@ -38,8 +40,8 @@ impl Model for Network {
     } };
 
     ghost invariant = { λ network. (network.centre.0 ≡ centre_of (map known network.peers.items))
-        × (1 ≤ network.out_block) × (network.out_block ≤ 65536) × (1 ≤ network.in_block)
-        × (network.in_block ≤ 1024) };
+        × (1 ≤ network.out_block) × (network.out_block ≤ most_out_block) × (1 ≤ network.in_block)
+        × (network.in_block ≤ most_in_block) };
 }
 
 impl Network {
@@ -100,7 +102,7 @@ impl Network {
     pub fn out_block(&self) -> u32
         ensures value { result ≡ self.now.me.out_block }
         ensures least { 1 ≤ result }
-        ensures most { result ≤ 65536 }
+        ensures most { result ≤ most_out_block }
     {
         self.out_block
     }
@@ -109,7 +111,7 @@ impl Network {
     pub fn in_block(&self) -> u32
         ensures value { result ≡ self.now.me.in_block }
         ensures least { 1 ≤ result }
-        ensures most { result ≤ 1024 }
+        ensures most { result ≤ most_in_block }
     {
         self.in_block
     }

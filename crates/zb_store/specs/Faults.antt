@@ -4,7 +4,7 @@ use Rattle.zb_base.specs.Outside.{Rose, Unrisen}
 use Rattle.zb_disk.specs.View.{Telling, View, IsStill}
 use Rattle.zb_store.specs.declared.fault.StoreFault.{StoreFault}
 use Rattle.zb_store.specs.declared.fault.StoreFault.TheVariants.{Disk, NoRecord, TooLarge, NoMemory, Worn}
-use Rattle.zb_base.specs.Sizes.{record_room, payload_room}
+use Rattle.zb_base.specs.Sizes.{record_room, payload_room, last_generation}
 use Rattle.zb_store.specs.Layout.{stands}
 use Rattle.zb_store.specs.Store.{Place}
 
@@ -24,7 +24,7 @@ IsPutFault store content old new NoRecord = ⊥
 IsPutFault store content old new (TooLarge len) = (len ≡ length content) × (record_room < length content)
     × Unrisen old.faults new.faults
 IsPutFault store content old new NoMemory = ⊥
-IsPutFault store content old new Worn = (length content ≤ record_room) × (store.generation ≡ 18446744073709551615)
+IsPutFault store content old new Worn = (length content ≤ record_room) × (store.generation ≡ last_generation)
     × Unrisen old.faults new.faults
 
 -- of `format`: the disk, too large a record, or out of memory

@@ -1,6 +1,6 @@
 -- What the bytes of a disk represent: a record with the entries after it, in one of two slots.
 use Rattle.std.specs.Prelude.{ℕ, ◌+◌, ◌≤◌, ◌<◌, ◌≡◌, ◌≢◌, ◌==◌, ◌&&◌, ◌++◌, List, [], ◌∷◌, length, get_or, take, drop, Option, Some, None, Bool, true, false, not, zero, suc, nat_le, nat_lt, if◌then◌else◌}
-use Rattle.zb_base.specs.Sizes.{record_room, payload_room, entries_room}
+use Rattle.zb_base.specs.Sizes.{record_room, payload_room, entries_room, slot_size}
 use Rattle.std.specs.Int.{from_le_bytes, to_le_bytes, w16, w32, w64}
 
 -- the byte that opens a slot or an entry
@@ -10,12 +10,12 @@ open_gate = 165
 -- the second slot begins here
 abbrev pub base_of : Bool → ℕ
 base_of false = 0
-base_of true = 65536
+base_of true = slot_size
 
 -- the bytes of a slot; the flag tells whether it is the second
 unfoldable pub slot : Bool → List ℕ → List ℕ
-slot false bytes = take 65536 bytes
-slot true bytes = drop 65536 bytes
+slot false bytes = take slot_size bytes
+slot true bytes = drop slot_size bytes
 
 -- what an open slot holds: its generation, its record, and the bytes after the record
 pub record Opened : Type 0 where

@@ -4,6 +4,7 @@ ghost use Rattle.zb_store.specs.Layout.{base_of};
 ghost use Rattle.zb_store.specs.Sizes.{body_room};
 ghost use Rattle.zb_store.specs.Steps.{IsPlaced, IsGated};
 ghost use Rattle.zb_store.specs.Store.{IsReplaced, IsSettled, IsLaidOut};
+ghost use Rattle.zb_base.specs.Sizes.{disk_size};
 
 use zb_base::Failed;
 use zb_disk::Disk;
@@ -23,7 +24,7 @@ pub(crate) fn base(second: bool) -> u64
 
 /// Writes a range and makes it last.
 pub(crate) fn write_synced<D: Disk>(disk: &mut D, at: u64, bytes: &[u8]) -> Result<(), Failed>
-    requires { at + length bytes.now ≤ 131072 }
+    requires { at + length bytes.now ≤ disk_size }
     ensures { IsPlaced D.tells at bytes.now (D.state disk.old) (D.state disk.new) result }
 {
     disk.write(at, bytes)?;
@@ -32,7 +33,7 @@ pub(crate) fn write_synced<D: Disk>(disk: &mut D, at: u64, bytes: &[u8]) -> Resu
 
 /// Writes a range after a closed gate, and then opens the gate.
 pub(crate) fn write_gated<D: Disk>(disk: &mut D, gate: u64, bytes: &[u8]) -> Result<(), Failed>
-    requires { gate + 1 + length bytes.now ≤ 131072 }
+    requires { gate + 1 + length bytes.now ≤ disk_size }
     ensures { IsGated D.tells gate bytes.now (D.state disk.old) (D.state disk.new) result }
 {
     write_synced(disk, gate + 1, bytes)?;

@@ -7,7 +7,7 @@ ghost use Rattle.zb_base.specs.Outside.{HasCause};
 ghost use Rattle.zb_disk.specs.Calls.{IsRead};
 ghost use Rattle.zb_store.specs.Layout.{Standing, slot, stands, entry_of, payloads_of, extent};
 ghost use Rattle.zb_store.specs.Reading.{IsHeaderOf, opens, chosen, IsFoundIn, IsReadIn, IsBehind, size_at, AreCounted};
-ghost use Rattle.zb_base.specs.Sizes.{record_room, payload_room, entries_room, payloads_room};
+ghost use Rattle.zb_base.specs.Sizes.{record_room, payload_room, entries_room, payloads_room, disk_size};
 ghost use Rattle.zb_store.specs.Sizes.{body_room};
 ghost use Rattle.zb_store.specs.Faults.{OnlyReads, IsBytesFault, IsReadFault, IsStandingFault};
 
@@ -147,7 +147,7 @@ pub(crate) fn count_entries<D: Disk>(
     start: u64,
     room: u64,
 ) -> Result<(u32, u64), Failed>
-    requires { start ≤ 131072 }
+    requires { start ≤ disk_size }
     ensures still { IsStill (D.state disk.old) (D.state disk.new) }
     ensures cause { HasCause (D.state disk.old).faults (D.state disk.new).faults result }
     ensures refusal { OnErr result (IsTrue D.tells.refusals → (D.state disk.old).off 0 ≡ true) }

@@ -4,7 +4,7 @@ ghost use Rattle.zb_disk.specs.View.{IsStill, LeavesOnly};
 ghost use Rattle.zb_base.specs.Outside.{Unrisen};
 ghost use Rattle.zb_store.specs.Layout.{Standing, stands};
 ghost use Rattle.zb_store.specs.Reading.{AreCounted, AreContents};
-ghost use Rattle.zb_base.specs.Sizes.{record_room, payload_room, entries_room, payloads_room};
+ghost use Rattle.zb_base.specs.Sizes.{record_room, payload_room, entries_room, payloads_room, last_generation};
 ghost use Rattle.zb_store.specs.Steps.{WentThrough, WasAsked};
 ghost use Rattle.zb_store.specs.Store.{IsReady, IsWholeEither, appended, replaced, formatted, open_calls, IsAnswer, AllWhole, WasThere, AppendStop, PutStop, OpenStop, FormatStop};
 ghost use Rattle.zb_store.specs.Faults.{OnlyReads, IsSpared, IsAppendFault, IsPutFault, IsFormatFault, IsReadFault, IsStandingFault};
@@ -122,7 +122,7 @@ impl Store {
         // Too large a record, and the last generation, are refused before any device call.
         ensures too_large { record_room < length content.now
             → result ≡ Err (StoreFault.TooLarge (length content.now)) }
-        ensures worn { length content.now ≤ record_room → self.generation ≡ 18446744073709551615
+        ensures worn { length content.now ≤ record_room → self.generation ≡ last_generation
             → result ≡ Err StoreFault.Worn }
         ensures untouched { IsSpared result (D.state disk.old) (D.state disk.new) }
         ensures faults { IfErr result (IsPutFault self content.now (D.state disk.old) (D.state disk.new)) }
