@@ -1,6 +1,9 @@
 -- The first place of a byte, as it is searched for.
-use Rattle.std.proofs.Common.{◌≡◌, ℕ, ◌<◌, ◌==◌, List, length, Bool, true, false, cond, Option, Some, None, refl, arith, ap, sym, ◌∙◌, nat_lt}
+use Rattle.std.proofs.Common.{◌≡◌, ℕ, ◌<◌, ◌==◌, List, ◌+◌, ◌≤◌, length, get_or, not, zero-add, Bool, true, false, cond, Option, Some, None, refl, arith, ap, sym, ◌∙◌, nat_lt}
 use Rattle.std.specs.Prelude.{position}
+use Rattle.std.specs.List.{prefix_len}
+use Rattle.std.specs.Simd.Lanes.{chunk}
+use Rattle.std.proofs.lemmas.Simd.{run_in_chunk_fails, run_in_chunk_stops}
 use Rattle.std.proofs.lemmas.Bool.Decides.{nat_tests}
 use Rattle.std.proofs.lemmas.List.Sums.{position_or_len_is}
 use Rattle.memchr.specs.Find.{IsFirstByte, is_byte}
@@ -29,3 +32,15 @@ first_place c xs (Some k) h =
     let here = position_or_len_is (λ b. b == c) xs k 0 (omega (arith, h.0.high))
     (λ j before. not_true _ (h.0.before j (omega arith) before)) (λ within. h.1) in
     sym (ap (place_of n) here ∙ ap (λ (b : Bool). cond b (Some k) None) (is_less k n h.0.high))
+
+-- a place among the first 16 is the first of all
+pub near_place : (c : ℕ) (xs : List ℕ) (k : ℕ) → 0 + 16 ≤ length xs
+    → k ≡ prefix_len (λ b. not (b == c)) (chunk 0 16 xs) → k < 16 → Some k ≡ position (λ b. b == c) xs
+near_place c xs k room counted few =
+    let n = length xs in
+    let within : k < n = omega (arith, room, few) in
+    let here = position_or_len_is (λ b. b == c) xs k 0 (omega (arith, within))
+    (λ j before. run_in_chunk_fails (λ b. b == c) xs 0 16 k 0 room counted j (omega arith) (omega (arith, before)))
+    (λ inside. sym (ap (λ (m : ℕ). get_or xs m 0 == c) (zero-add k))
+    ∙ run_in_chunk_stops (λ b. b == c) xs 0 16 k 0 room counted few) in
+    sym (ap (place_of n) here ∙ ap (λ (b : Bool). cond b (Some k) None) (is_less k n within))

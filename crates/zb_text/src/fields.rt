@@ -6,7 +6,7 @@ ghost use Rattle.hex.specs.Hex.{encode_upper, IsBytes};
 ghost use Rattle.zb_text.specs.Fields.{is_name_byte, is_name, name_of, eui_of, eui_text, short_of, short_text, key_of};
 ghost use Rattle.zb_text.specs.Words.{Shows};
 
-use crate::hexadecimal::{fixed, put_digits};
+use crate::hexadecimal::{fixed, put_block};
 use std::alloc::AllocError;
 use zb_base::{Eui, Key, Name, Short};
 
@@ -68,7 +68,7 @@ pub fn key(word: &[u8]) -> Option<Key>
 pub fn put_eui(out: &mut Vec<u8>, eui: Eui) -> Result<(), AllocError>
     ensures { OnOk result (out.new.items ≡ out.old.items ++ eui_text eui.0) }
 {
-    put_digits(out, &eui.0.to_be_bytes())?;
+    put_block(out, &eui.0.to_be_bytes())?;
     Ok(())
 }
 
@@ -76,7 +76,7 @@ pub fn put_eui(out: &mut Vec<u8>, eui: Eui) -> Result<(), AllocError>
 pub fn put_short(out: &mut Vec<u8>, short: Short) -> Result<(), AllocError>
     ensures { OnOk result (out.new.items ≡ out.old.items ++ short_text short.0) }
 {
-    put_digits(out, &short.0.to_be_bytes())?;
+    put_block(out, &short.0.to_be_bytes())?;
     Ok(())
 }
 
@@ -84,6 +84,6 @@ pub fn put_short(out: &mut Vec<u8>, short: Short) -> Result<(), AllocError>
 pub fn put_key(out: &mut Vec<u8>, key: &Key) -> Result<(), AllocError>
     ensures { OnOk result (out.new.items ≡ out.old.items ++ encode_upper key.now.0) }
 {
-    put_digits(out, &key.0)?;
+    put_block(out, &key.0)?;
     Ok(())
 }

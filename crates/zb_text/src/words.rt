@@ -1,10 +1,13 @@
 //! The words of a line.
 
-ghost use Rattle.std.specs.Prelude.{◌≡◌, ◌==◌, ◌<◌, [], ◌∷◌, length, position, IfSome, MatchOption};
+ghost use Rattle.std.specs.Prelude.{◌≡◌, ◌==◌, ◌+◌, ◌<◌, ◌≤◌, [], ◌∷◌, length, not, position, Some, IfSome, MatchOption};
+ghost use Rattle.std.specs.List.{prefix_len};
+ghost use Rattle.std.specs.Simd.Lanes.{chunk};
 ghost use Rattle.zb_text.specs.Words.{parts};
 
 use crate::{choices, fields, hexadecimal, numbers};
 use arrayvec::ArrayVec;
+use std::simd::prelude::*;
 use zb_base::{Attribute, Eui, Key, Label, Layer, Name, Place, Role, Rollover, Short, State};
 
 /// Reads the words of one line, from the first to the last.
@@ -192,6 +195,7 @@ impl<'a> Words<'a> {
 }
 
 /// What stands before the first of some byte, and what stands after it; None where there is no such byte.
+#[inline(always)]
 #[tactic(auto, using(crate::proofs::Cuts::cut_none, crate::proofs::Cuts::cut_some))]
 pub(crate) fn cut(text: &[u8], separator: u8) -> Option<(&[u8], &[u8])>
     ensures parts { MatchOption result (parts separator text.now ≡ text.now ∷ [])
@@ -203,9 +207,41 @@ pub(crate) fn cut(text: &[u8], separator: u8) -> Option<(&[u8], &[u8])>
     Some((front, &rest[1..]))
 }
 
+/// Returns the first place of a byte.
+#[inline(never)]
 #[tactic(auto, using(crate::proofs::Places::first_place))]
-fn place(text: &[u8], separator: u8) -> Option<usize>
-    ensures { result ≡ position (λ byte. byte == separator) text.now }
+fn place(text: &[u8], byte: u8) -> Option<usize>
+    ensures { result ≡ position (λ other. other == byte) text.now }
 {
-    memchr::memchr(separator, text)
+    match near_place(text, byte) {
+        Some(at) => Some(at),
+        None => memchr::memchr(byte, text),
+    }
+}
+
+/// Returns the first place of a byte if it is among the first 16, as most words end there.
+#[tactic(auto, using(crate::proofs::Places::near_place))]
+fn near_place(text: &[u8], byte: u8) -> Option<usize>
+    ensures { IfSome result (λ at. Some at ≡ position (λ other. other == byte) text.now) }
+{
+    if text.len() < 16 {
+        return None;
+    }
+    let before = others_before(text, 0, byte);
+    if before < 16 { Some(before) } else { None }
+}
+
+/// Returns how many of the 16 bytes at a place come before the first that is some byte: all 16 where none is.
+fn others_before(text: &[u8], at: usize, byte: u8) -> usize
+    requires { at + 16 ≤ length text.now }
+    ensures { result ≡ prefix_len (λ other. not (other == byte)) (chunk at 16 text.now) }
+{
+    let hits = u8x16::from_slice(&text[at..])
+        .simd_eq(u8x16::splat(byte))
+        .to_bitmask();
+    if hits == 0 {
+        16
+    } else {
+        hits.trailing_zeros() as usize
+    }
 }
