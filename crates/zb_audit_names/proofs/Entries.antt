@@ -2,13 +2,15 @@
 use Rattle.std.proofs.Common.{◌≡◌, ℕ, ◌+◌, Bool, true, false, not, ◌&&◌, ◌||◌, cond, List, [], ◌∷◌, ◌++◌, length, length-append, Option, Some, None, refl, ap, sym, subst, ◌∙◌, bytes_eq, arith}
 use Rattle.std.specs.BTreeMap.{BTreeMap, get, is_at, btree_map_len}
 use Rattle.std.specs.List.{find}
+use Rattle.std.specs.Prelude.{Vec}
+use Rattle.std.proofs.lemmas.List.Elements.{All-nil, All-same, All-weaker}
 use Rattle.std.specs.Option.{option_map, option_or, is_some}
-use Rattle.std.specs.Ordering.{nat_cmp}
 use Rattle.std.specs.Cmp.Lexicographic.{texts_ties}
 use Rattle.std.specs.Prelude.{if◌then◌else◌}
 use Rattle.std.proofs.lemmas.List.Folds.{find-append}
 use Rattle.std.proofs.lemmas.List.Sums.{fold-append}
 use Rattle.std.specs.Prelude.{Result, Ok, Err, OnOk, IfOk, IfSome}
+use Rattle.std.specs.Global.{Global}
 use Rattle.zb_base.specs.declared.address.Eui.{Eui}
 use Rattle.zb_base.specs.declared.address.Short.{Short}
 use Rattle.zb_base.specs.declared.node.Role.{Role}
@@ -19,7 +21,7 @@ use Rattle.zb_model.specs.Data.{Bytes, Station}
 use Rattle.zb_model.specs.State.{is_centre}
 use Rattle.zb_node_types.specs.Changes.{model_role}
 use Rattle.zb_audit_names.specs.Naming.{centre_name, declared_in, declares, eui_of, is_centres, is_name, named_by, names_in, or_added, or_new, place_in, station_named, with_name, with_station}
-use Rattle.zb_audit_names.specs.Standing.{name_cmp, IsEntry, IsKnown, IsStation, Stands, Tells}
+use Rattle.zb_audit_names.specs.Standing.{name_cmp, AreKnown, IsEntry, IsKnown, IsStation, Stands, Tells}
 use Rattle.zb_audit_names.specs.declared.directory.Directory.{Directory}
 use Rattle.zb_audit_names.specs.declared.directory.Known.{Known}
 use Rattle.zb_audit_names.specs.declared.node.Node.{Node}
@@ -27,14 +29,14 @@ use Rattle.zb_audit_names.specs.declared.node.Who.{Who}
 use Rattle.zb_audit_names.proofs.Places.{apart, itself, place_end, place_kept, same_bytes}
 
 -- nothing was looked up
-none_known : (looked_up : BTreeMap ℕ Known) → looked_up.entries ≡ [] → (names : List Bytes) (known : List Station)
-    (number : ℕ) → IsKnown (get nat_cmp looked_up number) names known
-none_known looked_up none names known number =
-    let nobody : get nat_cmp looked_up number ≡ None = rw none refl in
-    subst (λ (o : Option Known). IsKnown o names known) (sym nobody) tt
+none_known : (looked_up : List (Option Known)) → looked_up ≡ [] → (names : List Bytes) (known : List Station)
+    → AreKnown looked_up names known
+none_known looked_up none names known =
+    All-same (λ (o : Option Known). IsKnown o names known) looked_up [] none
+    (All-nil (λ (o : Option Known). IsKnown o names known))
 
-pub stands_for_none : (names : BTreeMap ArrayString Who) (looked_up : BTreeMap ℕ Known) → names.entries ≡ []
-    → looked_up.entries ≡ []
+pub stands_for_none : (names : BTreeMap ArrayString Who) (looked_up : Vec (Option Known) Global) → names.entries ≡ []
+    → looked_up.items ≡ []
     → Stands (record { names = names; has_centre = false; looked_up = looked_up }) [] []
 unfolding place_in station_named centre_name
 stands_for_none names looked_up none nothing_yet = record {
@@ -42,7 +44,7 @@ stands_for_none names looked_up none nothing_yet = record {
   count = rw none refl;
   centre = refl;
   silent = λ name new. refl;
-  looked_up = none_known looked_up nothing_yet [] [];
+  looked_up = none_known looked_up.items nothing_yet [] [];
 }
 
 nothing : {A B : Type 0} (f : A → B) (o : Option A) → None ≡ option_map f o → o ≡ None
@@ -61,6 +63,11 @@ told_on who names later known name told = record {
   in_block = told.in_block;
   centre = told.centre;
 }
+
+known_on : (o : Option Known) (names later : List Bytes) (known : List Station) → IsKnown o names known
+    → IsKnown o (names ++ later) known
+known_on None names later known told = tt
+known_on (Some k) names later known told = (told_on k.who names later known k.name.bytes told.0, told.1)
 
 -- the centre is a declared node
 no_centre : (same is : Bool) (s : Station) (known : List Station) (name : Bytes) → bytes_eq s.name name ≡ same
@@ -156,10 +163,9 @@ pub stands_new : (d : Directory) (place : ℕ) (entries : BTreeMap ArrayString W
     → ((q : ArrayString) → get name_cmp entries q
     ≡ cond (is_at (name_cmp name) q) (Some (record { place = place; node = None; is_centre = false }))
     (get name_cmp d.names q))
-    → (looked_up : BTreeMap ℕ Known) → looked_up.entries ≡ []
-    → Stands (record { names = entries; has_centre = d.has_centre; looked_up = looked_up }) (names ++ name.bytes ∷ [])
-    known
-stands_new d place entries old names known name last stands new none len updates looked_up cleared =
+    → Stands (record { names = entries; has_centre = d.has_centre; looked_up = d.looked_up })
+    (names ++ name.bytes ∷ []) known
+stands_new d place entries old names known name last stands new none len updates =
     let who : Who = record { place = place; node = None; is_centre = false } in
     record {
       entries = λ q.
@@ -173,7 +179,9 @@ stands_new d place entries old names known name last stands new none len updates
       centre = stands.centre;
       silent =
           λ other is_none. stands.silent other (still_new names name.bytes other (place_in names other) refl is_none);
-      looked_up = none_known looked_up cleared (names ++ name.bytes ∷ []) known;
+      looked_up = All-weaker (λ (o : Option Known). IsKnown o names known)
+          (λ (o : Option Known). IsKnown o (names ++ name.bytes ∷ []) known)
+          (λ o. known_on o names (name.bytes ∷ []) known) d.looked_up.items stands.looked_up;
     }
 
 -- the names with a new one, and with one that isn't
@@ -286,6 +294,25 @@ entry_other : (o : Option Who) (names : List Bytes) (known : List Station) (s : 
 entry_other None names known s name differ entry = entry
 entry_other (Some who) names known s name differ entry = told_other who names known s name differ entry
 
+-- a declared name is another one than that of a node that is declared now
+no_node : (o : Option Node) (known : Option Station) → option_map (λ (n : Node). n.eui.0) o
+    ≡ option_map (λ (s : Station). s.eui) known → is_some o ≡ true → known ≡ None → ⊥
+no_node None known e some none = cc some
+no_node (Some n) None e some none = cc e
+no_node (Some n) (Some s) e some none = cc none
+
+known_other : (o : Option Known) (names : List Bytes) (known : List Station) (s : Station)
+    → station_named known s.name ≡ None → IsKnown o names known → IsKnown o names (known ++ s ∷ [])
+unfolding eui_of
+known_other None names known s none told = tt
+known_other (Some k) names known s none told = (
+  told_other k.who names known s k.name.bytes
+      (apart s.name k.name.bytes
+      (λ same. no_node k.who.node (station_named known k.name.bytes) told.0.eui told.1
+      (ap (station_named known) (sym same) ∙ none))) told.0,
+  told.1,
+)
+
 told_it : (place : ℕ) (node : Node) (is : Bool) (names : List Bytes) (known : List Station) (s : Station)
     (name : Bytes) → IsStation s name node → place_in names name ≡ Some place
     → station_named known name ≡ None → is ≡ (is_centre (model_role node.role) && not (is_some (centre_name known)))
@@ -332,10 +359,9 @@ pub stands_declared : (d : Directory) (entries : BTreeMap ArrayString Who) (old 
     → ((q : ArrayString) → get name_cmp entries q
     ≡ cond (is_at (name_cmp name) q) (Some (record { place = place; node = Some node; is_centre = is }))
     (get name_cmp d.names q))
-    → (looked_up : BTreeMap ℕ Known) → looked_up.entries ≡ []
-    → Stands (record { names = entries; has_centre = has; looked_up = looked_up }) names (known ++ s ∷ [])
+    → Stands (record { names = entries; has_centre = has; looked_up = d.looked_up }) names (known ++ s ∷ [])
 stands_declared d entries old has is name place node names known s its there none stands centre now before len
-    updates looked_up cleared =
+    updates =
     let who : Who = record { place = place; node = Some node; is_centre = is } in
     let first : is ≡ (is_centre (model_role node.role) && not (is_some (centre_name known))) =
     centre ∙ ap (λ (b : Bool). is_centre (model_role node.role) && not b) stands.centre in
@@ -365,7 +391,10 @@ stands_declared d entries old has is name place node names known s its there non
           (λ same. let gone : place_in names name.bytes ≡ None = subst (λ (n : Bytes). place_in names n ≡ None)
           (sym same ∙ its.name_is) new in some_none place (sym there ∙ gone)))
           ∙ stands.silent other new;
-      looked_up = none_known looked_up cleared names (known ++ s ∷ []);
+      looked_up = All-weaker (λ (o : Option Known). IsKnown o names known)
+          (λ (o : Option Known). IsKnown o names (known ++ s ∷ []))
+          (λ o. known_other o names known s (ap (station_named known) its.name_is ∙ none)) d.looked_up.items
+          stands.looked_up;
     }
   where
     some_none : (i : ℕ) → Some i ≡ None → ⊥
@@ -409,25 +438,17 @@ tells_with_new d place name names known last none stands =
     (sym (with_new names name.bytes new))
     (tells_new d place names known name last stands new)
 
--- A name that was looked up may be kept.
-pub stands_with_known : (d : Directory) (looked_up : BTreeMap ℕ Known) (number : ℕ) (name : ArrayString) (who : Who)
-    (names : List Bytes) (known : List Station) → get name_cmp d.names name ≡ Some who
-    → ((q : ℕ) → get nat_cmp looked_up q
-    ≡ cond (is_at (nat_cmp number) q) (Some (record { name = name; who = who })) (get nat_cmp d.looked_up q))
-    → Stands d names known → Stands (record d { looked_up = looked_up }) names known
-stands_with_known d looked_up number name who names known is updates stands = record {
+-- Names that were looked up may be kept.
+pub stands_with_known : (d : Directory) (looked_up : Vec (Option Known) Global) (names : List Bytes)
+    (known : List Station) → AreKnown looked_up.items names known → Stands d names known
+    → Stands (record d { looked_up = looked_up }) names known
+stands_with_known d looked_up names known are stands = record {
   entries = stands.entries;
   count = stands.count;
   centre = stands.centre;
   silent = stands.silent;
-  looked_up = λ q. subst (λ (o : Option Known). IsKnown o names known) (sym (updates q))
-      (either q (is_at (nat_cmp number) q));
+  looked_up = are;
 }
-  where
-    either : (q : ℕ) (here : Bool)
-        → IsKnown (cond here (Some (record { name = name; who = who })) (get nat_cmp d.looked_up q)) names known
-    either q true = told_there d names known name who stands is
-    either q false = stands.looked_up q
 
 -- It is who the directory says.
 told_known : (k : Known) (name : ArrayString) (who : Who) (names : List Bytes) (known : List Station)
@@ -445,16 +466,15 @@ told_known k name who names known told found = by (bytes_eq k.name.bytes name.by
         (subst (λ (w : Who). Tells w names known k.name.bytes) (one_who k.who who it) told)
     by false same it = cc it
 
-pub told_found : (d : Directory) (number : ℕ) (name : ArrayString) (r : Option Who) (k : Known)
-    → get nat_cmp d.looked_up number ≡ Some k
+pub told_found : (d : Directory) (name : ArrayString) (r : Option Who) (k : Known)
+    → ((names : List Bytes) (known : List Station) → AreKnown d.looked_up.items names known
+    → IsKnown (Some k) names known)
     → r ≡ (if bytes_eq k.name.bytes name.bytes then Some k.who else None)
     → IfSome r (λ who. (names : List Bytes) (known : List Station) → Stands d names known
     → Tells who names known name.bytes)
-told_found d number name None k there e = tt
-told_found d number name (Some who) k there e =
-    λ names known stands.
-    told_known k name who names known
-    (subst (λ (o : Option Known). IsKnown o names known) there (stands.looked_up number)) (sym e)
+told_found d name None k there e = tt
+told_found d name (Some who) k there e =
+    λ names known stands. told_known k name who names known (there names known stands.looked_up).0 (sym e)
 
 pub stands_with_told : (d : Directory) (name : Bytes) (who : Who) (names : List Bytes) (known : List Station)
     → Tells who names known name → Stands d names known → Stands d (with_name names name) known

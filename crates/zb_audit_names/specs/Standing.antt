@@ -1,5 +1,6 @@
 -- What the program keeps of names and declared nodes.
-use Rattle.std.specs.Prelude.{◌≡◌, ℕ, List, length, Option, Some, None}
+use Rattle.std.specs.Prelude.{◌≡◌, true, List, length, Option, Some, None}
+use Rattle.std.specs.List.{All}
 use Rattle.std.specs.BTreeMap.{get, btree_map_len}
 use Rattle.std.specs.Cmp.Lexicographic.{slice_cmp}
 use Rattle.std.specs.Option.{option_map, is_some}
@@ -50,10 +51,14 @@ abbrev pub IsEntry : Option Who → List Bytes → List Station → Bytes → Ty
 IsEntry None names known name = place_in names name ≡ None
 IsEntry (Some who) names known name = Tells who names known name
 
--- A name that was looked up is who the directory says.
+-- A declared name that was looked up is who the directory says.
 abbrev pub IsKnown : Option Known → List Bytes → List Station → Type 0
 IsKnown None names known = Unit {0}
-IsKnown (Some k) names known = Tells k.who names known k.name.bytes
+IsKnown (Some k) names known = Tells k.who names known k.name.bytes × (is_some k.who.node ≡ true)
+
+-- So is each of those that are remembered.
+abbrev pub AreKnown : List (Option Known) → List Bytes → List Station → Type 0
+AreKnown looked_up names known = All (λ (o : Option Known). IsKnown o names known) looked_up
 
 -- The directory has these names and these declared nodes.
 pub record Stands (d : Directory) (names : List Bytes) (known : List Station) : Type 0 where
@@ -62,4 +67,4 @@ pub record Stands (d : Directory) (names : List Bytes) (known : List Station) : 
   pub centre : d.has_centre ≡ is_some (centre_name known)
   -- a name that no line speaks of is that of no declared node
   pub silent : (name : Bytes) → place_in names name ≡ None → station_named known name ≡ None
-  pub looked_up : (number : ℕ) → IsKnown (get nat_cmp d.looked_up number) names known
+  pub looked_up : AreKnown d.looked_up.items names known

@@ -6,7 +6,7 @@ ghost use Rattle.zb_model.specs.State.{is_centre};
 ghost use Rattle.zb_node_types.specs.Changes.{model_role};
 ghost use Rattle.zb_trace.specs.declared.line.Line.{Line as AnyLine};
 ghost use Rattle.zb_audit_names.specs.Naming.{declared_in, declares, named_by, names_in, place_in, station_named, with_name, with_station};
-ghost use Rattle.zb_audit_names.specs.Standing.{name_cmp, IsSpeaker, IsStation, Stands, Tells};
+ghost use Rattle.zb_audit_names.specs.Standing.{name_cmp, AreKnown, IsKnown, IsSpeaker, IsStation, Stands, Tells};
 
 use crate::lines::speaker;
 use crate::node::{NOBODY, Node, Who};
@@ -22,8 +22,8 @@ pub struct Directory {
     pub names: BTreeMap<Name, Who>,
     /// Whether a centre was declared.
     pub has_centre: bool,
-    /// Names that were looked up since the last change, each under a number that its bytes make.
-    pub looked_up: BTreeMap<u64, Known>,
+    /// Declared names that were looked up, each at a place that its bytes make. No places before the first of them.
+    pub looked_up: Vec<Option<Known>>,
 }
 
 /// A name, and who it is.
@@ -56,7 +56,7 @@ impl Directory {
         Directory {
             names: BTreeMap::new(alloc),
             has_centre: false,
-            looked_up: BTreeMap::new(alloc),
+            looked_up: Vec::new(alloc),
         }
     }
 
@@ -104,7 +104,7 @@ impl Directory {
         ensures { IfSome result (λ who. (names : List Bytes) (known : List Station) → Stands self.now names known
             → Tells who names known name.now.bytes) }
     {
-        match self.looked_up.get(&number_of(name)).copied() {
+        match known_at(self.looked_up.as_slice(), place_of(name)) {
             Some(known) => known.who_of(name),
             None => None,
         }
@@ -119,8 +119,7 @@ impl Directory {
     {
         match self.names.get(name).copied() {
             Some(who) => {
-                self.looked_up
-                    .insert(number_of(name), Known { name: *name, who })?;
+                keep(&mut self.looked_up, Known { name: *name, who })?;
                 Ok(who)
             }
             None => self.new_name(*name),
@@ -141,7 +140,6 @@ impl Directory {
             is_centre: false,
         };
         self.names.insert(name, who)?;
-        self.looked_up.clear();
         Ok(who)
     }
 
@@ -197,7 +195,6 @@ impl Directory {
         };
         self.names.insert(name, who)?;
         self.has_centre = self.has_centre || is_centre;
-        self.looked_up.clear();
         Ok(())
     }
 
@@ -208,11 +205,60 @@ impl Directory {
     }
 }
 
-/// Returns a number that the bytes of a name make. Two names may have one number.
-fn number_of(name: &Name) -> u64 {
+/// How many places there are for names that were looked up.
+const PLACES: usize = 1024;
+
+/// Returns the place that the bytes of a name make. Two names may have one place.
+fn place_of(name: &Name) -> usize {
     let mut number: u64 = 0;
     for byte in name.as_str().as_bytes() {
         number = (number << 8) | u64::from(*byte);
     }
-    number
+    (number.wrapping_mul(0x9E37_79B9_7F4A_7C15) >> 54) as usize
+}
+
+/// Keeps who a declared name is, at the place of the name. What stood there is gone.
+fn keep(looked_up: &mut Vec<Option<Known>>, found: Known) -> Result<(), NoMemory>
+    ensures { OnOk result ((names : List Bytes) (known : List Station) → Tells found.who names known found.name.bytes
+        → AreKnown looked_up.old.items names known → AreKnown looked_up.new.items names known) }
+{
+    if found.who.node.is_none() {
+        return Ok(());
+    }
+    make_places(looked_up)?;
+    put_known(looked_up, place_of(&found.name), found);
+    Ok(())
+}
+
+/// Makes the places, where there are none.
+fn make_places(looked_up: &mut Vec<Option<Known>>) -> Result<(), NoMemory>
+    ensures { OnOk result ((names : List Bytes) (known : List Station) → AreKnown looked_up.old.items names known
+        → AreKnown looked_up.new.items names known) }
+{
+    while looked_up.len() < PLACES {
+        looked_up.push(None)?;
+    }
+    Ok(())
+}
+
+/// Writes who a name is at a place, if there is such a place.
+fn put_known(looked_up: &mut Vec<Option<Known>>, place: usize, found: Known)
+    ensures { (names : List Bytes) (known : List Station) → IsKnown (Some found) names known
+        → AreKnown looked_up.old.items names known → AreKnown looked_up.new.items names known }
+{
+    if place < looked_up.len() {
+        looked_up[place] = Some(found);
+    }
+}
+
+/// Returns who is known at a place, if anybody.
+fn known_at(looked_up: &[Option<Known>], place: usize) -> Option<Known>
+    ensures { IfSome result (λ found. (names : List Bytes) (known : List Station) → AreKnown looked_up.now names known
+        → IsKnown (Some found) names known) }
+{
+    if place < looked_up.len() {
+        looked_up[place]
+    } else {
+        None
+    }
 }

@@ -83,12 +83,11 @@ fn audit_text(alloc: Global, text: &[u8]) -> Result<Verdict, TextFault>
     ensures fault { IfErr result (IsTextFault text.now) }
 {
     let mut auditor = Auditor::new(alloc)?;
-    let mut page = Vec::new(alloc);
     let mut line = no_line();
     let mut rest = text;
     let mut count: u32 = 0;
     while !rest.is_empty() {
-        let Some(after) = take_into(alloc, &mut page, rest, &mut line)? else {
+        let Some(after) = take_into(alloc, rest, &mut line)? else {
             return Err(TextFault::Syntax { line: count + 1 });
         };
         auditor.line(alloc, &line)?;

@@ -1,3 +1,5 @@
+pub mod Capitals
 pub mod Choosing
 pub mod Printed
+pub mod Spelled
 pub mod Taking

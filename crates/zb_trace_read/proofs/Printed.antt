@@ -5,7 +5,7 @@ use Rattle.std.specs.List.{AllByRecursion}
 use Rattle.std.specs.Option.{option_map, option_and_then}
 use Rattle.std.specs.Result.{result_ok}
 use Rattle.std.proofs.lemmas.Slice.Eq.{bytes_eq-Decides}
-use Rattle.hex.specs.Hex.{decode_of, IsBytes}
+use Rattle.hex.specs.Hex.{decode_of, encode_upper, IsBytes}
 use Rattle.zb_base.specs.declared.node.Role.{Role}
 use Rattle.zb_base.specs.declared.node.Role.TheVariants as role
 use Rattle.zb_base.specs.declared.label.Layer.{Layer}
@@ -23,8 +23,8 @@ use Rattle.zb_base.specs.declared.place.Place.TheVariants as place
 use Rattle.zb_node_types.specs.declared.refusal.Refusal.{Refusal}
 use Rattle.zb_node_types.specs.declared.refusal.Refusal.TheVariants as refusal
 use Rattle.zb_seal.specs.declared.term.Term.{Term}
-use Rattle.zb_text.specs.Fields.{is_name, name_of}
-use Rattle.zb_text.specs.Hexadecimal.{bytes_of, bytes_text}
+use Rattle.zb_text.specs.Fields.{is_name, name_of, eui_of, eui_text, short_of, short_text, key_of}
+use Rattle.zb_text.specs.Hexadecimal.{fixed_of, bytes_of, bytes_text}
 use Rattle.zb_text.specs.Numbers.{number_of}
 use Rattle.zb_text.specs.Pages.{IsWord}
 use Rattle.zb_text.specs.Words.{field}
@@ -32,7 +32,8 @@ use Rattle.zb_text.proofs.ReadAgain.{number_again, fixed_again, bytes_again, eui
 use Rattle.zb_trace.specs.Text.{Word, Fixed, Chosen, Number, CalledOrNobody, Address, ShortAddress, Secret, Octet, Octets, AllOctets, MayStand, spelled, counted, sequenced, begun, begun_of, roles, layers, labels, attributes, states, rollovers, places, answers, role_text, layer_text, label_text, attribute_text, state_text, rollover_text, place_text, answer_text, term_words, refusal_words, reason, words}
 use Rattle.zb_trace.specs.declared.line.Line.{Line}
 use Rattle.zb_trace.specs.declared.line.Line.TheVariants as line
-use Rattle.zb_trace_read.specs.Grammar.{behind_reason, Field, OneOf, ANameOrDash, AnAddress, AShort, AKey, AByte, SomeBytes, AllBytes, octet_of, value_of, shaped, a_count, a_sequence, a_layer, a_term, two_forms, a_refusal, policy_reason, plain_reason}
+use Rattle.zb_trace_read.specs.Grammar.{behind_reason, Field, OneOf, ANameOrDash, AnAddress, AShort, AKey, AByte, SomeBytes, AllBytes, all_bytes_of, octet_of, value_of, shaped, a_count, a_sequence, a_layer, a_term, two_forms, a_refusal, policy_reason, plain_reason}
+use Rattle.zb_trace_read.proofs.Capitals.{kept, capital_digits, capital_bytes, capital_eui, capital_short}
 use Rattle.zb_trace_read.specs.Reading.{of_start, of_change, of_node, of_nobody, of_event, read_words}
 
 -- A word reads as itself in its place, and is a word.
@@ -82,13 +83,23 @@ sequence_suits n le =
     (ap (option_map (Number 255)) (number_again 255 n le (omega (arith, le))), IsWord-decimal n (omega (arith, le)))
 
 eui_suits : (e : ℕ) → e < 18446744073709551616 → Suits AnAddress (Address e)
-eui_suits e lt = (ap (option_map Address) (eui_again e lt), eui_words e)
+eui_suits e lt = (
+  ap (option_map Address) (kept eui_of (eui_text e) e (capital_eui e) (eui_again e lt)),
+  eui_words e,
+)
 
 short_suits : (s : ℕ) → s < 65536 → Suits AShort (ShortAddress s)
-short_suits s lt = (ap (option_map ShortAddress) (short_again s lt), short_words s)
+short_suits s lt = (
+  ap (option_map ShortAddress) (kept short_of (short_text s) s (capital_short s) (short_again s lt)),
+  short_words s,
+)
 
 key_suits : (key : List ℕ) → IsBytes key × (length key ≡ 16) → Suits AKey (Secret key)
-key_suits key fits = (ap (option_map Secret) (fixed_again key 16 fits.1 fits.0), IsWord-digits key fits.0)
+key_suits key fits = (
+  ap (option_map Secret)
+      (kept key_of (encode_upper key) key (capital_digits key fits.0) (fixed_again key 16 fits.1 fits.0)),
+  IsWord-digits key fits.0,
+)
 
 one_byte : (b : ℕ) → b < 256 → IsBytes (b ∷ [])
 one_byte b lt Rattle.std.proofs.Common.zero = lt
@@ -96,12 +107,19 @@ one_byte b lt (Rattle.std.proofs.Common.suc i) = lit< tt
 
 octet_suits : (b : ℕ) → b < 256 → Suits AByte (Octet b)
 octet_suits b lt = (
-  ap (option_and_then octet_of) (fixed_again (b ∷ []) 1 refl (one_byte b lt)),
+  ap (option_and_then octet_of)
+      (kept (fixed_of 1) (encode_upper (b ∷ [])) (b ∷ []) (capital_digits (b ∷ []) (one_byte b lt))
+      (fixed_again (b ∷ []) 1 refl (one_byte b lt))),
   IsWord-digits (b ∷ []) (one_byte b lt),
 )
 
 bytes_suit : (bytes : List ℕ) → IsBytes bytes × (length bytes ≤ 127) → Suits (SomeBytes 127) (Octets 127 bytes)
-bytes_suit bytes fits = (ap (option_map (Octets 127)) (bytes_again 127 bytes fits.1 fits.0), IsWord-bytes bytes fits.0)
+bytes_suit bytes fits = (
+  ap (option_map (Octets 127))
+      (kept (bytes_of 127) (bytes_text bytes) bytes (capital_bytes bytes fits.0)
+      (bytes_again 127 bytes fits.1 fits.0)),
+  IsWord-bytes bytes fits.0,
+)
 
 without_limit : (dash none over : Bool) (o : Option (List ℕ)) (bytes : List ℕ)
     → (if dash then Some [] else if none then None else if over then None else o) ≡ Some bytes
@@ -117,8 +135,9 @@ all_bytes_suit bytes fits =
     bytes_again (length bytes) bytes (omega arith) fits in
     let text : List ℕ = bytes_text bytes in (
       ap (option_map AllOctets)
+          (kept all_bytes_of text bytes (capital_bytes bytes fits)
           (without_limit (bytes_eq text (codes "-")) (length text == 0) (nat_lt (length bytes) (length text / 2))
-          (result_ok (decode_of text)) bytes whole),
+          (result_ok (decode_of text)) bytes whole)),
       IsWord-bytes bytes fits,
     )
 

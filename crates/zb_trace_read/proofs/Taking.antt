@@ -1,19 +1,16 @@
 -- A line off the start of a text.
-use Rattle.std.proofs.Common.{◌≡◌, ℕ, ◌+◌, ◌-◌, ◌<◌, ◌==◌, List, [], ◌∷◌, ◌++◌, length, get_or, map, true, false, Option, Some, None, refl, arith, ap, sym, ◌∙◌, append_assoc, append-nil, nat_lt, take, drop, take-append-drop, bytes_eq, length-append}
-use Rattle.std.specs.List.{AllByRecursion}
-use Rattle.std.specs.Option.{option_map, MatchOption}
-use Rattle.std.specs.Str.Lines.{lines, strip_carriage_return}
-use Rattle.std.proofs.Math.Seq.{take-append_seam}
+use Rattle.std.proofs.Common.{◌≡◌, ℕ, ◌<◌, ◌==◌, List, [], ◌∷◌, ◌++◌, length, get_or, map, true, false, Option, Some, None, refl, arith, ap, sym, ◌∙◌, append_assoc, append-nil, nat_lt, length-append}
+use Rattle.std.specs.Prelude.{IfSome}
+use Rattle.std.specs.List.{AllByRecursion, join_with_byte}
+use Rattle.std.specs.Option.{MatchOption}
 use Rattle.std.proofs.lemmas.Bool.Decides.{nat_tests}
 use Rattle.std.proofs.lemmas.List.{append_cancel_left}
-use Rattle.std.proofs.lemmas.Option.{some_pair_parts}
-use Rattle.std.proofs.lemmas.Slice.Eq.{bytes_eq-Decides}
-use Rattle.std.proofs.lemmas.List.Splits.{slice_split_at}
+use Rattle.std.proofs.lemmas.List.Splits.{slice_split_at, join_with_byte-slice_split}
 use Rattle.std.proofs.lemmas.List.Sums.{AllPass-from_list_all}
 use Rattle.zb_text.specs.Pages.{IsWord, IsLine, line_of_words}
-use Rattle.zb_text.specs.Words.{first_of, Shows}
+use Rattle.zb_text.specs.Words.{nothing, parts, Shows}
 use Rattle.zb_text.specs.Words.{words as words_of}
-use Rattle.zb_text.proofs.LineCuts.{lines_front}
+use Rattle.zb_text.proofs.Cuts.{parts_are_some}
 use Rattle.zb_text.proofs.ReadAgain as again
 use Rattle.zb_text.proofs.ReadAgain.{IsLine-words}
 use Rattle.zb_trace.specs.Text.{Word, spelled, trailing, line_of, words, text, texts, IsProper, AllProper}
@@ -21,6 +18,7 @@ use Rattle.zb_trace.specs.declared.line.Line.{Line}
 use Rattle.zb_trace_read.specs.Places.{read_into}
 use Rattle.zb_trace_read.specs.Reading.{read_words}
 use Rattle.zb_trace_read.proofs.Printed.{words_again}
+use Rattle.zb_trace_read.proofs.Spelled.{words_are}
 
 -- The text of a line is its words, joined, and a line feed.
 
@@ -41,31 +39,12 @@ lacks_line_feed line fits k d lt =
     let above : nat_lt 31 (get_or line k d) ≡ true = AllPass-from_list_all (λ byte. nat_lt 31 byte) line fits k d lt
     in grind (arith, nat_tests)
 
-keeps_its_end : (line : List ℕ) → IsLine line → strip_carriage_return line ≡ line
-keeps_its_end [] fits = refl
-keeps_its_end (b ∷ bs) fits =
-    let above : nat_lt 31 (get_or (b ∷ bs) (length (b ∷ bs) - 1) 0) ≡ true =
-    AllPass-from_list_all (λ byte. nat_lt 31 byte) (b ∷ bs) fits (length (b ∷ bs) - 1) 0 (omega arith) in
-    let other : (get_or (b ∷ bs) (length (b ∷ bs) - 1) 0 == 13) ≡ false = grind (arith, nat_tests) in
-    rw other refl
-
-front_line : (line more : List ℕ) → IsLine line → lines (line ++ 10 ∷ more) ≡ line ∷ lines more
-front_line line more fits =
-    lines_front (line ++ 10 ∷ more) line more
-    (slice_split_at (λ b. b == 10) line 10 more (lacks_line_feed line fits) refl)
-    ∙ ap (λ (front : List ℕ). front ∷ lines more) (keeps_its_end line fits)
-
 abbrev pub body : Line → List ℕ
 body l = joined_words (words l)
 
 text_front : (l : Line) (more : List ℕ) → text l ++ more ≡ body l ++ 10 ∷ more
 unfolding text
 text_front l more = ap (λ whole. whole ++ more) (line_ended (words l)) ∙ append_assoc (body l) (10 ∷ []) more
-
--- the first line of a text that begins with that of a line
-pub lines_of_text : (l : Line) (more : List ℕ) → IsProper l → lines (text l ++ more) ≡ body l ∷ lines more
-lines_of_text l more proper = ap lines (text_front l more) ∙ front_line (body l) more
-    (IsLine-words (map spelled (words l)) (words_again l proper).1)
 
 read_nonempty : (ws : List Word) → AllByRecursion IsWord (map spelled ws) → read_words (map spelled ws) ≡ Some ws
     → read_words (words_of (Some (joined_words ws))) ≡ Some ws
@@ -77,43 +56,84 @@ read_nonempty (w ∷ ws) are reads = ap read_words (again.words_again (spelled w
 pub body_again : (l : Line) → IsProper l → read_words (words_of (Some (body l))) ≡ Some (words l)
 body_again l proper = read_nonempty (words l) (words_again l proper).1 (words_again l proper).0
 
-abbrev front_and : List ℕ → List (List ℕ) → Option (List ℕ × List (List ℕ))
-front_and line after = Some (line, after)
-
-one_line : (x y : List ℕ) (xs ys : List (List ℕ)) → front_and x xs ≡ front_and y ys → x ≡ y
-one_line x y xs ys e = (some_pair_parts x y xs ys e).0
-
-abbrev read_joined : List ℕ → Option (List Word)
-read_joined line = read_words (words_of (Some line))
-
--- The line that was taken off the start is the one that the text begins with.
-pub begins_with : (bytes line : List ℕ) (after : List (List ℕ)) (l : Line) (more : List ℕ) → IsProper l → bytes
-    ≡ text l ++ more
-    → first_of (lines bytes) ≡ Some (line, after) → read_words (words_of (Some line)) ≡ Some (words l)
-begins_with bytes line after l more proper e taken =
-    let first : front_and (body l) (lines more) ≡ front_and line after =
-    sym (ap first_of (ap lines e ∙ lines_of_text l more proper)) ∙ taken in
-    let same : body l ≡ line = one_line (body l) line (lines more) after first in
-    sym (ap read_joined same) ∙ body_again l proper
-
-pub no_line : (bytes : List ℕ) (l : Line) (more : List ℕ) → IsProper l → bytes ≡ text l ++ more
-    → first_of (lines bytes) ≡ None → ⊥
-no_line bytes l more proper e none =
-    let first : front_and (body l) (lines more) ≡ None = sym (ap first_of (ap lines e ∙ lines_of_text l more proper))
-    ∙ none in cc first
-
--- A text begins with the text of one line at most.
-
 one_head : {X : Type 0} (x y : X) (xs ys : List X) → (x ∷ xs) ≡ (y ∷ ys) → x ≡ y
 one_head x y xs ys e = cc e
 
 one_some : {X : Type 0} (x y : X) → Some x ≡ Some y → x ≡ y
 one_some x y e = cc e
 
+abbrev read_joined : List ℕ → Option (List Word)
+read_joined line = read_words (words_of (Some line))
+
+-- What is before the first line feed of a text that begins with a line's, and after it.
+parts_of_text : (l : Line) (more : List ℕ) → IsProper l → parts 10 (text l ++ more) ≡ body l ∷ parts 10 more
+parts_of_text l more proper =
+    let fits = IsLine-words (map spelled (words l)) (words_again l proper).1 in
+    ap (parts 10) (text_front l more)
+    ∙ slice_split_at (λ b. b == 10) (body l) 10 more (lacks_line_feed (body l) fits) refl
+
+-- A text without a line feed begins with no line's.
+pub no_line : (bytes : List ℕ) (l : Line) (more : List ℕ) → IsProper l → bytes ≡ text l ++ more
+    → parts 10 bytes ≡ bytes ∷ [] → ⊥
+no_line bytes l more proper e none =
+    no_parts (parts 10 more) (parts_are_some 10 more)
+    (sym (parts_of_text l more proper) ∙ (ap (parts 10) (sym e) ∙ none))
+  where
+    no_parts : (ps : List (List ℕ)) → nothing ps ≡ None → body l ∷ ps ≡ bytes ∷ [] → ⊥
+    no_parts [] some same = cc some
+    no_parts (p ∷ ps) some same = cc same
+
+-- The line that was taken off the start is the one that the text begins with.
+pub begins_with : (bytes front : List ℕ) (after : List (List ℕ)) (l : Line) (more : List ℕ) → IsProper l → bytes
+    ≡ text l ++ more → parts 10 bytes ≡ front ∷ after → read_joined front ≡ Some (words l)
+begins_with bytes front after l more proper e cut =
+    let same : body l ≡ front =
+    one_head (body l) front (parts 10 more) after
+    (sym (parts_of_text l more proper) ∙ (ap (parts 10) (sym e) ∙ cut)) in
+    sym (ap read_joined same) ∙ body_again l proper
+
+-- A text is what is before its first line feed, that line feed, and what is after it.
+joined_parts : (front : List ℕ) (ps : List (List ℕ)) → nothing ps ≡ None → join_with_byte 10 (front ∷ ps)
+    ≡ front ++ 10 ∷ join_with_byte 10 ps
+joined_parts front [] some = cc some
+joined_parts front (p ∷ ps) some = refl
+
+cut_text : (bytes front rest : List ℕ) → parts 10 bytes ≡ front ∷ parts 10 rest → bytes ≡ front ++ 10 ∷ rest
+cut_text bytes front rest cut =
+    sym (join_with_byte-slice_split 10 bytes)
+    ∙ (ap (join_with_byte 10) cut
+    ∙ (joined_parts front (parts 10 rest) (parts_are_some 10 rest)
+    ∙ ap (λ t. front ++ 10 ∷ t) (join_with_byte-slice_split 10 rest)))
+
+-- What is read is what stands before the line feed.
+read_front : (front : List ℕ) (l : Line) → read_joined front ≡ Some (words l) → body l ≡ front
+read_front front l reads =
+    ap line_of_words (spells (read_joined front) reads (words_are (words_of (Some front))))
+    ∙ join_with_byte-slice_split 32 front
+  where
+    spells : (o : Option (List Word)) → o ≡ Some (words l)
+        → IfSome o (λ out. map spelled out ≡ words_of (Some front)) → map spelled (words l) ≡ words_of (Some front)
+    spells None e are = cc e
+    spells (Some out) e are = let same : out ≡ words l = cc e in ap (map spelled) (sym same) ∙ are
+
+pub is_text : (bytes front rest : List ℕ) (l : Line) → parts 10 bytes ≡ front ∷ parts 10 rest
+    → read_joined front ≡ Some (words l) → bytes ≡ text l ++ rest
+is_text bytes front rest l cut reads =
+    cut_text bytes front rest cut
+    ∙ (ap (λ t. t ++ 10 ∷ rest) (sym (read_front front l reads)) ∙ sym (text_front l rest))
+
+pub rest_is_shorter : (bytes front rest : List ℕ) → parts 10 bytes ≡ front ∷ parts 10 rest → length rest
+    < length bytes
+rest_is_shorter bytes front rest cut =
+    let whole = ap (length {A = ℕ}) (cut_text bytes front rest cut) in omega
+    (arith, whole, length-append front (10 ∷ rest))
+
+-- A text begins with the text of one line at most.
+
 same_words : (a b : Line) (p q : List ℕ) → IsProper a → IsProper b → text a ++ p ≡ text b ++ q → words a ≡ words b
 same_words a b p q proper_a proper_b e =
     let bodies : body a ≡ body b =
-    one_head _ _ _ _ (sym (lines_of_text a p proper_a) ∙ (ap lines e ∙ lines_of_text b q proper_b)) in
+    one_head _ _ _ _ (sym (parts_of_text a p proper_a) ∙ (ap (parts 10) e ∙ parts_of_text b q proper_b)) in
     one_some _ _ (sym (body_again a proper_a) ∙ (ap read_joined bodies ∙ body_again b proper_b))
 
 text_of_words : (a b : Line) → words a ≡ words b → text a ≡ text b
@@ -143,36 +163,7 @@ one_text (a ∷ ls) (b ∷ ms) proper_a proper_b e =
     ap (λ (first : List Word). first ∷ map words ls) both.0 ∙ ap (λ (more : List (List Word)). words b ∷ more)
     (one_text ls ms proper_a.1 proper_b.1 both.1)
 
--- Fronts
-
-pub with_front : (bytes front rest : List ℕ) → bytes_eq (take (length front) bytes) front ≡ true → rest
-    ≡ drop (length front) bytes → bytes ≡ front ++ rest
-with_front bytes front rest same e =
-    sym (take-append-drop (length front) bytes)
-    ∙ (ap (λ t. t ++ drop (length front) bytes) ((bytes_eq-Decides (take (length front) bytes) front).0 same) ∙ ap
-    (λ t. front ++ t) (sym e))
-
-pub no_front : (bytes front more : List ℕ) → bytes_eq (take (length front) bytes) front ≡ false → bytes ≡ front
-    ++ more → ⊥
-no_front bytes front more other e =
-    let same : take (length front) bytes ≡ front = ap (take (length front)) e ∙ take-append_seam front more in
-    let yes : bytes_eq (take (length front) bytes) front ≡ true =
-    (bytes_eq-Decides (take (length front) bytes) front).1 same in cc (sym other ∙ yes)
-
 -- The steps of taking a line
-
-pub page_is : (shown page old printed : List ℕ) → shown ≡ page → page ≡ old ++ printed → old ≡ [] → shown ≡ printed
-page_is shown page old printed a b c = a ∙ (b ∙ ap (λ front. front ++ printed) c)
-
-length_of_text : (l : Line) (rest : List ℕ) → length (text l ++ rest) ≡ length (body l) + (1 + length rest)
-length_of_text l rest = let e = ap (length {A = ℕ}) (text_front l rest) in omega
-    (arith, e, length-append (body l) (10 ∷ rest))
-
-pub rest_is_shorter : (bytes page rest : List ℕ) (l : Line) → page ≡ text l → bytes ≡ page ++ rest → length rest
-    < length bytes
-rest_is_shorter bytes page rest l printed e =
-    let whole = ap (length {A = ℕ}) (e ∙ ap (λ front. front ++ rest) printed) in omega
-    (arith, whole, length_of_text l rest)
 
 pub read_none : (r : Option Unit) (l : Line) (x : Option (List Word)) → Shows words (read_into r l) x → r ≡ None
     → x ≡ None
@@ -184,14 +175,9 @@ pub read_some : (r : Option Unit) (u : Unit) (l : Line) (x : Option (List Word))
 read_some None u l x shows e = cc e
 read_some (Some v) u l x shows e = shows
 
--- the printed line is the one that the text begins with
-pub is_front : (bytes line page : List ℕ) (after : List (List ℕ)) (read l : Line) (more : List ℕ) → IsProper l → bytes
-    ≡ text l ++ more
-    → first_of (lines bytes) ≡ Some (line, after) → read_words (words_of (Some line)) ≡ Some (words read) → page
-    ≡ text read → bytes ≡ page ++ more
-is_front bytes line page after read l more proper e taken reads printed =
-    let same : words read ≡ words l = one_some _ _ (sym reads ∙ begins_with bytes line after l more proper e taken) in
-    e ∙ ap (λ front. front ++ more) (sym (text_of_words read l same) ∙ sym printed)
+pub read_fits : (r : Option Unit) (u : Unit) (l : Line) → IfSome r (λ _. IsProper l) → r ≡ Some u → IsProper l
+read_fits None u l fits e = cc e
+read_fits (Some v) u l fits e = fits
 
 -- The steps of reading lines
 

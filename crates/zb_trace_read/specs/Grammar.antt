@@ -1,5 +1,6 @@
 -- How the words of a line are read: each kind of line has a shape, which says what stands after its first words.
-use Rattle.std.specs.Prelude.{ℕ, ◌==◌, List, [], ◌∷◌, length, map, codes, bytes_eq, if◌then◌else◌, Option, Some, None}
+use Rattle.std.specs.Prelude.{ℕ, ◌==◌, nat_lt, List, [], ◌∷◌, length, map, codes, bytes_eq, Bool, if◌then◌else◌, Option, Some, None}
+use Rattle.std.specs.List.{list_all}
 use Rattle.std.specs.Option.{option_map, option_and_then}
 use Rattle.std.specs.Result.{result_ok}
 use Rattle.hex.specs.Hex.{decode_of}
@@ -38,6 +39,14 @@ all_bytes_of word =
     else if length word == 0 then None
     else result_ok (decode_of word)
 
+-- Whether a word has no small letter. Hexadecimal digits are printed in capital letters.
+abbrev pub lacks_small : List ℕ → Bool
+lacks_small word = list_all (λ byte. nat_lt byte 97) word
+
+-- What a word in capital letters is.
+abbrev pub in_capitals : {X : Type 0} → (List ℕ → Option X) → List ℕ → Option X
+in_capitals meaning word = if lacks_small word then meaning word else None
+
 -- the one byte of some bytes
 abbrev pub octet_of : List ℕ → Option Word
 octet_of (byte ∷ []) = Some (Octet byte)
@@ -49,12 +58,12 @@ value_of (OneOf among) word = choice among among word
 value_of (UpTo limit) word = option_map (Number limit) (number_of limit word)
 value_of AName word = option_map Called (name_of word)
 value_of ANameOrDash word = option_map CalledOrNobody (name_or_dash word)
-value_of AnAddress word = option_map Address (eui_of word)
-value_of AShort word = option_map ShortAddress (short_of word)
-value_of AKey word = option_map Secret (key_of word)
-value_of AByte word = option_and_then octet_of (fixed_of 1 word)
-value_of (SomeBytes limit) word = option_map (Octets limit) (bytes_of limit word)
-value_of AllBytes word = option_map AllOctets (all_bytes_of word)
+value_of AnAddress word = option_map Address (in_capitals eui_of word)
+value_of AShort word = option_map ShortAddress (in_capitals short_of word)
+value_of AKey word = option_map Secret (in_capitals key_of word)
+value_of AByte word = option_and_then octet_of (in_capitals (fixed_of 1) word)
+value_of (SomeBytes limit) word = option_map (Octets limit) (in_capitals (bytes_of limit) word)
+value_of AllBytes word = option_map AllOctets (in_capitals all_bytes_of word)
 
 -- What words are in the places of a shape, with nothing after them.
 abbrev pub shaped : List Field → List (List ℕ) → Option (List Word)

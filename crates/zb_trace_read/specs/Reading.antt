@@ -97,7 +97,7 @@ of_end words =
     option_map (λ behind. Fixed (codes "end") ∷ behind)
     (shaped (a_count ∷ a_count ∷ a_count ∷ a_count ∷ OneOf answers ∷ OneOf answers ∷ []) words)
 
--- What the words of a line are, if they are those of a line; hexadecimal digits may still be in either case.
+-- What the words of a line are, if they are those of a line.
 unfoldable pub read_words : List (List ℕ) → Option (List Word)
 read_words words =
     option_and_then (λ (first : List ℕ × List (List ℕ)).

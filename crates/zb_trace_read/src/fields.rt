@@ -5,7 +5,7 @@ ghost use Rattle.zb_text.specs.Fields.{is_name};
 ghost use Rattle.zb_text.specs.Words.{left, field, Takes, Shows};
 ghost use Rattle.zb_trace.specs.Text as spec;
 ghost use Rattle.zb_trace.specs.Text.{Chosen, CalledOrNobody, Address, ShortAddress, Secret, Octet, Octets, AllOctets, counted, sequenced};
-ghost use Rattle.zb_trace_read.specs.Grammar.{OneOf, ANameOrDash, AnAddress, AShort, AKey, AByte, SomeBytes, AllBytes, a_count, a_sequence, value_of};
+ghost use Rattle.zb_trace_read.specs.Grammar.{OneOf, ANameOrDash, AnAddress, AShort, AKey, AByte, SomeBytes, AllBytes, a_count, a_sequence, value_of, in_capitals, lacks_small};
 ghost use Rattle.zb_base.specs.Limits.{longest_frame};
 
 use zb_base::{
@@ -111,20 +111,46 @@ pub(crate) fn sequence(reader: &mut Words<'_>) -> Option<u8>
     Some(number as u8)
 }
 
+/// Takes a word of hexadecimal digits, which are printed in capital letters.
+fn digits<'a>(reader: &mut Words<'a>) -> Option<&'a [u8]>
+    ensures { Takes (λ word. word.now) result (left reader.new) (field (in_capitals Some) (left reader.old)) }
+{
+    let word = reader.word()?;
+    if has_no_small_letter(word) {
+        Some(word)
+    } else {
+        None
+    }
+}
+
+/// Returns whether a word has no small letter. It looks at all bytes without a branch, so at many at once.
+pub(crate) fn has_no_small_letter(word: &[u8]) -> bool
+    ensures { result ≡ lacks_small word.now }
+{
+    let mut none = true;
+    for byte in word {
+        none = none & (*byte < b'a');
+    }
+    none
+}
+
 /// Takes an IEEE address.
 pub(crate) fn eui(reader: &mut Words<'_>) -> Option<Eui>
     ensures value { Takes (λ e. Address e.0) result (left reader.new) (field (value_of AnAddress) (left reader.old)) }
     ensures fits { IfSome result (λ e. e.0 < 18446744073709551616) }
 {
-    reader.eui()
+    let word = digits(reader)?;
+    zb_text::fields::eui(word)
 }
 
 /// Takes a network address.
 pub(crate) fn short(reader: &mut Words<'_>) -> Option<Short>
-    ensures value { Takes (λ s. ShortAddress s.0) result (left reader.new) (field (value_of AShort) (left reader.old)) }
+    ensures value { Takes (λ s. ShortAddress s.0) result (left reader.new)
+        (field (value_of AShort) (left reader.old)) }
     ensures fits { IfSome result (λ s. s.0 < 65536) }
 {
-    reader.short()
+    let word = digits(reader)?;
+    zb_text::fields::short(word)
 }
 
 /// Takes a key.
@@ -132,7 +158,8 @@ pub(crate) fn key(reader: &mut Words<'_>) -> Option<Key>
     ensures value { Takes (λ k. Secret k.0) result (left reader.new) (field (value_of AKey) (left reader.old)) }
     ensures fits { IfSome result (λ k. IsBytes k.0 × (length k.0 ≡ 16)) }
 {
-    reader.key()
+    let word = digits(reader)?;
+    zb_text::fields::key(word)
 }
 
 /// Takes the bytes of a frame, of a header or of a content.
@@ -141,7 +168,8 @@ pub(crate) fn some_bytes(reader: &mut Words<'_>) -> Option<Frame>
         (λ f. Octets 127 f.items) result (left reader.new) (field (value_of (SomeBytes 127)) (left reader.old)) }
     ensures fits { IfSome result (λ f. IsBytes f.items × (length f.items ≤ longest_frame)) }
 {
-    reader.bytes::<127>()
+    let word = digits(reader)?;
+    hexadecimal::bytes::<127>(word)
 }
 
 /// Takes a byte in two digits.
@@ -149,7 +177,7 @@ pub(crate) fn octet(reader: &mut Words<'_>) -> Option<u8>
     ensures value { Takes (λ b. Octet b) result (left reader.new) (field (value_of AByte) (left reader.old)) }
     ensures fits { IfSome result (λ b. b < 256) }
 {
-    let word = reader.word()?;
+    let word = digits(reader)?;
     let [byte] = hexadecimal::fixed::<1>(word)?;
     Some(byte)
 }

@@ -5,6 +5,7 @@ ghost use Rattle.std.specs.Option.{option_map};
 ghost use Rattle.zb_text.specs.Fields.{is_name};
 ghost use Rattle.zb_text.specs.Words.{left, Shows};
 ghost use Rattle.zb_trace.specs.Text.{MayStand, begun_of, words};
+ghost use Rattle.zb_trace.specs.declared.line.Line.TheVariants as lines;
 ghost use Rattle.zb_trace_read.specs.Grammar.{a_refusal, a_term, shaped, two_forms};
 ghost use Rattle.zb_trace_read.specs.Places.{read_into};
 ghost use Rattle.zb_trace_read.specs.Reading as spec;
@@ -12,6 +13,7 @@ ghost use Rattle.zb_trace_read.specs.Reading as spec;
 use crate::changes::read_change;
 use crate::parts::{no_term, read_refusal, read_term};
 use zb_base::Name;
+use zb_node_types::Refusal;
 use zb_text::words::Words;
 use zb_trace::Line;
 
@@ -109,12 +111,19 @@ fn read_refuse(event: u32, node: Name, reader: &mut Words<'_>, line: &mut Line) 
     ensures fits { IfSome result (λ _. AllByRecursion MayStand (words line.new)) }
 {
     let refusal = read_refusal(reader)?;
+    put_refused(event, node, refusal, line);
+    Some(())
+}
+
+/// Writes a refused event into its place. As a call of its own it is made there, and not copied there.
+fn put_refused(event: u32, node: Name, refusal: Refusal, line: &mut Line)
+    ensures { line.new ≡ lines.Refuse event node refusal }
+{
     *line = Line::Refuse {
         event,
         node,
         refusal,
     };
-    Some(())
 }
 
 /// Reads a node that booted.

@@ -1,25 +1,25 @@
 //! A transcript as a whole, line by line.
-ghost use Rattle.std.specs.Prelude.{◌≡◌, ◌<◌, ◌+◌, ◌^◌, ◌++◌, ℕ, List, length, codes, IfSome, IfOk, IfErr, OnErr, MatchOption, Some, map};
+ghost use Rattle.std.specs.Prelude.{◌≡◌, ◌==◌, ◌<◌, ◌+◌, ◌^◌, ◌++◌, ◌∷◌, [], ℕ, List, length, position, codes, IfSome, IfOk, IfErr, OnErr, MatchOption, Some, map};
 ghost use Rattle.std.specs.List.{AllByRecursion};
 ghost use Rattle.hex.specs.Hex.{IsBytes};
-ghost use Rattle.zb_text.specs.Words.{left, Shows, words as words_of};
+ghost use Rattle.zb_text.specs.Words.{left, Shows, parts, words as words_of};
 ghost use Rattle.zb_trace.specs.Text.{MayStand, words, text as text_of, texts, IsProper, AllProper};
 ghost use Rattle.zb_trace.specs.declared.line.Line.{Line as ALine};
 ghost use Rattle.zb_trace_read.specs.Faults.{IsTraceFault, IsNoMemory};
-ghost use Rattle.zb_trace_read.specs.Grammar.{all_bytes_of};
+ghost use Rattle.zb_trace_read.specs.Grammar.{all_bytes_of, in_capitals};
 ghost use Rattle.zb_trace_read.specs.Reading as spec;
 ghost use Rattle.zb_trace_read.specs.Places.{read_into};
 
 use crate::TraceError;
-use crate::fields::{answer, count};
+use crate::fields::{answer, count, has_no_small_letter};
 use crate::nobodys::read_of_nobody;
 use hex::FromHexError;
+use memchr::memchr;
 use std::alloc::{AllocError, Global};
 use zb_base::OrMemory;
-use zb_text::lines::next_line;
 use zb_text::numbers::number;
 use zb_text::words::Words;
-use zb_trace::{Line, put_line};
+use zb_trace::Line;
 
 /// Reads the lines of a transcript: those that the whole text is the text of, hexadecimal digits in upper case and a
 /// line feed after the last line included. Requires a text shorter than 4 GiB.
@@ -36,10 +36,9 @@ pub fn read_lines(alloc: Global, bytes: &[u8]) -> Result<Vec<Line>, OrMemory<Tra
     ensures accepts { (ls : List ALine) → AllProper ls → bytes.now ≡ texts ls → IfErr result IsNoMemory }
 {
     let mut lines = Vec::new(alloc);
-    let mut page = Vec::new(alloc);
     let mut rest = bytes;
     while !rest.is_empty() {
-        match take_line(alloc, &mut page, rest)? {
+        match take_line(alloc, rest)? {
             Some((line, after)) => {
                 lines.push(line)?;
                 rest = after;
@@ -62,22 +61,16 @@ fn first_bad(before: usize) -> OrMemory<TraceError>
 
 /// Takes the line whose text a text begins with, and answers it with what is after it; or none.
 ///
-/// The page is room, as for `take_into`.
-///
 /// # Errors
 /// Out of memory.
-pub fn take_line<'a>(
-    alloc: Global,
-    page: &mut Vec<u8>,
-    text: &'a [u8],
-) -> Result<Option<(Line, &'a [u8])>, AllocError>
+pub fn take_line(alloc: Global, text: &[u8]) -> Result<Option<(Line, &[u8])>, AllocError>
     ensures found { IfOk result (λ o. IfSome o (λ t. IsProper t.0 × (text.now ≡ text_of t.0 ++ t.1.now))) }
     ensures none { IfOk result
         (λ o. MatchOption o ((l : ALine) (more : List ℕ) → IsProper l → text.now ≡ text_of l ++ more → ⊥)
         (λ t. length t.1.now < length text.now)) }
 {
     let mut line = no_line();
-    match take_into(alloc, page, text, &mut line)? {
+    match take_into(alloc, text, &mut line)? {
         Some(rest) => Ok(Some((line, rest))),
         None => Ok(None),
     }
@@ -97,15 +90,13 @@ pub fn no_line() -> Line {
 
 /// Takes the line whose text a text begins with into a place, and answers what is after it; or none.
 ///
-/// The line is printed again and compared, so that only its exact text is taken. The page is room for that: what
-/// stands on it is lost. So a transcript can be read line by line, with no list of lines, and in one place: after
-/// `None` what stands there says nothing.
+/// So a transcript can be read line by line, with no list of lines, and in one place: after `None` what stands there
+/// says nothing.
 ///
 /// # Errors
 /// Out of memory.
 pub fn take_into<'a>(
     alloc: Global,
-    page: &mut Vec<u8>,
     text: &'a [u8],
     line: &mut Line,
 ) -> Result<Option<&'a [u8]>, AllocError>
@@ -115,33 +106,35 @@ pub fn take_into<'a>(
         (λ o. MatchOption o ((l : ALine) (more : List ℕ) → IsProper l → text.now ≡ text_of l ++ more → ⊥)
         (λ rest. length rest.now < length text.now)) }
 {
-    let Some((front, _)) = next_line(text) else {
+    let Some((front, rest)) = first_line(text) else {
         return Ok(None);
     };
-    let Some(_) = read_line(alloc, front, line)? else {
-        return Ok(None);
-    };
-    page.clear();
-    put_line(page, line)?;
-    match without_front(text, page.as_slice()) {
-        Some(rest) => Ok(Some(rest)),
+    match read_line(alloc, front, line)? {
+        Some(_) => Ok(Some(rest)),
         None => Ok(None),
     }
 }
 
-/// Returns what is after a prefix, where the text begins with it.
-#[tactic(auto, using(crate::proofs::Taking::with_front, crate::proofs::Taking::no_front))]
-fn without_front<'a>(text: &'a [u8], front: &[u8]) -> Option<&'a [u8]>
-    ensures { MatchOption result ((more : List ℕ) → text.now ≡ front.now ++ more → ⊥)
-        (λ rest. text.now ≡ front.now ++ rest.now) }
+/// Returns what stands before the first line feed, and what stands after it; None where there is no line feed.
+#[tactic(auto, using(zb_text::proofs::Cuts::cut_none, zb_text::proofs::Cuts::cut_some))]
+fn first_line(text: &[u8]) -> Option<(&[u8], &[u8])>
+    ensures { MatchOption result (parts 10 text.now ≡ text.now ∷ [])
+        (λ cut. parts 10 text.now ≡ cut.0.now ∷ parts 10 cut.1.now) }
 {
-    match text.strip_prefix(front) {
-        Some(rest) => Some(rest),
-        None => None,
-    }
+    let at = line_feed(text)?;
+    let (front, rest) = text.split_at(at);
+    Some((front, &rest[1..]))
 }
 
-/// Reads a line without its line feed; its hexadecimal digits may still be in either case.
+/// Returns the place of the first line feed.
+#[tactic(auto, using(zb_text::proofs::Places::first_place))]
+fn line_feed(text: &[u8]) -> Option<usize>
+    ensures { result ≡ position (λ byte. byte == 10) text.now }
+{
+    memchr(b'\n', text)
+}
+
+/// Reads a line without its line feed.
 #[tactic(auto, unfolding(crate::specs::Reading::read_words))]
 pub(crate) fn read_line(
     alloc: Global,
@@ -235,9 +228,12 @@ fn read_dump(
 
 /// Reads the bytes that a word spells, as many as there are.
 fn all_bytes(alloc: Global, word: &[u8]) -> Result<Option<zb_base::List<u8>>, AllocError>
-    ensures value { IfOk result (λ o. o ≡ all_bytes_of word.now) }
+    ensures value { IfOk result (λ o. o ≡ in_capitals all_bytes_of word.now) }
     ensures fits { IfOk result (λ o. IfSome o (λ bytes. IsBytes bytes)) }
 {
+    if !has_no_small_letter(word) {
+        return Ok(None);
+    }
     if word == b"-".as_slice() {
         return Ok(Some(zb_base::List::from_vec(Vec::new(alloc))));
     }

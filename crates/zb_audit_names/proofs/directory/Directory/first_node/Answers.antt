@@ -14,4 +14,4 @@ returns c =
       | else-self w ↦
           w.self-is ∙ by_right c.args.self.now.has_centre _ w.if-self.false
     ]) c.in_ok-insert.ensures.old
-    c.in_ok-insert.ensures.len (c.in_ok-insert.ensures.updates.0) c.clear.new.self c.clear.ensures.empty
+    c.in_ok-insert.ensures.len (c.in_ok-insert.ensures.updates.0)

@@ -9,7 +9,7 @@ returns-clause-stands c =
     (stands_new c.args.self.now c.len.result c.insert.new.self c.in_ok-insert.field-0 names known c.args.name
     c.len.ensures.len stands
     (is_new c.args.self.now names known c.args.name stands none) (c.in_ok-insert.ensures.old ∙ none)
-    c.in_ok-insert.ensures.len (c.in_ok-insert.ensures.updates.0) c.clear.new.self c.clear.ensures.empty)
+    c.in_ok-insert.ensures.len (c.in_ok-insert.ensures.updates.0))
 
 pub returns-clause-tells : goal.returns-clause-tells
 returns-clause-tells c = λ none names known stands. tells_with_new c.args.self.now c.len.result c.args.name names
