@@ -274,7 +274,8 @@ impl Contents {
     fn store_nwk(&mut self, key: &Key, sender: Eui, value: u32)
         requires forgets { Forgets (state_of self.old) }
         requires room { All HasRoom (at_net key.now.0 (live_floor sender.0 value) (state_of self.old).nets) }
-        ensures { Becomes (shown (applied (Floor Nwk key.now.0 sender.0 value) (state_of self.old))) self.old self.new }
+        ensures { Becomes (shown (applied (Floor Nwk key.now.0 sender.0 value) (state_of self.old)))
+            self.old self.new }
     {
         store_net(&mut self.nets, key, sender, value);
     }
@@ -282,7 +283,8 @@ impl Contents {
     /// Stores a partner's floor under a link key.
     fn store_aps(&mut self, key: &Key, sender: Eui, value: u32)
         requires { Forgets (state_of self.old) }
-        ensures { Becomes (shown (applied (Floor Aps key.now.0 sender.0 value) (state_of self.old))) self.old self.new }
+        ensures { Becomes (shown (applied (Floor Aps key.now.0 sender.0 value) (state_of self.old)))
+            self.old self.new }
     {
         store_link(&mut self.links, sender, key, value);
     }
@@ -376,7 +378,8 @@ impl Contents {
     /// Enters a state.
     fn enter(&mut self, state: State)
         requires { Forgets (state_of self.old) }
-        ensures { Becomes (shown (applied (Moved (Became (model_state state))) (state_of self.old))) self.old self.new }
+        ensures { Becomes (shown (applied (Moved (Became (model_state state))) (state_of self.old)))
+            self.old self.new }
     {
         self.state = state;
     }
@@ -405,7 +408,8 @@ impl Contents {
     /// Begins or ends a rollover. Where it begins, no device was told.
     fn roll(&mut self, rollover: Rollover)
         requires { Forgets (state_of self.old) }
-        ensures { Becomes (shown (applied (Moved (Roll (is_sending rollover))) (state_of self.old))) self.old self.new }
+        ensures { Becomes (shown (applied (Moved (Roll (is_sending rollover))) (state_of self.old)))
+            self.old self.new }
     {
         self.rolling = rollover;
         if rollover == Rollover::Sending {

@@ -52,7 +52,8 @@ impl Contents {
     /// Makes the changes of all payloads again.
     fn redo(&mut self, version: Version, reader: &mut Reader<usize>) -> Result<(), usize>
         requires { IsSound self.old }
-        ensures redone { Redoes result [] (state_of self.new) (redone version reader.old.rest.now (state_of self.old)) }
+        ensures redone { Redoes result [] (state_of self.new)
+            (redone version reader.old.rest.now (state_of self.old)) }
         ensures sound { IsSound self.new }
     {
         while let Some(count) = next_count(reader) {

@@ -91,9 +91,9 @@ fn link_rows(alloc: Global, role: Role, records: &[LinkRecord]) -> Result<Vec<Li
     ensures rows { IfOk result (λ v. map link_key v.items ≡ map link_seen records.now) }
     ensures room { IfOk result (λ v. most_links (model_role role) ≤ vec_capacity v) }
 {
-    let mut rows = Vec::with_capacity(alloc, link_room(role))?;
+    let mut rows = Vec::with_capacity(alloc, link_room(role).max(records.len()))?;
     for source in records {
-        rows.push(link_row(source))?;
+        rows.push_reserved(link_row(source));
     }
     Ok(rows)
 }

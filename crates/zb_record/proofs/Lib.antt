@@ -1,6 +1,7 @@
 pub mod Redone
 pub mod ReadAgain
 pub mod Lists
+pub mod MarkLemmas
 pub mod LinkSets
 pub mod Placing
 pub mod Sound
@@ -12,6 +13,7 @@ pub mod First
 pub mod OneLimit
 pub mod Mapping
 pub mod SenderLemmas
+pub mod LastSender
 pub mod WritingLemmas
 pub mod RecordLemmas
 pub mod Tested

@@ -1,30 +1,104 @@
--- Sets beside link rows: a further row, and what is read off them.
-use Rattle.std.proofs.Common.{◌≡◌, ◌&&◌, ◌||◌, not, List, [], ◌∷◌, ◌++◌, Bool, true, false, cond, refl, ap, sym, ◌∙◌, bytes_eq, nat_eq}
-use Rattle.std.specs.BTreeSet.{BTreeSet, Updates}
+-- Marks beside link rows: a further row, and what is read off them.
+use Rattle.std.proofs.Common.{◌≡◌, ◌&&◌, ◌||◌, not, ℕ, List, [], ◌∷◌, ◌++◌, Bool, true, false, cond, refl, ap, sym, subst, ◌∙◌, bytes_eq, nat_eq, eqb-true}
 use Rattle.std.specs.List.{list_any}
-use Rattle.std.proofs.lemmas.Map.Text.{is_eq-slice_cmp}
+use Rattle.std.proofs.lemmas.Slice.Eq.{bytes_eq-Decides}
 use Rattle.std.proofs.lemmas.List.Folds.{list_any-append}
-use Rattle.zb_base.specs.declared.key.Key.{Key}
+use Rattle.law_change_fits.proofs.Tests.{both}
+use Rattle.zb_model.specs.Data.{Bytes}
 use Rattle.zb_model.specs.Fits.{same_bool}
 use Rattle.zb_model.specs.State.{LinkKey, same_key, is_unverified}
-use Rattle.zb_record.specs.LinkSets.{HaveKeys, is_live_so, key_cmp}
+use Rattle.zb_record.specs.LinkSets.{HaveKeys, HaveLive, HaveMarks, is_live_so}
+use Rattle.zb_record.specs.Marks.{key_number, link_number, may_have, noted}
 use Rattle.zb_record.specs.Rows.{kinds_alike, told_apart}
+use Rattle.zb_record.proofs.MarkLemmas.{free_before, noted_there}
 
--- one more of a list's items
+-- one more number, and one more row
 
-by_either : (a b : Bool) → cond a true b ≡ (b || (a || false))
-by_either true true = refl
-by_either true false = refl
-by_either false true = refl
-by_either false false = refl
+kept_keys : (marks : List ℕ) (n : ℕ) (rows : List LinkKey) → HaveKeys marks rows → HaveKeys (noted marks n) rows
+kept_keys marks n rows have key free = have key (free_before marks n (key_number key) free)
 
-pub more_keys : (s n : BTreeSet Key) (rows : List LinkKey) (key : Key) (r : LinkKey) → r.key ≡ key.0 → HaveKeys s rows
-    → Updates key_cmp s n key true
-    → HaveKeys n (rows ++ r ∷ [])
-more_keys s n rows key r is same updates q =
-    updates.0 q ∙ rw (same q, is_eq-slice_cmp key.0 q.0, sym is)
-    (by_either (bytes_eq r.key q.0) (list_any (λ (x : LinkKey). same_key x.key q.0) rows)) ∙ sym
-    (list_any-append (λ (x : LinkKey). same_key x.key q.0) rows (r ∷ []))
+kept_live : (marks : List ℕ) (n : ℕ) (rows : List LinkKey) → HaveLive marks rows → HaveLive (noted marks n) rows
+kept_live marks n rows have partner unverified told free =
+    have partner unverified told (free_before marks n (link_number partner unverified told) free)
+
+-- no row and not the further one
+neither : (p : LinkKey → Bool) (rows : List LinkKey) (r : LinkKey) → list_any p rows ≡ false → p r ≡ false
+    → list_any p (rows ++ r ∷ []) ≡ false
+neither p rows r none not_it =
+    list_any-append p rows (r ∷ []) ∙ ap (λ (b : Bool). b || (p r || false)) none
+    ∙ ap (λ (b : Bool). b || false) not_it
+
+-- what would be the noted number isn't free
+another : (b : Bool) (marks : List ℕ) (n o : ℕ) → (b ≡ true → n ≡ o) → may_have (noted marks n) o ≡ false → b ≡ false
+another true marks n o same free = sym (ap (may_have (noted marks n)) (sym (same refl)) ∙ noted_there marks n) ∙ free
+another false marks n o same free = refl
+
+more_keys : (marks : List ℕ) (rows : List LinkKey) (r : LinkKey) → HaveKeys marks rows
+    → HaveKeys (noted marks (key_number r.key)) (rows ++ r ∷ [])
+more_keys marks rows r have key free =
+    neither (λ (x : LinkKey). same_key x.key key) rows r (kept_keys marks (key_number r.key) rows have key free)
+    (another (same_key r.key key) marks (key_number r.key) (key_number key)
+    (λ is. ap key_number ((bytes_eq-Decides r.key key).0 is)) free)
+
+bool_is : (a b : Bool) → same_bool a b ≡ true → a ≡ b
+bool_is true true is = refl
+bool_is true false is = sym is
+bool_is false true is = is
+bool_is false false is = refl
+
+same_number : (r : LinkKey) (partner : ℕ) (unverified told : Bool) → is_live_so partner unverified told r ≡ true
+    → link_number r.partner (is_unverified r.attribute) r.told ≡ link_number partner unverified told
+same_number r partner unverified told is =
+    let kind = same_bool (is_unverified r.attribute) unverified in
+    let a = both r.live (nat_eq r.partner partner && (kind && same_bool r.told told)) is in
+    let b = both (nat_eq r.partner partner) (kind && same_bool r.told told) a.1 in
+    let c = both kind (same_bool r.told told) b.1 in
+    ap (λ (p : ℕ). link_number p (is_unverified r.attribute) r.told) (eqb-true r.partner partner b.0)
+    ∙ ap (λ (u : Bool). link_number partner u r.told) (bool_is (is_unverified r.attribute) unverified c.0)
+    ∙ ap (link_number partner unverified) (bool_is r.told told c.1)
+
+more_live : (marks : List ℕ) (rows : List LinkKey) (r : LinkKey) → HaveLive marks rows
+    → HaveLive (noted marks (link_number r.partner (is_unverified r.attribute) r.told)) (rows ++ r ∷ [])
+more_live marks rows r have partner unverified told free =
+    let n = link_number r.partner (is_unverified r.attribute) r.told in
+    neither (is_live_so partner unverified told) rows r (kept_live marks n rows have partner unverified told free)
+    (another (is_live_so partner unverified told r) marks n (link_number partner unverified told)
+    (same_number r partner unverified told) free)
+
+-- a row that isn't live is none of the live ones
+more_dead : (marks : List ℕ) (rows : List LinkKey) (r : LinkKey) → r.live ≡ false → HaveLive marks rows
+    → HaveLive marks (rows ++ r ∷ [])
+more_dead marks rows r dead have partner unverified told free =
+    neither (is_live_so partner unverified told) rows r (have partner unverified told free)
+    (ap (λ (b : Bool). b && (nat_eq r.partner partner
+    && (same_bool (is_unverified r.attribute) unverified && same_bool r.told told))) dead)
+
+-- a live row has two marks, another one has one
+
+module _ (old new : List ℕ) (rows : List LinkKey) (r : LinkKey) where
+  pub note_live : new ≡ noted (noted old (key_number r.key)) (link_number r.partner (is_unverified r.attribute) r.told)
+      → HaveMarks old rows → (HaveMarks new rows) × (HaveMarks new (rows ++ r ∷ []))
+  note_live is have =
+      let k = key_number r.key in
+      let l = link_number r.partner (is_unverified r.attribute) r.told in
+      let live = kept_live old k rows have.1 in
+      subst (λ (m : List ℕ). (HaveMarks m rows) × (HaveMarks m (rows ++ r ∷ []))) (sym is) (
+        (kept_keys (noted old k) l rows (kept_keys old k rows have.0), kept_live (noted old k) l rows live),
+        (
+          kept_keys (noted old k) l (rows ++ r ∷ []) (more_keys old rows r have.0),
+          more_live (noted old k) rows r live,
+        ),
+      )
+
+  pub note_dead : new ≡ noted old (key_number r.key) → r.live ≡ false
+      → HaveMarks old rows → (HaveMarks new rows) × (HaveMarks new (rows ++ r ∷ []))
+  note_dead is dead have =
+      let k = key_number r.key in
+      let live = kept_live old k rows have.1 in
+      subst (λ (m : List ℕ). (HaveMarks m rows) × (HaveMarks m (rows ++ r ∷ []))) (sym is) (
+        (kept_keys old k rows have.0, live),
+        (more_keys old rows r have.0, more_dead (noted old k) rows r dead live),
+      )
 
 -- questions of all rows
 

@@ -1,17 +1,12 @@
 -- Questions of lists, seen another way.
-use Rattle.std.proofs.Common.{◌≡◌, List, [], ◌∷◌, length, map, refl, ap, Bool, true, false, if◌then◌else◌, ◌||◌, ◌&&◌}
+use Rattle.std.proofs.Common.{◌≡◌, List, [], ◌∷◌, length, map, refl, ap, Bool, true, false, if◌then◌else◌, ◌||◌}
 use Rattle.std.specs.Prelude.{filter}
-use Rattle.std.specs.List.{list_any, list_all}
+use Rattle.std.specs.List.{list_any}
 
 pub any_map : {X Y : Type 0} (p : Y → Bool) (view : X → Y) (xs : List X) → list_any p (map view xs)
     ≡ list_any (λ x. p (view x)) xs
 any_map p view [] = refl
 any_map p view (x ∷ xs) = ap (λ b. p (view x) || b) (any_map p view xs)
-
-pub all_seen : {X Y : Type 0} (p : Y → Bool) (view : X → Y) (xs : List X) → list_all p (map view xs)
-    ≡ list_all (λ x. p (view x)) xs
-all_seen p view [] = refl
-all_seen p view (x ∷ xs) = ap (λ b. p (view x) && b) (all_seen p view xs)
 
 pub count_map : {X Y : Type 0} (p : Y → Bool) (view : X → Y) (xs : List X) → length (filter p (map view xs))
     ≡ length (filter (λ x. p (view x)) xs)

@@ -197,7 +197,7 @@ pub record SendersKept (fs : List SenderFloor) : Type 0 where
   pub some : list_all (λ (f : SenderFloor). nat_lt 0 f.stored) fs ≡ true
   pub ascend : senders_ascend fs ≡ true
 
-ascend_snoc : (fs : List SenderFloor) (x : SenderFloor) → senders_ascend fs ≡ true
+pub ascend_snoc : (fs : List SenderFloor) (x : SenderFloor) → senders_ascend fs ≡ true
     → list_all (λ (f : SenderFloor). nat_lt f.sender x.sender) fs ≡ true → senders_ascend (fs ++ x ∷ []) ≡ true
 ascend_snoc [] x a below = refl
 ascend_snoc (f ∷ fs) x a below =

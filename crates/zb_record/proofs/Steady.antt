@@ -101,7 +101,8 @@ number_steady {E = E} w cut bytes rest x e = by_test (nat_lt (length bytes) (byt
     by_test true is e = never cut x rest e
     by_test false is e =
         let le : byte_len w ≤ length bytes = ltb-false _ _ is in
-        let here = same_left {E = E} (from_le_bytes w (take (byte_len w) bytes)) x (drop (byte_len w) bytes) rest e in (
+        let here = same_left {E = E} (from_le_bytes w (take (byte_len w) bytes)) x (drop (byte_len w) bytes)
+        rest e in (
           omega (arith, ap (length {A = ℕ}) here, length-drop (byte_len w) bytes),
           λ other more.
               let long : nat_lt (length (bytes ++ more)) (byte_len w) ≡ false =

@@ -4,6 +4,7 @@ pub mod Redoing
 pub mod Ranges
 pub mod Placed
 pub mod Rows
+pub mod Marks
 pub mod LinkSets
 pub mod Records
 pub mod RowViews

@@ -19,7 +19,8 @@ ghost use Rattle.zb_record.specs.declared.version.Version.TheVariants.{First};
 pub fn written_changes_are_made_again()
     ensures { (v : Version) (q : List ℕ) (cs : List Change) (s t : NodeState) → v ≢ First → keeps_rules t ≡ true
         → shown t ≡ t → AllByRecursion InRange cs → AllFit (edits cs) t
-        → redone v q s ≡ (t, Ok []) → redone v (q ++ payload (edits cs)) s ≡ (shown (applied_all (edits cs) t), Ok []) }
+        → redone v q s ≡ (t, Ok [])
+        → redone v (q ++ payload (edits cs)) s ≡ (shown (applied_all (edits cs) t), Ok []) }
 {}
 
 /// States that what is read from a record keeps the rules for records, and no floors of dropped network keys.

@@ -7,6 +7,7 @@ mod laws;
 mod link;
 pub mod link_row;
 mod links_so_far;
+mod marks;
 mod net;
 pub mod net_row;
 mod pair;

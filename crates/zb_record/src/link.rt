@@ -1,11 +1,12 @@
 //! Link keys in a record.
-ghost use Rattle.std.specs.Prelude.{◌≡◌, ◌&&◌, ◌||◌, not, [], map, nat_eq, nat_le, nat_lt};
+ghost use Rattle.std.specs.Prelude.{◌≡◌, ◌&&◌, ◌||◌, not, [], length, map, nat_eq, nat_le, nat_lt, IfOk};
 ghost use Rattle.std.specs.List.{list_any};
 ghost use Rattle.std.specs.Int.{w16, w32};
 ghost use Rattle.zb_node_types.specs.Changes.{model_role, model_attribute};
 ghost use Rattle.zb_cursor.specs.Reading.{byte_at, eui_at, key_at, number_at};
 ghost use Rattle.zb_cursor.specs.Spelling.{bit};
 ghost use Rattle.zb_model.specs.State.{is_centre, is_provisional, is_unverified};
+ghost use Rattle.zb_record.specs.LinkSets.{key_from};
 ghost use Rattle.zb_record.specs.Placed.{Answers, Gives, field, rows_at};
 ghost use Rattle.zb_record.specs.Rows.{link_seen, link_row, is_new_link, kinds_alike, told_apart, is_marked, link_fits, link_flags_fit, link_at, links_at, has_link_room};
 
@@ -84,15 +85,27 @@ impl LinkRecord {
     }
 }
 
-/// Returns a key that no row has.
-fn read_new_key(reader: &mut Reader<usize>, rows: &LinksSoFar) -> Result<Key, usize>
-    ensures { Gives (λ k. k) result reader.new.rest.now
+/// Returns the key that sixteen bytes are.
+fn key_of(bytes: &[u8]) -> Key
+    requires { length bytes.now ≡ 16 }
+    ensures { result ≡ key_from bytes.now }
+{
+    let mut key = [0; 16];
+    key.copy_from_slice(bytes);
+    Key(key)
+}
+
+/// Returns the bytes of a key that no row has.
+#[tactic(auto, unfolding(zb_cursor::specs::Reading::key_at))]
+fn read_new_key<'a>(reader: &mut Reader<'a, usize>, rows: &LinksSoFar) -> Result<&'a [u8], usize>
+    ensures exact { Gives (λ bytes. key_from bytes.now) result reader.new.rest.now
         (field key_at (is_new_link rows.now) reader.old.rest.now) }
+    ensures length { IfOk result (λ bytes. length bytes.now ≡ 16) }
 {
     let left = begin(reader);
-    let key = reader.key()?;
-    if rows.is_new(&key) {
-        Ok(key)
+    let bytes = reader.bytes(16)?;
+    if rows.is_new(&key_of(bytes)) {
+        Ok(bytes)
     } else {
         Err(left)
     }
@@ -155,7 +168,7 @@ fn read_link(reader: &mut Reader<usize>, role: Role, rows: &LinksSoFar) -> Resul
 {
     let _left = begin(reader);
     let partner = reader.eui()?;
-    let key = read_new_key(reader, rows)?;
+    let key = key_of(read_new_key(reader, rows)?);
     let _left = begin(reader);
     let attribute = read_attribute(reader)?;
     let flags = read_flags(reader, role, rows, partner, key, attribute)?;
@@ -186,7 +199,7 @@ fn read_count(reader: &mut Reader<usize>, role: Role) -> Result<u16, usize>
     }
 }
 
-/// So many link keys.
+/// So many link keys. The place stands in a reader of the call's own, so that it is in registers meanwhile.
 fn read_rows(
     alloc: Global,
     reader: &mut Reader<usize>,
@@ -196,10 +209,29 @@ fn read_rows(
     ensures { Answers (λ v. map link_seen v.items) result reader.new.rest.now
         (rows_at (link_at (model_role role)) count [] reader.old.rest.now) }
 {
-    let mut rows = LinksSoFar::with_capacity(alloc, usize::from(count))?;
+    let mut own = Reader {
+        rest: reader.rest,
+        cut: 0,
+    };
+    let rows = read_rows_of(alloc, &mut own, role, count)?;
+    reader.rest = own.rest;
+    Ok(rows)
+}
+
+/// So many link keys.
+fn read_rows_of(
+    alloc: Global,
+    reader: &mut Reader<usize>,
+    role: Role,
+    count: u16,
+) -> Result<Vec<LinkRecord>, OrMemory<usize>>
+    ensures { Answers (λ v. map link_seen v.items) result reader.new.rest.now
+        (rows_at (link_at (model_role role)) count [] reader.old.rest.now) }
+{
+    let mut rows = LinksSoFar::with_room(alloc, count)?;
     for _ in 0..count {
         match read_link(reader, role, &rows) {
-            Ok(row) => rows = rows.with(row)?,
+            Ok(row) => rows.push(row)?,
             Err(left) => return Err(OrMemory::Fault(left)),
         }
     }

@@ -1,61 +1,51 @@
 //! The link rows of a record that were read so far, with quick answers to what the next one is compared with.
 ghost use Rattle.std.specs.Prelude.{◌≡◌, ◌||◌, true, false, [], ◌∷◌, ◌++◌, map, IfOk, OnOk, List};
 ghost use Rattle.std.specs.List.{list_any};
-ghost use Rattle.zb_model.specs.State.{LinkKey};
-ghost use Rattle.zb_record.specs.LinkSets.{HaveKeys, HaveLive, is_live_so};
+ghost use Rattle.zb_model.specs.State.{LinkKey, same_key};
+ghost use Rattle.zb_record.specs.LinkSets.{HaveMarks, is_live_so};
 ghost use Rattle.zb_record.specs.Rows.{is_new_link, kinds_alike, link_seen, told_apart};
 
 use crate::link::LinkRecord;
+use crate::marks::{key_number, link_number, may_have, no_marks, note};
 use std::alloc::{AllocError, Global};
-use std::collections::BTreeSet;
 use std::marker::Model;
 use zb_base::{Eui, Key};
 
-/// What a live row is to its partner.
-#[derive(Clone, Copy, Drop, PartialEq, Eq, PartialOrd, Ord)]
-pub struct LiveLink {
-    /// With whom the key is shared.
-    pub partner: Eui,
-    /// Whether it is only offered.
-    pub unverified: bool,
-    /// Whether the partner was sent the newest network key.
-    pub told: bool,
-}
+/// How many bytes of marks there are for each row.
+const MARKS: usize = 16;
 
-/// Holds link rows in their order, and compares another row with all of them without a walk.
+/// Holds link rows in their order, and compares another row with all of them, mostly without a walk.
 ///
 /// A contract sees it as the list of its rows.
 #[derive(Drop)]
 pub(crate) struct LinksSoFar {
     rows: Vec<LinkRecord>,
-    /// The keys of all rows.
-    keys: BTreeSet<Key>,
-    /// What the live rows are.
-    live: BTreeSet<LiveLink>,
+    /// Marks of the keys of all rows, and of what the live ones are to their partners.
+    marks: Vec<u8>,
 }
 
 impl Model for LinksSoFar {
     ghost use Rattle.std.specs.Prelude.{List, map};
     ghost use Rattle.zb_model.specs.State.{LinkKey};
-    ghost use Rattle.zb_record.specs.LinkSets.{HaveKeys, HaveLive};
+    ghost use Rattle.zb_record.specs.LinkSets.{HaveMarks};
     ghost use Rattle.zb_record.specs.Rows.{link_seen as seen};
 
     ghost Value = { List LinkKey };
 
     ghost view = { λ s. map seen s.rows.items };
 
-    ghost invariant = { λ s. HaveKeys s.keys (map seen s.rows.items) × HaveLive s.live (map seen s.rows.items) };
+    ghost invariant = { λ s. HaveMarks s.marks.items (map seen s.rows.items) };
 }
 
 impl LinksSoFar {
     /// Makes the value of no rows, with room for that many.
-    pub fn with_capacity(alloc: Global, capacity: usize) -> Result<LinksSoFar, AllocError>
+    pub fn with_room(alloc: Global, count: u16) -> Result<LinksSoFar, AllocError>
         ensures { IfOk result (λ rows. rows ≡ []) }
     {
+        let room = usize::from(count);
         Ok(LinksSoFar {
-            rows: Vec::with_capacity(alloc, capacity)?,
-            keys: BTreeSet::new(alloc),
-            live: BTreeSet::new(alloc),
+            rows: Vec::with_capacity(alloc, room)?,
+            marks: no_marks(alloc, MARKS * room)?,
         })
     }
 
@@ -63,7 +53,14 @@ impl LinksSoFar {
     pub fn is_new(&self, key: &Key) -> bool
         ensures { result ≡ is_new_link self.now key.now }
     {
-        !self.keys.contains(key)
+        !self.has_key(key)
+    }
+
+    /// Returns whether a row has that key.
+    fn has_key(&self, key: &Key) -> bool
+        ensures { result ≡ list_any (λ (r : LinkKey). same_key r.key key.now.0) self.now }
+    {
+        may_have(self.marks.as_slice(), key_number(key)) && has_row_of(self.rows.as_slice(), key)
     }
 
     /// Returns whether one of the rows is like another.
@@ -100,26 +97,19 @@ impl LinksSoFar {
     fn has_live(&self, partner: Eui, unverified: bool, told: bool) -> bool
         ensures { result ≡ list_any (is_live_so partner.0 unverified told) self.now }
     {
-        self.live.contains(&LiveLink {
-            partner,
-            unverified,
-            told,
-        })
+        may_have(
+            self.marks.as_slice(),
+            link_number(partner, unverified, told),
+        ) && has_row_so(self.rows.as_slice(), partner, unverified, told)
     }
 
-    /// Returns these rows and one more.
-    pub fn with(self, row: LinkRecord) -> Result<LinksSoFar, AllocError>
-        ensures { IfOk result (λ rows. rows ≡ self ++ link_seen row ∷ []) }
+    /// Puts a row after these.
+    pub fn push(&mut self, row: LinkRecord) -> Result<(), AllocError>
+        ensures { OnOk result (self.new ≡ self.old ++ link_seen row ∷ []) }
     {
-        let LinksSoFar {
-            mut rows,
-            mut keys,
-            mut live,
-        } = self;
-        note_key(&mut keys, &row)?;
-        note_live(&mut live, &row)?;
-        rows.push(row)?;
-        Ok(LinksSoFar { rows, keys, live })
+        note_row(self.marks.as_mut_slice(), &row);
+        self.rows.push(row)?;
+        Ok(())
     }
 
     /// Returns the rows, in their order.
@@ -130,26 +120,38 @@ impl LinksSoFar {
     }
 }
 
-/// Notes the key of a row.
-fn note_key(keys: &mut BTreeSet<Key>, row: &LinkRecord) -> Result<(), AllocError>
-    ensures { OnOk result ((rows : List LinkKey) → HaveKeys keys.old rows
-        → HaveKeys keys.new (rows ++ link_seen row.now ∷ [])) }
+/// Notes the key of a row and, if it is live, what it is to its partner.
+fn note_row(marks: &mut [u8], row: &LinkRecord)
+    ensures { (rows : List LinkKey) → HaveMarks marks.old rows
+        → (HaveMarks marks.new rows) × (HaveMarks marks.new (rows ++ link_seen row.now ∷ [])) }
 {
-    keys.insert(row.key)?;
-    Ok(())
+    note(marks, key_number(&row.key));
+    if row.live {
+        note(
+            marks,
+            link_number(row.partner, row.is_unverified(), row.told),
+        );
+    }
 }
 
-/// Notes what a row is to its partner, if it is live.
-fn note_live(live: &mut BTreeSet<LiveLink>, row: &LinkRecord) -> Result<(), AllocError>
-    ensures { OnOk result ((rows : List LinkKey) → HaveLive live.old rows
-        → HaveLive live.new (rows ++ link_seen row.now ∷ [])) }
+/// Returns whether one of these rows has that key.
+fn has_row_of(rows: &[LinkRecord], key: &Key) -> bool
+    ensures { result ≡ list_any (λ r. same_key (link_seen r).key key.now.0) rows.now }
 {
-    if row.live {
-        live.insert(LiveLink {
-            partner: row.partner,
-            unverified: row.is_unverified(),
-            told: row.told,
-        })?;
-    }
-    Ok(())
+    rows.iter().any(|row| row.key == *key)
+}
+
+/// Returns whether one of these rows is a live one of that partner, only offered or not, told or not.
+fn has_row_so(rows: &[LinkRecord], partner: Eui, unverified: bool, told: bool) -> bool
+    ensures { result ≡ list_any (λ r. is_live_so partner.0 unverified told (link_seen r)) rows.now }
+{
+    rows.iter()
+        .any(|row| is_live_so(row, partner, unverified, told))
+}
+
+/// Returns whether a row is a live one of that partner, only offered or not, told or not.
+fn is_live_so(row: &LinkRecord, partner: Eui, unverified: bool, told: bool) -> bool
+    ensures { result ≡ is_live_so partner.0 unverified told (link_seen row.now) }
+{
+    row.live && row.partner.0 == partner.0 && row.is_unverified() == unverified && row.told == told
 }

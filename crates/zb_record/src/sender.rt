@@ -1,8 +1,8 @@
 //! Floors of senders in a record.
-ghost use Rattle.std.specs.Prelude.{◌≡◌, ◌≤◌, ◌<◌, [], IfOk, map, nat_lt};
-ghost use Rattle.std.specs.List.{list_all};
+ghost use Rattle.std.specs.Prelude.{◌≡◌, ◌≤◌, [], IfOk, map, true};
 ghost use Rattle.std.specs.Int.{w32};
 ghost use Rattle.zb_cursor.specs.Reading.{byte_at, eui_at, number_at};
+ghost use Rattle.zb_model.specs.Fits.{senders_ascend};
 ghost use Rattle.zb_record.specs.Placed.{Gives, field, rows_at};
 ghost use Rattle.zb_record.specs.Rows.{sender_seen, net_seen, is_last, isnt_zero, has_few, sender_at, floors_at, live_floors_at, all_floors_at};
 
@@ -21,25 +21,23 @@ pub struct SenderRecord {
     pub stored: u32,
 }
 
-/// Returns whether a sender is above all of these.
-fn is_above(floors: &[SenderRecord], sender: Eui) -> bool
-    ensures { result ≡ list_all (λ f. nat_lt (sender_seen f).sender sender.0) floors.now }
-{
-    floors.iter().all(|floor| floor.sender.0 < sender.0)
-}
-
-/// Returns whether a sender may stand after these.
-#[tactic(auto, using(crate::proofs::Lists::all_seen))]
+/// Returns whether a sender may stand after these, which ascend: it is above the last.
 fn is_last(floors: &[SenderRecord], sender: Eui) -> bool
+    requires { senders_ascend (map sender_seen floors.now) ≡ true }
     ensures { result ≡ is_last (map sender_seen floors.now) sender }
 {
-    is_above(floors, sender)
+    match floors.last() {
+        Some(floor) => floor.sender.0 < sender.0,
+        None => true,
+    }
 }
 
 /// Returns a sender after these.
 fn read_address(reader: &mut Reader<usize>, floors: &[SenderRecord]) -> Result<Eui, usize>
-    ensures { Gives (λ e. e) result reader.new.rest.now
+    requires { senders_ascend (map sender_seen floors.now) ≡ true }
+    ensures exact { Gives (λ e. e) result reader.new.rest.now
         (field eui_at (is_last (map sender_seen floors.now)) reader.old.rest.now) }
+    ensures last { IfOk result (λ e. is_last (map sender_seen floors.now) e ≡ true) }
 {
     let left = begin(reader);
     let sender = reader.eui()?;
@@ -62,8 +60,10 @@ fn read_stored(reader: &mut Reader<usize>) -> Result<u32, usize>
 /// Returns the floor of a sender after these.
 #[tactic(auto, unfolding(crate::specs::Rows::sender_at))]
 fn read_sender(reader: &mut Reader<usize>, floors: &[SenderRecord]) -> Result<SenderRecord, usize>
-    ensures { Gives sender_seen result reader.new.rest.now
+    requires { senders_ascend (map sender_seen floors.now) ≡ true }
+    ensures exact { Gives sender_seen result reader.new.rest.now
         (sender_at (map sender_seen floors.now) reader.old.rest.now) }
+    ensures last { IfOk result (λ f. is_last (map sender_seen floors.now) f.sender ≡ true) }
 {
     let sender = read_address(reader, floors)?;
     let stored = read_stored(reader)?;
