@@ -4,6 +4,7 @@ pub mod Kept
 pub mod Leads
 pub mod Lists
 pub mod NameLemmas
+pub mod OwnLemmas
 pub mod OneCentre
 pub mod PageLemmas
 pub mod PrintedReads

@@ -12,6 +12,7 @@ use Rattle.zb_sched_line.specs.Said.{Bytes, Event, Says, Delivers, Ticks, Knocks
 use Rattle.zb_sched.specs.Schedules.{Node}
 use Rattle.zb_sched.specs.declared.error.SchedCause.{SchedCause}
 use Rattle.zb_sched.specs.declared.error.SchedCause.TheVariants.{Syntax, DuplicateNode, DuplicateCode, DrawRepeated, UnknownNode, BadCode, Block, TooMany}
+use Rattle.zb_base.specs.Limits.{most_out_block, most_in_block, most_events}
 
 -- A node so far, and whether its counters were declared (a declared 0 is as good as none, but stands once).
 pub record Seat : Type 0 where
@@ -107,8 +108,8 @@ is_taken name eui short seat = has_name name seat || seat.node.eui == eui || sea
 
 -- The ranges of the blocks of counters: 1 to 65,536 outgoing and 1 to 1,024 incoming ones.
 abbrev pub are_blocks : ℕ → ℕ → Bool
-are_blocks out_block in_block = nat_le 1 out_block && nat_le out_block 65536 && nat_le 1 in_block
-    && nat_le in_block 1024
+are_blocks out_block in_block = nat_le 1 out_block && nat_le out_block most_out_block && nat_le 1 in_block
+    && nat_le in_block most_in_block
 
 abbrev pub new_seat : Bytes → Role → ℕ → ℕ → ℕ → ℕ → Seat
 new_seat name role eui short out_block in_block = record {
@@ -236,7 +237,7 @@ abbrev pub after_event : Seen → Event → Result Seen SchedCause
 after_event seen event =
     if provision_clashes event seen then Err DuplicateCode
     else if not (has_its_nodes event seen.seats) then Err UnknownNode
-    else if nat_le 100000 (length seen.events) then Err TooMany
+    else if nat_le most_events (length seen.events) then Err TooMany
     else Ok (record seen { events = seen.events ++ event ∷ [] })
 
 -- ---- lines

@@ -8,6 +8,7 @@ use Rattle.zb_sched_line.specs.Said.{Bytes, Event, Introduces}
 use Rattle.zb_sched.specs.Judge.{Seat, Seen, are_blocks, has_its_nodes, link_of, network_of, provision_clashes, well_known}
 use Rattle.zb_sched.specs.Schedules.{Node, Schedule}
 use Rattle.zb_sched.specs.Reading.{is_centre}
+use Rattle.zb_base.specs.Limits.{most_events}
 
 -- Each two items of a list, in their order.
 abbrev pub Pairwise : {X : Type 0} → (X → X → Type 0) → List X → Type 0
@@ -70,7 +71,7 @@ pub record IsSoFar (p : Schedule) : Type 0 where
   pub keys : AllByRecursion (λ m. AllByRecursion (λ n. KeysApart m n) p.nodes) p.nodes
   pub draws : AllByRecursion (IsNewKey p.nodes) p.draws
   pub draws_apart : Pairwise (λ a b. a ≡ b → ⊥) p.draws
-  pub few_events : length p.events ≤ 100000
+  pub few_events : length p.events ≤ most_events
   pub events : AllByRecursion (FitsSchedule p) p.events
 
 -- A schedule: it has a centre too, and no second one, since the short address of each is 0.

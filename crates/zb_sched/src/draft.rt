@@ -21,7 +21,7 @@ use std::alloc::{AllocError, Global};
 use std::marker::Model;
 use zb_base::{Key, Layer, List, Name, OrMemory, Peer, Role, WELL_KNOWN};
 use zb_install::InstallCode;
-use zb_sched_line::{Event, Line, read_line};
+use zb_sched_line::{Event, Line, read_line, read_own_event};
 
 /// A schedule so far.
 #[derive(Drop)]
@@ -256,6 +256,7 @@ impl Draft {
     ghost use Rattle.zb_sched_line.specs.Fits.{FitsSentence};
     ghost use Rattle.zb_sched_line.specs.Views.{event_of, sentence_of};
     ghost use Rattle.zb_sched.specs.Judge.{after_event, after_sentence, are_child_and_parent, are_partners, has_its_nodes, provision_clashes, role_named};
+    ghost use Rattle.zb_sched.specs.Drafts.{TakesOwn};
     ghost use Rattle.zb_sched.specs.Reading.{after_line, finished, has_centre, Steps};
     ghost use Rattle.zb_sched.specs.Valid.{IsSchedule, IsSoFar};
 
@@ -398,6 +399,42 @@ impl Draft {
 
     /// Takes a line. After an error the schedule so far is not to be used any more.
     pub fn take(&mut self, text: &[u8]) -> Result<(), OrMemory<SchedCause>>
+        ensures exact { Steps result self.new (after_line self.old text.now) }
+        ensures kept { IsSoFar (finished self.old) → OnOk result (IsSoFar (finished self.new)) }
+    {
+        match self.take_own_event(text) {
+            Ok(true) => Ok(()),
+            Ok(false) => self.take_other(text),
+            Err(fault) => Err(fault),
+        }
+    }
+
+    /// Takes a line where it is an event of one node, and returns whether it is one. The event is read into its place.
+    fn take_own_event(&mut self, text: &[u8]) -> Result<bool, OrMemory<SchedCause>>
+        ensures exact { TakesOwn result self.old self.new text.now }
+        ensures kept { IsSoFar (finished self.old) → OnOk result (IsSoFar (finished self.new)) }
+    {
+        let last = self.events.len();
+        self.events.push(Event::Roll)?;
+        if read_own_event(text, &mut self.events[last]).is_none() {
+            self.events.pop();
+            return Ok(false);
+        }
+        let event = &self.events[last];
+        if self.provision_clashes(event) {
+            return Err(OrMemory::Fault(SchedCause::DuplicateCode));
+        }
+        if !self.has_nodes_of(event) {
+            return Err(OrMemory::Fault(SchedCause::UnknownNode));
+        }
+        if 100_000 <= last {
+            return Err(OrMemory::Fault(SchedCause::TooMany));
+        }
+        Ok(true)
+    }
+
+    /// Takes a line of any kind.
+    fn take_other(&mut self, text: &[u8]) -> Result<(), OrMemory<SchedCause>>
         ensures exact { Steps result self.new (after_line self.old text.now) }
         ensures kept { IsSoFar (finished self.old) → OnOk result (IsSoFar (finished self.new)) }
     {

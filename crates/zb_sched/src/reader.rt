@@ -21,7 +21,8 @@ pub fn read(alloc: Global, text: &[u8]) -> Result<Schedule, OrMemory<SchedError>
     requires { length text.now < 2 ^ 32 - 1 }
     ensures exact { Reads result (schedule_in text.now) }
     ensures valid { IfOk result (λ schedule. IsSchedule (schedule_of schedule)) }
-    ensures again { IfOk result (λ schedule. schedule_in (printed (schedule_of schedule)) ≡ Ok (schedule_of schedule)) }
+    ensures again { IfOk result (λ schedule. schedule_in (printed (schedule_of schedule))
+        ≡ Ok (schedule_of schedule)) }
 {
     let mut draft = Draft::new(alloc);
     let mut rest = text;

@@ -1,9 +1,12 @@
 //! Events but forged frames, after their first word.
 
 ghost use Rattle.std.specs.Prelude.{◌≡◌, codes, IfSome};
+ghost use Rattle.std.specs.Option.{option_map};
 ghost use Rattle.zb_text.specs.Words.{left, Shows};
 ghost use Rattle.zb_sched_line.specs.Fits.{FitsEvent, IsName};
 ghost use Rattle.zb_sched_line.specs.Grammar.{child_of, deliver_of, fail_of, inject_of, name_alone, other_event, own_event, remove_of, say_of, stop_of, tell_of, two_names};
+ghost use Rattle.zb_sched_line.specs.Places.{read_into};
+ghost use Rattle.zb_sched_line.specs.Said.{Boots, Dumps, Knocks, Rejoins, Resets, Ticks};
 ghost use Rattle.zb_sched_line.specs.Views.{event_of};
 
 use crate::event::Event;
@@ -12,40 +15,102 @@ use crate::forge::forge;
 use zb_base::Name;
 use zb_text::words::Words;
 
-/// Reads an event of one node, if the keyword begins one.
-pub fn own_event(keyword: &[u8], words: Words) -> Option<Event>
-    ensures value { Shows event_of result (own_event keyword.now (left words.entry)) }
-    ensures fits { IfSome result (λ event. FitsEvent (event_of event)) }
+/// Reads an event of one node into a place, if the keyword begins one.
+pub fn own_event(keyword: &[u8], words: Words, event: &mut Event) -> Option<()>
+    ensures value { Shows event_of (read_into result event.new) (own_event keyword.now (left words.entry)) }
+    ensures fits { IfSome result (λ _. FitsEvent (event_of event.new)) }
 {
     if keyword == b"say".as_slice() {
-        say(words)
-    } else if keyword == b"deliver".as_slice() {
-        deliver(words)
-    } else if keyword == b"timer".as_slice() {
-        let name = only_name(words)?;
-        Some(Event::Timer { name })
-    } else if keyword == b"knock".as_slice() {
-        let name = only_name(words)?;
-        Some(Event::Knock { name })
-    } else if keyword == b"rejoin".as_slice() {
-        let name = only_name(words)?;
-        Some(Event::Rejoin { name })
-    } else if keyword == b"reset".as_slice() {
-        let name = only_name(words)?;
-        Some(Event::Reset { name })
-    } else if keyword == b"boot".as_slice() {
-        let name = only_name(words)?;
-        Some(Event::Boot { name })
-    } else if keyword == b"dump".as_slice() {
-        let name = only_name(words)?;
-        Some(Event::Dump { name })
-    } else if keyword == b"stop".as_slice() {
-        stop(words)
-    } else if keyword == b"fail".as_slice() {
-        fail(words)
-    } else {
-        None
+        return say(words, event);
     }
+    if keyword == b"deliver".as_slice() {
+        return deliver(words, event);
+    }
+    if keyword == b"timer".as_slice() {
+        return timer(words, event);
+    }
+    if keyword == b"knock".as_slice() {
+        return knock(words, event);
+    }
+    if keyword == b"rejoin".as_slice() {
+        return start_rejoin(words, event);
+    }
+    if keyword == b"reset".as_slice() {
+        return reset(words, event);
+    }
+    if keyword == b"boot".as_slice() {
+        return boot(words, event);
+    }
+    if keyword == b"dump".as_slice() {
+        return dump(words, event);
+    }
+    if keyword == b"stop".as_slice() {
+        return stop(words, event);
+    }
+    if keyword == b"fail".as_slice() {
+        return fail(words, event);
+    }
+    None
+}
+
+fn timer(words: Words, event: &mut Event) -> Option<()>
+    ensures value { Shows event_of (read_into result event.new)
+        (option_map Ticks (name_alone (left words.entry))) }
+    ensures fits { IfSome result (λ _. FitsEvent (event_of event.new)) }
+{
+    let name = only_name(words)?;
+    *event = Event::Timer { name };
+    Some(())
+}
+
+fn knock(words: Words, event: &mut Event) -> Option<()>
+    ensures value { Shows event_of (read_into result event.new)
+        (option_map Knocks (name_alone (left words.entry))) }
+    ensures fits { IfSome result (λ _. FitsEvent (event_of event.new)) }
+{
+    let name = only_name(words)?;
+    *event = Event::Knock { name };
+    Some(())
+}
+
+fn start_rejoin(words: Words, event: &mut Event) -> Option<()>
+    ensures value { Shows event_of (read_into result event.new)
+        (option_map Rejoins (name_alone (left words.entry))) }
+    ensures fits { IfSome result (λ _. FitsEvent (event_of event.new)) }
+{
+    let name = only_name(words)?;
+    *event = Event::Rejoin { name };
+    Some(())
+}
+
+fn reset(words: Words, event: &mut Event) -> Option<()>
+    ensures value { Shows event_of (read_into result event.new)
+        (option_map Resets (name_alone (left words.entry))) }
+    ensures fits { IfSome result (λ _. FitsEvent (event_of event.new)) }
+{
+    let name = only_name(words)?;
+    *event = Event::Reset { name };
+    Some(())
+}
+
+fn boot(words: Words, event: &mut Event) -> Option<()>
+    ensures value { Shows event_of (read_into result event.new)
+        (option_map Boots (name_alone (left words.entry))) }
+    ensures fits { IfSome result (λ _. FitsEvent (event_of event.new)) }
+{
+    let name = only_name(words)?;
+    *event = Event::Boot { name };
+    Some(())
+}
+
+fn dump(words: Words, event: &mut Event) -> Option<()>
+    ensures value { Shows event_of (read_into result event.new)
+        (option_map Dumps (name_alone (left words.entry))) }
+    ensures fits { IfSome result (λ _. FitsEvent (event_of event.new)) }
+{
+    let name = only_name(words)?;
+    *event = Event::Dump { name };
+    Some(())
 }
 
 /// Reads an event of the centre, of two nodes, or of the air, if the keyword begins one.
@@ -102,25 +167,27 @@ fn both_names(mut words: Words) -> Option<(Name, Name)>
     Some((first, second))
 }
 
-fn say(mut words: Words) -> Option<Event>
-    ensures value { Shows event_of result (say_of (left words.entry)) }
-    ensures fits { IfSome result (λ event. FitsEvent (event_of event)) }
+fn say(mut words: Words, event: &mut Event) -> Option<()>
+    ensures value { Shows event_of (read_into result event.new) (say_of (left words.entry)) }
+    ensures fits { IfSome result (λ _. FitsEvent (event_of event.new)) }
 {
     let name = words.name()?;
     let to = words.short()?;
     let bytes = words.bytes::<64>()?;
     words.end()?;
-    Some(Event::Say { name, to, bytes })
+    *event = Event::Say { name, to, bytes };
+    Some(())
 }
 
-fn deliver(mut words: Words) -> Option<Event>
-    ensures value { Shows event_of result (deliver_of (left words.entry)) }
-    ensures fits { IfSome result (λ event. FitsEvent (event_of event)) }
+fn deliver(mut words: Words, event: &mut Event) -> Option<()>
+    ensures value { Shows event_of (read_into result event.new) (deliver_of (left words.entry)) }
+    ensures fits { IfSome result (λ _. FitsEvent (event_of event.new)) }
 {
     let frame = number_between(&mut words, 1, u32::MAX)?;
     let name = words.name()?;
     words.end()?;
-    Some(Event::Deliver { frame, name })
+    *event = Event::Deliver { frame, name };
+    Some(())
 }
 
 fn child(mut words: Words) -> Option<Event>
@@ -149,28 +216,30 @@ fn remove(mut words: Words) -> Option<Event>
     Some(Event::Remove { name, parent })
 }
 
-fn stop(mut words: Words) -> Option<Event>
-    ensures value { Shows event_of result (stop_of (left words.entry)) }
-    ensures fits { IfSome result (λ event. FitsEvent (event_of event)) }
+fn stop(mut words: Words, event: &mut Event) -> Option<()>
+    ensures value { Shows event_of (read_into result event.new) (stop_of (left words.entry)) }
+    ensures fits { IfSome result (λ _. FitsEvent (event_of event.new)) }
 {
     let name = words.name()?;
     let calls = byte(&mut words, 5)?;
     let torn = words.bytes::<32>()?;
     words.end()?;
-    Some(Event::Stop { name, calls, torn })
+    *event = Event::Stop { name, calls, torn };
+    Some(())
 }
 
-fn fail(mut words: Words) -> Option<Event>
-    ensures value { Shows event_of result (fail_of (left words.entry)) }
-    ensures fits { IfSome result (λ event. FitsEvent (event_of event)) }
+fn fail(mut words: Words, event: &mut Event) -> Option<()>
+    ensures value { Shows event_of (read_into result event.new) (fail_of (left words.entry)) }
+    ensures fits { IfSome result (λ _. FitsEvent (event_of event.new)) }
 {
     let name = words.name()?;
     let call = number_between(&mut words, 1, 6)?;
     words.end()?;
-    Some(Event::Fail {
+    *event = Event::Fail {
         name,
         call: call as u8,
-    })
+    };
+    Some(())
 }
 
 fn inject(mut words: Words) -> Option<Event>

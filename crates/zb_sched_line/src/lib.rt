@@ -16,6 +16,6 @@ mod print_forged;
 
 pub use event::Event;
 pub use laws::printed_line_reads;
-pub use line::{Line, read_line};
+pub use line::{Line, read_line, read_own_event};
 pub use print::{put_code, put_counter, put_draw, put_netkey, put_node};
 pub use print_event::put_event;

@@ -2,9 +2,10 @@
 
 ghost use Rattle.std.specs.Prelude.{◌≡◌, IfSome};
 ghost use Rattle.zb_text.specs.Words.{Shows};
-ghost use Rattle.zb_sched_line.specs.Fits.{FitsSentence};
+ghost use Rattle.zb_sched_line.specs.Fits.{FitsEvent, FitsSentence};
 ghost use Rattle.zb_sched_line.specs.Grammar.{is_quiet, meaning_of};
-ghost use Rattle.zb_sched_line.specs.Views.{sentence_of};
+ghost use Rattle.zb_sched_line.specs.Places.{own_event_of, read_into};
+ghost use Rattle.zb_sched_line.specs.Views.{event_of, sentence_of};
 
 use crate::declarations::declaration;
 use crate::event::Event;
@@ -63,7 +64,8 @@ pub fn read_line(line: &[u8]) -> Option<Line>
     }
     let mut words = Words::new(line);
     let keyword = words.word()?;
-    if let Some(event) = own_event(keyword, words) {
+    let mut event = Event::Roll;
+    if own_event(keyword, words, &mut event).is_some() {
         return Some(Line::Event(event));
     }
     if let Some(line) = declaration(keyword, words) {
@@ -71,6 +73,20 @@ pub fn read_line(line: &[u8]) -> Option<Line>
     }
     let event = other_event(keyword, words)?;
     Some(Line::Event(event))
+}
+
+/// Reads an event of one node into a place, or answers None where the line is none. After None what stands there says
+/// nothing.
+pub fn read_own_event(line: &[u8], event: &mut Event) -> Option<()>
+    ensures value { Shows event_of (read_into result event.new) (own_event_of line.now) }
+    ensures fits { IfSome result (λ _. FitsEvent (event_of event.new)) }
+{
+    if is_blank(line) {
+        return None;
+    }
+    let mut words = Words::new(line);
+    let keyword = words.word()?;
+    own_event(keyword, words, event)
 }
 
 fn is_blank(line: &[u8]) -> bool

@@ -52,7 +52,8 @@ fn put_sealed(
 #[tactic(auto, using(std::proofs::Common::append_assoc))]
 fn put_net(out: &mut Vec<u8>, net: &Net) -> Result<(), AllocError>
     ensures { OnOk result (out.new.items ≡ out.old.items
-        ++ (then (encode_upper net.now.key.0) ++ (then (decimal net.now.sequence) ++ then (decimal net.now.counter)))) }
+        ++ (then (encode_upper net.now.key.0)
+        ++ (then (decimal net.now.sequence) ++ then (decimal net.now.counter)))) }
 {
     add_key(out, &net.key)?;
     add_number(out, net.sequence as u32)?;
