@@ -1,11 +1,15 @@
 //! The state of the cipher, and its rounds.
 
-ghost use Rattle.std.specs.Prelude.{◌≡◌};
-ghost use Rattle.zb_aes.specs.Block.{last_round, next_key, round};
-ghost use Rattle.zb_aes.specs.Bytes.{xored};
+ghost use Rattle.std.specs.Prelude.{◌≡◌, slice_index, [], ◌∷◌};
+ghost use Rattle.zb_aes.specs.Block.{last_round, mix_column, next_key, round};
+ghost use Rattle.zb_aes.specs.Bytes.{word_bytes, xored};
 ghost use Rattle.zb_aes.specs.Columns.{state_bytes};
+ghost use Rattle.zb_aes.specs.Field.{substitute};
 
-use crate::word::{mixed_column, packed, substituted_column, sum, turned_word};
+use crate::word::{
+    alone_0, alone_1, alone_2, alone_3, first, fourth, packed, rotated, row_0, row_2, row_3,
+    second, sum, third, turned_word,
+};
 
 /// A block, the state of the cipher, or a round key, as its four columns.
 ///
@@ -61,17 +65,57 @@ impl State {
         )
     }
 
+    // Adds what the rows of an old column become in a round to the columns that they move to: row 0 to the first of
+    // them, and the rows 3, 2 and 1 to those after it. Then the first one goes last, so that the next old column finds
+    // its own first; four calls make a round. They take one word after the other, and so all stay in registers.
+    #[inline(always)]
+    fn with_mixed(self, column: u32) -> State
+        ensures row_0 { word_bytes result.3
+            ≡ xored (word_bytes self.0) (mix_column (substitute (slice_index (word_bytes column) 0)) 0 0 0) }
+        ensures row_1 { word_bytes result.2
+            ≡ xored (word_bytes self.3) (mix_column 0 (substitute (slice_index (word_bytes column) 1)) 0 0) }
+        ensures row_2 { word_bytes result.1
+            ≡ xored (word_bytes self.2) (mix_column 0 0 (substitute (slice_index (word_bytes column) 2)) 0) }
+        ensures row_3 { word_bytes result.0
+            ≡ xored (word_bytes self.1) (mix_column 0 0 0 (substitute (slice_index (word_bytes column) 3))) }
+    {
+        let turned = rotated(column);
+        let a = sum(self.0, first(row_0(column)));
+        let d = sum(self.3, second(row_2(turned)));
+        let c = sum(self.2, third(row_3(turned)));
+        let b = sum(self.1, fourth(row_0(turned)));
+        State(b, c, d, a)
+    }
+
+    // As `with_mixed`, for the last round.
+    #[inline(always)]
+    fn with_alone(self, column: u32) -> State
+        ensures row_0 { word_bytes result.3
+            ≡ xored (word_bytes self.0) (substitute (slice_index (word_bytes column) 0) ∷ 0 ∷ 0 ∷ 0 ∷ []) }
+        ensures row_1 { word_bytes result.2
+            ≡ xored (word_bytes self.3) (0 ∷ substitute (slice_index (word_bytes column) 1) ∷ 0 ∷ 0 ∷ []) }
+        ensures row_2 { word_bytes result.1
+            ≡ xored (word_bytes self.2) (0 ∷ 0 ∷ substitute (slice_index (word_bytes column) 2) ∷ 0 ∷ []) }
+        ensures row_3 { word_bytes result.0
+            ≡ xored (word_bytes self.1) (0 ∷ 0 ∷ 0 ∷ substitute (slice_index (word_bytes column) 3) ∷ []) }
+    {
+        let turned = rotated(column);
+        let a = sum(self.0, alone_0(row_0(column)));
+        let d = sum(self.3, alone_1(row_2(turned)));
+        let c = sum(self.2, alone_2(row_3(turned)));
+        let b = sum(self.1, alone_3(row_0(turned)));
+        State(b, c, d, a)
+    }
+
     /// Makes a round before the last.
     #[inline(always)]
     pub fn round(self, key: State) -> State
         ensures { state_bytes result ≡ round (state_bytes key) (state_bytes self) }
     {
-        State(
-            mixed_column(self.0, self.1, self.2, self.3, key.0),
-            mixed_column(self.1, self.2, self.3, self.0, key.1),
-            mixed_column(self.2, self.3, self.0, self.1, key.2),
-            mixed_column(self.3, self.0, self.1, self.2, key.3),
-        )
+        key.with_mixed(self.0)
+            .with_mixed(self.1)
+            .with_mixed(self.2)
+            .with_mixed(self.3)
     }
 
     /// Makes the last round, which mixes no columns.
@@ -79,12 +123,10 @@ impl State {
     pub fn last_round(self, key: State) -> State
         ensures { state_bytes result ≡ last_round (state_bytes key) (state_bytes self) }
     {
-        State(
-            substituted_column(self.0, self.1, self.2, self.3, key.0),
-            substituted_column(self.1, self.2, self.3, self.0, key.1),
-            substituted_column(self.2, self.3, self.0, self.1, key.2),
-            substituted_column(self.3, self.0, self.1, self.2, key.3),
-        )
+        key.with_alone(self.0)
+            .with_alone(self.1)
+            .with_alone(self.2)
+            .with_alone(self.3)
     }
 
     /// Returns the round key after this one, with the constant of its round.

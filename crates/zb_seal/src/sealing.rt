@@ -1,5 +1,5 @@
 //! From a term to the bytes on the air.
-ghost use Rattle.std.specs.Prelude.{◌≡◌, ◌+◌, ◌-◌, ◌≤◌, ◌<◌, length, slice_set, IfOk, OnErr};
+ghost use Rattle.std.specs.Prelude.{◌≡◌, ◌+◌, ◌-◌, ◌≤◌, ◌<◌, [], length, slice_set, IfOk, OnErr};
 ghost use Rattle.zb_seal.specs.Keys.{sealing_key as key_of};
 ghost use Rattle.zb_seal.specs.Wire.{wire as wire_of, wire_under, sealed_term, on_air as air, aux_size as size_of_aux, wire_length, at_place, zero_level as cleared};
 ghost use Rattle.zb_base.specs.Limits.{longest_frame};
@@ -9,7 +9,7 @@ use crate::term::Term;
 use zb_aes::Cipher;
 use zb_base::{Frame, Layer};
 use zb_ccm::seal_with;
-use zb_cursor::{TooLong, frame_from, has_bit, put};
+use zb_cursor::{TooLong, has_bit, put};
 
 /// Returns how far before the header's end its auxiliary control byte stands.
 fn aux_size(layer: Layer, control: u8) -> usize
@@ -36,17 +36,26 @@ fn clear_level(bytes: &mut [u8], place: usize)
     bytes[place] = zero_level(bytes[place]);
 }
 
-/// Returns the header with level bits 000, where it is long enough for an auxiliary header.
-fn on_air(size: usize, header: &Frame) -> Frame
-    requires { 5 ≤ size }
-    ensures { result.items ≡ air size header.now.items }
+/// Fills an empty frame with bytes.
+fn fill(out: &mut Frame, bytes: &[u8])
+    requires empty { out.old.items ≡ [] }
+    requires fits { length bytes.now ≤ longest_frame }
+    ensures { out.new.items ≡ bytes.now }
 {
-    let mut out = frame_from(header.as_slice());
+    let _ = put(out, bytes);
+}
+
+/// Fills an empty frame with the header with level bits 000, where it is long enough for an auxiliary header.
+fn fill_on_air(out: &mut Frame, size: usize, header: &Frame)
+    requires empty { out.old.items ≡ [] }
+    requires size { 5 ≤ size }
+    ensures { out.new.items ≡ air size header.now.items }
+{
+    fill(out, header.as_slice());
     let len = out.len();
     if size <= len {
         clear_level(out.as_mut_slice(), len - size);
     }
-    out
 }
 
 /// Encrypts the content of a term, which `text` is, in place, and returns its code.
@@ -73,8 +82,10 @@ pub fn wire_with(term: &Term, cipher: &Cipher) -> Result<Frame, TooLong>
     ensures long { OnErr result (longest_frame < length (wire_of term.now)) }
     ensures len { length (wire_of term.now) ≡ wire_length term.now }
 {
-    let mut out = on_air(aux_size(term.layer, term.control), &term.header);
-    let mut text = frame_from(term.content.as_slice());
+    let mut out = Frame::new();
+    fill_on_air(&mut out, aux_size(term.layer, term.control), &term.header);
+    let mut text = Frame::new();
+    fill(&mut text, term.content.as_slice());
     let mic = seal_content(cipher, term, &mut text);
     put(&mut out, &text)?;
     put(&mut out, &mic)?;

@@ -1,7 +1,16 @@
 use Rattle.zb_aes.proofs.state.State.round.Goals as goal
 use Rattle.zb_aes.proofs.Rounds.{round-built}
+use Rattle.zb_aes.proofs.Words.{mix_column-sum}
+use Rattle.zb_aes.proofs.Xored.{gathered, gathered_last, gathered_second, gathered_third}
 
 pub returns : goal.returns
 returns c =
-    round-built _ _ _ _ _ _ _ _ _ _ _ _ c.mixed_column.ensures c.mixed_column-2.ensures c.mixed_column-3.ensures
-    c.mixed_column-4.ensures
+    let a = c.with_mixed.ensures in
+    let b = c.with_mixed-2.ensures in
+    let m = c.with_mixed-3.ensures in
+    let z = c.with_mixed-4.ensures in
+    round-built _ _ _ _ _ _ _ _ _ _ _ _
+    (gathered _ _ _ _ _ _ _ _ _ _ (mix_column-sum _ _ _ _) a.row_0 b.row_1 m.row_2 z.row_3)
+    (gathered_last _ _ _ _ _ _ _ _ _ _ (mix_column-sum _ _ _ _) a.row_3 b.row_0 m.row_1 z.row_2)
+    (gathered_third _ _ _ _ _ _ _ _ _ _ (mix_column-sum _ _ _ _) a.row_2 b.row_3 m.row_0 z.row_1)
+    (gathered_second _ _ _ _ _ _ _ _ _ _ (mix_column-sum _ _ _ _) a.row_1 b.row_2 m.row_3 z.row_0)
