@@ -1,6 +1,6 @@
 //! APS frames: the value, the reader of bytes and the writer.
-ghost use Rattle.std.specs.Prelude.{◌≡◌, ◌≤◌, ◌<◌, ◌++◌, length, IfOk, OnErr, Ok, Err, IsTrue, ◌↔◌};
-ghost use Rattle.zb_cursor.specs.Reading.{Gives};
+ghost use Rattle.std.specs.Prelude.{◌≡◌, ◌≤◌, ◌<◌, ◌++◌, length, IfOk, OnErr, OnOk, Ok, Err, IsTrue, ◌↔◌};
+ghost use Rattle.zb_cursor.specs.Reading.{Gives, read_into};
 ghost use Rattle.zb_cursor.specs.Writing.{Appends};
 ghost use Rattle.zb_aps.specs.declared.fault.ApsError.{ApsError};
 ghost use Rattle.zb_aps.specs.declared.frame.ApsFrame.{ApsFrame};
@@ -16,7 +16,7 @@ use crate::fault::ApsError;
 use crate::header::{ApsHeader, put_header, read_header};
 use arrayvec::ArrayVec;
 use zb_base::Frame;
-use zb_cursor::{Reader, TooLong, frame_from, has_bit, put};
+use zb_cursor::{Reader, TooLong, fill, has_bit, put};
 
 /// An APS frame (05-3474-21, 2.2.5.1). A secured one has an auxiliary header, and its body is the cipher text.
 #[derive(Debug, Drop, PartialEq, Eq)]
@@ -32,6 +32,16 @@ pub struct ApsFrame {
 }
 
 impl ApsFrame {
+    /// Makes a frame that others may be read into.
+    pub fn blank() -> ApsFrame {
+        ApsFrame {
+            header: ApsHeader::blank(),
+            aux: None,
+            body: Frame::new(),
+            mic: [0; 4],
+        }
+    }
+
     /// Returns whether this value is a frame that the reader can answer.
     ///
     /// The reader takes the type, the delivery and the key identifier, the options agree with the control byte, and
@@ -48,49 +58,54 @@ impl ApsFrame {
     }
 }
 
-/// Reads what stands after a header.
+/// Reads what stands after a header into the place of the frame.
 #[tactic(auto, unfolding(crate::specs::Reading::secured_at, crate::specs::Reading::unsecured_at))]
-fn read_content(reader: &mut Reader<ApsError>, header: ApsHeader) -> Result<ApsFrame, ApsError>
+fn read_content(
+    reader: &mut Reader<ApsError>,
+    header: ApsHeader,
+    frame: &mut ApsFrame,
+) -> Result<(), ApsError>
     requires fits { length reader.old.rest.now ≤ longest_frame }
     requires shaped { IsHeader header }
     requires in_range { HeaderInRange header }
-    ensures exact { Gives result reader.new.rest.now
+    ensures exact { Gives (read_into result frame.new) reader.new.rest.now
         (content_at (bit header.control 5) header reader.old.cut reader.old.rest.now) }
-    ensures found { IfOk result (λ f. IsFrame (header_of header ++ reader.old.rest.now) f) }
+    ensures found { OnOk result (IsFrame (header_of header ++ reader.old.rest.now) frame.new) }
 {
+    frame.header = header;
     if !has_bit(u16::from(header.control), 5) {
-        let body = frame_from(reader.all());
-        return Ok(ApsFrame {
-            header,
-            aux: None,
-            body,
-            mic: [0; 4],
-        });
+        frame.aux = None;
+        frame.mic = [0; 4];
+        fill(&mut frame.body, reader.all());
+        return Ok(());
     }
     let aux = read_aux(reader)?;
-    let (body, mic) = reader.body_and_mic()?;
-    Ok(ApsFrame {
-        header,
-        aux: Some(aux),
-        body,
-        mic,
-    })
+    frame.aux = Some(aux);
+    reader.body_and_mic_into(&mut frame.body, &mut frame.mic)?;
+    Ok(())
 }
 
 #[tactic(auto, unfolding(crate::specs::Reading::frame_at))]
-fn read_frame(reader: &mut Reader<ApsError>) -> Result<ApsFrame, ApsError>
+fn read_frame(reader: &mut Reader<ApsError>, frame: &mut ApsFrame) -> Result<(), ApsError>
     requires { length reader.old.rest.now ≤ longest_frame }
-    ensures exact { Gives result reader.new.rest.now (frame_at reader.old.cut reader.old.rest.now) }
-    ensures found { IfOk result (λ f. IsFrame reader.old.rest.now f) }
+    ensures exact { Gives (read_into result frame.new) reader.new.rest.now
+        (frame_at reader.old.cut reader.old.rest.now) }
+    ensures found { OnOk result (IsFrame reader.old.rest.now frame.new) }
 {
     let header = read_header(reader)?;
-    read_content(reader, header)
+    read_content(reader, header, frame)?;
+    Ok(())
 }
 
+/// Reads the APS frame that all of the bytes are into the place of one.
+///
+/// # Errors
+///
+/// The first fault of the bytes, where they are no frame. What stands in the place then means nothing.
 #[tactic(auto, unfolding(crate::specs::Reading::frame_of))]
-fn read_whole(bytes: &[u8]) -> Result<ApsFrame, ApsError>
-    ensures found { IfOk result (λ f. Spells bytes.now f) }
-    ensures exact { result ≡ frame_of bytes.now }
+pub fn read_into(bytes: &[u8], frame: &mut ApsFrame) -> Result<(), ApsError>
+    ensures found { OnOk result (Spells bytes.now frame.new) }
+    ensures exact { read_into result frame.new ≡ frame_of bytes.now }
 {
     if bytes.len() > 127 {
         return Err(ApsError::TooLong);
@@ -101,7 +116,17 @@ fn read_whole(bytes: &[u8]) -> Result<ApsFrame, ApsError>
             at: bytes.len() as u32,
         },
     };
-    read_frame(&mut reader)
+    read_frame(&mut reader, frame)?;
+    Ok(())
+}
+
+fn read_whole(bytes: &[u8]) -> Result<ApsFrame, ApsError>
+    ensures found { IfOk result (λ f. Spells bytes.now f) }
+    ensures exact { result ≡ frame_of bytes.now }
+{
+    let mut frame = ApsFrame::blank();
+    read_into(bytes, &mut frame)?;
+    Ok(frame)
 }
 
 /// Reads the APS frame that all of the bytes are.

@@ -83,6 +83,20 @@ impl Extended {
 }
 
 impl ApsHeader {
+    /// Makes a header that others may be read into.
+    pub(crate) fn blank() -> ApsHeader {
+        ApsHeader {
+            control: 0,
+            endpoint: None,
+            group: None,
+            cluster: None,
+            profile: None,
+            source_endpoint: None,
+            counter: 0,
+            extended: None,
+        }
+    }
+
     fn addresses_ok(&self) -> bool
         ensures { IsTrue result ↔ AddressesAgree self.now }
     {

@@ -10,7 +10,7 @@ mod laws;
 
 pub use auxiliary::ApsAux;
 pub use fault::ApsError;
-pub use frame::{ApsFrame, read, write};
+pub use frame::{ApsFrame, read, read_into, write};
 pub use header::{ApsHeader, Extended};
 pub use laws::round_trips;
 pub use zb_cursor::TooLong;

@@ -4,6 +4,7 @@ ghost use Rattle.zb_campaign.specs.Campaigns.{campaign_text, run_line, runs_text
 ghost use Rattle.zb_campaign.specs.Totals.{total_text};
 ghost use Rattle.zb_player.specs.Runs.{last_line};
 ghost use Rattle.zb_text.specs.Words.{then};
+ghost use Rattle.zb_base.specs.Limits.{most_runs};
 
 use crate::total::{Total, total_of};
 use itoa::Buffer;
@@ -16,7 +17,7 @@ use zb_trace::put_line;
 /// Prints the lines of all runs, and the total. Requires at most 1,000 runs.
 #[tactic(auto, using(std::proofs::Common::append_assoc))]
 pub(crate) fn print(alloc: Global, ends: &[Summary]) -> Result<Vec<u8>, AllocError>
-    requires { length ends.now ≤ 1000 }
+    requires { length ends.now ≤ most_runs }
     ensures { IfOk result (λ page. page.items ≡ campaign_text (map last_line ends.now)) }
 {
     let mut page = Vec::new(alloc);
@@ -27,7 +28,7 @@ pub(crate) fn print(alloc: Global, ends: &[Summary]) -> Result<Vec<u8>, AllocErr
 
 // Prints the lines of runs, from number 0 on.
 fn put_runs(out: &mut Vec<u8>, ends: &[Summary]) -> Result<(), AllocError>
-    requires { length ends.now ≤ 1000 }
+    requires { length ends.now ≤ most_runs }
     ensures { OnOk result (out.new.items ≡ out.old.items ++ runs_text 0 (map last_line ends.now)) }
 {
     let mut number: u32 = 0;

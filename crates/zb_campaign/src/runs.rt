@@ -9,10 +9,9 @@ ghost use Rattle.zb_sched.specs.Valid.{IsSchedule};
 use crate::fault::CampaignFault;
 use std::alloc::Global;
 use zb_base::NoMemory;
-use zb_disk::MemDisk;
 use zb_gen::make;
 use zb_parallel::Share;
-use zb_player::{Summary, play_unread};
+use zb_player::{Spare, Summary, play_unread};
 use zb_sched::Schedule;
 
 /// Plays the runs of a share one after the other, and returns what they come to.
@@ -27,40 +26,40 @@ pub(crate) fn play_share(
     ensures { Answers last_lines result (endings start share.first share.count) }
 {
     let mut ends = Vec::with_capacity(alloc, share.count as usize)?;
-    let mut used = Vec::new(alloc);
+    let mut spare = Spare::new(alloc);
     for i in 0..share.count {
-        ends.push(play_run(alloc, start, share.first + i, &mut used)?)?;
+        ends.push(play_run(alloc, start, share.first + i, &mut spare)?)?;
     }
     Ok(ends)
 }
 
-/// Plays the run of that number, from 0, on used disks, which are then those that it left and those that it didn't
+/// Plays the run of that number, from 0, on spare disks, which are then those that it left and those that it didn't
 /// use.
 fn play_run(
     alloc: Global,
     start: u32,
     run: u32,
-    used: &mut Vec<MemDisk>,
+    spare: &mut Spare,
 ) -> Result<Summary, CampaignFault>
     requires { start + run < 2 ^ 32 }
     ensures { Answers last_line result (ending_of_run start run) }
 {
     let schedule = make(alloc, start + run, 1 + run % 8)?;
-    let end = play_unwritten(alloc, &schedule, used)?;
+    let end = play_unwritten(alloc, &schedule, spare)?;
     Ok(end)
 }
 
-/// Plays a schedule whose transcript nobody reads, and puts its disks to the used ones.
+/// Plays a schedule whose transcript nobody reads, and puts its disks to the spare ones.
 fn play_unwritten(
     alloc: Global,
     schedule: &Schedule,
-    used: &mut Vec<MemDisk>,
+    spare: &mut Spare,
 ) -> Result<Summary, NoMemory>
     requires { IsSchedule (schedule_of schedule.now) }
     ensures { IfOk result (Sums (schedule_of schedule.now)) }
 {
     let mut disks = Vec::new(alloc);
-    let end = play_unread(alloc, schedule, used, &mut disks)?;
-    used.append(&mut disks)?;
+    let end = play_unread(alloc, schedule, spare, &mut disks)?;
+    spare.disks.append(&mut disks)?;
     Ok(end)
 }

@@ -2,7 +2,7 @@
 ghost use Rattle.std.specs.Prelude.{◌≡◌, ◌+◌, ◌*◌, ◌≤◌, ◌<◌, ◌^◌, length, map, sum_by};
 ghost use Rattle.zb_campaign.specs.Campaigns.{accepts_in, refusals_in, seals_in};
 ghost use Rattle.zb_player.specs.Runs.{last_line};
-ghost use Rattle.zb_base.specs.Limits.{most_lines};
+ghost use Rattle.zb_base.specs.Limits.{most_lines, most_runs};
 
 use zb_player::Summary;
 
@@ -36,7 +36,7 @@ impl Total {
 
 /// Adds up the counts of runs. Requires at most 1,000 of them.
 pub(crate) fn total_of(ends: &[Summary]) -> Total
-    requires { length ends.now ≤ 1000 }
+    requires { length ends.now ≤ most_runs }
     ensures seals { result.seals ≡ sum_by seals_in (map last_line ends.now) }
     ensures accepts { result.accepts ≡ sum_by accepts_in (map last_line ends.now) }
     ensures refusals { result.refusals ≡ sum_by refusals_in (map last_line ends.now) }

@@ -8,8 +8,8 @@ use Rattle.zb_centre.specs.declared.event.CentreEvent.TheVariants.{Provision, Re
 use Rattle.zb_host.specs.declared.outcome.Outcome.{Outcome}
 use Rattle.zb_host.specs.declared.plan.Plan.{Plan}
 use Rattle.zb_model.specs.Answer.{answer, plan_of}
-use Rattle.zb_model.specs.Data.{Task, SayTo, TellTo, DoKnock, DoRejoin, DoTimer, AskFor, HasChild, DoProvision, DoRemove, DoRoll, DoSwitch, DoAgain, DoShare, Received}
-use Rattle.zb_model.specs.OwnEvents.{own, own_at_centre}
+use Rattle.zb_model.specs.Data.{Bytes, Task, SayTo, TellTo, DoKnock, DoRejoin, DoTimer, AskFor, HasChild, DoProvision, DoRemove, DoRoll, DoSwitch, DoAgain, DoShare, Received}
+use Rattle.zb_model.specs.OwnEvents.{own, own_at_centre, say}
 use Rattle.zb_model.specs.Rules.{Setting}
 use Rattle.zb_model.specs.State.{NodeState, is_centre}
 use Rattle.zb_model_real.specs.Real.{real}
@@ -67,3 +67,11 @@ pub event_answer : (c : Setting) (s : NodeState) (e : CentreEvent) (r : Plan (Ou
 unfolding answer
 event_answer c s e r centre other a =
     rw (own_plan_is c s (task_of e) (not_delivered e other), centre_own c s (task_of e) centre) a
+
+-- what is planned by the rule of what the centre says is the answer to it
+pub say_answer : (c : Setting) (s : NodeState) (to : ℕ) (bytes : Bytes) (r : Plan (Outcome Term Refusal))
+    → is_centre c.me.role ≡ true → IsAnswer r (answer_to real c s (own_plan (say s to bytes)))
+    → IsAnswer r (answer real c s (SayTo to bytes))
+unfolding answer
+say_answer c s to bytes r centre a =
+    rw (own_plan_is c s (SayTo to bytes) refl, centre_own c s (SayTo to bytes) centre) a

@@ -6,12 +6,13 @@ ghost use Rattle.zb_model.specs.Answer.{answer};
 ghost use Rattle.zb_model.specs.OwnEvents.{own_at_centre};
 ghost use Rattle.zb_model.specs.State.{is_centre};
 ghost use Rattle.zb_model_real.specs.Real.{real};
-ghost use Rattle.zb_core.specs.Answers.{IsAnswer};
+ghost use Rattle.zb_core.specs.Answers.{IsAnswer, answer_to};
+ghost use Rattle.zb_core.specs.Storing.{own_plan};
 ghost use Rattle.zb_delivery.specs.Outcomes.{Keeps, decided, told};
 
 use crate::event::CentreEvent;
 use zb_base::Place;
-use zb_core::{NodeCore, plan_own};
+use zb_core::{NodeCore, plan_own, plan_say};
 use zb_delivery::{
     Effect, again, centre_timer, child_of_centre, plan_received, provision, remove_device, roll,
     say, share, switch_over,
@@ -23,25 +24,41 @@ use zb_seal::{KeyMemo, Term};
 use zb_send::copied;
 use zb_setting::Network;
 
-// Decides an event of the centre's own by its rule. A delivery is none.
+// Decides an event of the centre's own by its rule. A delivery is none. Each arm returns its value, so that it is
+// copied once.
 fn decide(network: &Network, tables: &Tables, event: &CentreEvent) -> Result<Effect, Refusal>
     ensures rule { decided result ≡ told (own_at_centre network.now tables.now (task_of event.now)) }
     ensures keeps { Keeps Event result }
 {
     match event {
-        CentreEvent::Provision { device, key } => provision(tables, *device, key),
-        CentreEvent::Remove { device, via } => remove_device(network, tables, *device, *via),
-        CentreEvent::Roll { draw } => roll(tables, *draw),
-        CentreEvent::Switch => switch_over(tables),
-        CentreEvent::Again { device } => again(tables, *device),
-        CentreEvent::Child { device, .. } => child_of_centre(network, tables, *device),
-        CentreEvent::Deliver { .. } => Err(Refusal::Policy {
-            place: Place::Event,
-        }),
-        CentreEvent::Timer => centre_timer(network, tables),
-        CentreEvent::Say { to, bytes } => say(tables, *to, copied(bytes)),
-        CentreEvent::Share { device, partner } => share(network, tables, *device, *partner),
+        CentreEvent::Provision { device, key } => return provision(tables, *device, key),
+        CentreEvent::Remove { device, via } => return remove_device(network, tables, *device, *via),
+        CentreEvent::Roll { draw } => return roll(tables, *draw),
+        CentreEvent::Switch => return switch_over(tables),
+        CentreEvent::Again { device } => return again(tables, *device),
+        CentreEvent::Child { device, .. } => return child_of_centre(network, tables, *device),
+        CentreEvent::Deliver { .. } => {}
+        CentreEvent::Timer => return centre_timer(network, tables),
+        CentreEvent::Say { to, bytes } => return say(tables, *to, copied(bytes)),
+        CentreEvent::Share { device, partner } => return share(network, tables, *device, *partner),
     }
+    Err(Refusal::Policy {
+        place: Place::Event,
+    })
+}
+
+// Plans an event of the centre's own by its rule. The decision has its place here, so that others clear none.
+fn plan_by_rule(
+    network: &Network,
+    tables: &Tables,
+    memo: &KeyMemo,
+    event: &CentreEvent,
+    plan: &mut Plan<Outcome<Term, Refusal>>,
+)
+    ensures { IsAnswer plan.new (answer_to real network.now tables.now
+        (own_plan (own_at_centre network.now tables.now (task_of event.now)))) }
+{
+    plan_own(network, tables, memo, &decide(network, tables, event), plan);
 }
 
 // Plans an event from what the centre knows of its network, its tables and its base keys.
@@ -64,7 +81,8 @@ fn plan_event(
             *draw,
             plan,
         ),
-        _ => plan_own(network, tables, memo, &decide(network, tables, event), plan),
+        CentreEvent::Say { to, bytes } => plan_say(network, tables, memo, *to, bytes, plan),
+        _ => plan_by_rule(network, tables, memo, event, plan),
     }
 }
 

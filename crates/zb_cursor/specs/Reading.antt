@@ -83,6 +83,11 @@ abbrev pub GivesBy : {E A B : Type 0} → (A → B) → Result A E → List ℕ 
 GivesBy view (Ok x) rest read = read ≡ Ok (view x, rest)
 GivesBy view (Err e) rest read = read ≡ Err e
 
+-- what was read into a place, or the fault
+abbrev pub read_into : {E A : Type 0} → Result Unit E → A → Result A E
+read_into (Ok done) place = Ok place
+read_into (Err e) place = Err e
+
 -- nothing that stands here is a field
 abbrev pub refuse : {E A : Type 0} → E → Reading E A
 refuse fault cut bytes = Err fault

@@ -13,6 +13,6 @@ pub use bits::has_bit;
 pub use laws::spelled_is_read;
 pub use reader::Reader;
 pub use writing::{
-    TooLong, frame_from, put, put_byte, put_eui, put_key, put_number16, put_number32,
+    TooLong, fill, frame_from, put, put_byte, put_eui, put_key, put_number16, put_number32,
     put_optional_byte, put_optional_eui, put_optional_number16, put_short, put_shorts,
 };

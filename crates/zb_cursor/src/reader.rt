@@ -3,11 +3,11 @@ ghost use Rattle.std.specs.Prelude.{◌≡◌, [], ◌+◌, ◌*◌, ◌<◌, �
 ghost use Rattle.std.specs.Int.{w16, w32, w64};
 ghost use Rattle.zb_cursor.specs.Spelling.{byte, number, short, eui, key, optional};
 ghost use Rattle.zb_cursor.specs.Ending.{end_of};
-ghost use Rattle.zb_cursor.specs.Reading.{Gives, GivesBy, byte_at, body_and_mic_at, bytes_at, number_at, short_at, eui_at, key_at, optional_at, times_at};
+ghost use Rattle.zb_cursor.specs.Reading.{Gives, GivesBy, read_into, byte_at, body_and_mic_at, bytes_at, number_at, short_at, eui_at, key_at, optional_at, times_at};
 ghost use Rattle.std.specs.List.{flat_map, AllByRecursion};
 ghost use Rattle.zb_base.specs.Limits.{longest_frame};
 
-use crate::writing::frame_from;
+use crate::writing::fill;
 use arrayvec::ArrayVec;
 use zb_base::{Eui, Frame, Key, Short};
 
@@ -88,27 +88,26 @@ impl<'a, E: Copy + Drop> Reader<'a, E> {
         Ok(())
     }
 
-    /// Reads all bytes that are left as a body and the message integrity code of 4 bytes after it.
+    /// Reads all bytes that are left into the places of a body and of the message integrity code of 4 bytes after it.
     ///
     /// Requires at most 127 bytes to be left.
     #[tactic(auto, unfolding(crate::specs::Reading::body_and_mic_at))]
-    pub fn body_and_mic(&mut self) -> Result<(Frame, [u8; 4]), E>
+    pub fn body_and_mic_into(&mut self, body: &mut Frame, mic: &mut [u8; 4]) -> Result<(), E>
         requires { length self.old.rest.now ≤ longest_frame }
-        ensures exact { GivesBy (λ x. (x.0.items, x.1)) result self.new.rest.now
+        ensures exact { Gives (read_into result (body.new.items, mic.new)) self.new.rest.now
             (body_and_mic_at self.old.cut self.old.rest.now) }
-        ensures spelled { IfOk result (λ x. self.old.rest.now ≡ x.0.items ++ x.1) }
-        ensures mic { IfOk result (λ x. length x.1 ≡ 4) }
-        ensures stays { OnErr result (self.new.rest.now ≡ self.old.rest.now) }
+        ensures spelled { OnOk result (self.old.rest.now ≡ body.new.items ++ mic.new) }
+        ensures mic { OnOk result (length mic.new ≡ 4) }
         ensures cut { self.new.cut ≡ self.old.cut }
     {
         if self.rest.len() < 4 {
             return Err(self.cut);
         }
-        let (body, mic) = self.rest.split_at(self.rest.len() - 4);
-        let mut code = [0; 4];
-        code.copy_from_slice(mic);
+        let (front, code) = self.rest.split_at(self.rest.len() - 4);
+        mic.copy_from_slice(code);
         self.rest = &[];
-        Ok((frame_from(body), code))
+        fill(body, front);
+        Ok(())
     }
 
     /// Reads a number of 2 bytes.

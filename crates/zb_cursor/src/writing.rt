@@ -54,6 +54,17 @@ pub fn frame_from(bytes: &[u8]) -> Frame
     frame
 }
 
+/// Puts these bytes in place of those that stand in the frame.
+///
+/// Requires at most 127 of them.
+pub fn fill(frame: &mut Frame, bytes: &[u8])
+    requires { length bytes.now ≤ longest_frame }
+    ensures { frame.new.items ≡ bytes.now }
+{
+    frame.clear();
+    let _ = put(frame, bytes);
+}
+
 /// Puts one byte at the end of the frame.
 ///
 /// # Errors

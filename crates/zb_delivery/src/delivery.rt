@@ -101,8 +101,10 @@ pub fn plan_received(
     ensures any_draw { is_centre network.now.me.role ≡ false → (d : Option Bytes)
         → IsAnswer plan.new (answer real network.now tables.now (Received bytes.now d)) }
 {
-    match judge_nwk(network, tables, memo, bytes, &mut plan.out.accepted_nwk) {
+    let mut frame = NwkFrame::blank();
+    let accepted = &mut plan.out.accepted_nwk;
+    match judge_nwk(network, tables, memo, bytes, &mut frame, accepted) {
         Err(refusal) => plan_refused(network, tables, refusal, plan),
-        Ok(frame) => plan_carried(network, tables, memo, &frame, draw, plan),
+        Ok(()) => plan_carried(network, tables, memo, &frame, draw, plan),
     }
 }

@@ -259,8 +259,9 @@ pub(crate) fn decide_payload(
         (real.read_aps (payload_of (nwk_frame_shown frame.now) (option_map model_term nwk.now))))
         (record { nwk = nwk.now; aps = aps.new; effect = result }) }
 {
-    match zb_aps::read(payload_of(frame, nwk)) {
+    let mut part = ApsFrame::blank();
+    match zb_aps::read_into(payload_of(frame, nwk), &mut part) {
         Err(_) => refuse(Refusal::Malformed { place: Place::Aps }, aps),
-        Ok(part) => decide_part(network, tables, memo, frame, nwk, draw, &part, aps),
+        Ok(()) => decide_part(network, tables, memo, frame, nwk, draw, &part, aps),
     }
 }

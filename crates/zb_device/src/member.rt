@@ -18,27 +18,31 @@ use zb_delivery::{Effect, ask, knock, member_timer, plan_received, rejoin, say, 
 use zb_host::{Outcome, Plan};
 use zb_keys::Tables;
 use zb_node_types::Refusal;
-use zb_plan::plan_own;
+use zb_plan::{plan_own, plan_say};
 use zb_seal::{KeyMemo, Term};
 use zb_send::copied;
 use zb_setting::Network;
 
-// Decides an event of the node's own by its rule. A delivery is none.
+// Decides an event of the node's own by its rule. A delivery is none. Each arm returns its value, so that it is copied
+// once.
 fn decide(network: &Network, tables: &Tables, event: &DeviceEvent) -> Result<Effect, Refusal>
     ensures rule { decided result ≡ told (own_at_member real network.now tables.now (own_task event.now)) }
     ensures keeps { Keeps Event result }
 {
     match event {
-        DeviceEvent::Knock => knock(network, tables),
-        DeviceEvent::Rejoin => rejoin(tables),
-        DeviceEvent::Deliver { .. } => Err(Refusal::Policy {
-            place: Place::Event,
-        }),
-        DeviceEvent::Timer => member_timer(network, tables),
-        DeviceEvent::Say { to, bytes } => say(tables, *to, copied(bytes)),
-        DeviceEvent::Ask { partner } => ask(network, tables, *partner),
-        DeviceEvent::Tell { partner, bytes } => tell(network, tables, *partner, copied(bytes)),
+        DeviceEvent::Knock => return knock(network, tables),
+        DeviceEvent::Rejoin => return rejoin(tables),
+        DeviceEvent::Deliver { .. } => {}
+        DeviceEvent::Timer => return member_timer(network, tables),
+        DeviceEvent::Say { to, bytes } => return say(tables, *to, copied(bytes)),
+        DeviceEvent::Ask { partner } => return ask(network, tables, *partner),
+        DeviceEvent::Tell { partner, bytes } => {
+            return tell(network, tables, *partner, copied(bytes));
+        }
     }
+    Err(Refusal::Policy {
+        place: Place::Event,
+    })
 }
 
 // Plans an event of the node's own by its rule. The decision has its place here, so that a delivery clears none.
@@ -77,6 +81,7 @@ fn plan_event(
             None,
             plan,
         ),
+        DeviceEvent::Say { to, bytes } => plan_say(network, tables, memo, *to, bytes, plan),
         _ => plan_by_rule(network, tables, memo, event, plan),
     }
 }

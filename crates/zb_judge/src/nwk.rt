@@ -50,9 +50,10 @@ fn is_for_transport(frame: &ApsFrame) -> bool
 fn is_sealed_for_transport(bytes: &[u8]) -> bool
     ensures { result ≡ sealed_for_transport (real.read_aps bytes.now) }
 {
-    match zb_aps::read(bytes) {
+    let mut frame = ApsFrame::blank();
+    match zb_aps::read_into(bytes, &mut frame) {
         Err(_) => false,
-        Ok(frame) => is_for_transport(&frame),
+        Ok(()) => is_for_transport(&frame),
     }
 }
 
@@ -170,23 +171,23 @@ fn judge_security(
     }
 }
 
-/// Reads a NWK frame, if the bytes are one.
+/// Reads a NWK frame into the place of one, if the bytes are one.
 #[tactic(auto, unfolding(crate::specs::Steps::real))]
-fn read_frame(bytes: &[u8]) -> Option<NwkFrame>
-    ensures shown { option_map nwk_frame_shown result ≡ real.read_nwk bytes.now }
-    ensures read { IfSome result (λ frame. frame_of bytes.now ≡ Ok frame) }
-    ensures spells { IfSome result (λ frame. Spells bytes.now frame) }
+fn read_frame(bytes: &[u8], frame: &mut NwkFrame) -> Option<()>
+    ensures shown { option_map (λ _. nwk_frame_shown frame.new) result ≡ real.read_nwk bytes.now }
+    ensures read { IfSome result (λ _. frame_of bytes.now ≡ Ok frame.new) }
+    ensures spells { IfSome result (λ _. Spells bytes.now frame.new) }
 {
-    match zb_nwk::read(bytes) {
-        Ok(frame) => Some(frame),
+    match zb_nwk::read_into(bytes, frame) {
+        Ok(()) => Some(()),
         Err(_) => None,
     }
 }
 
-/// Judges the NWK layer of delivered bytes, and returns the frame that they are.
+/// Judges the NWK layer of delivered bytes, and writes the frame that they are into `frame`.
 ///
-/// What is accepted, where the layer is secured, is written into `accepted`; after an error that means nothing. A key
-/// that the memo lacks is expanded.
+/// What is accepted, where the layer is secured, is written into `accepted`; after an error neither means anything. A
+/// key that the memo lacks is expanded.
 ///
 /// # Errors
 ///
@@ -198,17 +199,18 @@ pub fn judge_nwk(
     tables: &Tables,
     memo: &KeyMemo,
     bytes: &[u8],
+    frame: &mut NwkFrame,
     accepted: &mut Option<Term>,
-) -> Result<NwkFrame, Refusal>
-    ensures { judged (λ frame. carrier_seen frame accepted.new) result
+) -> Result<(), Refusal>
+    ensures { judged (λ _. carrier_seen frame.new accepted.new) result
         ≡ judge_nwk real network.now tables.now bytes.now }
 {
-    let Some(frame) = read_frame(bytes) else {
+    if read_frame(bytes, frame).is_none() {
         return Err(Refusal::Malformed { place: Place::Nwk });
-    };
+    }
     if frame.header.source.0 == network.short().0 || !network.hears(frame.header.destination) {
         return Err(Refusal::NotForMe { place: Place::Nwk });
     }
-    judge_security(network, tables, memo, bytes, &frame, accepted)?;
-    Ok(frame)
+    judge_security(network, tables, memo, bytes, frame, accepted)?;
+    Ok(())
 }

@@ -1,10 +1,10 @@
 //! The header of a NWK frame, read and written.
-ghost use Rattle.std.specs.Prelude.{◌≡◌, ◌+◌, ◌≤◌, ◌^◌, ◌<◌, ◌++◌, length, IfOk, OnOk, IfSome, IsTrue, ◌↔◌, is_some};
+ghost use Rattle.std.specs.Prelude.{◌≡◌, ◌+◌, ◌≤◌, ◌^◌, ◌<◌, ◌++◌, length, IfOk, OnOk, IfSome, IsTrue, ◌↔◌, is_some, true, None};
 ghost use Rattle.std.specs.Int.{w16};
 ghost use Rattle.zb_cursor.specs.Spelling.{number, short, optional, bit};
-ghost use Rattle.zb_cursor.specs.Reading.{Gives, optional_at};
+ghost use Rattle.zb_cursor.specs.Reading.{Gives, read_into, optional_at};
 ghost use Rattle.zb_cursor.specs.Writing.{Appends};
-ghost use Rattle.zb_nwk.specs.Spelling.{route, addresses, header};
+ghost use Rattle.zb_nwk.specs.Spelling.{route as route_of, addresses, header as header_of};
 ghost use Rattle.zb_nwk.specs.Shape.{IsControl, IsHeader, RouteInRange, HeaderInRange};
 ghost use Rattle.zb_nwk.specs.Reading.{control_at, route_at, fields_at, header_at};
 ghost use Rattle.zb_base.specs.Limits.{longest_frame};
@@ -52,6 +52,21 @@ pub struct NwkHeader {
 }
 
 impl NwkHeader {
+    /// Makes a header that others may be read into.
+    pub(crate) fn blank() -> NwkHeader {
+        NwkHeader {
+            control: 0,
+            destination: Short(0),
+            source: Short(0),
+            radius: 0,
+            sequence: 0,
+            destination_eui: None,
+            source_eui: None,
+            multicast: None,
+            route: None,
+        }
+    }
+
     /// Returns whether the reader takes type and version, and the options are those of the control word.
     pub fn shape_ok(&self) -> bool
         ensures { IsTrue result ↔ IsHeader self.now }
@@ -92,7 +107,7 @@ fn read_control(reader: &mut Reader<NwkError>) -> Result<u16, NwkError>
 fn read_route(reader: &mut Reader<NwkError>) -> Result<Route, NwkError>
     requires { length reader.old.rest.now ≤ 123 }
     ensures exact { Gives result reader.new.rest.now (route_at reader.old.cut reader.old.rest.now) }
-    ensures spelled { IfOk result (λ x. reader.old.rest.now ≡ route x ++ reader.new.rest.now) }
+    ensures spelled { IfOk result (λ x. reader.old.rest.now ≡ route_of x ++ reader.new.rest.now) }
     ensures in_range { IfOk result (λ x. RouteInRange x) }
     ensures shorter { length reader.new.rest.now ≤ length reader.old.rest.now }
     ensures cut { reader.new.cut ≡ reader.old.cut }
@@ -103,78 +118,106 @@ fn read_route(reader: &mut Reader<NwkError>) -> Result<Route, NwkError>
     Ok(Route { index, relays })
 }
 
+// Reads a source route into the place of one that may be there.
+fn read_some_route(reader: &mut Reader<NwkError>, route: &mut Option<Route>) -> Result<(), NwkError>
+    requires { length reader.old.rest.now ≤ 123 }
+    ensures exact { Gives (read_into result route.new) reader.new.rest.now
+        (optional_at true route_at reader.old.cut reader.old.rest.now) }
+    ensures spelled { OnOk result (reader.old.rest.now ≡ optional route_of route.new ++ reader.new.rest.now) }
+    ensures present { OnOk result (is_some route.new ≡ true) }
+    ensures in_range { OnOk result (IfSome route.new RouteInRange) }
+    ensures shorter { length reader.new.rest.now ≤ length reader.old.rest.now }
+    ensures cut { reader.new.cut ≡ reader.old.cut }
+{
+    let found = read_route(reader)?;
+    *route = Some(found);
+    Ok(())
+}
+
+// Takes a source route away, if there is one.
+fn forget_route(route: &mut Option<Route>)
+    ensures { route.new ≡ None }
+{
+    if route.is_some() {
+        *route = None;
+    }
+}
+
 fn read_optional_route(
     reader: &mut Reader<NwkError>,
     present: bool,
-) -> Result<Option<Route>, NwkError>
+    route: &mut Option<Route>,
+) -> Result<(), NwkError>
     requires { length reader.old.rest.now ≤ 123 }
-    ensures exact { Gives result reader.new.rest.now (optional_at present route_at reader.old.cut reader.old.rest.now) }
-    ensures spelled { IfOk result (λ x. reader.old.rest.now ≡ optional route x ++ reader.new.rest.now) }
-    ensures present { IfOk result (λ x. is_some x ≡ present) }
-    ensures in_range { IfOk result (λ x. IfSome x RouteInRange) }
+    ensures exact { Gives (read_into result route.new) reader.new.rest.now
+        (optional_at present route_at reader.old.cut reader.old.rest.now) }
+    ensures spelled { OnOk result (reader.old.rest.now ≡ optional route_of route.new ++ reader.new.rest.now) }
+    ensures present { OnOk result (is_some route.new ≡ present) }
+    ensures in_range { OnOk result (IfSome route.new RouteInRange) }
     ensures shorter { length reader.new.rest.now ≤ length reader.old.rest.now }
     ensures cut { reader.new.cut ≡ reader.old.cut }
 {
-    if !present {
-        return Ok(None);
+    if present {
+        read_some_route(reader, route)?;
+    } else {
+        forget_route(route);
     }
-    let route = read_route(reader)?;
-    Ok(Some(route))
+    Ok(())
 }
 
-/// Reads the fields after a control word.
+/// Reads the fields after a control word into the place of a header.
 #[tactic(auto, unfolding(crate::specs::Reading::fields_at))]
-fn read_fields(reader: &mut Reader<NwkError>, control: u16) -> Result<NwkHeader, NwkError>
+fn read_fields(
+    reader: &mut Reader<NwkError>,
+    control: u16,
+    header: &mut NwkHeader,
+) -> Result<(), NwkError>
     requires room { length reader.old.rest.now ≤ 125 }
     requires shaped { IsControl control }
-    ensures exact { Gives result reader.new.rest.now (fields_at control reader.old.cut reader.old.rest.now) }
-    ensures spelled { IfOk result
-        (λ x. number w16 control ++ reader.old.rest.now ≡ header x ++ reader.new.rest.now) }
-    ensures shaped { IfOk result (λ x. IsHeader x) }
-    ensures in_range { IfOk result (λ x. HeaderInRange x) }
-    ensures control { IfOk result (λ x. x.control ≡ control) }
+    ensures exact { Gives (read_into result header.new) reader.new.rest.now
+        (fields_at control reader.old.cut reader.old.rest.now) }
+    ensures spelled { OnOk result
+        (number w16 control ++ reader.old.rest.now ≡ header_of header.new ++ reader.new.rest.now) }
+    ensures shaped { OnOk result (IsHeader header.new) }
+    ensures in_range { OnOk result (HeaderInRange header.new) }
+    ensures control { OnOk result (header.new.control ≡ control) }
     ensures shorter { length reader.new.rest.now ≤ length reader.old.rest.now }
     ensures cut { reader.new.cut ≡ reader.old.cut }
 {
-    let destination = reader.short()?;
-    let source = reader.short()?;
-    let radius = reader.byte()?;
-    let sequence = reader.byte()?;
-    let destination_eui = reader.optional_eui(has_bit(control, 11))?;
-    let source_eui = reader.optional_eui(has_bit(control, 12))?;
-    let multicast = reader.optional_byte(has_bit(control, 8))?;
-    let route = read_optional_route(reader, has_bit(control, 10))?;
-    Ok(NwkHeader {
-        control,
-        destination,
-        source,
-        radius,
-        sequence,
-        destination_eui,
-        source_eui,
-        multicast,
-        route,
-    })
+    header.control = control;
+    header.destination = reader.short()?;
+    header.source = reader.short()?;
+    header.radius = reader.byte()?;
+    header.sequence = reader.byte()?;
+    header.destination_eui = reader.optional_eui(has_bit(control, 11))?;
+    header.source_eui = reader.optional_eui(has_bit(control, 12))?;
+    header.multicast = reader.optional_byte(has_bit(control, 8))?;
+    read_optional_route(reader, has_bit(control, 10), &mut header.route)?;
+    Ok(())
 }
 
-/// Reads a header.
+/// Reads a header into its place.
 #[tactic(auto, unfolding(crate::specs::Reading::header_at))]
-pub(crate) fn read_header(reader: &mut Reader<NwkError>) -> Result<NwkHeader, NwkError>
+pub(crate) fn read_header(
+    reader: &mut Reader<NwkError>,
+    header: &mut NwkHeader,
+) -> Result<(), NwkError>
     requires { length reader.old.rest.now ≤ longest_frame }
-    ensures exact { Gives result reader.new.rest.now (header_at reader.old.cut reader.old.rest.now) }
-    ensures spelled { IfOk result (λ x. reader.old.rest.now ≡ header x ++ reader.new.rest.now) }
-    ensures shaped { IfOk result (λ x. IsHeader x) }
-    ensures in_range { IfOk result (λ x. HeaderInRange x) }
+    ensures exact { Gives (read_into result header.new) reader.new.rest.now
+        (header_at reader.old.cut reader.old.rest.now) }
+    ensures spelled { OnOk result (reader.old.rest.now ≡ header_of header.new ++ reader.new.rest.now) }
+    ensures shaped { OnOk result (IsHeader header.new) }
+    ensures in_range { OnOk result (HeaderInRange header.new) }
     ensures shorter { length reader.new.rest.now ≤ length reader.old.rest.now }
     ensures cut { reader.new.cut ≡ reader.old.cut }
 {
     let control = read_control(reader)?;
-    let header = read_fields(reader, control)?;
-    Ok(header)
+    read_fields(reader, control, header)?;
+    Ok(())
 }
 
 fn put_route(out: &mut Frame, value: &Route) -> Result<(), TooLong>
-    ensures { Appends out.old.items (route value.now) out.new.items result }
+    ensures { Appends out.old.items (route_of value.now) out.new.items result }
 {
     put_byte(out, value.relays.len() as u8)?;
     put_byte(out, value.index)?;
@@ -183,7 +226,7 @@ fn put_route(out: &mut Frame, value: &Route) -> Result<(), TooLong>
 }
 
 fn put_optional_route(out: &mut Frame, value: &Option<Route>) -> Result<(), TooLong>
-    ensures { Appends out.old.items (optional route value.now) out.new.items result }
+    ensures { Appends out.old.items (optional route_of value.now) out.new.items result }
 {
     match value {
         None => put(out, &[])?,
@@ -206,7 +249,7 @@ fn put_addresses(out: &mut Frame, value: &NwkHeader) -> Result<(), TooLong>
 
 /// Writes a header at the end.
 pub(crate) fn put_header(out: &mut Frame, value: &NwkHeader) -> Result<(), TooLong>
-    ensures { Appends out.old.items (header value.now) out.new.items result }
+    ensures { Appends out.old.items (header_of value.now) out.new.items result }
 {
     put_addresses(out, value)?;
     put_optional_eui(out, value.destination_eui)?;

@@ -10,7 +10,7 @@ mod laws;
 
 pub use auxiliary::NwkAux;
 pub use fault::NwkError;
-pub use frame::{NwkFrame, read, write};
+pub use frame::{NwkFrame, read, read_into, write};
 pub use header::{NwkHeader, Route};
 pub use laws::round_trips;
 pub use zb_cursor::TooLong;

@@ -3,10 +3,10 @@ use Rattle.std.proofs.Common.{◌≡◌, ℕ, List, [], ◌∷◌, ◌++◌, map
 use Rattle.std.specs.Prelude.{⊤, filter, flat_map, option_to_list}
 use Rattle.zb_model.specs.Data.{Bytes, Nwk, Aps, Layer, Term, Move, Active, Row, Became, Draw, DropNet, DropLink, Install, Pair, Live, Removed, Roll, Told, Untold, Edit, Floor, Moved}
 use Rattle.zb_model.specs.State.{NodeState, same_layer}
-use Rattle.zb_model.specs.Rules.{Plan, Setting}
+use Rattle.zb_model.specs.Rules.{Plan, Sending, Setting}
 use Rattle.zb_model.specs.Answer.{Counting, changes, move_edits, floor_of, reserve_of, moves_of, sending_of, edits_of, activated, counting_of}
 use Rattle.zb_plan.specs.Settling.{settled, settled_edits, start_behind, activates, first_of, active_in}
-use Rattle.zb_plan.specs.Storing.{floor_edits, stored_edits}
+use Rattle.zb_plan.specs.Storing.{floor_edits, reserve_edits, stored_edits}
 
 -- the rule's changes
 
@@ -115,3 +115,8 @@ pub kept_is : (c : Setting) (s : NodeState) (ts : List Term) → stored_edits c 
     ≡ flat_map (floor_edits c s) ts
 unfolding reserve_of
 kept_is c s ts = append-nil (flat_map (floor_edits c s) ts)
+
+-- where nothing was accepted and nothing changes, reserves alone are stored
+pub reserves_alone : (c : Setting) (s : NodeState) (send : Option Sending)
+    → reserve_edits c s send Nwk ++ reserve_edits c s send Aps ≡ stored_edits c s [] [] send
+reserves_alone c s send = sym (append-nil (reserve_edits c s send Nwk ++ reserve_edits c s send Aps))

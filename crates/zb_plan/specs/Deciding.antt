@@ -1,5 +1,5 @@
 -- What was decided of an event: the terms that were accepted, and a refusal or an effect.
-use Rattle.std.specs.Prelude.{◌≡◌, ◌≤◌, length, Option, Some, None, Result, Ok, Err, ⊤}
+use Rattle.std.specs.Prelude.{◌≡◌, ◌≤◌, [], length, Option, Some, None, Result, Ok, Err, ⊤}
 use Rattle.zb_base.specs.declared.label.Layer.TheVariants.{Aps, Nwk}
 use Rattle.zb_host.specs.declared.outcome.Outcome.{Outcome}
 use Rattle.zb_host.specs.declared.plan.Plan.{Plan as Program}
@@ -12,6 +12,7 @@ use Rattle.zb_rules.specs.Outcomes.{decided, most_changes, told}
 use Rattle.zb_rules.specs.declared.effect.Effect.{Effect}
 use Rattle.zb_seal.specs.declared.term.Term.{Term}
 use Rattle.zb_rules.specs.Sendings.{CanBeSent}
+use Rattle.zb_send.specs.declared.sending.Sending.{Sending}
 
 -- what was decided of an event: what was accepted of a frame at each layer, and what a rule then decided
 pub record Decision : Type 0 where
@@ -22,6 +23,10 @@ pub record Decision : Type 0 where
 -- where the accepted terms stand in a plan
 abbrev pub decision_in : Program (Outcome Term Refusal) → Result Effect Refusal → Decision
 decision_in p effect = record { nwk = p.out.accepted_nwk; aps = p.out.accepted_aps; effect = effect }
+
+-- an effect that changes nothing
+abbrev pub only_sends : Option Sending → Effect
+only_sends sending = record { changes = record { items = [] }; sending = sending }
 
 -- an effect has few changes, and what it sends fits a frame
 abbrev pub IsSmall : Result Effect Refusal → Type 0

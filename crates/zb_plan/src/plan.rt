@@ -2,11 +2,12 @@
 ghost use Rattle.std.specs.Prelude.{◌≡◌, ◌≤◌, ◌++◌, [], Err, None, Ok, length, option_map};
 ghost use Rattle.zb_base.specs.declared.place.Place.TheVariants.{Event};
 ghost use Rattle.zb_model.specs.Answer.{Counting, out_of};
+ghost use Rattle.zb_model.specs.OwnEvents.{say};
 ghost use Rattle.zb_model.specs.Rules.{Outcome as Coming, Plan as Planned};
 ghost use Rattle.zb_model_real.specs.Real.{real};
 ghost use Rattle.zb_node_types.specs.Changes.{edits};
 ghost use Rattle.zb_plan.specs.Answers.{IsAnswer, answer_to, terms};
-ghost use Rattle.zb_plan.specs.Deciding.{CanBePlanned, IsAps, IsDecision, IsNwk, IsSmall, decision_in};
+ghost use Rattle.zb_plan.specs.Deciding.{CanBePlanned, IsAps, IsDecision, IsNwk, IsSmall, decision_in, only_sends};
 ghost use Rattle.zb_plan.specs.Storing.{own_plan, stored_edits};
 ghost use Rattle.zb_rules.specs.Outcomes.{Keeps, decided, told, most_changes};
 ghost use Rattle.zb_rules.specs.Sendings.{CanBeSent, sending_of};
@@ -15,13 +16,23 @@ ghost use Rattle.zb_rules.specs.Sent.{IsCounting, sent_seen};
 use crate::floors::add_floors;
 use crate::reserves::add_reserve;
 use crate::settling::{activated, add_all_settled, start_for};
-use zb_base::Layer;
+use zb_base::{Layer, Short};
 use zb_host::{Outcome, Plan};
 use zb_keys::Tables;
 use zb_node_types::{Changes, Refusal};
-use zb_rules::{Effect, send_out};
+use zb_rules::{Effect, Sending, may_say, send_out, sending_data};
 use zb_seal::{KeyMemo, Term};
+use zb_send::{Payload, copied};
 use zb_setting::Network;
+
+// Takes what stands in a place out of it, if anything does. A place where nothing stands isn't cleared again.
+fn forget<T: Drop>(place: &mut Option<T>)
+    ensures { place.new ≡ None }
+{
+    if place.is_some() {
+        *place = None;
+    }
+}
 
 /// Lists all that an effect stores: reserves, floors, and the changes that change something.
 fn store(
@@ -81,9 +92,9 @@ fn plan_refusal(
         &out.accepted_aps,
     );
     out.refused = Some(refusal);
-    out.sealed_aps = None;
-    out.sealed_nwk = None;
-    out.frame = None;
+    forget(&mut out.sealed_aps);
+    forget(&mut out.sealed_nwk);
+    forget(&mut out.frame);
 }
 
 /// Plans an effect, after the terms that were accepted.
@@ -156,9 +167,79 @@ pub fn plan_own(
     ensures { (o : Coming) → decided effect.now ≡ told o
         → IsAnswer plan.new (answer_to real network.now tables.now (own_plan o)) }
 {
-    plan.out.accepted_nwk = None;
-    plan.out.accepted_aps = None;
+    forget(&mut plan.out.accepted_nwk);
+    forget(&mut plan.out.accepted_aps);
     plan_of(network, tables, memo, effect, plan);
+}
+
+/// Lists all that a frame stores which is sent with no changes, and nothing accepted before: reserves.
+#[tactic(auto, using(crate::proofs::Stored::reserves_alone))]
+fn store_sending(
+    changes: &mut Changes,
+    network: &Network,
+    tables: &Tables,
+    sending: &Option<Sending>,
+)
+    ensures { edits changes.new.items
+        ≡ stored_edits network.now tables.now [] [] (option_map sending_of sending.now) }
+{
+    changes.clear();
+    add_reserve(changes, network, tables, sending, Layer::Nwk);
+    add_reserve(changes, network, tables, sending, Layer::Aps);
+}
+
+/// Plans that something is sent, where nothing changes and nothing was accepted.
+fn plan_sending(
+    network: &Network,
+    tables: &Tables,
+    memo: &KeyMemo,
+    sending: &Option<Sending>,
+    plan: &mut Plan<Outcome<Term, Refusal>>,
+)
+    requires nwk { plan.old.out.accepted_nwk ≡ None }
+    requires aps { plan.old.out.accepted_aps ≡ None }
+    requires fits { CanBeSent sending.now }
+    ensures { (p : Planned) → IsDecision (record { nwk = None; aps = None; effect = Ok (only_sends sending.now) }) p
+        → IsAnswer plan.new (answer_to real network.now tables.now p) }
+{
+    let out = &mut plan.out;
+    store_sending(&mut plan.changes, network, tables, sending);
+    out.refused = None;
+    send_out(
+        network,
+        tables,
+        memo,
+        sending,
+        &mut out.sealed_aps,
+        &mut out.sealed_nwk,
+        &mut out.frame,
+    );
+}
+
+/// Plans that a node says application data to a network address. What stood in `plan` is gone.
+pub fn plan_say(
+    network: &Network,
+    tables: &Tables,
+    memo: &KeyMemo,
+    to: Short,
+    bytes: &Payload,
+    plan: &mut Plan<Outcome<Term, Refusal>>,
+)
+    ensures { IsAnswer plan.new (answer_to real network.now tables.now
+        (own_plan (say tables.now to.0 bytes.now.items))) }
+{
+    forget(&mut plan.out.accepted_nwk);
+    forget(&mut plan.out.accepted_aps);
+    match may_say(tables) {
+        Err(refusal) => plan_refusal(network, tables, refusal, plan),
+        Ok(()) => plan_sending(
+            network,
+            tables,
+            memo,
+            &sending_data(to, copied(bytes)),
+            plan,
+        ),
+    }
 }
 
 /// Plans the refusal of a frame of which nothing is accepted. What stood in `plan` is gone.
@@ -171,7 +252,7 @@ pub fn plan_refused(
     ensures { (p : Planned) → IsDecision (record { nwk = None; aps = None; effect = Err refusal }) p
         → IsAnswer plan.new (answer_to real network.now tables.now p) }
 {
-    plan.out.accepted_nwk = None;
-    plan.out.accepted_aps = None;
+    forget(&mut plan.out.accepted_nwk);
+    forget(&mut plan.out.accepted_aps);
     plan_refusal(network, tables, refusal, plan);
 }

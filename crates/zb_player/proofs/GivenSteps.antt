@@ -143,8 +143,8 @@ pub record IsNext (p : sched.Schedule) (gifts : ℕ → Option Stood) (h : List 
     (before middle : Option Bytes) : Type 0 where
   pub bound : i < length events
   pub so_far : IsAnswered p gifts h xs latest events i now dnow before middle
-  pub passes : RunPasses p (next_in p gifts h xs events i d) (h ++ swapped_in p gifts h xs (take i events)) (latest + i)
-      now new dnew
+  pub passes : RunPasses p (next_in p gifts h xs events i d) (h ++ swapped_in p gifts h xs (take i events))
+      (latest + i) now new dnew
 
 lines_more : (p : sched.Schedule) (gifts : ℕ → Option Stood) (h : List Line) (xs : ℕ → Condition)
     (events : List said.Event) (i : ℕ) (d : said.Event) → i < length events
@@ -242,8 +242,8 @@ is_next : (p : sched.Schedule) (gifts : ℕ → Option Stood) (given : ℕ → O
     → GaveFor now.seats (i + 1) (event_of e) gives a b → AgreesTo (i + 1) given b
     → EventPasses (i + 1) (event_of e) gives now dnow new dnew
     → IsNext p gifts h xs latest (map event_of events) i (event_of e) now new dnow dnew before middle
-is_next p gifts given h xs latest events i e gives a b old now new disks dnow dnew before middle bound is it so_far gave
-    agrees goes =
+is_next p gifts given h xs latest events i e gives a b old now new disks dnow dnew before middle bound is it so_far
+    gave agrees goes =
     let w = schedule_of p in
     let all = map event_of events in
     let f = event_for (stations_for p) in

@@ -12,3 +12,4 @@ pub use bench::{Bench, Still};
 pub use fault::PlayFault;
 pub use player::{play, play_unread};
 pub use summary::Summary;
+pub use zb_player_start::Spare;

@@ -19,6 +19,7 @@ use std::alloc::Global;
 use zb_base::{NoMemory, NullSink, Sink};
 use zb_disk::MemDisk;
 use zb_player_scribe::Page;
+use zb_player_start::Spare;
 use zb_sched::{Event, Schedule};
 
 /// Plays a schedule and writes its transcript.
@@ -64,14 +65,14 @@ pub fn play<B: Bench, W: Sink>(
     ensures cause { result ≡ Err PlayFault.Write → Rose (W.faults out.old) (W.faults out.new) }
     ensures unrisen { result ≢ Err PlayFault.Write → Unrisen (W.faults out.old) (W.faults out.new) }
 {
-    let mut used = Vec::new(alloc);
+    let mut spare = Spare::new(alloc);
     let page = Page::new(alloc);
-    play_onto(alloc, schedule, page, &mut used, disks, bench, out)
+    play_onto(alloc, schedule, page, &mut spare, disks, bench, out)
 }
 
-/// Plays a schedule whose transcript nobody reads, on used disks, and returns the words of its last line.
+/// Plays a schedule whose transcript nobody reads, on spare disks, and returns the words of its last line.
 ///
-/// Those that earlier runs left in `used` are taken from there and made new, as long as there are any. It is the run
+/// Those that earlier runs left in `spare` are taken from there and made new, as long as there are any. It is the run
 /// that `play` plays, and takes less time, since no line is printed and less memory is asked for.
 ///
 /// Requires a schedule that a text gives, and no disks. The disks of the nodes are added to `disks`, in the order of
@@ -82,7 +83,7 @@ pub fn play<B: Bench, W: Sink>(
 pub fn play_unread(
     alloc: Global,
     schedule: &Schedule,
-    used: &mut Vec<MemDisk>,
+    spare: &mut Spare,
     disks: &mut Vec<MemDisk>,
 ) -> Result<Summary, NoMemory>
     requires schedule { IsSchedule (sched.schedule_of schedule.now) }
@@ -92,19 +93,19 @@ pub fn play_unread(
 {
     let page = Page::unread();
     let mut out = NullSink::new();
-    match play_onto(alloc, schedule, page, used, disks, &mut Still, &mut out) {
+    match play_onto(alloc, schedule, page, spare, disks, &mut Still, &mut out) {
         Ok(summary) => Ok(summary),
         Err(PlayFault::Write) => Err(NoMemory),
         Err(PlayFault::NoMemory) => Err(NoMemory),
     }
 }
 
-// Plays a schedule on used disks, and prints its lines onto a clear page, which is read where the sink is.
+// Plays a schedule on spare disks, and prints its lines onto a clear page, which is read where the sink is.
 fn play_onto<B: Bench, W: Sink>(
     alloc: Global,
     schedule: &Schedule,
     page: Page,
-    used: &mut Vec<MemDisk>,
+    spare: &mut Spare,
     disks: &mut Vec<MemDisk>,
     bench: &mut B,
     out: &mut W,
@@ -130,7 +131,7 @@ fn play_onto<B: Bench, W: Sink>(
     ensures unrisen { result ≢ Err PlayFault.Write → Unrisen (W.faults out.old) (W.faults out.new) }
 {
     let events = schedule.events.as_slice();
-    let mut run = Run::start(alloc, schedule, page, used, disks)?;
+    let mut run = Run::start(alloc, schedule, page, spare, disks)?;
     run.ledger.page.hand_out(out)?;
     answer_all(&mut run, disks, bench, events, out)?;
     let summary = Summary::of(&run.ledger.scribe, events.len() as u32);

@@ -27,7 +27,7 @@ use zb_base::{Key, NoMemory};
 use zb_disk::MemDisk;
 use zb_player_events::{Act, Ledger, Node, NodePlan, Seat, Seats};
 use zb_player_scribe::{Page, Scribe};
-use zb_player_start::{start_nodes, tell_start};
+use zb_player_start::{Spare, start_nodes, tell_start};
 use zb_sched::{Event, Schedule};
 
 /// The nodes of a run, the supply of keys, and what is told.
@@ -41,7 +41,7 @@ pub(crate) struct Run<'a> {
 
 impl<'a> Run<'a> {
     /// Starts the run of a schedule. The start lines are put on the page, and the disks of its nodes are added to
-    /// `disks`. They are made of used ones, as long as there are any.
+    /// `disks`. They are made of spare ones, as long as there are any.
     ///
     /// # Errors
     /// `NoMemory`.
@@ -49,7 +49,7 @@ impl<'a> Run<'a> {
         alloc: Global,
         schedule: &'a Schedule,
         page: Page,
-        used: &mut Vec<MemDisk>,
+        spare: &mut Spare,
         disks: &mut Vec<MemDisk>,
     ) -> Result<Run<'a>, NoMemory>
         requires schedule { IsSchedule (sched.schedule_of schedule.now) }
@@ -62,7 +62,7 @@ impl<'a> Run<'a> {
         ensures calls { OnOk result (AllByRecursion (λ (m : medium). m.calls ≡ 6) disks.new.items) }
     {
         let declared = schedule.nodes.as_slice();
-        let nodes = start_nodes(alloc, declared, used, disks)?;
+        let nodes = start_nodes(alloc, declared, spare, disks)?;
         let seats = Seats::new(alloc, declared)?;
         let mut scribe = Scribe::new(alloc)?;
         let mut page = page;

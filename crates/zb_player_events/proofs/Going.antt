@@ -162,7 +162,8 @@ pub whole_goes : (w : Schedule) (h : List Line) (x : Condition) (latest number n
     (node after : NodeValue) (m m' : Medium) → Before w h x latest n old node m → suits x.setting.me.role task
     ≡ true → true ≡ is_some node.machine → name ≡ node.peer.name → result ≡ Some Whole
     → HasHandled task node m result p after m' → TellsChanges w number name p.changes old scribe page
-    → TellsOut w number name p.out scribe page new → Goes w (task_turn real h x number n task) h latest old new after m'
+    → TellsOut w number name p.out scribe page new
+    → Goes w (task_turn real h x number n task) h latest old new after m'
 whole_goes w h x latest number n task name result p old new scribe page node after m m' before is on named made
     handled stored answered =
     let a = answer real x.setting x.state task in

@@ -79,6 +79,13 @@ fn keep_stored(stored: bool, changes: &mut Changes)
     }
 }
 
+// Takes the power away. It has a place of its own, so that an event which goes well clears none.
+fn take_power(machine: &mut Option<Machine>)
+    ensures { machine.new ≡ None }
+{
+    *machine = None;
+}
+
 // Takes back what was armed once it fell. What didn't fall is still to come.
 fn spend(arms: &mut Arms, fired: bool)
     ensures { arms.new ≡ (if fired then Arms.Unarmed else arms.old) }
@@ -184,7 +191,7 @@ impl Node {
                 Ok(()) => Some(Handled::Whole),
                 Err(cut) => {
                     keep_stored(cut.stored, &mut plan.changes);
-                    self.machine = None;
+                    take_power(&mut self.machine);
                     spend(&mut self.arms, cut.fallen.fired);
                     Some(Handled::Cut {
                         fall: cut.fallen.fall,

@@ -1,11 +1,12 @@
 //! The lines of an answer, in their order.
 ghost use Rattle.std.specs.Prelude.{◌≡◌, ◌+◌, ◌≤◌, ◌<◌, ◌++◌, ◌∷◌, [], ℕ, List, Some, true, length, map, OnOk, option_map, option_to_list};
 ghost use Rattle.zb_model.specs.Data.{Station};
-ghost use Rattle.zb_model.specs.Lines.{Accept as accept, Seal as seal};
+ghost use Rattle.zb_model.specs.Lines.{Accept as accept, Changed, Commit, Seal as seal};
 ghost use Rattle.zb_model.specs.Play.{change_lines, send_lines};
 ghost use Rattle.zb_model_real.specs.Terms.{model_term};
-ghost use Rattle.zb_node_types.specs.Changes.{edits};
+ghost use Rattle.zb_node_types.specs.Changes.{edit, edits};
 ghost use Rattle.zb_trace_model.specs.Naming.{IsCalled};
+ghost use Rattle.zb_trace_model.specs.Said.{IsOfCentre};
 ghost use Rattle.zb_player_scribe.specs.Kept.{Tells, told};
 ghost use Rattle.zb_player_scribe.specs.Outcomes.{AreOfCentre, items_of, lines_of_edits, out_lines, refused_lines};
 ghost use Rattle.zb_text.specs.Fields.{is_name};
@@ -43,9 +44,25 @@ impl Scribe {
     {
         self.changed(alloc, page, event, node, changes.as_slice())?;
         if !changes.is_empty() {
-            self.tell(alloc, page, &commit_line(event, node))?;
+            self.commit(alloc, page, event, node)?;
         }
         Ok(())
+    }
+
+    // Tells that changes are stored. The line has its place here, so that none is cleared where there are none.
+    fn commit(
+        &mut self,
+        alloc: Global,
+        page: &mut Page,
+        event: u32,
+        node: Name,
+    ) -> Result<(), NoMemory>
+        requires { told self.old < most_lines }
+        ensures tells { OnOk result ((known : List Station) (n : ℕ) → IsCalled known n node.bytes
+            → Tells known (Commit event n ∷ []) self.old page.old self.new page.new) }
+        ensures told { OnOk result (told self.new ≤ told self.old + 1) }
+    {
+        self.tell(alloc, page, &commit_line(event, node))
     }
 
     fn changed(
@@ -63,9 +80,27 @@ impl Scribe {
         ensures told { OnOk result (told self.new ≤ told self.old + length changes.now) }
     {
         for change in changes {
-            self.tell(alloc, page, &change_line(event, node, *change))?;
+            self.change(alloc, page, event, node, change)?;
         }
         Ok(())
+    }
+
+    // Tells a change. The line has its place here, so that none is cleared where there are none.
+    fn change(
+        &mut self,
+        alloc: Global,
+        page: &mut Page,
+        event: u32,
+        node: Name,
+        change: &Change,
+    ) -> Result<(), NoMemory>
+        requires { told self.old < most_lines }
+        ensures tells { OnOk result ((known : List Station) (n : ℕ) → IsCalled known n node.bytes
+            → IsOfCentre known n (edit change.now)
+            → Tells known (Changed event n (edit change.now) ∷ []) self.old page.old self.new page.new) }
+        ensures told { OnOk result (told self.new ≤ told self.old + 1) }
+    {
+        self.tell(alloc, page, &change_line(event, node, *change))
     }
 
     /// Returns what a node accepted, refused, sealed and sent, in this order.

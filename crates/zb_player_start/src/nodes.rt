@@ -13,9 +13,10 @@ ghost use Rattle.zb_base.specs.Sizes.{record_room};
 
 use crate::config::{centre_of, config_at};
 use crate::disk::first_disk;
+use crate::spare::{Spare, make_room};
 use crate::starting::start_lines_say_what_is_declared;
 use std::alloc::Global;
-use zb_base::{Eui, NoMemory, RECORD_ROOM};
+use zb_base::{Eui, NoMemory};
 use zb_disk::MemDisk;
 use zb_player_node::Node;
 use zb_sched::Node as Declared;
@@ -46,7 +47,7 @@ fn start_node(
 
 /// Makes the nodes of a schedule, in their order, each booted from its first record on a disk of its own.
 ///
-/// The disks are added to those given, which are none. They are made of used ones, as long as there are any. Requires
+/// The disks are added to those given, which are none. They are made of spare ones, as long as there are any. Requires
 /// the nodes of a schedule.
 ///
 /// # Errors
@@ -54,7 +55,7 @@ fn start_node(
 pub fn start_nodes(
     alloc: Global,
     declared: &[Declared],
-    used: &mut Vec<MemDisk>,
+    spare: &mut Spare,
     disks: &mut Vec<MemDisk>,
 ) -> Result<Vec<Node>, NoMemory>
     requires schedule { AreOfSchedule declared.now }
@@ -66,12 +67,18 @@ pub fn start_nodes(
     ensures disks { OnOk result (length disks.new.items ≡ length declared.now) }
     ensures calls { OnOk result (AllByRecursion (λ m. m.calls ≡ 6) disks.new.items) }
 {
-    let mut room = Vec::with_capacity(alloc, RECORD_ROOM)?;
-    room.resize(RECORD_ROOM, 0)?;
+    make_room(&mut spare.room)?;
     let centre = centre_of(declared);
     let mut nodes = Vec::with_capacity(alloc, declared.len())?;
     for me in 0..declared.len() {
-        let (node, disk) = start_node(alloc, used.pop(), &mut room, centre, declared, me)?;
+        let (node, disk) = start_node(
+            alloc,
+            spare.disks.pop(),
+            &mut spare.room,
+            centre,
+            declared,
+            me,
+        )?;
         nodes.push(node)?;
         disks.push(disk)?;
     }

@@ -1,16 +1,19 @@
 //! The one event that every node has: it says something.
-ghost use Rattle.std.specs.Prelude.{◌≡◌};
+ghost use Rattle.std.specs.Prelude.{◌≡◌, ℕ, IfErr, Some, true};
 ghost use Rattle.zb_base.specs.declared.place.Place.TheVariants.{Event};
-ghost use Rattle.zb_node_types.specs.Changes.{model_state};
+ghost use Rattle.zb_model.specs.Data.{Bytes};
+ghost use Rattle.zb_node_types.specs.Changes.{model_state, place_of};
 ghost use Rattle.zb_model.specs.OwnEvents.{say};
 ghost use Rattle.zb_model.specs.Rules.{in_rejoining};
 ghost use Rattle.zb_rules.specs.Outcomes.{told, decided, Keeps};
+ghost use Rattle.zb_rules.specs.Saying.{said};
+ghost use Rattle.zb_send.specs.declared.sending.Body.TheVariants.{Saying as SayingBody};
 
-use crate::Effect;
+use crate::{Effect, sending};
 use zb_base::{Layer, Place, Short, State};
 use zb_node_types::Refusal;
 use zb_row_changes::{Tables, is_spent, usable_active};
-use zb_send::{Body, Payload};
+use zb_send::{Body, Payload, Sending};
 
 /// Returns whether a node in that state waits to be let in again.
 pub fn is_rejoining(state: State) -> bool
@@ -19,14 +22,14 @@ pub fn is_rejoining(state: State) -> bool
     matches!(state, State::Rejoining)
 }
 
-/// Reports application data to a short address: a data frame, without APS security.
+/// Returns whether a node may say something.
 ///
 /// # Errors
 /// No key without a usable active network key; wrong state in rejoining; the NWK counter is spent.
 #[tactic(auto, unfolding(zb_model::specs::OwnEvents::say, crate::specs::Chains::steps))]
-pub fn say(tables: &Tables, to: Short, bytes: Payload) -> Result<Effect, Refusal>
-    ensures rule { decided result ≡ told (say tables.now to.0 bytes.items) }
-    ensures keeps { Keeps Event result }
+pub fn may_say(tables: &Tables) -> Result<(), Refusal>
+    ensures rule { (to : ℕ) (bytes : Bytes) → said result to bytes ≡ told (say tables.now to bytes) }
+    ensures place { IfErr result (λ refusal. place_of refusal ≡ Event) }
 {
     if usable_active(tables).is_none() {
         return Err(Refusal::NoKey {
@@ -43,5 +46,26 @@ pub fn say(tables: &Tables, to: Short, bytes: Payload) -> Result<Effect, Refusal
             place: Place::Event,
         });
     }
-    Ok(Effect::of_sending(to, true, Body::Saying { bytes }))
+    Ok(())
+}
+
+/// Returns what says application data to a short address: a data frame, without APS security.
+pub fn sending_data(to: Short, bytes: Payload) -> Option<Sending>
+    ensures { result ≡ Some (record { to = to; secured = true; body = SayingBody bytes }) }
+{
+    sending(to, true, Body::Saying { bytes })
+}
+
+/// Reports application data to a short address: a data frame, without APS security.
+///
+/// # Errors
+/// Those of `may_say`.
+pub fn say(tables: &Tables, to: Short, bytes: Payload) -> Result<Effect, Refusal>
+    ensures rule { decided result ≡ told (say tables.now to.0 bytes.items) }
+    ensures keeps { Keeps Event result }
+{
+    match may_say(tables) {
+        Err(refusal) => Err(refusal),
+        Ok(()) => Ok(Effect::of_sending(to, true, Body::Saying { bytes })),
+    }
 }

@@ -1,9 +1,10 @@
--- The payload of a NWK frame, as the model's.
-use Rattle.std.specs.Prelude.{option_map, option_to_list}
+-- The payload of a NWK frame, as the model's: its control, what is sealed in it, and its bytes.
+use Rattle.std.specs.Prelude.{ℕ, Option, option_map, option_to_list}
+use Rattle.arrayvec.specs.ArrayVec.{ArrayVec}
 use Rattle.zb_model.specs.Answer as model
 use Rattle.zb_model_real.specs.Terms.{model_term}
-use Rattle.zb_send.specs.declared.part.Part.{Part}
+use Rattle.zb_seal.specs.declared.term.Term.{Term}
 
-abbrev pub part_seen : Part → model.Part
-part_seen p =
-    record { control = p.control; seals = option_to_list (option_map model_term p.seal); bytes = p.bytes.items }
+abbrev pub part_seen : ℕ → Option Term → ArrayVec ℕ → model.Part
+part_seen control seal bytes =
+    record { control = control; seals = option_to_list (option_map model_term seal); bytes = bytes.items }

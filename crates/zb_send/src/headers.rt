@@ -6,7 +6,7 @@ ghost use Rattle.zb_model_real.specs.Terms.{model_label};
 ghost use Rattle.zb_base.specs.Limits.{longest_frame};
 
 use zb_base::{Eui, Frame, Label, Short};
-use zb_cursor::{frame_from, put};
+use zb_cursor::{fill, frame_from, put};
 
 /// Returns the auxiliary control of an APS frame: level 5, the extended nonce, and the key identifier of the label.
 pub(crate) fn aps_control(label: Label) -> u8
@@ -54,7 +54,8 @@ pub(crate) fn command_header(label: Label, counter: u32, source: Eui) -> Frame
 
 /// Makes the header of sealed application data with its auxiliary header.
 pub(crate) fn data_header(counter: u32, source: Eui) -> Frame
-    ensures items { result.items ≡ data_front sealed_data ++ low_byte counter ∷ aps_auxiliary ForData counter source.0 }
+    ensures items { result.items
+        ≡ data_front sealed_data ++ low_byte counter ∷ aps_auxiliary ForData counter source.0 }
     ensures len { length result.items ≡ 21 }
 {
     let [a, b, c, d, e, f, g, h] = source.0.to_le_bytes();
@@ -91,6 +92,44 @@ pub(crate) fn nwk_auxiliary(counter: u32, source: Eui, sequence: u8) -> Frame
     let [a, b, c, d, e, f, g, h] = source.0.to_le_bytes();
     let [i, j, k, l] = counter.to_le_bytes();
     frame_from(&[0x2d, i, j, k, l, a, b, c, d, e, f, g, h, sequence])
+}
+
+/// Writes the header of a NWK frame and its auxiliary header in place of what stands in a frame. The low byte of the
+/// counter is the sequence number.
+pub(crate) fn put_nwk_headers(
+    out: &mut Frame,
+    control: u16,
+    to: Short,
+    from: Short,
+    source: Eui,
+    sequence: u8,
+    counter: u32,
+)
+    ensures items { out.new.items ≡ nwk_header control to.0 from.0 (low_byte counter)
+        ++ nwk_auxiliary counter source.0 sequence }
+    ensures len { length out.new.items ≡ 22 }
+{
+    let [a, b] = control.to_le_bytes();
+    let [c, d] = to.0.to_le_bytes();
+    let [e, f] = from.0.to_le_bytes();
+    let [i, j, k, l] = counter.to_le_bytes();
+    let [m, n, o, p, q, r, s, t] = source.0.to_le_bytes();
+    let low = low_byte(counter);
+    fill(
+        out,
+        &[
+            a, b, c, d, e, f, 0x1e, low, 0x2d, i, j, k, l, m, n, o, p, q, r, s, t, sequence,
+        ],
+    );
+}
+
+/// Puts the second bytes after the first, in place of what stands in a frame. Requires that it has room for both.
+pub(crate) fn join(out: &mut Frame, front: &[u8], back: &[u8])
+    requires { length front.now + length back.now ≤ longest_frame }
+    ensures { out.new.items ≡ front.now ++ back.now }
+{
+    fill(out, front);
+    let _ = put(out, back);
 }
 
 /// Puts the second bytes after the first. Requires that a frame has room for both.

@@ -8,7 +8,6 @@ mod sent;
 mod terms;
 
 pub use headers::{joined, nwk_header};
-pub use part::{Part, part_of};
 pub use sending::{Body, Payload, Sending, copied};
 pub use sent::{may_seal, reserve, send_out};
 pub use terms::{CLEAR, COMMAND, SECURED, command_term, nwk_term};

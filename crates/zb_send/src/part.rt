@@ -1,5 +1,6 @@
 //! The payload of a NWK frame, and what is sealed in it.
-ghost use Rattle.std.specs.Prelude.{◌≡◌, ◌≤◌, ℕ, false, length, true};
+ghost use Rattle.std.specs.Prelude.{◌≡◌, ◌≤◌, ℕ, Some, false, length, option_map, true};
+ghost use Rattle.arrayvec.specs.ArrayVec.{ArrayVec};
 ghost use Rattle.zb_cmd.specs.Shape.{is_inner, is_tunnel};
 ghost use Rattle.zb_model.specs.Answer.{part_of};
 ghost use Rattle.zb_model.specs.Data.{Tunnel};
@@ -12,24 +13,13 @@ ghost use Rattle.zb_send.specs.Sendings.{IsSendable, body_of, room};
 ghost use Rattle.zb_send.specs.Parts.{part_seen};
 ghost use Rattle.zb_base.specs.Limits.{longest_frame};
 
-use crate::headers::{data_control, joined, low_byte};
+use crate::headers::{data_control, join, low_byte};
 use crate::sending::{Body, Payload, Sending};
-use crate::terms::{COMMAND, SECURED, command_term, data_term};
+use crate::terms::{COMMAND, SECURED, command_term, data_term, forget};
 use zb_base::{Eui, Frame, Key, Label, Short};
 use zb_cmd::{Command, write_command};
-use zb_cursor::frame_from;
+use zb_cursor::{fill, frame_from};
 use zb_seal::{KeyMemo, Term};
-
-/// The payload of a NWK frame.
-#[derive(Debug, Drop)]
-pub struct Part {
-    /// The NWK frame control that carries it, with the bit that says sealed.
-    pub control: u16,
-    /// What is sealed at the APS layer.
-    pub seal: Option<Term>,
-    /// The payload.
-    pub bytes: Frame,
-}
 
 /// Writes a command. Requires one that is no Tunnel.
 #[tactic(auto, using(crate::proofs::Lengths::shaped, zb_model_real::proofs::SameTerms::same_spelling))]
@@ -57,6 +47,18 @@ pub(crate) fn sealed(memo: &KeyMemo, term: &Term) -> Frame
     }
 }
 
+/// Seals a term into the place of a frame. Requires that its bytes on the air fit a frame.
+#[tactic(auto, using(zb_model_real::proofs::SameTerms::same_wire))]
+pub(crate) fn put_sealed(memo: &KeyMemo, term: &Term, frame: &mut Option<Frame>)
+    requires { wire_length term.now ≤ longest_frame }
+    ensures { option_map (λ (f : ArrayVec ℕ). f.items) frame.new ≡ Some (real.wire (model_term term.now)) }
+{
+    match memo.wire(term) {
+        Ok(bytes) => *frame = Some(bytes),
+        Err(_) => *frame = Some(Frame::new()),
+    }
+}
+
 /// Writes a Tunnel that brings a device its frame. Requires a frame that may stand there, of at most 54 bytes.
 #[tactic(auto, using(zb_model_real::proofs::SameTerms::same_spelling))]
 fn tunnel(device: Eui, inner: Frame) -> Frame
@@ -75,55 +77,59 @@ fn tunnel(device: Eui, inner: Frame) -> Frame
     }
 }
 
-/// Makes the part of application data that isn't sealed.
+/// Writes the part of application data that isn't sealed.
 #[tactic(auto, unfolding(zb_model::specs::Answer::part_of))]
-fn saying(to: Short, nwk: u32, bytes: &Payload) -> Part
-    ensures part { (me aps : ℕ) → part_seen result ≡ part_of real me to.0 nwk aps (model.Saying bytes.now.items) }
-    ensures room { length result.bytes.items ≤ 101 }
+fn saying(to: Short, nwk: u32, bytes: &Payload, seal: &mut Option<Term>, out: &mut Frame) -> u16
+    ensures part { (me aps : ℕ) → part_seen result seal.new out.new
+        ≡ part_of real me to.0 nwk aps (model.Saying bytes.now.items) }
+    ensures room { length out.new.items ≤ 101 }
 {
+    forget(seal);
     let header = [data_control(to), 1, 0, 0, 4, 1, 1, low_byte(nwk)];
-    Part {
-        control: SECURED,
-        seal: None,
-        bytes: joined(&header, bytes.as_slice()),
-    }
+    join(out, &header, bytes.as_slice());
+    SECURED
 }
 
-/// Makes the part of an APS command that isn't sealed.
+/// Writes the part of an APS command that isn't sealed.
 #[tactic(auto, unfolding(zb_model::specs::Answer::part_of))]
-fn clear(control: u8, nwk: u32, command: &Command) -> Part
+fn clear(control: u8, nwk: u32, command: &Command, seal: &mut Option<Term>, out: &mut Frame) -> u16
     requires { is_tunnel command.now ≡ false }
-    ensures part { (me to aps : ℕ) → part_seen result
+    ensures part { (me to aps : ℕ) → part_seen result seal.new out.new
         ≡ part_of real me to nwk aps (model.Clear control (model_command command.now)) }
-    ensures room { length result.bytes.items ≤ 101 }
+    ensures room { length out.new.items ≤ 101 }
 {
+    forget(seal);
     let header = [control, low_byte(nwk)];
     let bytes = spelled(command);
-    Part {
-        control: SECURED,
-        seal: None,
-        bytes: joined(&header, bytes.as_slice()),
-    }
+    join(out, &header, bytes.as_slice());
+    SECURED
 }
 
-/// Makes the part of an APS command under a link key.
+/// Writes the part of an APS command under a link key.
 #[tactic(auto, unfolding(zb_model::specs::Answer::part_of))]
-fn secret(memo: &KeyMemo, label: Label, key: &Key, me: Eui, aps: u32, command: &Command) -> Part
+fn secret(
+    memo: &KeyMemo,
+    label: Label,
+    key: &Key,
+    me: Eui,
+    aps: u32,
+    command: &Command,
+    seal: &mut Option<Term>,
+    out: &mut Frame,
+) -> u16
     requires { is_tunnel command.now ≡ false }
-    ensures part { (to nwk : ℕ) → part_seen result
+    ensures part { (to nwk : ℕ) → part_seen result seal.new out.new
         ≡ part_of real me.0 to nwk aps (model.Secret (model_label label) key.now.0 (model_command command.now)) }
-    ensures room { length result.bytes.items ≤ 101 }
+    ensures room { length out.new.items ≤ 101 }
 {
     let term = command_term(label, key, me, aps, spelled(command));
     let bytes = sealed(memo, &term);
-    Part {
-        control: SECURED,
-        seal: Some(term),
-        bytes,
-    }
+    fill(out, bytes.as_slice());
+    *seal = Some(term);
+    SECURED
 }
 
-/// Makes the part of an APS command inside a Tunnel.
+/// Writes the part of an APS command inside a Tunnel.
 #[tactic(auto, unfolding(zb_model::specs::Answer::part_of))]
 fn tunnelled(
     memo: &KeyMemo,
@@ -133,88 +139,104 @@ fn tunnelled(
     nwk: u32,
     aps: u32,
     command: &Command,
-) -> Part
+    seal: &mut Option<Term>,
+    out: &mut Frame,
+) -> u16
     requires { is_tunnel command.now ≡ false }
-    ensures part { (to : ℕ) → part_seen result
+    ensures part { (to : ℕ) → part_seen result seal.new out.new
         ≡ part_of real me.0 to nwk aps (model.Tunnelled device.0 key.now.0 (model_command command.now)) }
-    ensures room { length result.bytes.items ≤ 101 }
+    ensures room { length out.new.items ≤ 101 }
 {
     let term = command_term(Label::Transport, key, me, aps, spelled(command));
     let inner = sealed(memo, &term);
     let bytes = tunnel(device, inner);
     let header = [0x01, low_byte(nwk)];
-    Part {
-        control: SECURED,
-        seal: Some(term),
-        bytes: joined(&header, bytes.as_slice()),
-    }
+    join(out, &header, bytes.as_slice());
+    *seal = Some(term);
+    SECURED
 }
 
-/// Makes the part of application data under a link key.
+/// Writes the part of application data under a link key.
 #[tactic(auto, unfolding(zb_model::specs::Answer::part_of))]
-fn telling(memo: &KeyMemo, key: &Key, me: Eui, aps: u32, bytes: &Payload) -> Part
-    ensures part { (to nwk : ℕ) → part_seen result
+fn telling(
+    memo: &KeyMemo,
+    key: &Key,
+    me: Eui,
+    aps: u32,
+    bytes: &Payload,
+    seal: &mut Option<Term>,
+    out: &mut Frame,
+) -> u16
+    ensures part { (to nwk : ℕ) → part_seen result seal.new out.new
         ≡ part_of real me.0 to nwk aps (model.Telling key.now.0 bytes.now.items) }
-    ensures room { length result.bytes.items ≤ 101 }
+    ensures room { length out.new.items ≤ 101 }
 {
     let term = data_term(key, me, aps, frame_from(bytes.as_slice()));
     let bytes = sealed(memo, &term);
-    Part {
-        control: SECURED,
-        seal: Some(term),
-        bytes,
-    }
+    fill(out, bytes.as_slice());
+    *seal = Some(term);
+    SECURED
 }
 
-/// Makes the part of a Leave that asks a node to go.
+/// Writes the part of a Leave that asks a node to go.
 #[tactic(auto, unfolding(zb_model::specs::Answer::part_of))]
-fn leaving() -> Part
-    ensures part { (me to nwk aps : ℕ) → part_seen result ≡ part_of real me to nwk aps model.Leaving }
-    ensures room { length result.bytes.items ≤ 101 }
+fn leaving(seal: &mut Option<Term>, out: &mut Frame) -> u16
+    ensures part { (me to nwk aps : ℕ) → part_seen result seal.new out.new
+        ≡ part_of real me to nwk aps model.Leaving }
+    ensures room { length out.new.items ≤ 101 }
 {
-    Part {
-        control: COMMAND,
-        seal: None,
-        bytes: frame_from(&[0x04, 0x40]),
-    }
+    forget(seal);
+    fill(out, &[0x04, 0x40]);
+    COMMAND
 }
 
-/// Makes the part that is the frame of a Tunnel.
+/// Writes the part that is the frame of a Tunnel.
 #[tactic(auto, unfolding(zb_model::specs::Answer::part_of))]
-fn relayed(bytes: &Frame) -> Part
-    ensures part { (me to nwk aps : ℕ) → part_seen result ≡ part_of real me to nwk aps (model.Relayed bytes.now.items) }
-    ensures room { length result.bytes.items ≡ length bytes.now.items }
+fn relayed(bytes: &Frame, seal: &mut Option<Term>, out: &mut Frame) -> u16
+    ensures part { (me to nwk aps : ℕ) → part_seen result seal.new out.new
+        ≡ part_of real me to nwk aps (model.Relayed bytes.now.items) }
+    ensures room { length out.new.items ≡ length bytes.now.items }
 {
-    Part {
-        control: SECURED,
-        seal: None,
-        bytes: frame_from(bytes.as_slice()),
-    }
+    forget(seal);
+    fill(out, bytes.as_slice());
+    SECURED
 }
 
-/// Makes the payload of a NWK frame, from the node's IEEE address and the frame counters of both layers. A key that
-/// the memo lacks is expanded.
+/// Writes the payload of a NWK frame into `out`, and what is sealed in it at the APS layer into `seal`. Returns the
+/// NWK frame control that carries it, with the bit that says sealed.
+///
+/// It is made from the node's IEEE address and the frame counters of both layers. A key that the memo lacks is
+/// expanded. What stood in the places is gone.
 #[tactic(auto, using(crate::proofs::Lengths::least_room))]
-pub fn part_of(memo: &KeyMemo, me: Eui, nwk: u32, aps: u32, sending: &Sending) -> Part
+pub(crate) fn put_part(
+    memo: &KeyMemo,
+    me: Eui,
+    nwk: u32,
+    aps: u32,
+    sending: &Sending,
+    seal: &mut Option<Term>,
+    out: &mut Frame,
+) -> u16
     requires { IsSendable sending.now }
-    ensures part { part_seen result ≡ part_of real me.0 sending.now.to.0 nwk aps (body_of sending.now.body) }
-    ensures room { length result.bytes.items ≤ room sending.now.secured }
+    ensures part { part_seen result seal.new out.new
+        ≡ part_of real me.0 sending.now.to.0 nwk aps (body_of sending.now.body) }
+    ensures room { length out.new.items ≤ room sending.now.secured }
 {
     match &sending.body {
-        Body::Saying { bytes } => saying(sending.to, nwk, bytes),
-        Body::Clear { control, command } => clear(*control, nwk, command),
+        Body::Saying { bytes } => saying(sending.to, nwk, bytes, seal, out),
+        Body::Clear { control, command } => clear(*control, nwk, command, seal, out),
         Body::Secret {
             label,
             key,
             command,
-        } => secret(memo, *label, key, me, aps, command),
+        } => secret(memo, *label, key, me, aps, command, seal, out),
         Body::Tunnelled {
             device,
             key,
             command,
-        } => tunnelled(memo, *device, key, me, nwk, aps, command),
-        Body::Telling { key, bytes } => telling(memo, key, me, aps, bytes),
-        Body::Leaving => leaving(),
-        Body::Relayed { bytes } => relayed(bytes),
+        } => tunnelled(memo, *device, key, me, nwk, aps, command, seal, out),
+        Body::Telling { key, bytes } => telling(memo, key, me, aps, bytes, seal, out),
+        Body::Leaving => leaving(seal, out),
+        Body::Relayed { bytes } => relayed(bytes, seal, out),
     }
 }

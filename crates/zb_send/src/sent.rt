@@ -1,21 +1,20 @@
 //! The frame that goes out, and the terms that are sealed in it.
-ghost use Rattle.std.specs.Prelude.{◌≡◌, ◌≤◌, ◌&&◌, ◌||◌, Some, is_some, length, nat_eq, not, option_map};
-ghost use Rattle.zb_model.specs.Answer.{Counting, framed, has_aps_seal, may_seal, nothing_out, out_of, plain_out, reserve_of, seals_at, secured_out, sent};
+ghost use Rattle.std.specs.Prelude.{◌≡◌, ◌&&◌, ◌||◌, Some, false, is_some, nat_eq, not, option_map, true};
+ghost use Rattle.zb_model.specs.Answer.{Counting, framed, has_aps_seal, may_seal, nothing_out, out_of, part_of, plain_out, reserve_of, seals_at, secured_out, sent};
 ghost use Rattle.zb_model.specs.Data.{Aps, Nwk};
 ghost use Rattle.zb_model.specs.Rules.{spent};
 ghost use Rattle.zb_model.specs.State.{active_row, next_counter, stored_limit};
 ghost use Rattle.zb_model_real.specs.Real.{real};
 ghost use Rattle.zb_node_types.specs.Changes.{model_layer};
 ghost use Rattle.zb_rows.specs.RowViews.{net_key};
-ghost use Rattle.zb_send.specs.Sendings.{CanBeSent, IsSendable, body_of, room, sending_of};
-ghost use Rattle.zb_send.specs.Parts.{part_seen};
+ghost use Rattle.zb_send.specs.Sendings.{CanBeSent, IsSendable, body_of, sending_of};
 ghost use Rattle.zb_send.specs.Sent.{IsCounting, sent_seen};
 
 use crate::headers::{joined, nwk_header};
-use crate::part::{Part, part_of, sealed};
+use crate::part::{put_part, put_sealed};
 use crate::sending::{Body, Sending};
-use crate::terms::{CLEAR, nwk_term};
-use zb_base::{Frame, Layer, Short};
+use crate::terms::{CLEAR, blank_term, forget, put_nwk_term};
+use zb_base::{Frame, Layer};
 use zb_rows::{NetRow, Tables, is_spent, next_counter, stored_limit};
 use zb_seal::{KeyMemo, Term};
 use zb_setting::Network;
@@ -28,85 +27,131 @@ fn put_nothing(
 )
     ensures { sent_seen sealed_aps.new sealed_nwk.new frame.new ≡ nothing_out }
 {
-    *sealed_aps = None;
-    *sealed_nwk = None;
+    forget(sealed_aps);
+    forget(sealed_nwk);
     *frame = None;
 }
 
-/// Puts out the frame of a part, not sealed at the NWK layer.
+/// Puts out what is to be sent, not sealed at the NWK layer.
 fn put_plain(
     network: &Network,
-    to: Short,
-    part: Part,
+    memo: &KeyMemo,
+    nwk: u32,
+    aps: u32,
+    sending: &Sending,
     sealed_aps: &mut Option<Term>,
     sealed_nwk: &mut Option<Term>,
     frame: &mut Option<Frame>,
 )
-    requires { length part.bytes.items ≤ 119 }
-    ensures { sent_seen sealed_aps.new sealed_nwk.new frame.new ≡ plain_out network.now to.0 (part_seen part) }
+    requires sendable { IsSendable sending.now }
+    requires plain { sending.now.secured ≡ false }
+    ensures { sent_seen sealed_aps.new sealed_nwk.new frame.new ≡ plain_out network.now sending.now.to.0
+        (part_of real network.now.me.eui sending.now.to.0 nwk aps (body_of sending.now.body)) }
 {
-    let header = nwk_header(CLEAR, to, network.short(), 0);
-    *frame = Some(joined(header.as_slice(), part.bytes.as_slice()));
-    *sealed_aps = part.seal;
-    *sealed_nwk = None;
+    let mut bytes = Frame::new();
+    put_part(
+        memo,
+        network.eui(),
+        nwk,
+        aps,
+        sending,
+        sealed_aps,
+        &mut bytes,
+    );
+    let header = nwk_header(CLEAR, sending.to, network.short(), 0);
+    *frame = Some(joined(header.as_slice(), bytes.as_slice()));
+    forget(sealed_nwk);
 }
 
-/// Puts out the frame of a part, sealed under a network key.
+/// Puts out what is to be sent, sealed under a network key, with its term in its place.
+fn put_under(
+    network: &Network,
+    memo: &KeyMemo,
+    nwk: u32,
+    aps: u32,
+    row: &NetRow,
+    sending: &Sending,
+    sealed_aps: &mut Option<Term>,
+    term: &mut Term,
+    frame: &mut Option<Frame>,
+)
+    requires sendable { IsSendable sending.now }
+    requires secured { sending.now.secured ≡ true }
+    ensures { sent_seen sealed_aps.new (Some term.new) frame.new
+        ≡ secured_out real network.now sending.now.to.0 nwk (net_key row.now)
+        (part_of real network.now.me.eui sending.now.to.0 nwk aps (body_of sending.now.body)) }
+{
+    let me = network.eui();
+    let control = put_part(memo, me, nwk, aps, sending, sealed_aps, &mut term.content);
+    put_nwk_term(
+        term,
+        control,
+        sending.to,
+        network.short(),
+        me,
+        &row.key,
+        row.sequence,
+        nwk,
+    );
+    put_sealed(memo, term, frame);
+}
+
+/// Puts out what is to be sent, sealed under a network key.
 fn put_secured(
     network: &Network,
     memo: &KeyMemo,
-    to: Short,
-    counter: u32,
+    nwk: u32,
+    aps: u32,
     row: &NetRow,
-    part: Part,
+    sending: &Sending,
     sealed_aps: &mut Option<Term>,
     sealed_nwk: &mut Option<Term>,
     frame: &mut Option<Frame>,
 )
-    requires { length part.bytes.items ≤ 101 }
+    requires sendable { IsSendable sending.now }
+    requires secured { sending.now.secured ≡ true }
     ensures { sent_seen sealed_aps.new sealed_nwk.new frame.new
-        ≡ secured_out real network.now to.0 counter (net_key row.now) (part_seen part) }
+        ≡ secured_out real network.now sending.now.to.0 nwk (net_key row.now)
+        (part_of real network.now.me.eui sending.now.to.0 nwk aps (body_of sending.now.body)) }
 {
-    let term = nwk_term(
-        part.control,
-        to,
-        network.short(),
-        network.eui(),
-        &row.key,
-        row.sequence,
-        counter,
-        part.bytes,
-    );
-    *frame = Some(sealed(memo, &term));
-    *sealed_aps = part.seal;
-    *sealed_nwk = Some(term);
+    if sealed_nwk.is_none() {
+        *sealed_nwk = Some(blank_term());
+    }
+    match sealed_nwk {
+        Some(term) => put_under(
+            network, memo, nwk, aps, row, sending, sealed_aps, term, frame,
+        ),
+        None => unreachable!(),
+    }
 }
 
-/// Puts out the frame of a part, under the active network key where it is to be sealed.
+/// Puts out what is to be sent, under the active network key where it is to be sealed.
 fn put_framed(
     network: &Network,
     tables: &Tables,
     memo: &KeyMemo,
+    nwk: u32,
+    aps: u32,
     sending: &Sending,
-    counter: u32,
-    part: Part,
     sealed_aps: &mut Option<Term>,
     sealed_nwk: &mut Option<Term>,
     frame: &mut Option<Frame>,
 )
-    requires { length part.bytes.items ≤ room sending.now.secured }
-    ensures { sent_seen sealed_aps.new sealed_nwk.new frame.new ≡ framed real network.now sending.now.to.0 counter
-        sending.now.secured (active_row tables.now) (part_seen part) }
+    requires { IsSendable sending.now }
+    ensures { sent_seen sealed_aps.new sealed_nwk.new frame.new ≡ framed real network.now sending.now.to.0 nwk
+        sending.now.secured (active_row tables.now)
+        (part_of real network.now.me.eui sending.now.to.0 nwk aps (body_of sending.now.body)) }
 {
-    let to = sending.to;
     if !sending.secured {
-        put_plain(network, to, part, sealed_aps, sealed_nwk, frame);
+        put_plain(
+            network, memo, nwk, aps, sending, sealed_aps, sealed_nwk, frame,
+        );
         return;
     }
     match tables.active_row() {
         None => put_nothing(sealed_aps, sealed_nwk, frame),
         Some(row) => put_secured(
-            network, memo, to, counter, row, part, sealed_aps, sealed_nwk, frame,
+            network, memo, nwk, aps, row, sending, sealed_aps, sealed_nwk, frame,
         ),
     }
 }
@@ -127,9 +172,8 @@ fn send_one(
 {
     let nwk = next_counter(tables, Layer::Nwk);
     let aps = next_counter(tables, Layer::Aps);
-    let part = part_of(memo, network.eui(), nwk, aps, sending);
     put_framed(
-        network, tables, memo, sending, nwk, part, sealed_aps, sealed_nwk, frame,
+        network, tables, memo, nwk, aps, sending, sealed_aps, sealed_nwk, frame,
     );
 }
 

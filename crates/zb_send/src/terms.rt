@@ -1,5 +1,5 @@
 //! The terms of a frame, and the frame controls of the network layer (05-3474-21, 3.3.1.1).
-ghost use Rattle.std.specs.Prelude.{◌≡◌, ◌+◌, length};
+ghost use Rattle.std.specs.Prelude.{◌≡◌, ◌+◌, length, None};
 ghost use Rattle.zb_model.specs.Data.{ForData};
 ghost use Rattle.zb_model.specs.Frames.{aps_term, data_front, nwk_term, sealed_command, sealed_data};
 ghost use Rattle.zb_model_real.specs.Terms.{model_label, model_term};
@@ -7,7 +7,7 @@ ghost use Rattle.zb_seal.specs.Wire.{wire_length};
 
 use crate::headers::{
     aps_control, aps_label, command_header, data_header, joined, low_byte, nwk_auxiliary,
-    nwk_header,
+    nwk_header, put_nwk_headers,
 };
 use zb_base::{Eui, Frame, Key, Label, Layer, Short};
 use zb_seal::Term;
@@ -48,6 +48,61 @@ pub fn nwk_term(
         header: joined(header.as_slice(), auxiliary.as_slice()),
         content,
     }
+}
+
+/// Makes a term whose parts are still to be written.
+pub(crate) fn blank_term() -> Term {
+    Term {
+        layer: Layer::Nwk,
+        base: Key([0; 16]),
+        label: Label::Network,
+        source: Eui(0),
+        counter: 0,
+        control: 0,
+        header: Frame::new(),
+        content: Frame::new(),
+    }
+}
+
+/// Takes a term out of its place, if there is one.
+pub(crate) fn forget(term: &mut Option<Term>)
+    ensures { term.new ≡ None }
+{
+    if term.is_some() {
+        *term = None;
+    }
+}
+
+/// Writes the term of a NWK frame under a network key around the content that stands in its place.
+pub(crate) fn put_nwk_term(
+    term: &mut Term,
+    control: u16,
+    to: Short,
+    from: Short,
+    source: Eui,
+    key: &Key,
+    sequence: u8,
+    counter: u32,
+)
+    ensures term { model_term term.new
+        ≡ nwk_term control to.0 from.0 source.0 key.now.0 sequence counter term.old.content.items }
+    ensures len { wire_length term.new ≡ length term.old.content.items + 26 }
+{
+    term.layer = Layer::Nwk;
+    term.base = *key;
+    term.label = Label::Network;
+    term.source = source;
+    term.counter = counter;
+    term.control = 0x2d;
+    put_nwk_headers(
+        &mut term.header,
+        control,
+        to,
+        from,
+        source,
+        sequence,
+        counter,
+    );
 }
 
 /// Makes the term of an APS command under a link key.

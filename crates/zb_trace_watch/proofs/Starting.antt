@@ -72,7 +72,8 @@ module _ (tools : Tools) (counts : ℕ → Bool) (origins : Origins) (passing : 
         traced = λ n some k it. absurd (not_both _ it (traced n k));
         removed = removed;
         somebody = refl;
-        known = known_is_exposed tools exposure start (omega arith) carried (λ n some k. ever n k) removed refl settled;
+        known = known_is_exposed tools exposure start (omega arith) carried (λ n some k. ever n k) removed
+            refl settled;
         network = network;
         forged = forged;
         passed_on = passed;

@@ -233,6 +233,31 @@ first_added old new head bytes h b others updated none alone =
         number_so head h ∙ (ap (nat_eq head) (alone e) ∙ itself_number head) in
         cc (sym there ∙ yes)
 
+-- Where the first bytes with a number are put back, the others have those that stood in their place.
+
+as_before : (here : Bool) (first bytes : Vec ℕ) (old mid new : Option (Vec ℕ)) → (here ≡ true → old ≡ Some first)
+    → mid ≡ cond here (Some bytes) old → new ≡ cond here (Some first) mid → new ≡ old
+as_before true first bytes old mid new was put back = back ∙ sym (was refl)
+as_before false first bytes old mid new was put back = back ∙ put
+
+pub nothing_more : (b : Bool) → b ≡ (b || false)
+nothing_more true = refl
+nothing_more false = refl
+
+pub back_in_place : (old mid new : ℕ → Option (Vec ℕ)) (head : ℕ) (first bytes : Vec ℕ) (h : ℕ) (b : List ℕ)
+    (others more : Bool) → old head ≡ Some first
+    → mid h ≡ cond (is_at (nat_cmp head) h) (Some bytes) (old h)
+    → new h ≡ cond (is_at (nat_cmp head) h) (Some first) (mid h)
+    → more ≡ (others || bytes_eq b bytes.items)
+    → (is_kept (new h) b || more) ≡ ((is_kept (old h) b || others) || bytes_eq b bytes.items)
+back_in_place old mid new head first bytes h b others more was put back added =
+    let there : is_at (nat_cmp head) h ≡ true → old h ≡ Some first =
+    λ here. ap old (sym (same_number head h (sym (number_so head h) ∙ here))) ∙ was in
+    ap (λ (k : Option (Vec ℕ)). is_kept k b || more)
+    (as_before (is_at (nat_cmp head) h) first bytes (old h) (mid h) (new h) there put back)
+    ∙ (ap (λ (x : Bool). is_kept (old h) b || x) added
+    ∙ or_assoc (is_kept (old h) b) others (bytes_eq b bytes.items))
+
 -- After an insertion a set has what it had, and what was inserted, under each test that answers alike where keys are
 -- equal.
 pub inserted_alike : {K : Type 0} (cmp : K → K → Ordering) (test : K → Bool)

@@ -51,7 +51,8 @@ impl Passing {
         ensures network { OnOk result ((k : List ℕ)
             → has self.new.network k ≡ (has self.old.network k || (is_code attribute && bytes_eq k key.0))) }
         ensures forged { self.new.forged ≡ self.old.forged }
-        ensures passed { self.new.passed_on ≡ (self.old.passed_on || (is_code attribute && has self.old.forged key.0)) }
+        ensures passed { self.new.passed_on
+            ≡ (self.old.passed_on || (is_code attribute && has self.old.forged key.0)) }
     {
         match attribute {
             Attribute::Provisional => self.network_key(key),

@@ -1,11 +1,11 @@
 //! Sets of terms.
-ghost use Rattle.std.specs.Prelude.{◌≡◌, ℕ, List, [], ◌||◌, ◌++◌, ◌+◌, ◌-◌, ◌≤◌, bytes_eq, is_some, length, OnOk, false, true};
+ghost use Rattle.std.specs.Prelude.{◌≡◌, ℕ, List, [], ◌||◌, ◌++◌, ◌+◌, ◌-◌, ◌≤◌, bytes_eq, cond, length, OnOk, Some, false, true};
 ghost use Rattle.std.specs.List.{list_any};
 ghost use Rattle.zb_model.specs.Secrets.{same_term};
 ghost use Rattle.zb_model_real.specs.Terms.{model_term};
 ghost use Rattle.zb_seal.specs.declared.term.Term.{Term};
 ghost use Rattle.zb_trace_watch.specs.Terms.{has_spelled, has_term, is_kept, label_number, layer_number, low_bytes, term_bytes, term_head};
-ghost use Rattle.std.specs.BTreeMap.{get};
+ghost use Rattle.std.specs.BTreeMap.{get, is_at};
 ghost use Rattle.std.specs.Ordering.{nat_cmp};
 
 use arrayvec::ArrayVec;
@@ -80,31 +80,40 @@ impl Terms {
         let mut room = ArrayVec::new();
         put_bytes(&mut room, term);
         let bytes = Vec::from_slice(self.alloc, room.as_slice())?;
-        let head = head_of(term);
-        if self.firsts.contains_key(&head) {
-            self.keep_other(bytes)?;
-            return Ok(());
-        }
-        self.keep_first(head, bytes)?;
+        self.keep(head_of(term), bytes)?;
         Ok(())
     }
 
-    /// Keeps the first bytes with a head. The clause is for bytes that have one head.
-    fn keep_first(&mut self, head: u64, bytes: Vec<u8>) -> Result<(), AllocError>
-        requires { is_some (get nat_cmp self.old.firsts head) ≡ false }
+    /// Keeps bytes with a head, mostly as the first that have it: then they are looked up once. The clause is for
+    /// bytes that have one head.
+    fn keep(&mut self, head: u64, bytes: Vec<u8>) -> Result<(), AllocError>
         ensures { OnOk result ((h : ℕ) (b : List ℕ) → (bytes_eq b bytes.items ≡ true → h ≡ head)
             → has_spelled self.new h b ≡ (has_spelled self.old h b || bytes_eq b bytes.items)) }
     {
-        self.firsts.insert(head, bytes)?;
+        let there = self.firsts.insert(head, bytes)?;
+        match there {
+            Some(first) => self.put_back(head, first)?,
+            None => {}
+        }
         Ok(())
     }
 
-    /// Keeps bytes with a head that others have.
-    fn keep_other(&mut self, bytes: Vec<u8>) -> Result<(), AllocError>
-        ensures { OnOk result ((h : ℕ) (b : List ℕ)
-            → has_spelled self.new h b ≡ (has_spelled self.old h b || bytes_eq b bytes.items)) }
+    /// Puts the first bytes with a head back. Those that stand in their place become others.
+    fn put_back(&mut self, head: u64, first: Vec<u8>) -> Result<(), AllocError>
+        ensures firsts { OnOk result ((h : ℕ) → get nat_cmp self.new.firsts h
+            ≡ cond (is_at (nat_cmp head) h) (Some first) (get nat_cmp self.old.firsts h)) }
+        ensures others { OnOk result ((b : List ℕ)
+            → list_any (λ kept. bytes_eq b kept.items) self.new.others.keys
+            ≡ (list_any (λ kept. bytes_eq b kept.items) self.old.others.keys
+            || is_kept (get nat_cmp self.old.firsts head) b)) }
     {
-        self.others.insert(bytes)?;
+        let there = self.firsts.insert(head, first)?;
+        match there {
+            Some(bytes) => {
+                self.others.insert(bytes)?;
+            }
+            None => {}
+        }
         Ok(())
     }
 }

@@ -8,12 +8,12 @@ use Rattle.zb_delivery.proofs.Layers.{accepted_nwk, passes_in_clear}
 use Rattle.zb_delivery.proofs.delivery.plan_received.Goals as goal
 
 pub plan_carried-requires-clause-nwk : goal.plan_carried-requires-clause-nwk
-plan_carried-requires-clause-nwk c = accepted_nwk c.args.network.now c.args.tables.now c.args.bytes.now c.in-Ok.frame
-    c.judge_nwk.new.accepted c.in-Ok.ensures
+plan_carried-requires-clause-nwk c = accepted_nwk c.args.network.now c.args.tables.now c.args.bytes.now
+    c.judge_nwk.new.frame c.judge_nwk.new.accepted c.in-Ok.ensures
 
 pub plan_carried-requires-clause-in_clear : goal.plan_carried-requires-clause-in_clear
 plan_carried-requires-clause-in_clear c = passes_in_clear c.args.network.now c.args.tables.now c.args.bytes.now
-    c.in-Ok.frame c.judge_nwk.new.accepted c.in-Ok.ensures
+    c.judge_nwk.new.frame c.judge_nwk.new.accepted c.in-Ok.ensures
 
 pub returns-in-Err-clause-answer : goal.returns-in-Err-clause-answer
 unfolding answer
@@ -36,11 +36,11 @@ pub returns-in-Ok-clause-answer : goal.returns-in-Ok-clause-answer
 unfolding answer
 returns-in-Ok-clause-answer c =
     let d = option_map (λ (k : Key). k.0) c.args.draw in
-    frame_planned c.args.network.now c.args.tables.now d c.args.bytes.now c.in-Ok.frame c.judge_nwk.new.accepted
-    c.plan_carried.new.plan c.in-Ok.ensures (c.plan_carried.ensures d (λ e. refl))
+    frame_planned c.args.network.now c.args.tables.now d c.args.bytes.now c.judge_nwk.new.frame
+    c.judge_nwk.new.accepted c.plan_carried.new.plan c.in-Ok.ensures (c.plan_carried.ensures d (λ e. refl))
 
 pub returns-in-Ok-clause-any_draw : goal.returns-in-Ok-clause-any_draw
 unfolding answer
 returns-in-Ok-clause-any_draw c = λ member d.
-    frame_planned c.args.network.now c.args.tables.now d c.args.bytes.now c.in-Ok.frame c.judge_nwk.new.accepted
-    c.plan_carried.new.plan c.in-Ok.ensures (c.plan_carried.ensures d (λ e. absurd cc))
+    frame_planned c.args.network.now c.args.tables.now d c.args.bytes.now c.judge_nwk.new.frame
+    c.judge_nwk.new.accepted c.plan_carried.new.plan c.in-Ok.ensures (c.plan_carried.ensures d (λ e. absurd cc))

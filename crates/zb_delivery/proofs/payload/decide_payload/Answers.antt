@@ -26,14 +26,14 @@ returns-in-Err c =
 pub decide_part-requires-clause-in_clear : goal.decide_part-requires-clause-in_clear
 decide_part-requires-clause-in_clear c =
     let bytes = payload_of (nwk_frame_shown c.args.frame.now) (option_map model_term c.args.nwk.now) in
-    let found : frame_of bytes ≡ Ok c.in-Ok.part = sym (rw c.payload_of.ensures at c.in-Ok.ensures.exact) in
-    subst (λ o. PassesInClear c.args.nwk.now o) (read_is bytes c.in-Ok.part found) c.requires.in_clear
+    let found : frame_of bytes ≡ Ok c.read_into.new.frame = sym (rw c.payload_of.ensures at c.in-Ok.ensures.exact) in
+    subst (λ o. PassesInClear c.args.nwk.now o) (read_is bytes c.read_into.new.frame found) c.requires.in_clear
 
 pub returns-in-Ok : goal.returns-in-Ok
 returns-in-Ok c =
     let bytes = payload_of (nwk_frame_shown c.args.frame.now) (option_map model_term c.args.nwk.now) in
-    let found : frame_of bytes ≡ Ok c.in-Ok.part = sym (rw c.payload_of.ensures at c.in-Ok.ensures.exact) in
+    let found : frame_of bytes ≡ Ok c.read_into.new.frame = sym (rw c.payload_of.ensures at c.in-Ok.ensures.exact) in
     payload_read c.args.network.now c.args.tables.now c.args.draw (nwk_frame_shown c.args.frame.now) c.args.nwk.now
-    (Some (aps_frame_shown c.in-Ok.part)) (real.read_aps bytes)
+    (Some (aps_frame_shown c.read_into.new.frame)) (real.read_aps bytes)
     (record { nwk = c.args.nwk.now; aps = c.decide_part.new.aps; effect = c.decide_part.result })
-    (read_is bytes c.in-Ok.part found) c.decide_part.ensures
+    (read_is bytes c.read_into.new.frame found) c.decide_part.ensures

@@ -17,5 +17,5 @@ invariant-loop-me l = record {
   nodes : length l.nodes.items ≡ l.me;
   disks : length l.disks.items ≡ l.me;
   calls : AllByRecursion (λ (m : Medium). m.calls ≡ 6) l.disks.items;
-  room : record_room ≤ vec_len l.room;
+  room : record_room ≤ vec_len l.spare.room;
 }

@@ -1,9 +1,9 @@
-use Rattle.std.proofs.Common.{◌∙◌, sym}
+use Rattle.std.proofs.Common.{refl}
 use Rattle.zb_send.proofs.Sents.{sent_with}
 use Rattle.zb_send.specs.Sendings.{sending_of}
 use Rattle.zb_send.proofs.sent.send_one.Goals as goal
 
 pub returns : goal.returns
 returns c =
-    sent_with c.args.network.now c.args.tables.now (sending_of c.args.sending.now) _ _ _ _ _ c.eui.ensures
-    c.next_counter-nwk.ensures c.next_counter-aps.ensures c.part_of-part.ensures.part c.put_framed.ensures
+    sent_with c.args.network.now c.args.tables.now (sending_of c.args.sending.now) _ _ _ _ _ refl
+    c.next_counter-nwk.ensures c.next_counter-aps.ensures refl c.put_framed.ensures

@@ -24,8 +24,8 @@ pub returns-in_ok-stored-in-Some-Whole-clause-goes : goal.returns-in_ok-stored-i
 returns-in_ok-stored-in-Some-Whole-clause-goes c =
     on_ok c.answered.result _ _
     (λ tells w h x latest n before suits.
-    whole_goes w h x latest c.args.event n (model_task c.args.task) c.name-name.result c.handle.result c.handle.new.plan
-    c.args.self.now
+    whole_goes w h x latest c.args.event n (model_task c.args.task) c.name-name.result c.handle.result
+    c.handle.new.plan c.args.self.now
     (record {
       alloc = c.args.self.now.alloc;
       scribe = c.answered.new.self;

@@ -41,7 +41,8 @@ returns-in-Err-clause-event c = λ x number is can.
       arms = in_it.arms;
     } in
     let here = sym c.self.view_is ∙ ap seen c.in-Some.is in
-    subst (λ (a : Arms). WasCut (answer real x.setting x.state (model_task c.args.task)) x number
+    rw c.take_power.ensures
+    (subst (λ (a : Arms). WasCut (answer real x.setting x.state (model_task c.args.task)) x number
     c.keep_stored.new.changes.items c.in-Err.cut.fallen.fall c.args.disk.now
     (record { peer = in_it.peer; config = in_it.config.value; machine = None; arms = a }) c.handle.new.disk)
     (sym c.spend.ensures)
@@ -50,7 +51,7 @@ returns-in-Err-clause-event c = λ x number is can.
     c.args.disk.now c.handle.new.disk
     c.in-Err.ensures.given
     (c.keep_stored.ensures ∙ ap (λ (b : Bool). if b then c.handle.new.plan.changes.items else [])
-    c.in-Err.ensures.stored) x number (subst (λ (n : NodeValue). IsIn x number n c.args.disk.now) here is) can)
+    c.in-Err.ensures.stored) x number (subst (λ (n : NodeValue). IsIn x number n c.args.disk.now) here is) can))
 
 pub returns-in-Err-clause-any : goal.returns-in-Err-clause-any
 returns-in-Err-clause-any c =
@@ -59,7 +60,8 @@ returns-in-Err-clause-any c =
     λ o a. record { peer = in_it.peer; config = in_it.config.value; machine = option_map running o; arms = a } in
     let cut = c.in-Err.cut in
     let items = c.handle.new.plan.changes.items in
-    subst (λ (n : NodeValue). HasHandledOn n c.args.disk.now (Some (Cut cut.fallen.fall))
+    rw c.take_power.ensures
+    (subst (λ (n : NodeValue). HasHandledOn n c.args.disk.now (Some (Cut cut.fallen.fall))
     c.keep_stored.new.changes.items (seen None c.spend.new.arms) c.handle.new.disk) c.self.view_is (record {
       fallen = cut.fallen;
       ended = c.in-Err.ensures.ended;
@@ -67,4 +69,4 @@ returns-in-Err-clause-any c =
       arms = c.spend.ensures;
       none = λ off.
           c.keep_stored.ensures ∙ ap (λ (b : Bool). if b then items else []) (c.in-Err.ensures.stored ∙ off);
-    })
+    }))

@@ -1,4 +1,4 @@
-use Rattle.std.proofs.Common.{List, [], ◌∷◌, subst, sym, refl, arith, get_or}
+use Rattle.std.proofs.Common.{List, [], ◌∷◌, subst, sym, arith, get_or}
 use Rattle.zb_base.specs.declared.label.Layer.TheVariants.{Nwk}
 use Rattle.zb_model.specs.Lines.{Line, Changed}
 use Rattle.zb_trace_model.specs.Said.{IsOfCentre}
@@ -19,14 +19,13 @@ loop-change-preserved c =
     let i = c.loop-change.change-index in
     let change : Change = get_or changes i (Reserve Nwk 0) in (
       λ known n called all.
-          subst (λ (lines : List Line). Tells known lines c.args.self.now c.args.page.now c.tell.new.self
-          c.tell.new.page)
+          subst (λ (lines : List Line). Tells known lines c.args.self.now c.args.page.now c.change.new.self
+          c.change.new.page)
           (sym (change_more c.args.event n changes i (Reserve Nwk 0) c.loop-change-test.true))
           (told_in_turn known _ (Changed c.args.event n (edit change) ∷ []) _ _ _ _ _ _
           (c.loop-change.invariant.0 known n called all)
-          (c.in_ok-tell.ensures.tells known (Changed c.args.event n (edit change))
-          (c.change_line.ensures.says known n called
+          (c.in_ok-change.ensures.tells known n called
           (all_at (λ (it : Change). IsOfCentre known n (edit it)) changes i (Reserve Nwk 0)
-          c.loop-change-test.true all)) refl)),
-      omega (arith, c.in_ok-tell.ensures.told, c.loop-change.invariant.1),
+          c.loop-change-test.true all))),
+      omega (arith, c.in_ok-change.ensures.told, c.loop-change.invariant.1),
     )
