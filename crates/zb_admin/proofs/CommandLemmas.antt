@@ -1,10 +1,10 @@
 -- One command: what its calls leave is what its definition says.
-use Rattle.std.proofs.Common.{◌≡◌, ◌⊎◌, ℕ, ◌++◌, ◌∷◌, inl, inr, Bool, true, false, List, [], Option, Some, None, Result, Ok, Err, IfErr, OnOk, IsTrue, option_map, refl, sym, ap, ◌∙◌, subst}
+use Rattle.std.proofs.Common.{◌≡◌, ◌≢◌, ◌⊎◌, ℕ, ◌++◌, ◌∷◌, inl, inr, Bool, true, false, List, [], Option, Some, None, Result, Ok, Err, IfErr, OnOk, IsTrue, option_map, refl, sym, ap, ◌∙◌, subst}
 use Rattle.std.specs.Prelude.{codes, is_some, IsOk}
-use Rattle.zb_centre_store.specs.Calls.{HasHandled, HasLaidOut, IsEventFault, IsLayOutFault, IsShort, is_own}
+use Rattle.zb_centre_store.specs.Calls.{HasHandled, HasLaidOut, IsEventFault, IsLayOutFault, IsShort, is_own, tables_in}
 use Rattle.zb_admin.specs.Commands.{items_of}
 use Rattle.zb_admin.specs.Commands.{IsCarriedOut, IsCommandFault, lays_out}
-use Rattle.zb_admin.specs.Served.{Done, IsRefusal, does, done, handled, on_empty, on_store, outcome_lines}
+use Rattle.zb_admin.specs.Served.{Done, HasChanges, IsRefusal, changes_for, does, done, handled, on_empty, on_store, outcome_lines}
 use Rattle.zb_centre_store.specs.Standing.{IsEmpty, IsUp, IsWornOut, Stands, StandsAsEither}
 use Rattle.zb_centre_store.specs.Rows.{listed}
 use Rattle.zb_admin.specs.Texts.{ok_line, refuse_line}
@@ -33,7 +33,7 @@ use Rattle.zb_script.specs.declared.script.Step.{Step}
 use Rattle.zb_store.specs.Layout.{Standing, stands}
 use Rattle.zb_stored_tables.specs.Cores.{CoreValue}
 use Rattle.zb_text.specs.Pages.{ended, page}
-use Rattle.zb_model.specs.Data.{Task}
+use Rattle.zb_model.specs.Data.{Edit, Task}
 use Rattle.zb_model_real.specs.Real.{real}
 
 pub always : {T E P : Type 0} (r : Result T E) → P → OnOk r P
@@ -203,7 +203,40 @@ kept_unrisen old new (Err f) (Err g) stands is (inl same) not =
     stands (same_fault {S = Unit {0}} f Disk (λ e. not (ap (λ (x : AdminFault). Err x) (sym one) ∙ e)))
 kept_unrisen old new (Err f) (Err g) stands is (inr (ok, short)) not = let none : false ≡ true = ok in absurd (cc)
 
--- a command other than these two
+-- ---- where a command is worn
+
+-- a command whose lines found no memory isn't
+pub short_worn : (P : Type 0) (r : Result (Unit {0}) AdminFault) → IsShort r → IfErr r (λ f. f ≡ Worn → P)
+short_worn P (Ok x) short = tt
+short_worn P (Err f) short = λ is. let none : NoMemory ≡ Worn = sym short ∙ is in absurd (cc)
+
+-- nor is one that makes a new store
+pub kept_worn : (tells : Telling) (c : Setting) (s : NodeState) (old new : View)
+    (made : Result (Hosted CoreValue) AdminFault) (r : Result (Unit {0}) AdminFault)
+    → HasLaidOut tells c s old made new → IfErr r (λ f. (made ≡ Err f) ⊎ (IsOk made × (f ≡ NoMemory)))
+    → IfErr r (λ f. f ≡ Worn → ⊥)
+kept_worn tells c s old new made (Ok x) laid fault = tt
+kept_worn tells c s old new made (Err f) laid (inl is) = λ worn.
+    subst (IsLayOutFault tells old new) worn
+    (subst (λ (m : Result (Hosted CoreValue) AdminFault). IfErr m (IsLayOutFault tells old new)) is laid.faults)
+kept_worn tells c s old new made (Err f) laid (inr is) = λ worn.
+    let none : NoMemory ≡ Worn = sym is.1 ∙ worn in absurd (cc)
+
+pub worn_as : (r : Result (Unit {0}) AdminFault) (a b : List Edit) → a ≡ b → IfErr r (λ f. f ≡ Worn → a ≢ [])
+    → IfErr r (λ f. f ≡ Worn → b ≢ [])
+worn_as r a b same h = subst (λ (l : List Edit). IfErr r (λ f. f ≡ Worn → l ≢ [])) same h
+
+-- what stands is what the centre has
+pub changes_at : (c : Setting) (step : Step) (b : Option NodeState) (centre : Option (Hosted CoreValue)) (v : View)
+    → Stands c b centre v → HasChanges c step (tables_in centre) → HasChanges c step b
+changes_at c step None None v stood h = h
+changes_at c step None (Some host) v stood h = absurd stood
+changes_at c step (Some s) None v stood h = absurd stood
+changes_at c step (Some s) (Some host) v up h =
+    subst (λ (x : CoreValue). changes_for c step.order x.tables ≢ []) up.core h
+
+-- ---- a command other than these two
+
 pub carried_refused : (c : Setting) (line : ℕ) (o : Order) (centre : Option (Hosted CoreValue)) (v : View)
     (front : List ℕ) (r : Result (Unit {0}) AdminFault) (text : List ℕ)
     → ((image : List ℕ) → v.since v.moment image → v.images image) → IsEmpty v → centre ≡ None

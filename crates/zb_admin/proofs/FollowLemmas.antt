@@ -1,12 +1,12 @@
 -- What commands write goes on from what the centre has, whatever the disk tells.
-use Rattle.std.proofs.Common.{◌≡◌, ◌<◌, ◌≤◌, ◌+◌, ℕ, Bool, true, false, List, [], ◌∷◌, ◌++◌, drop, get_or, length, Option, Some, None, Result, Ok, Err, IfOk, OnOk, OnErr, refl, sym, ap, ◌∙◌, subst, append_assoc, append-nil}
+use Rattle.std.proofs.Common.{◌≡◌, ◌≢◌, ◌<◌, ◌≤◌, ◌+◌, inl, inr, ℕ, Bool, true, false, List, [], ◌∷◌, ◌++◌, drop, get_or, length, Option, Some, None, Result, Ok, Err, IfErr, IfOk, OnOk, OnErr, refl, sym, ap, ◌∙◌, subst, append_assoc, append-nil}
 use Rattle.std.specs.Prelude.{codes, is_some, IsOk}
 use Rattle.std.specs.Io.KnownBytes.{Appends}
 use Rattle.std.proofs.KnownBytes.{Appends-nil, Appends-trans}
 use Rattle.std.proofs.lemmas.List.{drop_all, drop_more}
 use Rattle.zb_admin.specs.Commands.{lays_out}
-use Rattle.zb_admin.specs.Following.{Follows, Writes, WritesAll, WritesFront, with_setting}
-use Rattle.zb_admin.specs.Served.{Done, done, on_empty, on_store}
+use Rattle.zb_admin.specs.Following.{Follows, Writes, WritesAll, WritesFront, WritesUntilWorn, WritesWorn, with_setting}
+use Rattle.zb_admin.specs.Served.{Done, HasChanges, changes_for, done, on_empty, on_store}
 use Rattle.zb_admin.specs.Serving.{Ended}
 use Rattle.zb_admin.specs.Texts.{refuse_line}
 use Rattle.zb_admin.proofs.CommandLemmas.{on_ok_then}
@@ -15,6 +15,7 @@ use Rattle.zb_base.specs.Outside.{AppendsFront}
 use Rattle.zb_base.specs.declared.key.Key.{Key}
 use Rattle.zb_centre_store.specs.Calls.{HasSetting, tables_in}
 use Rattle.zb_centre_store.specs.declared.fault.AdminFault.{AdminFault}
+use Rattle.zb_centre_store.specs.declared.fault.AdminFault.TheVariants.{Worn}
 use Rattle.zb_host.specs.Hosts.{Hosted}
 use Rattle.zb_model.specs.Data.{Bytes, Centre}
 use Rattle.zb_model.specs.Rules.{Setting}
@@ -141,8 +142,18 @@ module _ (c : Setting) (step : Step) (was : Option (Hosted CoreValue)) (r : Ende
         (λ (x : Setting). OnOk r (text ≡ front ++ page (on_store x step.line step.order host.core.tables).lines))
         here h)
 
+    pub some_worn : IfErr r (λ f. f ≡ Worn → changes_for host.core.setting step.order host.core.tables ≢ [])
+        → IfErr r (λ f. f ≡ Worn → HasChanges c step (tables_in was))
+    some_worn h =
+        subst (λ (o : Option (Hosted CoreValue)). IfErr r (λ f. f ≡ Worn → HasChanges c step (tables_in o))) (sym is)
+        (subst (λ (x : Setting). IfErr r (λ f. f ≡ Worn → changes_for x step.order host.core.tables ≢ [])) here h)
+
   -- where none is
   module _ (is : was ≡ None) where
+    pub none_worn : IfErr r (λ f. f ≡ Worn → ⊥) → IfErr r (λ f. f ≡ Worn → HasChanges c step (tables_in was))
+    none_worn h = subst (λ (o : Option (Hosted CoreValue)). IfErr r (λ f. f ≡ Worn → HasChanges c step (tables_in o)))
+        (sym is) h
+
     pub none_follows : (next : Option NodeState) → OnOk r (is_some next ≡ lays_out step.order None)
         → OnOk r (Follows c step (tables_in was) next)
     none_follows next h =
@@ -181,10 +192,16 @@ pub record IsTold (c : Setting) (steps : List Step) (first now : Option NodeStat
   pub text : Bytes
   pub written : Appends before after text
   pub leads : (more : Bytes) → Writes c (drop i steps) now more → Writes c steps first (text ++ more)
+  pub worn : (more : Bytes) → WritesUntilWorn c (drop i steps) now more → WritesUntilWorn c steps first (text ++ more)
 
 pub told_none : (c : Setting) (steps : List Step) (first : Option NodeState) (before : Option Bytes)
     → IsTold c steps first first 0 before before
-told_none c steps first before = record { text = []; written = Appends-nil before; leads = λ more writes. writes }
+told_none c steps first before = record {
+  text = [];
+  written = Appends-nil before;
+  leads = λ more writes. writes;
+  worn = λ more writes. writes;
+}
 
 module _ (c : Setting) (steps : List Step) (first now : Option NodeState) (i : ℕ) (before out : Option Bytes)
     (told : IsTold c steps first now i before out) where
@@ -208,6 +225,20 @@ module _ (c : Setting) (steps : List Step) (first now : Option NodeState) (i : �
         (subst (λ (s : Step). Writes c (s ∷ drop (i + 1) steps) now (lines ++ more)) is
         (next, more, follows, refl, rest))
 
+    -- the same of commands that are worn
+    worn_here : (next : Option NodeState) (more : Bytes) → Follows c step now next
+        → WritesUntilWorn c (drop (i + 1) steps) next more → WritesUntilWorn c (drop i steps) now (lines ++ more)
+    worn_here next more follows rest =
+        subst (λ (ss : List Step). WritesUntilWorn c ss now (lines ++ more)) (sym (drop_more steps i step lt))
+        (subst (λ (s : Step). WritesUntilWorn c (s ∷ drop (i + 1) steps) now (lines ++ more)) is
+        (inr (next, more, follows, refl, rest)))
+
+    -- the command at the place is
+    worn_now : HasChanges c step now → WritesUntilWorn c (drop i steps) now []
+    worn_now changes =
+        subst (λ (ss : List Step). WritesUntilWorn c ss now []) (sym (drop_more steps i step lt))
+        (subst (λ (s : Step). WritesUntilWorn c (s ∷ drop (i + 1) steps) now []) is (inl (changes, refl)))
+
     pub told_more : (next : Option NodeState) → Follows c step now next → Appends out after lines
         → IsTold c steps first next (i + 1) before after
     told_more next follows written = record {
@@ -215,7 +246,17 @@ module _ (c : Setting) (steps : List Step) (first now : Option NodeState) (i : �
       written = Appends-trans before out after told.text lines told.written written;
       leads = λ more rest. subst (Writes c steps first) (sym (append_assoc told.text lines more))
           (told.leads (lines ++ more) (writes_here next more follows rest));
+      worn = λ more rest. subst (WritesUntilWorn c steps first) (sym (append_assoc told.text lines more))
+          (told.worn (lines ++ more) (worn_here next more follows rest));
     }
+
+    -- nothing of its lines was written
+    pub told_worn : HasChanges c step now → after ≡ out → WritesWorn c steps first before after
+    told_worn changes same = (
+      told.text,
+      subst (WritesUntilWorn c steps first) (append-nil told.text) (told.worn [] (worn_now changes)),
+      subst (λ (o : Option Bytes). Appends before o told.text) (sym same) told.written,
+    )
 
     pub told_cut : AppendsFront out after lines → WritesFront c steps first before after
     told_cut front =

@@ -160,7 +160,7 @@ module _ {D W : Type 0} (x : Outside D W) (c : Setting) (all : List Step) (first
       → Way old before new after
   run_goes k [] b old before result new after h (is, same_disk, same) =
       ([], same_moment new old after before same_disk same)
-  run_goes k (step ∷ steps) b old before result new after h (inl (fault, is, inl (between, same))) = (
+  run_goes k (step ∷ steps) b old before result new after h (inl (fault, is, inl (between, same, worn))) = (
     record { disk = new; out = before }
         ∷ [],
     (
@@ -168,7 +168,7 @@ module _ {D W : Type 0} (x : Outside D W) (c : Setting) (all : List Step) (first
       same_moment new new after before refl same,
     ),
   )
-  run_goes k (step ∷ steps) b old before result new after h (inl (fault, is, inr (stored, front))) = (
+  run_goes k (step ∷ steps) b old before result new after h (inl (fault, is, inr (stored, front, wrote))) = (
     record { disk = new; out = before } ∷ record { disk = new; out = after } ∷ [],
     (
       called k step steps b before h old new (lays_out step.order b) refl stored.between,

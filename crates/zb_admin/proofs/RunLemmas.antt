@@ -3,11 +3,13 @@
 use Rattle.std.proofs.Common.{◌≡◌, ℕ, zero, suc, inl, inr, List, [], ◌∷◌, ◌++◌, take, Option, Ok, Err, refl, sym, ap, ◌∙◌, subst, append_assoc}
 use Rattle.std.proofs.KnownBytes.{Appends-nil, Appends-trans}
 use Rattle.std.specs.Io.KnownBytes.{Appends}
+use Rattle.zb_admin.specs.Moments.{IsWornAt, text_after}
 use Rattle.zb_admin.specs.Served.{done, served}
 use Rattle.zb_centre_store.specs.Outside.{Outside}
 use Rattle.zb_admin.specs.Serving.{Ended, Runs}
 use Rattle.zb_centre_store.specs.Standing.{StandsAs}
 use Rattle.zb_centre_store.specs.declared.fault.AdminFault.{AdminFault}
+use Rattle.zb_centre_store.specs.declared.fault.AdminFault.TheVariants.{Worn, Write}
 use Rattle.zb_base.specs.Outside.{AppendsFront}
 use Rattle.zb_model.specs.Data.{Bytes}
 use Rattle.zb_model.specs.Rules.{Setting}
@@ -42,7 +44,42 @@ front_behind a b c xs ys first f = let r =
 not_both : {A : Type 0} (result : Ended) (f : AdminFault) → result ≡ Ok tt → result ≡ Err f → A
 not_both result f ok is = let e : ◌≡◌ {A = Ended} (Ok tt) (Err f) = sym ok ∙ is in absurd (cc)
 
+one_fault : (f g : AdminFault) → ◌≡◌ {A = Ended} (Err f) (Err g) → f ≡ g
+one_fault f g e = cc
+
 module _ {D W : Type 0} (x : Outside D W) (c : Setting) where
+  -- it is worn at a command that had something to store, and the lines of those before it were written
+  pub run_worn : (steps : List Step) (b : Option NodeState) (old : D) (before : W) (result : Ended) (new : D)
+      (after : W) → result ≡ Err Worn → Runs x c steps b old before result new after
+      → (at : IsWornAt c steps b) × Appends (x.taken before) (x.taken after) (text_after c steps b at.commands)
+  run_worn [] b old before result new after worn (is, same_disk, same) = not_both result Worn is worn
+  run_worn (step ∷ steps) b old before result new after worn (inl (fault, is, inl (between, same, changes))) = (
+    record {
+      commands = 0;
+      step = step;
+      rest = steps;
+      comes_next = refl;
+      changes = changes (one_fault fault Worn (sym is ∙ worn));
+    },
+    subst (λ (w : W). Appends (x.taken before) (x.taken w) []) (sym same) (Appends-nil (x.taken before)),
+  )
+  run_worn (step ∷ steps) b old before result new after worn (inl (fault, is, inr (stored, front, wrote))) =
+      let none : Write ≡ Worn = sym wrote ∙ one_fault fault Worn (sym is ∙ worn) in absurd (cc)
+  run_worn (step ∷ steps) b old before result new after worn (inr (disk, sink, stored, lines, rest)) =
+      let r = run_worn steps (done c step b).after disk sink result new after worn rest in (
+        record {
+          commands = suc r.0.commands;
+          step = r.0.step;
+          rest = r.0.rest;
+          comes_next = r.0.comes_next;
+          changes = r.0.changes;
+        },
+        subst (Appends (x.taken before) (x.taken after))
+            (sym (page_more (done c step b).lines (served c (take r.0.commands steps) (done c step b).after).lines))
+            (Appends-trans (x.taken before) (x.taken sink) (x.taken after) (page (done c step b).lines)
+            (text_after c steps (done c step b).after r.0.commands) lines r.1),
+      )
+
   -- at Ok all lines were written
   pub run_whole : (steps : List Step) (b : Option NodeState) (old : D) (before : W) (result : Ended) (new : D)
       (after : W) → result ≡ Ok tt → Runs x c steps b old before result new after
@@ -62,9 +99,9 @@ module _ {D W : Type 0} (x : Outside D W) (c : Setting) where
       (after : W) (f : AdminFault) → result ≡ Err f → Runs x c steps b old before result new after
       → AppendsFront (x.taken before) (x.taken after) (page (served c steps b).lines)
   run_front [] b old before result new after f err (is, same_disk, same) = not_both result f is err
-  run_front (step ∷ steps) b old before result new after f err (inl (fault, is, inl (between, same))) =
+  run_front (step ∷ steps) b old before result new after f err (inl (fault, is, inl (between, same, worn))) =
       (0, subst (λ (w : W). Appends (x.taken before) (x.taken w) []) (sym same) (Appends-nil (x.taken before)))
-  run_front (step ∷ steps) b old before result new after f err (inl (fault, is, inr (stored, front))) =
+  run_front (step ∷ steps) b old before result new after f err (inl (fault, is, inr (stored, front, wrote))) =
       subst (AppendsFront (x.taken before) (x.taken after))
       (sym (page_more (done c step b).lines (served c steps (done c step b).after).lines))
       (front_within (x.taken before) (x.taken after) (page (done c step b).lines)

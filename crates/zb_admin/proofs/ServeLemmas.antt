@@ -5,8 +5,8 @@ use Rattle.std.proofs.lemmas.List.{drop_all, drop_more}
 use Rattle.std.specs.Io.KnownBytes.{Appends}
 use Rattle.zb_centre_store.specs.Calls.{IsJudged, IsJudgeFault, WasThereOrEmpty, tables_in}
 use Rattle.zb_admin.specs.Commands.{IsCarriedOut, IsCommandFault, lays_out}
-use Rattle.zb_admin.specs.Following.{WritesAll, WritesFront}
-use Rattle.zb_admin.specs.Served.{done}
+use Rattle.zb_admin.specs.Following.{WritesAll, WritesFront, WritesWorn}
+use Rattle.zb_admin.specs.Served.{HasChanges, done}
 use Rattle.zb_admin.specs.Moments.{IsRun}
 use Rattle.zb_centre_store.specs.Outside.{Outside}
 use Rattle.zb_admin.specs.Serving.{Ended, HasServed, IsAdminFault, IsServiceFault, IsStored, Runs, Serves}
@@ -16,7 +16,7 @@ use Rattle.zb_centre_store.specs.declared.fault.AdminFault.TheVariants.{Disk, No
 use Rattle.zb_centre_store.proofs.StoreLemmas.{images_stand, same_fault}
 use Rattle.zb_admin.proofs.FollowLemmas.{none_told}
 use Rattle.zb_admin.proofs.MomentLemmas.{all_of_run, script_goes}
-use Rattle.zb_admin.proofs.RunLemmas.{run_front, run_last, run_whole}
+use Rattle.zb_admin.proofs.RunLemmas.{run_front, run_last, run_whole, run_worn}
 use Rattle.zb_base.specs.Outside.{AppendsFront, Rose, Unrisen}
 use Rattle.zb_disk.specs.View.{LeavesOnly, View}
 use Rattle.zb_host.specs.Hosts.{Hosted}
@@ -86,22 +86,24 @@ lines_by c step b centre old new front text none h = h.lines ∙ ap (λ l. l ++ 
 module _ {D W : Type 0} (x : Outside D W) (c : Setting) (step : Step) (b : Option NodeState) (old disk : D)
     (before after : W) (centre : Option (Hosted CoreValue)) (front text : List ℕ) where
   pub step_cut : (f : AdminFault) → IsCarriedOut c (lays_out step.order b) b (done c step b) (x.state old) front
-      (Err f) centre (x.state disk) text → HasServed x c step b old before (Err f) centre disk before
-  step_cut f h = record { stored = tt; stands_so = tt; lines = tt; cut = inl (h.between, refl) }
+      (Err f) centre (x.state disk) text → (f ≡ Worn → HasChanges c step b)
+      → HasServed x c step b old before (Err f) centre disk before
+  step_cut f h worn = record { stored = tt; stands_so = tt; lines = tt; cut = inl (h.between, refl, worn) }
 
   pub step_written : (r : Ended) → front ≡ [] → IsCarriedOut c (lays_out step.order b) b (done c step b) (x.state old)
       front (Ok tt) centre (x.state disk) text
       → OnOk r (Appends (x.taken before) (x.taken after) text)
       → OnErr r (AppendsFront (x.taken before) (x.taken after) text)
+      → IfErr r (λ f. (f ≡ Write) × Rose (x.faults before) (x.faults after))
       → HasServed x c step b old before r centre disk after
-  step_written (Ok tt) none h written cut = record {
+  step_written (Ok tt) none h written cut fault = record {
     stored = stored_by c step b centre (x.state old) (x.state disk) front text h;
     stands_so = h.after;
     lines = subst (Appends (x.taken before) (x.taken after))
         (lines_by c step b centre (x.state old) (x.state disk) front text none h) written;
     cut = tt;
   }
-  step_written (Err f) none h whole written = record {
+  step_written (Err f) none h whole written fault = record {
     stored = tt;
     stands_so = tt;
     lines = tt;
@@ -109,10 +111,16 @@ module _ {D W : Type 0} (x : Outside D W) (c : Setting) (step : Step) (b : Optio
       stored_by c step b centre (x.state old) (x.state disk) front text h,
       subst (AppendsFront (x.taken before) (x.taken after))
           (lines_by c step b centre (x.state old) (x.state disk) front text none h) written,
+      fault.0,
     );
   }
 
--- the output failed after a command
+-- the output failed after a command: it isn't worn
+pub written_worn : (P : Type 0) (r : Ended) (old new : ℕ) → IfErr r (λ f. (f ≡ Write) × Rose old new)
+    → IfErr r (λ f. f ≡ Worn → P)
+written_worn P (Ok tt) old new h = tt
+written_worn P (Err f) old new h = λ is. let none : Write ≡ Worn = sym h.0 ∙ is in absurd (cc)
+
 pub write_fault : {D W : Type 0} (x : Outside D W) (c : Setting) (centre : Option (Hosted CoreValue)) (old new : D)
     (before after : W) (r : Ended) → IfErr r (λ f. (f ≡ Write) × Rose (x.faults before) (x.faults after))
     → Unrisen (x.state old).faults (x.state new).faults → IfErr r (IsServiceFault x c centre old before new after)
@@ -206,6 +214,8 @@ module _ {D W : Type 0} (x : Outside D W) (script : Script) (old : D) (before : 
     told = tt;
     told_front = none_told c script.steps (x.taken before);
     faults = judge_fault new f h.faults;
+    worn = λ is told can standing found. absurd (subst (IsJudgeFault x.tells (x.state old) (x.state new)) is h.faults);
+    told_worn = λ is. absurd (subst (IsJudgeFault x.tells (x.state old) (x.state new)) is h.faults);
     unrisen = λ not. h.unrisen (same_fault f Disk not);
   }
 
@@ -251,9 +261,11 @@ module _ {D W : Type 0} (x : Outside D W) (script : Script) (old : D) (before : 
       (x.taken after))
       → OnErr result (WritesFront (setting_for script.config) script.steps (tables_in centre) (x.taken before)
       (x.taken after))
+      → IfErr result (λ f. f ≡ Worn → WritesWorn (setting_for script.config) script.steps (tables_in centre)
+      (x.taken before) (x.taken after))
       → ((result ≡ Err Disk → ⊥) → Unrisen (x.state disk).faults (x.state new).faults)
       → Serves x script old before result new after
-  opened centre disk new after (Ok tt) judged count runs faults told_all told_front unrisen = record {
+  opened centre disk new after (Ok tt) judged count runs faults told_all told_front told_worn unrisen = record {
     found = λ told. (tables_in centre, judged.found told);
     whole = λ told can standing is. run_whole x c script.steps standing disk before (Ok tt) new after refl
         (runs told standing (begun centre disk judged told can standing is));
@@ -278,9 +290,11 @@ module _ {D W : Type 0} (x : Outside D W) (script : Script) (old : D) (before : 
     told = (tables_in centre, told_all);
     told_front = tt;
     faults = tt;
+    worn = tt;
+    told_worn = tt;
     unrisen = λ not. unrisen not ∙ judged.unrisen (λ e. cc e);
   }
-  opened centre disk new after (Err f) judged count runs faults told_all told_front unrisen = record {
+  opened centre disk new after (Err f) judged count runs faults told_all told_front told_worn unrisen = record {
     found = tt;
     whole = tt;
     last = tt;
@@ -302,6 +316,9 @@ module _ {D W : Type 0} (x : Outside D W) (script : Script) (old : D) (before : 
     told = tt;
     told_front = (tables_in centre, told_front);
     faults = service_fault centre disk new after f count judged faults;
+    worn = λ is told can standing at. run_worn x c script.steps standing disk before (Err f) new after
+        (ap (λ (g : AdminFault). Err g) is) (runs told standing (begun centre disk judged told can standing at));
+    told_worn = λ is. (tables_in centre, told_worn is);
     unrisen = λ not. unrisen not ∙ judged.unrisen (λ e. cc e);
   }
 
@@ -317,13 +334,17 @@ module _ {D W : Type 0} (x : Outside D W) (script : Script) (old : D) (before : 
       (x.taken after))
       → OnErr result (WritesFront (setting_for script.config) steps (tables_in centre) (x.taken before)
       (x.taken after))
+      → IfErr result (λ f. f ≡ Worn → WritesWorn (setting_for script.config) steps (tables_in centre)
+      (x.taken before) (x.taken after))
       → ((result ≡ Err Disk → ⊥) → Unrisen (x.state disk).faults (x.state new).faults)
       → Serves x script old before result new after
-  opened_over centre disk new after result steps same judged count runs faults told_all told_front unrisen =
+  opened_over centre disk new after result steps same judged count runs faults told_all told_front told_worn unrisen =
       opened centre disk new after result judged count
       (λ told b stood. subst (λ (l : List Step). Runs x c l b disk before result new after) same
       (runs told b stood)) faults
       (subst (λ (l : List Step). OnOk result (WritesAll c l (tables_in centre) (x.taken before) (x.taken after))) same
       told_all)
       (subst (λ (l : List Step). OnErr result (WritesFront c l (tables_in centre) (x.taken before) (x.taken after)))
-      same told_front) unrisen
+      same told_front)
+      (subst (λ (l : List Step). IfErr result (λ f. f ≡ Worn → WritesWorn c l (tables_in centre) (x.taken before)
+      (x.taken after))) same told_worn) unrisen

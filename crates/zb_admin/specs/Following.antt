@@ -1,9 +1,9 @@
 -- What commands write over any store, one that tells nothing too. A centre has the setting of its script, and the
 -- tables that were found when it was booted. Each command goes on from what the one before it left.
-use Rattle.std.specs.Prelude.{◌≡◌, ◌++◌, List, [], ◌∷◌, Option, Some, None, is_some, option_map}
+use Rattle.std.specs.Prelude.{◌≡◌, ◌⊎◌, ◌++◌, List, [], ◌∷◌, Option, Some, None, is_some, option_map}
 use Rattle.std.specs.Io.KnownBytes.{Appends}
 use Rattle.zb_admin.specs.Commands.{lays_out}
-use Rattle.zb_admin.specs.Served.{done}
+use Rattle.zb_admin.specs.Served.{HasChanges, done}
 use Rattle.zb_base.specs.Outside.{AppendsFront}
 use Rattle.zb_model.specs.Data.{Bytes}
 use Rattle.zb_model.specs.Rules.{Setting}
@@ -38,3 +38,16 @@ WritesAll c steps standing before after = (text : Bytes) × Writes c steps stand
 abbrev pub WritesFront : Setting → List Step → Option NodeState → Option Bytes → Option Bytes → Type 0
 WritesFront c steps standing before after = (text : Bytes) × Writes c steps standing text
     × AppendsFront before after text
+
+-- The text is that of the lines of some first commands, and the next one has something to store.
+abbrev pub WritesUntilWorn : Setting → List Step → Option NodeState → Bytes → Type 0
+WritesUntilWorn c [] standing text = ⊥
+WritesUntilWorn c (step ∷ steps) standing text =
+    (HasChanges c step standing × (text ≡ []))
+    ⊎ ((next : Option NodeState) × (more : Bytes) × Follows c step standing next
+    × (text ≡ page (done c step standing).lines ++ more) × WritesUntilWorn c steps next more)
+
+-- such a text was written
+abbrev pub WritesWorn : Setting → List Step → Option NodeState → Option Bytes → Option Bytes → Type 0
+WritesWorn c steps standing before after = (text : Bytes) × WritesUntilWorn c steps standing text
+    × Appends before after text

@@ -4,7 +4,7 @@ use Rattle.std.specs.Io.KnownBytes.{Appends}
 use Rattle.zb_centre_store.specs.Calls.{WasThereOrEmpty}
 use Rattle.zb_admin.specs.Commands.{lays_out}
 use Rattle.zb_centre_store.specs.Outside.{Outside}
-use Rattle.zb_admin.specs.Served.{served, served_text}
+use Rattle.zb_admin.specs.Served.{HasChanges, served, served_text}
 use Rattle.zb_centre_store.specs.Standing.{StandsAs}
 use Rattle.zb_base.specs.Outside.{AppendsFront}
 use Rattle.zb_disk.specs.View.{LeavesOnly}
@@ -43,6 +43,15 @@ pub record MakesStore {D W : Type 0} (x : Outside D W) (c : Setting) (steps : Li
   pub rest : List Step
   pub comes_next : drop commands steps ≡ step ∷ rest
   pub makes : lays_out step.order (standing_after c steps first commands) ≡ true
+
+-- The next command after the first so many has something to store: a store stands then, and the policy's answer in
+-- that state has changes.
+pub record IsWornAt (c : Setting) (steps : List Step) (first : Option NodeState) : Type 0 where
+  pub commands : ℕ
+  pub step : Step
+  pub rest : List Step
+  pub comes_next : drop commands steps ≡ step ∷ rest
+  pub changes : HasChanges c step (standing_after c steps first commands)
 
 -- From one moment of a run to a later one. Either the disk is called, and nothing is written; or something is written,
 -- and the disk stays as it is. A crash at any moment in between leaves an image that covers what was written by then;

@@ -1,13 +1,13 @@
 -- What a script's commands write, and what stands after them. What stands is the tables of the centre, with their
 -- counters in memory; or nothing, where the disk is empty.
-use Rattle.std.specs.Prelude.{ℕ, ◌≡◌, List, [], ◌∷◌, ◌++◌, codes, Option, Some, None}
+use Rattle.std.specs.Prelude.{ℕ, ◌≡◌, ◌≢◌, List, [], ◌∷◌, ◌++◌, codes, Option, Some, None}
 use Rattle.zb_centre_store.specs.Rows.{listed}
 use Rattle.zb_admin.specs.Texts.{ok_line, refuse_line, send_line, reason_text}
 use Rattle.zb_backup.specs.Format.{backup_text}
 use Rattle.zb_centre_store.specs.Makings.{first_tables, tables_of}
 use Rattle.zb_install.specs.Code.{code_key}
 use Rattle.zb_model.specs.Answer.{answer, answered}
-use Rattle.zb_model.specs.Data.{Bytes, Task, DoProvision, DoRemove, Reason}
+use Rattle.zb_model.specs.Data.{Bytes, Edit, Task, DoProvision, DoRemove, Reason}
 use Rattle.zb_model.specs.Rules.{Setting}
 use Rattle.zb_model.specs.State.{NodeState, shown}
 use Rattle.zb_model_real.specs.Real.{real}
@@ -67,6 +67,22 @@ on_empty number _ = refused number (codes "empty") None
 unfoldable pub done : Setting → Step → Option NodeState → Done
 done c step (Some s) = on_store c step.line step.order s
 done c step None = on_empty step.line step.order
+
+-- ---- what a command has to store, where a store stands
+
+-- the changes of the policy's answer
+abbrev pub changes_for : Setting → Order → NodeState → List Edit
+changes_for c (Init key) s = []
+changes_for c (Provision device code) s = (answer real c s (DoProvision device.0 (code_key code))).edits
+changes_for c (Remove device via) s = (answer real c s (DoRemove device.0 via.0)).edits
+changes_for c Lists s = []
+changes_for c Backup s = []
+changes_for c (Restore by bytes) s = []
+
+-- A store stands, and there are some.
+abbrev pub HasChanges : Setting → Step → Option NodeState → Type 0
+HasChanges c step None = ⊥
+HasChanges c step (Some s) = changes_for c step.order s ≢ []
 
 -- ---- all commands, one after the other
 

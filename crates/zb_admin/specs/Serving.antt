@@ -5,10 +5,10 @@ use Rattle.zb_centre_store.specs.declared.fault.AdminFault.{AdminFault}
 use Rattle.zb_centre_store.specs.declared.fault.AdminFault.TheVariants.{Disk, NoStore, BadStore, Worn, Write, NoMemory}
 use Rattle.zb_centre_store.specs.Calls.{WasThereOrEmpty}
 use Rattle.zb_admin.specs.Commands.{IsBetween, lays_out}
-use Rattle.zb_admin.specs.Following.{WritesAll, WritesFront}
+use Rattle.zb_admin.specs.Following.{WritesAll, WritesFront, WritesWorn}
 pub use Rattle.zb_centre_store.specs.Outside.{Outside, outside}
-use Rattle.zb_admin.specs.Moments.{IsOfRun, IsRun}
-use Rattle.zb_admin.specs.Served.{IsRefusal, done, served, served_text}
+use Rattle.zb_admin.specs.Moments.{IsOfRun, IsRun, IsWornAt, text_after}
+use Rattle.zb_admin.specs.Served.{HasChanges, IsRefusal, done, served, served_text}
 use Rattle.zb_centre_store.specs.Standing.{CanBeServed, IsWornOut, Stands, StandsAs, found_on}
 use Rattle.zb_base.specs.Outside.{AppendsFront, Rose, Unrisen}
 use Rattle.zb_disk.specs.View.{View, IsStill, LeavesOnly}
@@ -34,13 +34,15 @@ pub record IsStored (c : Setting) (step : Step) (standing : Option NodeState) (o
   -- a refused command leaves the disk as it was, and what stands
   pub spared : IsRefusal (done c step standing) → IsStill old new × ((done c step standing).after ≡ standing)
 
--- The script ends at this command: it failed before its lines were written, or a prefix of them was.
-abbrev pub EndsAt : {D W : Type 0} → Outside D W → Setting → Step → Option NodeState → D → W → D → W → Type 0
-EndsAt x c step standing old before new after =
+-- The script ends at this command: it failed before its lines were written, as worn only where it had something to
+-- store; or the output failed, and a prefix of them was written.
+abbrev pub EndsAt : {D W : Type 0} → Outside D W → Setting → Step → Option NodeState → AdminFault → D → W → D → W
+    → Type 0
+EndsAt x c step standing fault old before new after =
     (IsBetween (lays_out step.order standing) standing (done c step standing).after (x.state old) (x.state new)
-    × (after ≡ before))
+    × (after ≡ before) × (fault ≡ Worn → HasChanges c step standing))
     ⊎ (IsStored c step standing (x.state old) (x.state new)
-    × AppendsFront (x.taken before) (x.taken after) (page (done c step standing).lines))
+    × AppendsFront (x.taken before) (x.taken after) (page (done c step standing).lines) × (fault ≡ Write))
 
 -- The commands are served in their order. Of each one first the disk is called, while nothing is written; once what
 -- stands after it is stored, its lines are written, while the disk stays as it is; then comes the next one.
@@ -48,7 +50,7 @@ abbrev pub Runs : {D W : Type 0} → Outside D W → Setting → List Step → O
     → Type 0
 Runs x c [] standing old before result new after = (result ≡ Ok tt) × (new ≡ old) × (after ≡ before)
 Runs {D} {W} x c (step ∷ steps) standing old before result new after =
-    ((fault : AdminFault) × (result ≡ Err fault) × EndsAt x c step standing old before new after)
+    ((fault : AdminFault) × (result ≡ Err fault) × EndsAt x c step standing fault old before new after)
     ⊎ ((disk : D) × (sink : W) × IsStored c step standing (x.state old) (x.state disk)
     × Appends (x.taken before) (x.taken sink) (page (done c step standing).lines)
     × Runs x c steps (done c step standing).after disk sink result new after)
@@ -59,7 +61,7 @@ pub record HasServed {D W : Type 0} (x : Outside D W) (c : Setting) (step : Step
   pub stored : OnOk result (IsStored c step standing (x.state old) (x.state new))
   pub stands_so : OnOk result (Stands c (done c step standing).after centre (x.state new))
   pub lines : OnOk result (Appends (x.taken before) (x.taken after) (page (done c step standing).lines))
-  pub cut : OnErr result (EndsAt x c step standing old before new after)
+  pub cut : IfErr result (λ fault. EndsAt x c step standing fault old before new after)
 
 -- When each fault of commands comes, once the store was judged. Where the output failed or memory is short the disk's
 -- count of faults stands.
@@ -99,6 +101,12 @@ IsFound x old = (standing : Option NodeState) × (found_on (x.state old).seen �
 -- The store that was served to some command has to have a whole record written, and has no further generation.
 abbrev pub IsWornOver : {D W : Type 0} → Outside D W → D → D → Type 0
 IsWornOver x old new = CanBeServed (x.state old) → (z : Standing) × (stands (x.state new).seen ≡ Some z) × IsWornOut z
+
+-- A command of the script had something to store: the policy's answer to it, in the state after the commands before
+-- it, has changes.
+abbrev pub IsWornIn : {D W : Type 0} → Outside D W → Script → D → Type 0
+IsWornIn x script old = CanBeServed (x.state old) → (standing : Option NodeState) → found_on (x.state old).seen
+    ≡ Ok standing → IsWornAt (setting_for script.config) script.steps standing
 
 -- When each fault comes. The two of a store that is no centre's come before anything is written, and the store is
 -- judged good before a command finds it worn or a line can't be written. Where the output failed or memory is short
@@ -154,5 +162,15 @@ pub record Serves {D W : Type 0} (x : Outside D W) (script : Script) (old : D) (
       × WritesFront (setting_for script.config) script.steps standing (x.taken before) (x.taken after))
   -- when each fault comes
   pub faults : IfErr result (IsAdminFault x old before new after)
+  -- It is worn only at a command that had something to store: the policy's answer to it, in the state after the
+  -- commands before it, has changes. What these write was written.
+  pub worn : IfErr result (λ fault. fault ≡ Worn → IsTrue x.tells.content → CanBeServed (x.state old)
+      → (standing : Option NodeState) → found_on (x.state old).seen ≡ Ok standing
+      → (at : IsWornAt (setting_for script.config) script.steps standing)
+      × Appends (x.taken before) (x.taken after)
+      (text_after (setting_for script.config) script.steps standing at.commands))
+  -- over any store, going on from some tables
+  pub told_worn : IfErr result (λ fault. fault ≡ Worn → (standing : Option NodeState)
+      × WritesWorn (setting_for script.config) script.steps standing (x.taken before) (x.taken after))
   -- a fault of the store is reported as nothing else: its count of faults stands at each other answer
   pub unrisen : result ≢ Err Disk → Unrisen (x.state old).faults (x.state new).faults

@@ -4,8 +4,8 @@ ghost use Rattle.std.specs.Io.KnownBytes.{Appends};
 ghost use Rattle.std.specs.List.{AllByRecursion};
 ghost use Rattle.zb_centre_store.specs.Calls.{HasSetting, HasStore, IsShort, is_own, tables_in};
 ghost use Rattle.zb_admin.specs.Commands.{IsCarriedOut, IsCommandFault, items_of, lays_out};
-ghost use Rattle.zb_admin.specs.Following.{with_setting, Follows, WritesAll, WritesFront};
-ghost use Rattle.zb_admin.specs.Served.{done, handled, on_empty, on_store, outcome_lines, sent_lines};
+ghost use Rattle.zb_admin.specs.Following.{with_setting, Follows, WritesAll, WritesFront, WritesWorn};
+ghost use Rattle.zb_admin.specs.Served.{HasChanges, changes_for, done, handled, on_empty, on_store, outcome_lines, sent_lines};
 ghost use Rattle.zb_admin.specs.Serving.{HasServed, IsServiceFault, Runs, Serves, outside};
 ghost use Rattle.zb_centre_store.specs.Standing.{IsEmpty, IsUp, Stands};
 ghost use Rattle.zb_centre_store.specs.Rows.{listed};
@@ -15,9 +15,11 @@ ghost use Rattle.zb_base.specs.Config.{IsConfig};
 ghost use Rattle.zb_base.specs.Outside.{AppendsFront, Rose, Unrisen};
 ghost use Rattle.zb_centre_store.specs.Tasks.{task_of};
 ghost use Rattle.zb_host.specs.Hosts.{Hosted};
+ghost use Rattle.zb_model.specs.Answer.{answer};
 ghost use Rattle.zb_model.specs.Data as model;
 ghost use Rattle.zb_model.specs.Rules.{Setting};
 ghost use Rattle.zb_model.specs.State.{NodeState};
+ghost use Rattle.zb_model_real.specs.Real.{real};
 ghost use Rattle.zb_setting.specs.Settings.{setting_for};
 ghost use Rattle.zb_node_types.specs.Changes.{reason};
 ghost use Rattle.zb_script.specs.Scripts.{IsScript, IsStep};
@@ -139,6 +141,9 @@ fn handle_event<D: Disk>(
     ensures store { OnOk result (is_some host.new.store ≡ true) }
     ensures faults { IfErr result
         (IsCommandFault D.tells (D.state disk.old) (Some host.old) (D.state disk.new)) }
+    // It is worn only where the policy's answer has changes.
+    ensures worn { IfErr result (λ fault. fault ≡ AdminFault.Worn
+        → (answer real host.old.core.setting host.old.core.tables (task_of event.now)).edits ≢ []) }
     ensures count { (D.state disk.old).faults ≤ (D.state disk.new).faults }
     ensures unrisen { result ≢ Err AdminFault.Disk
         → Unrisen (D.state disk.old).faults (D.state disk.new).faults }
@@ -168,6 +173,8 @@ fn on_store<D: Disk>(
     ensures store { OnOk result (is_some host.new.store ≡ true) }
     ensures faults { IfErr result
         (IsCommandFault D.tells (D.state disk.old) (Some host.old) (D.state disk.new)) }
+    ensures worn { IfErr result (λ fault. fault ≡ AdminFault.Worn
+        → changes_for host.old.core.setting step.now.order host.old.core.tables ≢ []) }
     ensures count { (D.state disk.old).faults ≤ (D.state disk.new).faults }
     ensures unrisen { result ≢ Err AdminFault.Disk
         → Unrisen (D.state disk.old).faults (D.state disk.new).faults }
@@ -239,6 +246,8 @@ fn on_empty<D: Disk>(
     ensures store { OnOk result (HasStore centre.new) }
     ensures faults { IfErr result
         (IsCommandFault D.tells (D.state disk.old) None (D.state disk.new)) }
+    // A new store isn't worn.
+    ensures worn { IfErr result (λ fault. fault ≢ AdminFault.Worn) }
     ensures count { (D.state disk.old).faults ≤ (D.state disk.new).faults }
     ensures unrisen { result ≢ Err AdminFault.Disk
         → Unrisen (D.state disk.old).faults (D.state disk.new).faults }
@@ -283,6 +292,8 @@ fn carry_out<D: Disk>(
     ensures store { OnOk result (HasStore centre.new) }
     ensures faults { IfErr result
         (IsCommandFault D.tells (D.state disk.old) centre.old (D.state disk.new)) }
+    ensures worn { IfErr result (λ fault. fault ≡ AdminFault.Worn
+        → HasChanges (setting_for config.now) step.now (tables_in centre.old)) }
     ensures count { (D.state disk.old).faults ≤ (D.state disk.new).faults }
     ensures unrisen { result ≢ Err AdminFault.Disk
         → Unrisen (D.state disk.old).faults (D.state disk.new).faults }
@@ -340,6 +351,8 @@ fn serve_step<D: Disk, W: Sink>(
     ensures empty { OnOk result (page.new.items ≡ []) }
     ensures faults { IfErr result (IsServiceFault (outside D.tells D.state W.taken W.faults) (setting_for config.now)
         centre.old disk.old out.old disk.new out.new) }
+    ensures worn { IfErr result (λ fault. fault ≡ AdminFault.Worn
+        → HasChanges (setting_for config.now) step.now (tables_in centre.old) × (out.new ≡ out.old)) }
     ensures count { (D.state disk.old).faults ≤ (D.state disk.new).faults }
     ensures unrisen { result ≢ Err AdminFault.Disk
         → Unrisen (D.state disk.old).faults (D.state disk.new).faults }
@@ -374,6 +387,8 @@ fn serve_steps<D: Disk, W: Sink>(
         (W.taken out.old) (W.taken out.new)) }
     ensures told_front { OnErr result (WritesFront (setting_for config.now) steps.now (tables_in centre.old)
         (W.taken out.old) (W.taken out.new)) }
+    ensures told_worn { IfErr result (λ fault. fault ≡ AdminFault.Worn
+        → WritesWorn (setting_for config.now) steps.now (tables_in centre.old) (W.taken out.old) (W.taken out.new)) }
     ensures faults { IfErr result (IsServiceFault (outside D.tells D.state W.taken W.faults) (setting_for config.now)
         centre.old disk.old out.old disk.new out.new) }
     ensures unrisen { result ≢ Err AdminFault.Disk
@@ -397,8 +412,9 @@ fn serve_steps<D: Disk, W: Sink>(
 ///
 /// # Errors
 /// `Disk`, and nothing else, where a call of the disk failed; `NoStore`, where the disk isn't empty and no slot stands
-/// open; `BadStore`, where what stands is no record of a centre, with the place of the fault; `Worn`, where the whole
-/// record has to be written and there is no further generation; `Write`; `NoMemory`.
+/// open; `BadStore`, where what stands is no record of a centre, with the place of the fault; `Worn`, where a command
+/// has something to store, for which the whole record has to be written, and there is no further generation; `Write`;
+/// `NoMemory`.
 pub fn serve<D: Disk, W: Sink>(
     alloc: Global,
     script: &Script,

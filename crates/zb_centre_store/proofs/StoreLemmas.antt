@@ -21,7 +21,7 @@ use Rattle.zb_core.specs.CorePlans.{CorePlan, IsCoreAfter, IsCorePlan}
 use Rattle.zb_disk.proofs.Moments.{still_leaves, still_then, still_trans, weakened}
 use Rattle.zb_disk.specs.View.{Telling, View, IsStill, LeavesOnly}
 use Rattle.zb_host.specs.HostFaults as host
-use Rattle.zb_host.specs.Hosts.{Gives, Hosted, IsCurrent, StandsForEither, is_full, writes_whole}
+use Rattle.zb_host.specs.Hosts.{Gives, Hosted, IsCurrent, IsWorn, StandsForEither, is_full, writes_whole}
 use Rattle.zb_host.specs.Plans.{gives, bad}
 use Rattle.zb_host.specs.declared.fault.HostFault.{HostFault}
 use Rattle.zb_host.specs.declared.outcome.Outcome.{Outcome}
@@ -508,6 +508,11 @@ module _ (c : Setting) (event : CentreEvent) (before after : Hosted CoreValue) (
             (λ (t : NodeState). let y : CoreValue = record { setting = before.core.setting; tables = t } in y) tables,
       )
 
+  -- a plan that has changes is an answer that has some
+  pub wanted_so : p.changes.items ≢ [] → (s : NodeState) → before.core ≡ record { setting = c; tables = s }
+      → (answer real c s task).edits ≢ []
+  wanted_so some s core = λ none. some (none_changed p.changes.items ((answer_so s core).changes ∙ none))
+
   -- what a commit leaves, and no commit
   abbrev pub Kept : Telling → View → View → List Change → Type 0
   Kept tells old new changes = changes ≢ [] → (z : Standing) → IsCurrent (restored Centre) recorded z before old
@@ -577,6 +582,15 @@ event_fault tells c before old new Worn reads h still = λ told s up.
           h.1.2 h.0 up.first,
     )
 
+-- an event that is worn: the host is at its last generation
+event_worn : (before : Hosted CoreValue) (old new : View) (f : HostFault)
+    → host.IsHandleFault (writes_whole before) before.store old new f → fault_of f ≡ AdminWorn → IsWorn before
+event_worn before old new (Disk changes) h is = let none : AdminDisk ≡ AdminWorn = is in absurd (cc)
+event_worn before old new NoMemory h is = absurd h
+event_worn before old new NoRecord h is = absurd h
+event_worn before old new (BadRecord at) h is = absurd h
+event_worn before old new Worn h is = (h.0, h.1)
+
 -- the call for an event
 
 pub handled_ok : (tells : Telling) (c : Setting) (event : CentreEvent) (before after : Hosted CoreValue)
@@ -605,6 +619,7 @@ handled_ok tells c event before after p plan leads old new all changes out same 
       moments = moments_so c event before after p plan leads tells old new moments;
       spared = spared_so c event before after p plan leads old new changes out same same_changes forgets still;
       faults = tt;
+      worn = tt;
     }
 
 pub handled_err : (tells : Telling) (c : Setting) (event : CentreEvent) (before after : Hosted CoreValue)
@@ -614,8 +629,8 @@ pub handled_err : (tells : Telling) (c : Setting) (event : CentreEvent) (before 
     → ((z : Standing) → IsCurrent (restored Centre) recorded z before old → IsTrue tells.content
     → LeavesOnly old new (StandsForEither (restored Centre) (recorded before.core) (recorded after.core)))
     → host.IsHandleFault (writes_whole before) before.store old new f → (f ≡ Worn → IsStill old new)
-    → HasHandled tells c (task_of event) before old (Err g) after new
-handled_err tells c event before after p plan leads old new f g same reads moments fault still = record {
+    → p.changes.items ≢ [] → HasHandled tells c (task_of event) before old (Err g) after new
+handled_err tells c event before after p plan leads old new f g same reads moments fault still some = record {
   told = tt;
   follows = tt;
   up = tt;
@@ -624,6 +639,7 @@ handled_err tells c event before after p plan leads old new f g same reads momen
   spared = tt;
   faults = subst (IsEventFault tells c old new before) (sym same)
       (event_fault tells c before old new f reads fault still);
+  worn = λ is. (event_worn before old new f fault (sym same ∙ is), wanted_so c event before after p plan leads some);
 }
 
 pub booted_failed : (tells : Telling) (c : Setting) (old new : View) (f : HostFault) (g : AdminFault) → g ≡ fault_of f

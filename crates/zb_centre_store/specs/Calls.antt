@@ -7,7 +7,7 @@ use Rattle.zb_centre_store.specs.declared.fault.AdminFault.{AdminFault}
 use Rattle.zb_centre_store.specs.declared.fault.AdminFault.TheVariants.{Disk, NoStore, BadStore, Worn, Write, NoMemory}
 use Rattle.zb_core.specs.CorePlans.{CorePlan}
 use Rattle.zb_disk.specs.View.{Telling, View, IsStill, LeavesOnly}
-use Rattle.zb_host.specs.Hosts.{Hosted}
+use Rattle.zb_host.specs.Hosts.{Hosted, IsWorn}
 use Rattle.zb_model.specs.Answer.{answer, answered}
 use Rattle.zb_model.specs.Data.{Centre, Task, Received}
 use Rattle.zb_model.specs.Rules.{Setting}
@@ -136,6 +136,10 @@ pub record HasHandled (tells : Telling) (c : Setting) (task : Task) (before : Ho
   pub spared : IfOk result (λ plan. is_own task ≡ true → is_some plan.out.refused ≡ true → IsStill old new
       × (after.core ≡ before.core))
   pub faults : IfErr result (IsEventFault tells c old new before)
+  -- over any disk it is worn only where the host is at its last generation, and the policy's answer to what the core
+  -- has has changes
+  pub worn : IfErr result (λ fault. fault ≡ Worn → IsWorn before
+      × ((s : NodeState) → before.core ≡ record { setting = c; tables = s } → (answer real c s task).edits ≢ []))
 
 -- ---- memory
 

@@ -13,7 +13,7 @@ use Rattle.zb_model.specs.Rules.{Setting}
 use Rattle.zb_model.specs.State.{NodeState}
 use Rattle.zb_record.specs.Ranges.{fits_widths}
 use Rattle.zb_store.specs.Layout.{Standing, stands}
-use Rattle.zb_base.specs.Sizes.{entries_room}
+use Rattle.zb_base.specs.Sizes.{entries_room, last_generation}
 use Rattle.zb_store.specs.Store.{AllWhole}
 use Rattle.zb_stored_tables.specs.Cores.{CoreValue}
 use Rattle.zb_stored_tables.specs.Stored.{restored, state_given}
@@ -85,5 +85,5 @@ fault_of host.Worn = Worn
 
 -- A commit has to write the whole record, and there is no further generation.
 pub record IsWornOut (s : Standing) : Type 0 where
-  pub last : s.generation ≡ 18446744073709551615
+  pub last : s.generation ≡ last_generation
   pub whole : (get_or s.content 0 0 ≡ 1) ⊎ (length s.payloads ≡ entries_room)

@@ -2,7 +2,7 @@
 use Rattle.std.proofs.Common.{◌≡◌, ◌⊎◌, inl, inr, ℕ, Option, None, Some, IfSome, refl, sym, ap, ◌∙◌, subst}
 use Rattle.zb_base.specs.Outside.{Rose}
 use Rattle.zb_model.specs.Data.{Bytes}
-use Rattle.zb_command.specs.Answers.{Answer, Writes, Refuses, Exceeds, longest, status_of}
+use Rattle.zb_command.specs.Answers.{Answer, Writes, Refuses, Exceeds, status_of}
 use Rattle.zb_command.specs.Outcomes.{Ends, IsWritten, WritesFront, WritesNothing}
 use Rattle.zb_command.specs.declared.status.Cause.{Cause}
 use Rattle.zb_command.specs.declared.status.Status.{Status}

@@ -2,7 +2,7 @@
 use Rattle.std.proofs.Common.{◌≡◌, ◌⊎◌, ℕ, Option, Some, IfSome, subst}
 use Rattle.zb_base.specs.Outside.{Rose}
 use Rattle.zb_model.specs.Data.{Bytes}
-use Rattle.zb_command.specs.Answers.{Answer, Refuses, Exceeds, longest, status_of, wanted}
+use Rattle.zb_command.specs.Answers.{Answer, Refuses, Exceeds, status_of, wanted}
 use Rattle.zb_command.specs.Auditing.{Audits}
 use Rattle.zb_command.specs.Commands.{Invocation, Playing, Installing, Making, Inspecting, Sniffing, Campaigning, Auditing, Serving}
 use Rattle.zb_command.specs.Finishing.{Finishes}

@@ -6,14 +6,14 @@ use Rattle.zb_model.specs.Data.{Bytes}
 use Rattle.zb_script.specs.Reading.{script_in}
 use Rattle.zb_script.specs.Views.{script_of}
 use Rattle.zb_script.specs.declared.script.Script.{Script}
-use Rattle.zb_command.specs.Answers.{longest}
 use Rattle.zb_command.specs.Serving.{IsServed, Serviced}
 use Rattle.zb_command.specs.Statuses.{served_status}
+use Rattle.zb_base.specs.Limits.{longest_input}
 
-short_of : (rest : Option Bytes) (bytes : Bytes) → IfSome rest (λ input. bytes ≡ input) → length bytes ≤ longest
-    → IfSome rest (λ input. length input ≤ longest)
+short_of : (rest : Option Bytes) (bytes : Bytes) → IfSome rest (λ input. bytes ≡ input) → length bytes ≤ longest_input
+    → IfSome rest (λ input. length input ≤ longest_input)
 short_of None bytes whole few = tt
-short_of (Some input) bytes whole few = subst (λ (l : Bytes). length l ≤ longest) whole few
+short_of (Some input) bytes whole few = subst (λ (l : Bytes). length l ≤ longest_input) whole few
 
 reads_of : (rest : Option Bytes) (bytes read : Bytes) (script : Script) → IfSome rest (λ input. bytes ≡ input)
     → read ≡ bytes → script_in read ≡ Ok (script_of script)
@@ -25,7 +25,7 @@ reads_of (Some input) bytes read script whole same reads =
 -- an input that the source tells was read whole, and its script was served
 pub served_of : {D W : Type 0} (x : Outside D W) (rest : Option Bytes) (bytes read : Bytes) (script : Script) (old : D)
     (before : W) (result : Ended) (new : D) (after : W)
-    → IfSome rest (λ input. bytes ≡ input) → length bytes ≤ longest → read ≡ bytes
+    → IfSome rest (λ input. bytes ≡ input) → length bytes ≤ longest_input → read ≡ bytes
     → script_in read ≡ Ok (script_of script) → Serves x script old before result new after
     → IsServed x rest old before result new after
 served_of x rest bytes read script old before result new after whole few same reads serves = record {

@@ -55,5 +55,8 @@ admin_gives x (status.Broken line clause) (Some input) old before new after firs
     absurd a
 admin_gives x (status.BadStore at) (Some input) old before new after first last a told read none write disk =
     (script_in_it x input old before _ new after a, (a.serves.faults told).0)
-admin_gives x status.Worn (Some input) old before new after first last a told read none write disk =
-    (script_in_it x input old before _ new after a, (a.serves.faults told).0, (a.serves.faults told).1)
+admin_gives x status.Worn (Some input) old before new after first last a told read none write disk = (
+  (a.short, (a.script, a.reads, λ can standing is. (a.serves.worn refl told can standing is).0)),
+  (a.serves.faults told).0,
+  (a.serves.faults told).1,
+)

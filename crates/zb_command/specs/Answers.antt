@@ -25,6 +25,7 @@ use Rattle.zb_command.specs.Statuses.{cause_of, schedule_cause, capture_cause, p
 use Rattle.zb_command.specs.declared.status.Status.{Status}
 use Rattle.zb_command.specs.declared.status.Status.TheVariants as status
 use Rattle.zb_command.specs.declared.status.Cause.{Cause}
+use Rattle.zb_base.specs.Limits.{longest_input}
 
 -- A whole output, the first bad line of the input with the first of its causes, or that the input is too long.
 pub data Answer : Type 0 where
@@ -32,13 +33,9 @@ pub data Answer : Type 0 where
   Refuses : (line : ℕ) (cause : Cause) → Answer
   Exceeds : Answer
 
--- The longest input, in bytes.
-abbrev pub longest : ℕ
-longest = 16777216
-
 -- An input that is too long is judged before its lines.
 abbrev pub within_limit : Bytes → Answer → Answer
-within_limit input answer = if nat_lt longest (length input) then Exceeds else answer
+within_limit input answer = if nat_lt longest_input (length input) then Exceeds else answer
 
 -- ---- `play`: the text of the transcript that the policy gives of the schedule that the input is
 
@@ -96,7 +93,7 @@ wanted Serving rest = None
 abbrev pub status_of : Answer → Status
 status_of (Writes output) = status.Ok
 status_of (Refuses line cause) = status.Refused line cause
-status_of Exceeds = status.TooLong longest
+status_of Exceeds = status.TooLong longest_input
 
 abbrev pub output_of : Answer → Bytes
 output_of (Writes output) = output

@@ -13,12 +13,12 @@ use Rattle.zb_text.specs.Words.{then}
 use Rattle.zb_trace.specs.Text.{AllProper, texts}
 use Rattle.zb_trace.specs.declared.line.Line.{Line}
 use Rattle.zb_trace_read.specs.Faults.{IsFirstBad}
-use Rattle.zb_command.specs.Answers.{longest}
 use Rattle.zb_command.specs.declared.audit.TextFault.{TextFault}
 use Rattle.zb_command.specs.declared.audit.TextFault.TheVariants as fault
 use Rattle.zb_command.specs.declared.status.Cause.TheVariants as cause
 use Rattle.zb_command.specs.declared.status.Status.{Status}
 use Rattle.zb_command.specs.declared.status.Status.TheVariants as status
+use Rattle.zb_base.specs.Limits.{longest_input}
 
 -- The bytes are the text of these lines.
 pub record IsTranscript (bytes : Bytes) (lines : List Line) : Type 0 where
@@ -71,11 +71,11 @@ IsTold status.NoMemory line before after old new = Keeps before after
 IsTold s line before after old new = ⊥
 
 abbrev pub IsVerdictOn : Bytes → (Bytes → Type 0) → Type 0
-IsVerdictOn input told = (length input ≤ longest) × ((v : Verdict) × IsSoundText input v × told (sound_line v))
+IsVerdictOn input told = (length input ≤ longest_input) × ((v : Verdict) × IsSoundText input v × told (sound_line v))
 
 -- A fault is told of inputs that aren't too long alone.
 abbrev pub IsFaultIn : Bytes → Type 0 → Type 0
-IsFaultIn input fault = (length input ≤ longest) × fault
+IsFaultIn input fault = (length input ≤ longest_input) × fault
 
 -- What each status says of the bytes that the source had to come, where these are known, and of what was written.
 abbrev pub Audits : Status → Option Bytes → Option Bytes → Option Bytes → ℕ → ℕ → Type 0
@@ -89,8 +89,8 @@ Audits (status.Refused line c) rest before after old new =
 Audits status.NoMemory rest before after old new = Keeps before after
 Audits status.DiskFault rest before after old new = ⊥
 Audits status.NoStore rest before after old new = ⊥
-Audits (status.TooLong limit) rest before after old new = (limit ≡ longest)
-    × IfSome rest (λ input. longest < length input) × Keeps before after
+Audits (status.TooLong limit) rest before after old new = (limit ≡ longest_input)
+    × IfSome rest (λ input. longest_input < length input) × Keeps before after
 Audits (status.Broken line clause) rest before after old new =
     IfSome rest (λ input. IsFaultIn input (IsBrokenText input line clause)) × Keeps before after
 Audits (status.BadStore at) rest before after old new = ⊥

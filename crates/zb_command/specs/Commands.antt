@@ -4,6 +4,7 @@ use Rattle.zb_model.specs.Data.{Bytes}
 use Rattle.zb_base.specs.declared.key.Key.{Key}
 use Rattle.zb_text.specs.Numbers.{number_of}
 use Rattle.zb_command.specs.KeyWords.{all_keys, keys_in}
+use Rattle.zb_base.specs.Limits.{most_runs, last_start}
 
 -- `play` plays the schedule on its input; `install CODE` writes the link key of an install code; `make N` writes the
 -- made schedule for N routers and devices; `inspect JOBS` writes the report on the capture on its input, worked out by
@@ -69,7 +70,8 @@ campaigning (Some count) (Some start) (Some jobs) = Some (Campaigning count star
 
 -- the start values of all runs are below 2^32
 abbrev pub campaign_words : Bytes → Bytes → Bytes → Option Invocation
-campaign_words count start jobs = campaigning (count_of 1000 count) (number_of 4294966295 start) (count_of 64 jobs)
+campaign_words count start jobs =
+    campaigning (count_of most_runs count) (number_of last_start start) (count_of 64 jobs)
 
 abbrev pub word_and_three : Bytes → Bytes → Bytes → Bytes → Option Invocation
 word_and_three word first second third =

@@ -15,6 +15,7 @@ use Rattle.zb_command.specs.declared.input.InputFault.{InputFault}
 use Rattle.zb_command.specs.declared.input.InputFault.TheVariants as input
 use Rattle.zb_command.specs.declared.capture.CaptureFault.{CaptureFault}
 use Rattle.zb_command.specs.declared.capture.CaptureFault.TheVariants as fault
+use Rattle.zb_base.specs.Limits.{longest_input, first_too_long}
 
 -- what a source gave stands after the bytes before
 abbrev pub Grows : Option (List ℕ) → Option (List ℕ) → List ℕ → List ℕ → Type 0
@@ -37,15 +38,15 @@ pub record IsReadOn (result : Result (Unit {0}) InputFault) (old new : Option (L
 
 -- the source gave so much that it is longer than an input may be, where `count` bytes came before
 abbrev pub IsPastAll : Option (List ℕ) → Option (List ℕ) → ℕ → Type 0
-IsPastAll old new count = (taken : List ℕ) × Consumes old new taken × (16777216 < count + length taken)
+IsPastAll old new count = (taken : List ℕ) × Consumes old new taken × (longest_input < count + length taken)
 
 -- Bytes came after others, and `true` is answered where there are as many as were asked for.
 pub record IsFilled (result : Result Bool InputFault) (old new : Option (List ℕ)) (before after : Incoming)
     (size faults faults_after : ℕ) : Type 0 where
   pub grown : OnOk result (Grows old new before.part.items after.part.items)
   pub count : OnOk result (after.count + length before.part.items ≡ before.count + length after.part.items)
-  pub within : OnOk result (after.count ≤ 16777216)
-  pub full : result ≡ Ok true → after.count ≡ before.count + min size (16777217 - before.count)
+  pub within : OnOk result (after.count ≤ longest_input)
+  pub full : result ≡ Ok true → after.count ≡ before.count + min size (first_too_long - before.count)
   pub end : result ≡ Ok false → IsAtEnd new
   pub later : faults ≤ faults_after
   pub read : result ≡ Err input.Read → Rose faults faults_after
@@ -60,11 +61,11 @@ pub record IsTaken (result : Result Taken InputFault) (old new : Option (List �
   pub count : IfOk result
       (λ taken. taken.rest.count + length before.part.items
       ≡ before.count + length (after.part.items ++ taken.rest.part.items))
-  pub within : IfOk result (λ taken. taken.rest.count ≤ 16777216)
+  pub within : IfOk result (λ taken. taken.rest.count ≤ longest_input)
   pub cut : IfOk result (λ taken. (more : List ℕ) → lines ((after.part.items ++ taken.rest.part.items) ++ more)
       ≡ lines after.part.items ++ lines (taken.rest.part.items ++ more))
   pub alone : IfOk result (λ taken. IsReadAlone taken.alone after.part.items)
-  pub few : TakesAtMost old new (16777217 - before.count)
+  pub few : TakesAtMost old new (first_too_long - before.count)
   pub later : faults ≤ faults_after
   pub read : result ≡ Err input.Read → Rose faults faults_after
   pub unrisen : result ≢ Err input.Read → Unrisen faults faults_after
@@ -90,7 +91,7 @@ pub record IsRead (read : Result (Unit {0}) (OrMemory CaptureError)) (old new : 
   pub all : List ℕ
   pub grown : Grows old new before.part.items all
   pub count : after.count + length before.part.items ≡ before.count + length all
-  pub within : after.count ≤ 16777216
+  pub within : after.count ≤ longest_input
   pub lines : AreLinesRead read reading next all after.part.items
   pub room : OnOk read (next.lines + length after.part.items ≤ reading.lines + length all)
 
@@ -99,7 +100,7 @@ pub record IsRound (result : Result (Result (Unit {0}) (OrMemory CaptureError)) 
     (old new : Option (List ℕ)) (before after : Incoming) (reading next : Reading) (faults faults_after : ℕ) : Type 0
   where
     pub came : IfOk result (λ read. IsRead read old new before after reading next)
-    pub few : TakesAtMost old new (16777217 - before.count)
+    pub few : TakesAtMost old new (first_too_long - before.count)
     pub later : faults ≤ faults_after
     pub read : result ≡ Err input.Read → Rose faults faults_after
     pub unrisen : result ≢ Err input.Read → Unrisen faults faults_after
@@ -107,7 +108,7 @@ pub record IsRound (result : Result (Result (Unit {0}) (OrMemory CaptureError)) 
 
 -- all that the source had came, and is no longer than an input may be
 abbrev pub IsAll : Option (List ℕ) → Option (List ℕ) → ℕ → Type 0
-IsAll old new count = (taken : List ℕ) × Consumes old new taken × IsAtEnd new × (count + length taken ≤ 16777216)
+IsAll old new count = (taken : List ℕ) × Consumes old new taken × IsAtEnd new × (count + length taken ≤ longest_input)
 
 -- what is answered of an input of which lines have a fault, where `count` bytes came before
 abbrev pub IsJudged : CaptureFault → OrMemory CaptureError → Option (List ℕ) → Option (List ℕ) → ℕ → ℕ → ℕ → Type 0
@@ -119,17 +120,18 @@ IsJudged (fault.Text e) bad old new count faults later = (bad ≡ error.Fault e)
 -- why an input is no capture
 abbrev pub IsWhyNot : CaptureFault → Option (List ℕ) → ℕ → ℕ → Type 0
 IsWhyNot (fault.Input input.Read) rest faults later = Rose faults later
-IsWhyNot (fault.Input input.TooLong) rest faults later = IfSome rest (λ text. 16777216 < length text)
+IsWhyNot (fault.Input input.TooLong) rest faults later = IfSome rest (λ text. longest_input < length text)
 IsWhyNot (fault.Input input.NoMemory) rest faults later = Unit {0}
-IsWhyNot (fault.Text e) rest faults later = IfSome rest (λ text. (length text ≤ 16777216) × (captured text ≡ Err e))
+IsWhyNot (fault.Text e) rest faults later =
+    IfSome rest (λ text. (length text ≤ longest_input) × (captured text ≡ Err e))
 
 -- What reading an input as a capture comes to. A text that a capture has is at most 16,777,216 bytes long.
 pub record IsReadAsCapture (result : Result Capture CaptureFault) (old new : Option (List ℕ)) (faults later : ℕ) :
     Type 0 where
-  pub exact : IfOk result (λ c. IfSome old (λ text. (length text ≤ 16777216) × (captured text ≡ Ok c)))
+  pub exact : IfOk result (λ c. IfSome old (λ text. (length text ≤ longest_input) × (captured text ≡ Ok c)))
   pub valid : IfOk result (λ c. IsCapture c)
   pub end : OnOk result (IsAtEnd new)
-  pub few : TakesAtMost old new 16777217
+  pub few : TakesAtMost old new first_too_long
   pub unrisen : result ≢ Err (fault.Input input.Read) → Unrisen faults later
   pub fault : IfErr result (λ e. IsWhyNot e old faults later)
 

@@ -14,10 +14,11 @@ use Rattle.zb_sched.specs.Schedules as sched
 use Rattle.zb_sched.specs.Printed.{printed}
 use Rattle.zb_sched.specs.Reading.{schedule_in}
 use Rattle.zb_sched.specs.Valid.{IsSchedule}
-use Rattle.zb_command.specs.Answers.{Answer, Writes, Refuses, Exceeds, longest, output_of}
+use Rattle.zb_command.specs.Answers.{Answer, Writes, Refuses, Exceeds, output_of}
 use Rattle.zb_command.specs.Commands.{Invocation, Playing, Installing, Making, Inspecting, Sniffing, Campaigning, Auditing, Serving}
 use Rattle.zb_command.specs.declared.status.Status.{Status}
 use Rattle.zb_command.specs.declared.status.Status.TheVariants as status
+use Rattle.zb_base.specs.Limits.{longest_input}
 
 -- The answer is an output, and that was written.
 abbrev pub IsWritten : Answer → Option Bytes → Option Bytes → Type 0
@@ -42,7 +43,7 @@ Ends (status.Refused line cause) wanted before after old new = IfSome wanted (λ
 Ends status.NoMemory wanted before after old new = IfSome wanted (λ answer. IsBegun answer before after)
 Ends status.DiskFault wanted before after old new = ⊥
 Ends status.NoStore wanted before after old new = ⊥
-Ends (status.TooLong limit) wanted before after old new = (limit ≡ longest)
+Ends (status.TooLong limit) wanted before after old new = (limit ≡ longest_input)
     × IfSome wanted (λ answer. answer ≡ Exceeds) × Keeps before after
 Ends (status.Broken line clause) wanted before after old new = ⊥
 Ends (status.BadStore at) wanted before after old new = ⊥

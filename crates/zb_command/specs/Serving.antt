@@ -9,17 +9,17 @@ use Rattle.zb_script.specs.Reading.{script_in}
 use Rattle.zb_script.specs.Views.{script_of}
 use Rattle.zb_script.specs.declared.error.ScriptError.{ScriptError}
 use Rattle.zb_script.specs.declared.script.Script.{Script}
-use Rattle.zb_command.specs.Answers.{longest}
 use Rattle.zb_command.specs.Statuses.{script_cause}
 use Rattle.zb_command.specs.declared.status.Cause.{Cause}
 use Rattle.zb_command.specs.declared.status.Status.{Status}
 use Rattle.zb_command.specs.declared.status.Status.TheVariants as status
+use Rattle.zb_base.specs.Limits.{longest_input}
 
 -- The input is a script, no longer than inputs may be, and it was served so far over a store and a sink.
 pub record IsServed {D W : Type 0} (x : Outside D W) (rest : Option Bytes) (old : D) (before : W) (result : Ended)
     (new : D) (after : W) : Type 0 where
   pub script : Script
-  pub short : IfSome rest (λ input. length input ≤ longest)
+  pub short : IfSome rest (λ input. length input ≤ longest_input)
   pub reads : IfSome rest (λ input. script_in input ≡ Ok (script_of script))
   pub serves : Serves x script old before result new after
 
@@ -30,7 +30,7 @@ IsIdle old before new after = (new ≡ old) × (after ≡ before)
 -- The input is no longer than inputs may be, and no script: its first bad line, and the first cause of that.
 pub record IsNoScript (input : Bytes) (line : ℕ) (c : Cause) : Type 0 where
   pub error : ScriptError
-  pub short : length input ≤ longest
+  pub short : length input ≤ longest_input
   pub reads : script_in input ≡ Err error
   pub line_is : error.line ≡ line
   pub cause_is : script_cause error.cause ≡ c
@@ -47,7 +47,7 @@ Serviced x status.NoMemory rest old before new after = IsIdle old before new aft
     ⊎ IsServed x rest old before (Err fault.NoMemory) new after
 Serviced x status.DiskFault rest old before new after = IsServed x rest old before (Err fault.Disk) new after
 Serviced x status.NoStore rest old before new after = IsServed x rest old before (Err fault.NoStore) new after
-Serviced x (status.TooLong limit) rest old before new after = IfSome rest (λ input. longest < length input)
+Serviced x (status.TooLong limit) rest old before new after = IfSome rest (λ input. longest_input < length input)
     × IsIdle old before new after
 Serviced x (status.Broken line clause) rest old before new after = ⊥
 Serviced x (status.BadStore at) rest old before new after = IsServed x rest old before (Err (fault.BadStore at)) new
@@ -64,7 +64,7 @@ ServesOut (status.Refused line c) before after old new = Keeps before after
 ServesOut status.NoMemory before after old new = Unit {0}
 ServesOut status.DiskFault before after old new = Unit {0}
 ServesOut status.NoStore before after old new = Unit {0}
-ServesOut (status.TooLong limit) before after old new = (limit ≡ longest) × Keeps before after
+ServesOut (status.TooLong limit) before after old new = (limit ≡ longest_input) × Keeps before after
 ServesOut (status.Broken line clause) before after old new = ⊥
 ServesOut (status.BadStore at) before after old new = Unit {0}
 ServesOut status.Worn before after old new = Unit {0}

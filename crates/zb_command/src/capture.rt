@@ -5,6 +5,7 @@ ghost use Rattle.zb_capture.specs.Readings.{IsReadAlone};
 ghost use Rattle.zb_command.specs.Inputs.{AreLines, IsReadAsCapture, IsRound, IsTaken};
 ghost use Rattle.zb_command.specs.declared.capture.CaptureFault.TheVariants.{Input as of_input, Text as of_text};
 ghost use Rattle.zb_command.specs.declared.input.InputFault.TheVariants.{NoMemory as lacks};
+ghost use Rattle.zb_base.specs.Limits.{longest_input};
 
 use crate::incoming::{Incoming, Taken};
 use crate::input::InputFault;
@@ -141,7 +142,7 @@ fn read_round<T: Threads + Sync, R: Source>(
     reader: &mut CaptureReader,
 ) -> Result<Result<(), OrMemory<CaptureError>>, InputFault>
     requires jobs { 2 ≤ jobs }
-    requires count { front.old.count ≤ 16777216 }
+    requires count { front.old.count ≤ longest_input }
     requires room { reader.old.lines + length front.old.part.items ≤ front.old.count }
     ensures { IsRound result (R.rest input.old) (R.rest input.new) front.old front.new reader.old reader.new
         (R.faults input.old) (R.faults input.new) }
@@ -175,8 +176,8 @@ fn read_both<T: Threads + Sync, R: Source>(
     Result<Taken, InputFault>,
 )
     requires jobs { 1 ≤ jobs }
-    requires front { length front.now ≤ 16777216 }
-    requires back { (back.old.count ≤ 16777216) × (length back.old.part.items ≤ back.old.count) }
+    requires front { length front.now ≤ longest_input }
+    requires back { (back.old.count ≤ longest_input) × (length back.old.part.items ≤ back.old.count) }
     ensures first { IsReadAlone result.0 front.now }
     ensures taken { IsTaken result.1 (R.rest input.old) (R.rest input.new) back.old back.new (R.faults input.old)
         (R.faults input.new) }
@@ -184,11 +185,11 @@ fn read_both<T: Threads + Sync, R: Source>(
     let mut first = Err(OrMemory::NoMemory);
     let mut taken = Err(InputFault::NoMemory);
     let mut reads_front = ||
-        requires { (1 ≤ jobs) × (length front.now ≤ 16777216) }
+        requires { (1 ≤ jobs) × (length front.now ≤ longest_input) }
         ensures { IsReadAlone first.exit front.entry.now }
     { first = read_first(rt, alloc, jobs, front) };
     let mut takes_back = ||
-        requires { (back.now.count ≤ 16777216) × (length back.now.part.items ≤ back.now.count) }
+        requires { (back.now.count ≤ longest_input) × (length back.now.part.items ≤ back.now.count) }
         ensures { IsTaken taken.exit (R.rest input.entry.now) (R.rest input.exit.now) back.entry.now back.exit.now
             (R.faults input.entry.now) (R.faults input.exit.now) }
     { taken = back.take(alloc, input, BACK) };
@@ -206,7 +207,7 @@ fn read_first<T: Threads + Sync>(
     text: &[u8],
 ) -> Result<CaptureReader, OrMemory<CaptureError>>
     requires jobs { 1 ≤ jobs }
-    requires text { length text.now ≤ 16777216 }
+    requires text { length text.now ≤ longest_input }
     ensures { IsReadAlone result text.now }
 {
     let mut reader = CaptureReader::new(alloc);
@@ -223,7 +224,7 @@ fn add_both(
     back: &[u8],
     second: Result<CaptureReader, OrMemory<CaptureError>>,
 ) -> Result<(), OrMemory<CaptureError>>
-    requires room { reader.old.lines + length front.now + length back.now ≤ 16777216 }
+    requires room { reader.old.lines + length front.now + length back.now ≤ longest_input }
     requires first { IsReadAlone first front.now }
     requires second { IsReadAlone second back.now }
     ensures exact { AreLines result reader.old reader.new (lines front.now ++ lines back.now) }

@@ -1,6 +1,6 @@
 //! The bytes of an input as they come in, and the lines in them.
 ghost use Rattle.std.specs.Prelude.{◌≡◌};
-ghost use Rattle.zb_base.specs.Limits.{first_too_long};
+ghost use Rattle.zb_base.specs.Limits.{first_too_long, longest_input};
 
 use crate::capture::CaptureFault;
 use crate::input::{InputFault, LONGEST, read_on};
@@ -44,7 +44,7 @@ impl Incoming {
 
     /// Reads on until so many bytes more have come, and returns whether they have: if not, the input is at its end.
     pub fn fill<R: Source>(&mut self, input: &mut R, size: usize) -> Result<bool, InputFault>
-        requires count { self.old.count ≤ 16777216 }
+        requires count { self.old.count ≤ longest_input }
         requires size { 1 ≤ size }
         ensures filled { IsFilled result (R.rest input.old) (R.rest input.new) self.old self.new size
             (R.faults input.old) (R.faults input.new) }
@@ -67,7 +67,7 @@ impl Incoming {
         alloc: Global,
         reader: &mut CaptureReader,
     ) -> Result<(), OrMemory<CaptureError>>
-        requires room { reader.old.lines + length self.old.part.items ≤ 16777216 }
+        requires room { reader.old.lines + length self.old.part.items ≤ longest_input }
         ensures count { self.new.count ≡ self.old.count }
         ensures lines { AreLinesRead result reader.old reader.new self.old.part.items self.new.part.items }
         ensures room { OnOk result (reader.new.lines + length self.new.part.items
@@ -114,7 +114,7 @@ impl Incoming {
         input: &mut R,
         size: usize,
     ) -> Result<Taken, InputFault>
-        requires count { self.old.count ≤ 16777216 }
+        requires count { self.old.count ≤ longest_input }
         requires part { length self.old.part.items ≤ self.old.count }
         requires size { 1 ≤ size }
         ensures { IsTaken result (R.rest input.old) (R.rest input.new) self.old self.new (R.faults input.old)
@@ -134,7 +134,7 @@ impl Incoming {
         input: &mut R,
         fault: OrMemory<CaptureError>,
     ) -> CaptureFault
-        requires { self.old.count ≤ 16777216 }
+        requires { self.old.count ≤ longest_input }
         ensures judged { IsJudged result fault (R.rest input.old) (R.rest input.new) self.old.count
             (R.faults input.old) (R.faults input.new) }
         ensures unrisen { result ≢ CaptureFault.Input InputFault.Read

@@ -4,7 +4,7 @@ ghost use Rattle.std.specs.Io.KnownBytes.{IsAtEnd};
 ghost use Rattle.zb_base.specs.Outside.{Rose, Unrisen};
 ghost use Rattle.zb_command.specs.Inputs.{IsReadOn, TakesAtMost};
 ghost use Rattle.zb_command.specs.declared.input.InputFault.TheVariants.{NoMemory as lacks};
-ghost use Rattle.zb_base.specs.Limits.{first_too_long};
+ghost use Rattle.zb_base.specs.Limits.{first_too_long, longest_input};
 
 use std::alloc::{AllocError, Global};
 use zb_base::Source;
@@ -76,12 +76,13 @@ pub(crate) fn read_on<R: Source>(
 pub(crate) fn read_input<R: Source>(alloc: Global, input: &mut R) -> Result<Vec<u8>, InputFault>
     ensures whole { IfOk result (λ bytes. IfSome (R.rest input.old) (λ rest. bytes.items ≡ rest)) }
     ensures end { OnOk result (IsAtEnd (R.rest input.new)) }
-    ensures short { IfOk result (λ bytes. vec_len bytes ≤ 16777216) }
+    ensures short { IfOk result (λ bytes. vec_len bytes ≤ longest_input) }
     ensures few { TakesAtMost (R.rest input.old) (R.rest input.new) first_too_long }
     ensures later { R.faults input.old ≤ R.faults input.new }
     ensures read { result ≡ Err InputFault.Read → Rose (R.faults input.old) (R.faults input.new) }
     ensures unrisen { result ≢ Err InputFault.Read → Unrisen (R.faults input.old) (R.faults input.new) }
-    ensures too_long { result ≡ Err InputFault.TooLong → IfSome (R.rest input.old) (λ rest. 16777216 < length rest) }
+    ensures too_long { result ≡ Err InputFault.TooLong
+        → IfSome (R.rest input.old) (λ rest. longest_input < length rest) }
 {
     let mut bytes = Vec::new(alloc);
     read_on(input, &mut bytes, LONGEST as usize + 1)?;

@@ -3,7 +3,7 @@ ghost use Rattle.std.specs.Prelude.{◌≡◌, ◌≢◌, ◌⊎◌, ℕ, Some, 
 ghost use Rattle.std.specs.Io.KnownBytes.{IsAtEnd};
 ghost use Rattle.zb_admin.specs.Serving.{outside};
 ghost use Rattle.zb_base.specs.Outside.{Rose, Unrisen};
-ghost use Rattle.zb_command.specs.Answers.{Answer, Refuses, Exceeds, longest, status_of, wanted};
+ghost use Rattle.zb_command.specs.Answers.{Answer, Refuses, Exceeds, status_of, wanted};
 ghost use Rattle.zb_command.specs.Auditing.{Audits};
 ghost use Rattle.zb_command.specs.Commands.{Invocation, Auditing, Playing, Making, Serving, invocation_of};
 ghost use Rattle.zb_command.specs.Finishing.{Finishes};
@@ -13,7 +13,7 @@ ghost use Rattle.zb_command.specs.Serving.{Serviced};
 ghost use Rattle.zb_command.specs.Settled.{AdminGives, AuditGives};
 ghost use Rattle.zb_command.specs.Words.{invocation, Fits};
 ghost use Rattle.zb_command.specs.declared.status.Cause.{Cause};
-ghost use Rattle.zb_base.specs.Limits.{first_too_long};
+ghost use Rattle.zb_base.specs.Limits.{first_too_long, longest_input};
 
 use crate::admin::serve_input;
 use crate::audit::audit_input;
@@ -82,7 +82,7 @@ pub fn run<T: Threads + Sync, R: Source, W: Sink, D: Disk>(
         → IfSome (wanted job (R.rest input.old)) (λ answer. answer ≡ Refuses line cause) }
     ensures too_long { (job : Invocation) (limit : ℕ)
         → invocation_of (map string_bytes words.now) ≡ Some job → result ≡ Status.TooLong limit
-        → (limit ≡ longest) × IfSome (wanted job (R.rest input.old)) (λ answer. answer ≡ Exceeds) }
+        → (limit ≡ longest_input) × IfSome (wanted job (R.rest input.old)) (λ answer. answer ≡ Exceeds) }
     // What was written at these.
     ensures nothing { WritesNothing result (W.taken output.old) (W.taken output.new) }
     ensures front { (job : Invocation) → invocation_of (map string_bytes words.now) ≡ Some job

@@ -15,6 +15,7 @@ use Rattle.zb_store.specs.declared.fault.StoreFault.{StoreFault}
 use Rattle.zb_store.specs.declared.fault.StoreFault.TheVariants.{Disk as store_disk, NoRecord as store_no_record, TooLarge as store_too_large, NoMemory as store_no_memory, Worn as store_worn}
 use Rattle.zb_host.specs.Plans.{bad}
 use Rattle.zb_host.specs.Hosts.{Restoring}
+use Rattle.zb_base.specs.Sizes.{last_generation}
 
 -- of `handle`: the disk, where its count of faults rose, or the last generation where the whole record is written
 abbrev pub IsHandleFault : Bool → Option Place → View → View → HostFault → Type 0
@@ -23,7 +24,7 @@ IsHandleFault whole store old new NoMemory = ⊥
 IsHandleFault whole store old new NoRecord = ⊥
 IsHandleFault whole store old new (BadRecord at) = ⊥
 IsHandleFault whole store old new Worn = (whole ≡ true)
-    × ((p : Place) × (store ≡ Some p) × (p.generation ≡ 18446744073709551615)) × Unrisen old.faults new.faults
+    × ((p : Place) × (store ≡ Some p) × (p.generation ≡ last_generation)) × Unrisen old.faults new.faults
 
 -- of `boot`: the disk, out of memory, no open slot, or what stands gives no core
 abbrev pub IsBootFault : Telling → Restoring → View → View → HostFault → Type 0
@@ -39,7 +40,7 @@ IsBootFault tells restored old new Worn = ⊥
 abbrev pub IsUnstored : Bool → Option Place → View → View → CommitFault → Type 0
 IsUnstored whole store old new commit.Disk = Rose old.faults new.faults
 IsUnstored whole store old new commit.Worn = (whole ≡ true)
-    × ((p : Place) × (store ≡ Some p) × (p.generation ≡ 18446744073709551615)) × Unrisen old.faults new.faults
+    × ((p : Place) × (store ≡ Some p) × (p.generation ≡ last_generation)) × Unrisen old.faults new.faults
 
 -- why changes weren't stored whose commit failed
 abbrev pub commit_fault : StoreFault → CommitFault

@@ -6,7 +6,7 @@ use Rattle.zb_base.specs.Outside.{Rose, Unrisen}
 use Rattle.zb_disk.specs.View.{Telling, View, IsStill, LeavesOnly}
 use Rattle.zb_store.specs.declared.fault.StoreFault.{StoreFault}
 use Rattle.zb_store.specs.declared.fault.StoreFault.TheVariants.{Disk, NoRecord, TooLarge, NoMemory, Worn}
-use Rattle.zb_base.specs.Sizes.{entries_room, payload_room, record_room}
+use Rattle.zb_base.specs.Sizes.{entries_room, payload_room, record_room, last_generation}
 use Rattle.zb_store.specs.Layout.{Standing, IsWhole, stands}
 use Rattle.zb_store.specs.Steps.{WentThrough, WasAsked}
 use Rattle.zb_store.specs.Store.{Place, place_of, IsHeld, IsReady, IsWholeEither, appended, replaced, AppendStop, PutStop}
@@ -63,7 +63,7 @@ writes_whole host = host.whole || is_full host.store
 -- its next commit would need one generation more than there are
 abbrev pub IsWorn : {C : Type 0} → Hosted C → Type 0
 IsWorn host = (writes_whole host ≡ true)
-    × ((p : Place) × (host.store ≡ Some p) × (p.generation ≡ 18446744073709551615))
+    × ((p : Place) × (host.store ≡ Some p) × (p.generation ≡ last_generation))
 
 -- what the next commit leaves
 abbrev pub next_standing : Bool → Standing → List ℕ → List ℕ → Standing
@@ -92,7 +92,7 @@ IsCommitFault whole store old new Disk = Rose old.faults new.faults
 IsCommitFault whole store old new NoRecord = ⊥
 IsCommitFault whole store old new (TooLarge len) = ⊥
 IsCommitFault whole store old new NoMemory = ⊥
-IsCommitFault whole store old new Worn = (whole ≡ true) × (store.generation ≡ 18446744073709551615)
+IsCommitFault whole store old new Worn = (whole ≡ true) × (store.generation ≡ last_generation)
     × Unrisen old.faults new.faults
 
 -- a record or a payload is stored
@@ -107,7 +107,7 @@ pub record IsCommit (tells : Telling) (whole : Bool) (content payload : List ℕ
   pub stopped : IsErrOf result Disk → (s : Standing) → IsReady store s old → IsTrue tells.content
       → IsTrue tells.steady → CommitStop tells whole s content payload old new
   pub faults : IfErr result (IsCommitFault whole store old new)
-  pub worn : whole ≡ true → store.generation ≡ 18446744073709551615 → result ≡ Err Worn
+  pub worn : whole ≡ true → store.generation ≡ last_generation → result ≡ Err Worn
   pub untouched : IsErrOf result Worn → IsStill old new
   pub count : old.faults ≤ new.faults
   pub unrisen : OnOk result (Unrisen old.faults new.faults)

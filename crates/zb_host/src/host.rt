@@ -59,10 +59,12 @@ impl<C: Core> Host<C> {
     ) -> Result<(Changes, C::Out), HostFault>
         requires up { IsTrue (is_some self.old.store) }
 
-        // The changes and what goes out are those of a plan of the core, and the core is the one after it.
+        // The changes and what goes out are those of a plan of the core, and the core is the one after it. Where they
+        // weren't stored, the plan had changes.
         ensures planned { (p : APlan C.Out) × C.is_plan self.old.core event.now p
             × C.is_after self.old.core p self.new.core × IfOk result (λ r. (r.0 ≡ p.changes) × (r.1 ≡ p.out))
-            × IfErr result (λ e. (e ≡ HostFault.Disk p.changes) ⊎ (e ≡ HostFault.Worn)) }
+            × IfErr result (λ e. ((e ≡ HostFault.Disk p.changes) ⊎ (e ≡ HostFault.Worn))
+            × (p.changes.items ≢ [])) }
 
         // A crash at any moment leaves the old record's core or the new one's. What goes out goes out where every
         // image represents the new. After a fault the host is down.

@@ -1,6 +1,6 @@
 use Rattle.zb_setting.specs.Settings.{setting_for}
 use Rattle.zb_admin.proofs.CommandLemmas.{carried_none, carried_some}
-use Rattle.zb_admin.proofs.FollowLemmas.{none_follows, none_writes, some_configured, some_follows, some_writes}
+use Rattle.zb_admin.proofs.FollowLemmas.{none_follows, none_worn, none_writes, some_configured, some_follows, some_worn, some_writes}
 use Rattle.zb_centre_store.specs.Calls.{tables_in}
 use Rattle.zb_admin.proofs.service.carry_out.Goals as goal
 
@@ -37,3 +37,13 @@ pub returns-in-None-clause-writes : goal.returns-in-None-clause-writes
 returns-in-None-clause-writes g c =
     none_writes (setting_for c.args.config.now) c.args.step.now c.args.centre.now c.on_empty.result c.in-None.is
     c.args.page.now.items c.on_empty.new.page.items c.on_empty.ensures.writes
+
+pub returns-in-Some-clause-worn : goal.returns-in-Some-clause-worn
+returns-in-Some-clause-worn g c =
+    some_worn (setting_for c.args.config.now) c.args.step.now c.args.centre.now c.on_store.result c.in-Some.host
+    c.in-Some.is c.requires.configured c.on_store.ensures.worn
+
+pub returns-in-None-clause-worn : goal.returns-in-None-clause-worn
+returns-in-None-clause-worn g c =
+    none_worn (setting_for c.args.config.now) c.args.step.now c.args.centre.now c.on_empty.result c.in-None.is
+    c.on_empty.ensures.worn

@@ -5,7 +5,7 @@ use Rattle.zb_centre_store.proofs.StoreLemmas.{same_fault}
 use Rattle.zb_model.specs.Answer.{answer}
 use Rattle.zb_model_real.specs.Real.{real}
 use Rattle.zb_text.specs.Pages.{page}
-use Rattle.zb_admin.proofs.CommandLemmas.{always, event_command, event_spared, no_setting, on_ok_then, short_command, told_lines}
+use Rattle.zb_admin.proofs.CommandLemmas.{always, event_command, event_spared, no_setting, on_ok_then, short_command, told_lines, short_worn}
 use Rattle.zb_admin.proofs.service.handle_event.Goals as goal
 
 pub returns-in-Ok-clause-carried : goal.returns-in-Ok-clause-carried
@@ -64,3 +64,10 @@ returns-in-Ok-clause-writes g c =
 
 pub returns-in-Err-clause-unrisen : goal.returns-in-Err-clause-unrisen
 returns-in-Err-clause-unrisen g c = λ not. c.in-Err.ensures.unrisen (same_fault c.in-Err.fault Disk not)
+
+pub returns-in-Ok-clause-worn : goal.returns-in-Ok-clause-worn
+returns-in-Ok-clause-worn g c = short_worn _ c.tell.result c.tell.ensures.short
+
+pub returns-in-Err-clause-worn : goal.returns-in-Err-clause-worn
+returns-in-Err-clause-worn g c = λ is.
+    let core = c.args.host.now.core in ((c.in-Err.ensures.handled core.setting).worn is).1 core.tables refl

@@ -8,7 +8,7 @@ use Rattle.zb_centre_store.specs.Makings.{tables_of}
 use Rattle.zb_setting.specs.Settings.{setting_for}
 use Rattle.zb_record.specs.Records.{record_read}
 use Rattle.zb_skip.specs.Skipping.{skipped}
-use Rattle.zb_admin.proofs.CommandLemmas.{always, carried_for, carried_new, carried_refused, kept_command, kept_unrisen, new_stands}
+use Rattle.zb_admin.proofs.CommandLemmas.{always, carried_for, carried_new, carried_refused, kept_command, kept_unrisen, kept_worn, new_stands, short_worn}
 use Rattle.zb_admin.proofs.service.on_empty.Goals as goal
 
 pub returns-in-Init-clause-carried : goal.returns-in-Init-clause-carried
@@ -109,3 +109,16 @@ pub returns-in_default-clause-configured : goal.returns-in_default-clause-config
 returns-in_default-clause-configured g c =
     always c.refuse.result
     (subst (HasSetting (setting_for c.args.config.now)) (sym c.requires.none) tt)
+
+pub returns-in-Init-clause-worn : goal.returns-in-Init-clause-worn
+returns-in-Init-clause-worn g c =
+    kept_worn g.D.Disk.tells _ _ (g.D.Disk.state c.args.disk.now) (g.D.Disk.state c.init-made.new.disk)
+    c.init-made.result c.keep.result c.init-made.ensures.made c.keep.ensures.fault
+
+pub returns-in-Restore-clause-worn : goal.returns-in-Restore-clause-worn
+returns-in-Restore-clause-worn g c =
+    kept_worn g.D.Disk.tells _ _ (g.D.Disk.state c.args.disk.now) (g.D.Disk.state c.restore-made.new.disk)
+    c.restore-made.result c.keep-in-Restore.result c.restore-made.ensures.made c.keep-in-Restore.ensures.fault
+
+pub returns-in_default-clause-worn : goal.returns-in_default-clause-worn
+returns-in_default-clause-worn g c = short_worn _ c.refuse.result c.refuse.ensures.short

@@ -1,7 +1,9 @@
 use Rattle.std.proofs.Common.{◌∙◌, false, Some, ap, refl, sym}
-use Rattle.zb_admin.specs.Served.{handled, on_store}
+use Rattle.zb_admin.specs.Served.{changes_for, handled, on_store}
+use Rattle.zb_model.specs.Answer.{answer}
 use Rattle.zb_model.specs.Data.{DoProvision}
-use Rattle.zb_admin.proofs.CommandLemmas.{always, backup_lines, carried_as, carried_still, listed_text, on_ok_then}
+use Rattle.zb_model_real.specs.Real.{real}
+use Rattle.zb_admin.proofs.CommandLemmas.{always, backup_lines, carried_as, carried_still, listed_text, on_ok_then, short_worn, worn_as}
 use Rattle.zb_admin.proofs.FollowLemmas.{follows_as, writes_as}
 use Rattle.zb_stored_tables.specs.Cores.{CoreValue}
 use Rattle.zb_admin.proofs.service.on_store.Goals as goal
@@ -131,3 +133,28 @@ returns-in-Provision-clause-writes g c = writes_as c.handle_event.result c.args.
     c.args.host.now.core.tables) c.link_key.ensures ∙ ap
     (λ o. on_store c.args.host.now.core.setting c.args.step.now.line o c.args.host.now.core.tables)
     (sym c.in-Provision.is)) c.handle_event.ensures.writes
+
+pub returns-in-Init-clause-worn : goal.returns-in-Init-clause-worn
+returns-in-Init-clause-worn g c = short_worn _ c.refuse.result c.refuse.ensures.short
+
+pub returns-in-Restore-clause-worn : goal.returns-in-Restore-clause-worn
+returns-in-Restore-clause-worn g c = short_worn _ c.refuse-in-Restore.result c.refuse-in-Restore.ensures.short
+
+pub returns-in-List-clause-worn : goal.returns-in-List-clause-worn
+returns-in-List-clause-worn g c = short_worn _ c.show.result c.show.ensures.short
+
+pub returns-in-Backup-clause-worn : goal.returns-in-Backup-clause-worn
+returns-in-Backup-clause-worn g c = short_worn _ c.back_up.result c.back_up.ensures.short
+
+pub returns-in-Provision-clause-worn : goal.returns-in-Provision-clause-worn
+returns-in-Provision-clause-worn g c =
+    let core = c.args.host.now.core in
+    worn_as c.handle_event.result _ _
+    (ap (λ k. (answer real core.setting core.tables (DoProvision c.in-Provision.device.0 k)).edits) c.link_key.ensures
+    ∙ ap (λ o. changes_for core.setting o core.tables) (sym c.in-Provision.is)) c.handle_event.ensures.worn
+
+pub returns-in-Remove-clause-worn : goal.returns-in-Remove-clause-worn
+returns-in-Remove-clause-worn g c =
+    let core = c.args.host.now.core in
+    worn_as c.handle_event-in-Remove.result _ _ (ap (λ o. changes_for core.setting o core.tables) (sym c.in-Remove.is))
+    c.handle_event-in-Remove.ensures.worn

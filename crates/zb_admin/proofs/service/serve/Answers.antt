@@ -8,7 +8,8 @@ returns-in-Ok-clause-served g c =
     c.args.disk.now c.args.out.now c.in-Ok.made c.judge.new.disk c.serve_steps.new.disk c.serve_steps.new.out
     c.serve_steps.result c.as_slice.result.now c.as_slice.ensures
     c.in-Ok.ensures.judged c.judge.ensures.count c.serve_steps.ensures.run c.serve_steps.ensures.faults
-    c.serve_steps.ensures.told c.serve_steps.ensures.told_front c.serve_steps.ensures.unrisen
+    c.serve_steps.ensures.told c.serve_steps.ensures.told_front c.serve_steps.ensures.told_worn
+    c.serve_steps.ensures.unrisen
 
 pub returns-in-Err-clause-served : goal.returns-in-Err-clause-served
 returns-in-Err-clause-served g c = not_opened (outside g.D.Disk.tells g.D.Disk.state g.W.Sink.taken g.W.Sink.faults)

@@ -1,8 +1,8 @@
-use Rattle.std.proofs.Common.{arith, refl, ◌∙◌}
+use Rattle.std.proofs.Common.{ap, arith, refl, ◌∙◌}
 use Rattle.zb_admin.specs.Serving.{outside}
 use Rattle.zb_setting.specs.Settings.{setting_for}
 use Rattle.zb_centre_store.specs.Calls.{tables_in}
-use Rattle.zb_admin.proofs.FollowLemmas.{told_all, told_cut, told_more, told_none}
+use Rattle.zb_admin.proofs.FollowLemmas.{told_all, told_cut, told_more, told_none, told_worn}
 use Rattle.zb_admin.proofs.ServeLemmas.{all_served, begins, fault_later, step_ends, step_more}
 use Rattle.zb_admin.proofs.service.serve_steps.Goals as goal
 
@@ -86,3 +86,12 @@ returns-in-Err-clause-told_front g c =
 
 pub returns-in-Err-clause-unrisen : goal.returns-in-Err-clause-unrisen
 returns-in-Err-clause-unrisen g c = λ not. c.in-Err.ensures.unrisen not ∙ c.loop-step.invariant.unrisen
+
+pub returns-in-Err-clause-told_worn : goal.returns-in-Err-clause-told_worn
+returns-in-Err-clause-told_worn g c = λ is.
+    let worn = c.in-Err.ensures.worn is in
+    told_worn (setting_for c.args.config.now) c.args.steps.now (tables_in c.args.centre.now)
+    (tables_in c.loop-step.centre) c.loop-step.step-index
+    (g.W.Sink.taken c.args.out.now) (g.W.Sink.taken c.loop-step.out) c.loop-step.invariant.told
+    c.step-item.result c.loop-step-test.true c.step-item.is (g.W.Sink.taken c.serve_step.new.out) worn.0
+    (ap (λ out. g.W.Sink.taken out) worn.1)

@@ -23,7 +23,7 @@ returns-in-Err-clause-handled g c = λ setting.
     let e = c.in-Err.ensures in
     handled_err g.D.Disk.tells setting c.args.event.now c.args.host.now c.handle.new.self e.planned.0 e.planned.1
     e.planned.2 (g.D.Disk.state c.args.disk.now) (g.D.Disk.state c.handle.new.disk) c.in-Err.fault c.of_host.result
-    c.of_host.ensures (g.met.D.Disk.reads_image c.args.disk.now) e.step.moments e.faults e.worn
+    c.of_host.ensures (g.met.D.Disk.reads_image c.args.disk.now) e.step.moments e.faults e.worn e.planned.4.1
 
 pub returns-in-Err-clause-unrisen : goal.returns-in-Err-clause-unrisen
 returns-in-Err-clause-unrisen g c =

@@ -1,4 +1,6 @@
-use Rattle.std.proofs.Common.{◌≡◌, ◌⊎◌, sym, ◌∙◌, ap, subst}
+use Rattle.std.proofs.Common.{◌≡◌, ◌≢◌, ◌⊎◌, List, [], sym, ◌∙◌, ap, subst}
+use Rattle.arrayvec.specs.declared.array_vec.ArrayVec.{ArrayVec}
+use Rattle.zb_node_types.specs.declared.change.Change.{Change}
 use Rattle.zb_host.specs.declared.fault.HostFault.{HostFault}
 use Rattle.zb_host.specs.declared.fault.HostFault.TheVariants.{Disk, Worn}
 use Rattle.zb_host.specs.HostFaults.{told_fault}
@@ -12,6 +14,10 @@ returns-in-Err-clause-planned g c =
       is,
       after,
       tt,
-      subst (λ (h : HostFault). (h ≡ Disk p.changes) ⊎ (h ≡ Worn))
-          (sym (c.told.ensures ∙ ap (told_fault c.in-Err.fault) same)) (named c.in-Err.fault p.changes),
+      (
+        subst (λ (h : HostFault). (h ≡ Disk p.changes) ⊎ (h ≡ Worn))
+            (sym (c.told.ensures ∙ ap (told_fault c.in-Err.fault) same)) (named c.in-Err.fault p.changes),
+        subst (λ (l : List Change). l ≢ []) (ap (λ (v : ArrayVec Change 16 (Unit {0})). v.items) same)
+            c.in-Err.ensures.changed,
+      ),
     )
