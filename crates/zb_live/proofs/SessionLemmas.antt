@@ -20,11 +20,11 @@ use Rattle.zb_disk.proofs.Moments.{started, still_refl, weakened}
 use Rattle.arrayvec.specs.ArrayVec.{ArrayVec}
 use Rattle.zb_core.specs.CorePlans.{CorePlan}
 use Rattle.zb_host.specs.Hosts.{Hosted}
-use Rattle.zb_live.specs.Alive.{CanServe, HasSaid, HasTaken, Holds, HoldsEither, IsAlive, IsCentreOf, IsDeclared, IsLineFault, IsWaiting, answer_text, done_by, living_of, tables_of}
-use Rattle.zb_live.specs.Happening.{HasHappened, IsHappeningFault}
+use Rattle.zb_live.specs.Alive.{CanServe, HasFollowed, HasSaid, HasTaken, Holds, HoldsEither, IsAlive, IsCentreOf, IsDeclared, IsLineFault, IsWaiting, answer_text, done_by, living_of, tables_of}
+use Rattle.zb_live.specs.Happening.{HasAnswered, HasHappened, IsHappeningFault}
 use Rattle.zb_live.specs.Events.{task_for}
 use Rattle.zb_live.specs.Living.{Done, Found, Living, after_event, counted, declared, done, first_station, happened, next as next_number, on_meaning, on_stage, opened, refused, says_nothing, setting_of, station}
-use Rattle.zb_live.specs.Shown.{Prints, event_lines}
+use Rattle.zb_live.specs.Shown.{Prints, event_lines, shown_text}
 use Rattle.zb_live.specs.declared.session.Session.{Session}
 use Rattle.zb_live_line.specs.Answers.{ok_text, refused_text}
 use Rattle.zb_live_line.specs.Grammar.{meaning_of}
@@ -539,6 +539,126 @@ said_up number sentence old front text host d up same prints after = record {
     at found = ap (λ (o : Option (Hosted CoreValue)). on_stage number found (tables_of o) sentence (living_of old)) up
         ∙ same found
 
+-- ---- lines over any disk
+
+-- a line that calls no disk is the same whatever is found
+pub said_follows : (number : ℕ) (sentence : Sentence) (old next : Session) (front text : List ℕ)
+    (r : Result (Unit {0}) AdminFault) → OnOk r (HasSaid number sentence old front next text)
+    → OnOk r (HasFollowed (λ found. done_by number found sentence old) front next text)
+said_follows number sentence old next front text r has =
+    on_ok r (λ h. record { found = None; text = h.text (Ok None); after = h.after (Ok None) }) has
+
+-- the same of a line in another form
+pub follows_as : (d e : Found → Done) (front : List ℕ) (next : Session) (page : List ℕ)
+    (r : Result (Unit {0}) AdminFault) → ((found : Found) → e found ≡ d found)
+    → OnOk r (HasFollowed d front next page) → OnOk r (HasFollowed e front next page)
+follows_as d e front next page r same has =
+    on_ok r (λ h. record {
+      found = h.found;
+      text = h.text ∙ ap (λ (x : Done). front ++ x.text) (sym (same (Ok h.found)));
+      after = h.after ∙ sym (ap (λ (x : Done). x.after) (same (Ok h.found)));
+    }) has
+
+pub follows_of : (number : ℕ) (old next : Session) (front text : List ℕ) (r : Result (Unit {0}) AdminFault)
+    (s t : Sentence) → s ≡ t → OnOk r (HasFollowed (λ found. done_by number found s old) front next text)
+    → OnOk r (HasFollowed (λ found. done_by number found t old) front next text)
+follows_of number old next front text r s t same h =
+    subst (λ (u : Sentence). OnOk r (HasFollowed (λ found. done_by number found u old) front next text)) same h
+
+-- the line that opens the session, where this is found
+pub opened_follows : (number : ℕ) (old next : Session) (front text : List ℕ) (found : Option NodeState) (d : Done)
+    (r : Result (Unit {0}) AdminFault) → is_some old.centre ≡ false → has_centre old.network ≡ true
+    → opened number (Ok found) (living_of old) ≡ d → OnOk r (text ≡ front ++ d.text) → living_of next ≡ d.after
+    → OnOk r (HasFollowed (λ f. done_by number f Opens old) front next text)
+opened_follows number old next front text found d r none has same prints after =
+    on_ok r (λ t. record {
+      found = found;
+      text = t ∙ ap (λ (x : Done). front ++ x.text) (sym at);
+      after = after ∙ sym (ap (λ (x : Done). x.after) at);
+    }) prints
+  where
+    at : done_by number (Ok found) Opens old ≡ d
+    at = ap (λ (o : Option (Hosted CoreValue)). on_stage number (Ok found) (tables_of o) Opens (living_of old))
+        (closed_of old.centre none) ∙ rw has same
+
+-- the calls for an event
+pub lines_answered : (tells : Telling) (c : Setting) (s : NodeState) (task : Task) (log : Log) (event frame : ℕ)
+    (me : List ℕ) (host after : Hosted CoreValue) (old new : View) (p : CorePlan) (r : Result Bool AdminFault)
+    (before page : List ℕ) → host.core ≡ record { setting = c; tables = s }
+    → HasHandled tells c task host old (Ok p) after new
+    → OnOk r ((known : List Station) (n : ℕ) (a : Answer) → IsCalled known n me → the_centre known ≡ n
+    → IsAnswer p a → Prints log known (event_lines event n frame a) before page)
+    → IfOk r (λ sends. sends ≡ is_some p.out.frame) → IsCalled c.stations c.me.eui me → the_centre c.stations
+    ≡ c.me.eui → HasAnswered c s task log event frame before r after page
+lines_answered tells c s task log event frame me host after old new p (Ok sends) before page core h prints is called
+    centre =
+    let f = h.follows s core in
+    record {
+      core = f.1;
+      prints = prints c.stations c.me.eui (answer real c s task) called centre f.0;
+      sends = is ∙ sym (some_mapped (λ (f : ArrayVec ℕ). f.items) p.out.frame) ∙ ap is_some f.0.frame;
+    }
+lines_answered tells c s task log event frame me host after old new p (Err f) before page core h prints is called
+    centre = record { core = tt; prints = tt; sends = tt }
+
+module _ (number : ℕ) (old : Session) (event : Event) (task : Task) (host host2 : Hosted CoreValue)
+    (is_up : old.centre ≡ Some host) (stands_for : task_for old.network.stations event ≡ Ok task) where
+  abbrev pub c3 : Setting
+  c3 = setting_of old.network
+
+  abbrev pub a3 : Answer
+  a3 = answer real c3 host.core.tables task
+
+  event_at : (found : Found) → done_by number found (Happens event) old
+      ≡ happened number (living_of old) host.core.tables (Ok task)
+  event_at found =
+      ap (λ (o : Option (Hosted CoreValue)). on_stage number found (tables_of o) (Happens event) (living_of old))
+      is_up ∙ ap (happened number (living_of old) host.core.tables) stands_for
+
+  -- the session with these numbers, tables, and a frame more or none
+  abbrev pub living_with : ℕ → ℕ → NodeState → Bool → Living
+  living_with n f s sends = record {
+    lines = old.lines;
+    log = old.log;
+    network = old.network;
+    tables = Some s;
+    events = n;
+    frames = if sends then f else old.frames;
+  }
+
+  -- its lines, with these numbers
+  abbrev pub text_with : ℕ → ℕ → List ℕ
+  text_with n f = shown_text old.log c3.stations (event_lines n c3.me.eui f a3) ++ ok_text number
+
+  pub event_follows : (number_of frame_of : ℕ) (next : Session) (front page text : List ℕ) (sends : Bool)
+      (r : Result (Unit {0}) AdminFault) → number_of ≡ next_number old.events → frame_of ≡ next_number old.frames
+      → HasAnswered c3 host.core.tables task old.log number_of frame_of front (Ok sends) host2 page
+      → next ≡
+      record {
+        lines = old.lines;
+        log = old.log;
+        network = old.network;
+        centre = Some host2;
+        events = number_of;
+        frames = if sends then frame_of else old.frames;
+      }
+      → OnOk r (text ≡ page ++ ok_text number)
+      → OnOk r (HasFollowed (λ found. done_by number found (Happens event) old) front next text)
+  event_follows number_of frame_of next front page text sends r one two h is prints =
+      on_ok r (λ t. record {
+        found = None;
+        text = t ∙ ap (λ l. l ++ ok_text number) h.prints ∙ append_assoc front _ (ok_text number)
+            ∙ ap (λ n. front ++ text_with n frame_of) one ∙ ap (λ f. front ++ text_with (next_number old.events) f) two
+            ∙ ap (λ (d : Done). front ++ d.text) (sym (event_at (Ok None)));
+        after = ap living_of is ∙ ap (λ n. living_with n frame_of host2.core.tables sends) one
+            ∙ ap (λ f. living_with (next_number old.events) f host2.core.tables sends) two
+            ∙ ap (λ s. living_with (next_number old.events) (next_number old.frames) s sends)
+            (ap (λ (x : CoreValue). x.tables) h.core)
+            ∙ ap (λ b. living_with (next_number old.events) (next_number old.frames)
+            (tables_after c3 task host.core.tables) b) h.sends
+            ∙ sym (ap (λ (d : Done). d.after) (event_at (Ok None)));
+      }) prints
+
 -- ---- a line that was read
 
 pub counted_taken : (n : ℕ) (found : Found) (old : Session) (d e : Done) (v : View) (front : List ℕ)
@@ -581,6 +701,18 @@ unfolding done
 unread_is found line old n count value =
     ap (λ (m : Option Sentence). on_meaning (next_number old.lines) found m (counted (living_of old))) value
     ∙ ap (λ k. refused k cause.Syntax (record (living_of old) { lines = k })) (sym count)
+
+pub unread_follows : (n : ℕ) (old : Session) (line : List ℕ) (front page : List ℕ)
+    (r : Result (Unit {0}) AdminFault) → n ≡ next_number old.lines → meaning_of line ≡ None
+    → OnOk r (page ≡ front ++ refused_text n cause.Syntax)
+    → OnOk r (HasFollowed (λ found. done found line (living_of old)) front (record old { lines = n }) page)
+unread_follows n old line front page r count value prints =
+    let is = unread_is (Ok None) line old n count value in
+    on_ok r (λ t. record {
+      found = None;
+      text = t ∙ ap (λ (x : Done). front ++ x.text) (sym is);
+      after = sym (ap (λ (x : Done). x.after) is);
+    }) prints
 
 pub unread_taken : (n : ℕ) (found : Found) (old : Session) (line : List ℕ) (v : View) (front page : List ℕ)
     (r : Result (Unit {0}) AdminFault) → n ≡ next_number old.lines → meaning_of line ≡ None

@@ -92,6 +92,13 @@ pub record HasTaken (found : Found) (session : Session) (d : Done) (old : View) 
   pub text : OnOk result (page ≡ front ++ d.text)
   pub between : LeavesOnly old new (HoldsEither old (living_of session).tables d.after.tables)
 
+-- A line was taken over any disk, one that tells nothing too: what it writes stands on the page after what stood
+-- there, and the session is the one after it. Where it opens the session, some tables are found in the store, or none.
+pub record HasFollowed (d : Found → Done) (front : List ℕ) (next : Session) (page : List ℕ) : Type 0 where
+  pub found : Option NodeState
+  pub text : page ≡ front ++ (d (Ok found)).text
+  pub after : living_of next ≡ (d (Ok found)).after
+
 -- a centre that is up has its store and the setting of its network, which was declared
 abbrev pub CanServe : Script → Option (Hosted CoreValue) → Type 0
 CanServe network None = ⊤

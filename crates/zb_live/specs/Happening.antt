@@ -26,6 +26,15 @@ pub record HasHappened (c : Setting) (s : NodeState) (task : Task) (log : Log) (
   pub sends : IfOk result (λ sends. sends ≡ is_some (answer real c s task).frame)
   pub moments : LeavesOnly old new (StandsAsEither (Some s) (Some (tables_after c task s)))
 
+-- An event was answered over any disk, one that tells nothing too: the core is the one after the policy's answer, and
+-- the lines of that were printed. Or there was no memory for them.
+pub record HasAnswered (c : Setting) (s : NodeState) (task : Task) (log : Log) (event frame : ℕ) (before : List ℕ)
+    (result : Result Bool AdminFault) (host : Hosted CoreValue) (after : List ℕ) : Type 0 where
+  pub core : OnOk result (host.core ≡ record { setting = c; tables = tables_after c task s })
+  pub prints : OnOk result
+      (Prints log c.stations (event_lines event c.me.eui frame (answer real c s task)) before after)
+  pub sends : IfOk result (λ sends. sends ≡ is_some (answer real c s task).frame)
+
 -- When each fault of an event comes. Where there is no memory for its lines it was stored.
 abbrev pub IsHappeningFault : Telling → View → View → Hosted CoreValue → AdminFault → Type 0
 IsHappeningFault tells old new host NoMemory = Unrisen old.faults new.faults

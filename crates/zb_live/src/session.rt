@@ -7,8 +7,8 @@ ghost use Rattle.zb_centre_store.specs.Calls.{IsShort};
 ghost use Rattle.zb_centre_store.specs.Rows.{listed};
 ghost use Rattle.zb_centre_store.specs.Standing.{IsUp};
 ghost use Rattle.zb_disk.specs.View.{IsStill};
-ghost use Rattle.zb_live.specs.Alive.{CanGoOn, HasSaid, HasTaken, IsAlive, IsDeclared, IsLineFault, answer_text, done_by, living_of};
-ghost use Rattle.zb_live.specs.Happening.{HasHappened, IsHappeningFault};
+ghost use Rattle.zb_live.specs.Alive.{CanGoOn, HasFollowed, HasSaid, HasTaken, IsAlive, IsDeclared, IsLineFault, answer_text, done_by, living_of};
+ghost use Rattle.zb_live.specs.Happening.{HasAnswered, HasHappened, IsHappeningFault};
 ghost use Rattle.zb_live.specs.Living.{Found, cause_of, done, fresh, next as next_number, setting_of};
 ghost use Rattle.zb_live.specs.Shown.{Prints, event_lines};
 ghost use Rattle.zb_live_line.specs.Answers.{ok_text, refused_text};
@@ -168,6 +168,10 @@ fn happen<D: Disk>(
         → IsCalled c.stations c.me.eui place.now.me.bytes → the_centre c.stations ≡ c.me.eui
         → HasHappened c s (task_of event.now) place.now.log place.now.event place.now.frame (D.state disk.old)
         page.old.items result host.new (D.state disk.new) page.new.items }
+    ensures answered { (c : Setting) (s : NodeState) → host.old.core ≡ record { setting = c; tables = s }
+        → IsCalled c.stations c.me.eui place.now.me.bytes → the_centre c.stations ≡ c.me.eui
+        → HasAnswered c s (task_of event.now) place.now.log place.now.event place.now.frame page.old.items result
+        host.new page.new.items }
     ensures store { OnOk result (is_some host.new.store ≡ true) }
     ensures configured { OnOk result (host.new.core.setting ≡ host.old.core.setting) }
     ensures faults { IfErr result (IsHappeningFault D.tells (D.state disk.old) (D.state disk.new) host.old) }
@@ -273,6 +277,8 @@ impl Session {
             → IsAlive found self.old (D.state disk.old)
             → HasTaken found self.old (done_by number found Opens self.old) (D.state disk.old) page.old.items
             result self.new (D.state disk.new) page.new.items }
+        ensures follows { OnOk result (HasFollowed (λ found. done_by number found Opens self.old)
+            page.old.items self.new page.new.items) }
         ensures store { OnOk result (CanGoOn self.new) }
         ensures waits { OnOk result (self.new.centre ≡ None
             → (self.old.centre ≡ None) × IsStill (D.state disk.old) (D.state disk.new)) }
@@ -310,6 +316,8 @@ impl Session {
             → IsAlive found self.old (D.state disk.old)
             → HasTaken found self.old (done_by number found (Happens (event_of event)) self.old)
             (D.state disk.old) page.old.items result self.new (D.state disk.new) page.new.items }
+        ensures follows { OnOk result (HasFollowed (λ found. done_by number found (Happens (event_of event)) self.old)
+            page.old.items self.new page.new.items) }
         ensures store { OnOk result (CanGoOn self.new) }
         ensures waits { OnOk result (self.new.centre ≡ None
             → (self.old.centre ≡ None) × IsStill (D.state disk.old) (D.state disk.new)) }
@@ -379,6 +387,8 @@ impl Session {
             → IsAlive found self.old (D.state disk.old)
             → HasTaken found self.old (done_by number found (sentence_of line) self.old)
             (D.state disk.old) page.old.items result self.new (D.state disk.new) page.new.items }
+        ensures follows { OnOk result (HasFollowed (λ found. done_by number found (sentence_of line) self.old)
+            page.old.items self.new page.new.items) }
         ensures store { OnOk result (CanGoOn self.new) }
         ensures waits { OnOk result (self.new.centre ≡ None
             → (self.old.centre ≡ None) × IsStill (D.state disk.old) (D.state disk.new)) }
@@ -423,6 +433,9 @@ impl Session {
             → IsAlive found self.old (D.state disk.old)
             → HasTaken found self.old (done found line.now (living_of self.old))
             (D.state disk.old) page.old.items result self.new (D.state disk.new) page.new.items }
+        // Whatever the disk tells, its text and the session after it are those of the definition.
+        ensures follows { OnOk result (HasFollowed (λ found. done found line.now (living_of self.old))
+            page.old.items self.new page.new.items) }
         ensures store { OnOk result (CanGoOn self.new) }
         ensures waits { OnOk result (self.new.centre ≡ None
             → (self.old.centre ≡ None) × IsStill (D.state disk.old) (D.state disk.new)) }

@@ -1,3 +1,4 @@
 pub mod LineLemmas
 pub mod MomentLemmas
+pub mod FollowLemmas
 pub mod ServingLemmas

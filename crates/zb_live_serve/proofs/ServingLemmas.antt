@@ -19,11 +19,12 @@ use Rattle.zb_live.specs.Living.{Done, Found, Living, counted, done, fresh, happ
 use Rattle.zb_live.specs.Events.{task_for}
 use Rattle.zb_live.specs.declared.session.Session.{Session}
 use Rattle.zb_live_serve.proofs.LineLemmas.{lines_then, long_before, no_lines}
+use Rattle.zb_live_serve.proofs.FollowLemmas.{IsTold, told_all, told_cut, told_front, told_more, told_none}
 use Rattle.zb_live_serve.proofs.MomentLemmas.{SoFar, called, front_cut, front_of_all, nothing_cut, nothing_yet, one_more, read_more, told}
 use Rattle.zb_live_serve.specs.Faults.{fault_of}
 use Rattle.zb_live_serve.specs.Feeding.{IsInLine, IsTakeFault, IsNext, TakesFew}
 use Rattle.zb_live_serve.specs.Moments.{AnsweredFirst, Goes, Input, Moment}
-use Rattle.zb_live_serve.specs.ServedLines.{HasServedLine, IsServeFault}
+use Rattle.zb_live_serve.specs.ServedLines.{HasServedLine, HasWritten, HasWrittenFront, IsServeFault}
 use Rattle.zb_live_serve.specs.Serving.{Ended, IsLiveFault, Lives}
 use Rattle.zb_live_serve.specs.WholeLines.{whole_lines}
 use Rattle.zb_live_serve.specs.declared.fault.LiveFault.{LiveFault}
@@ -107,6 +108,7 @@ module _ {D W : Type 0} (x : Outside D W) (input : Input) (old : D) (before : W)
     pub alive : IsTrue x.tells.content → CanBeServed (x.state old) → IsAlive found session (x.state disk)
     pub so_far : IsTrue x.tells.content → CanBeServed (x.state old) → SoFar x found (x.state old) input before lines
         (living_of session) old disk out rest
+    pub wrote : IsTold lines (x.taken before) (x.taken out) (living_of session)
     pub waits : session.centre ≡ None → IsStill (x.state old) (x.state disk)
     pub unrisen : Unrisen (x.state old).faults (x.state disk).faults
     pub later : x.faults before ≤ x.faults out
@@ -127,6 +129,7 @@ module _ {D W : Type 0} (x : Outside D W) (input : Input) (old : D) (before : W)
         (sym none) (record { can = can; found_so = refl });
     so_far = λ told can. subst (λ (v : Living). SoFar x found (x.state old) input before [] v old old before input)
         (sym is) (nothing_yet x found (x.state old) input before old);
+    wrote = told_none (living_of session) (x.taken before) is;
     waits = λ e. still_refl (x.state old);
     unrisen = refl;
     later = omega arith;
@@ -211,6 +214,7 @@ module _ {D W : Type 0} (x : Outside D W) (input : Input) (old : D) (before : W)
           };
       alive = now.alive;
       so_far = read_so_far next none few;
+      wrote = now.wrote;
       waits = now.waits;
       unrisen = now.unrisen;
       later = now.later;
@@ -242,6 +246,8 @@ module _ {D W : Type 0} (x : Outside D W) (input : Input) (old : D) (before : W)
           );
       text = λ told can. (now.so_far told can).written;
       front = tt;
+      told = told_all now.lines (x.taken before) (x.taken out) (living_of session) now.wrote;
+      told_front = tt;
       last = λ told can image there. subst (λ (v : Living). Holds (x.state old) v.tables image)
           (now.so_far told can).session
           (at_first (x.state old) (x.state disk) (living_of session).tables image closed
@@ -263,6 +269,8 @@ module _ {D W : Type 0} (x : Outside D W) (input : Input) (old : D) (before : W)
       text = tt;
       front = λ told can. let s = so_far told can in front_of_all (x.taken before) (x.taken out)
           (served found now.lines fresh).text s.written;
+      told = tt;
+      told_front = told_front now.lines (x.taken before) (x.taken out) (living_of session) now.wrote;
       last = tt;
       moments = λ told can. let s = so_far told can in (s.between, s.goes);
       faults = fault;
@@ -341,8 +349,8 @@ module _ {D W : Type 0} (x : Outside D W) (input : Input) (old : D) (before : W)
         → HasServedLine x f session (done f text (living_of session)) disk out (Ok tt) session2 disk2 out2)
         → (session2.centre ≡ None → (session.centre ≡ None) × IsStill (x.state disk) (x.state disk2))
         → Unrisen (x.state disk).faults (x.state disk2).faults → x.faults out ≤ x.faults out2
-        → Loop session2 hold2 rest disk2 out2
-    goes_on hold2 line text session2 disk2 out2 is next served_it waits unrisen later =
+        → HasWritten text session (x.taken out) session2 (x.taken out2) → Loop session2 hold2 rest disk2 out2
+    goes_on hold2 line text session2 disk2 out2 is next served_it waits unrisen later writes =
         let taken = strip_carriage_return line.items in
         let each : (told : IsTrue x.tells.content) (can : CanBeServed (x.state old))
         → HasServedLine x found session (done found taken (living_of session)) disk out (Ok tt) session2 disk2
@@ -368,6 +376,10 @@ module _ {D W : Type 0} (x : Outside D W) (input : Input) (old : D) (before : W)
               (λ none. let w = waits (no_tables session2.centre none) in still_trans (x.state old) (x.state disk)
               (x.state disk2) (now.waits w.0) w.1)
               (held found session2 (x.state disk2) h.alive image there))) h.after_it;
+          wrote =
+              let w = subst (λ (l : Bytes). HasWritten l session (x.taken out) session2 (x.taken out2)) is writes in
+              told_more now.lines (x.taken before) (x.taken out) (living_of session) now.wrote taken w.0
+              (x.taken out2) (living_of session2) w.2 w.1;
           waits = λ e. let w = waits e in still_trans (x.state old) (x.state disk) (x.state disk2) (now.waits w.0) w.1;
           unrisen = unrisen ∙ now.unrisen;
           later = omega (arith, now.later, later);
@@ -406,8 +418,8 @@ module _ {D W : Type 0} (x : Outside D W) (input : Input) (old : D) (before : W)
         → HasServedLine x g session (done g text (living_of session)) disk out (Err f) session2 disk2 out2)
         → IsServeFault x session disk out disk2 out2 f
         → ((◌≡◌ {A = Ended} (Err f) (Err Disk) → ⊥) → Unrisen (x.state disk).faults (x.state disk2).faults)
-        → Lives x input old before (Err f) rest disk2 out2
-    ends_at hold2 line text session2 disk2 out2 f is next served_it fault stands =
+        → HasWrittenFront text session (x.taken out) (x.taken out2) → Lives x input old before (Err f) rest disk2 out2
+    ends_at hold2 line text session2 disk2 out2 f is next served_it fault stands writes =
         let taken = strip_carriage_return line.items in
         let each : (told : IsTrue x.tells.content) (can : CanBeServed (x.state old))
         → HasServedLine x found session (done found taken (living_of session)) disk out (Err f) session2 disk2
@@ -421,6 +433,11 @@ module _ {D W : Type 0} (x : Outside D W) (input : Input) (old : D) (before : W)
           all = tt;
           text = tt;
           front = λ told can. front_at taken disk2 out2 f session2 (now.so_far told can) (each told can);
+          told = tt;
+          told_front =
+              let w = subst (λ (l : Bytes). HasWrittenFront l session (x.taken out) (x.taken out2)) is writes in
+              told_cut now.lines (x.taken before) (x.taken out) (living_of session) now.wrote taken w.0 (x.taken out2)
+              w.1;
           last = tt;
           moments = λ told can. way_at taken disk2 out2 f session2 (now.so_far told can) (each told can);
           faults = serve_fault disk2 out2 f fault;

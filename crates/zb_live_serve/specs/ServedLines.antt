@@ -1,15 +1,17 @@
 -- A line of a session that is served: it was taken, and then what it writes was written; or the session ends at it.
-use Rattle.std.specs.Prelude.{ℕ, ◌≡◌, ◌⊎◌, List, None, Result, OnOk, OnErr}
+use Rattle.std.specs.Prelude.{ℕ, ◌≡◌, ◌⊎◌, List, Option, None, Result, Ok, OnOk, OnErr}
 use Rattle.std.specs.Io.KnownBytes.{Appends}
 use Rattle.zb_base.specs.Outside.{AppendsFront, Rose}
 use Rattle.zb_centre_store.specs.Outside.{Outside}
 use Rattle.zb_centre_store.specs.declared.fault.AdminFault.TheVariants as store
 use Rattle.zb_disk.specs.View.{IsStill, LeavesOnly}
 use Rattle.zb_live.specs.Alive.{Holds, HoldsEither, IsAlive, IsLineFault, living_of}
-use Rattle.zb_live.specs.Living.{Done, Found}
+use Rattle.zb_live.specs.Living.{Done, Found, done}
 use Rattle.zb_live.specs.declared.session.Session.{Session}
 use Rattle.zb_live_serve.specs.declared.fault.LiveFault.{LiveFault}
 use Rattle.zb_live_serve.specs.declared.fault.LiveFault.TheVariants.{Read, TooLong, Write, Disk, NoStore, BadStore, Worn, NoMemory}
+use Rattle.zb_model.specs.Data.{Bytes}
+use Rattle.zb_model.specs.State.{NodeState}
 
 pub record HasServedLine {D W : Type 0} (x : Outside D W) (found : Found) (session : Session) (d : Done) (old : D)
     (before : W) (result : Result (Unit {0}) LiveFault) (next : Session) (new : D) (after : W) : Type 0 where
@@ -23,6 +25,18 @@ pub record HasServedLine {D W : Type 0} (x : Outside D W) (found : Found) (sessi
       ⊎ (AppendsFront (x.taken before) (x.taken after) d.text
       × ((image : List ℕ) → (x.state new).images image → Holds (x.state new) d.after.tables image)
       × (d.after.tables ≡ None → IsStill (x.state old) (x.state new))))
+
+-- Over any store, one that tells nothing too, what a line writes was written, and the session is the one after it.
+-- Where it opens the session, some tables are found in the store, or none.
+abbrev pub HasWritten : Bytes → Session → Option Bytes → Session → Option Bytes → Type 0
+HasWritten line session before next after =
+    (found : Option NodeState) × Appends before after (done (Ok found) line (living_of session)).text
+    × (living_of next ≡ (done (Ok found) line (living_of session)).after)
+
+-- or a prefix of it was
+abbrev pub HasWrittenFront : Bytes → Session → Option Bytes → Option Bytes → Type 0
+HasWrittenFront line session before after =
+    (found : Option NodeState) × AppendsFront before after (done (Ok found) line (living_of session)).text
 
 -- when each fault comes
 abbrev pub IsServeFault : {D W : Type 0} → Outside D W → Session → D → W → D → W → LiveFault → Type 0

@@ -8,6 +8,7 @@ use Rattle.zb_centre_store.specs.declared.fault.AdminFault.TheVariants as store
 use Rattle.zb_live.specs.Alive.{Holds}
 use Rattle.zb_live.specs.Living.{fresh, served}
 use Rattle.zb_live_serve.specs.Feeding.{BeginsLong}
+use Rattle.zb_live_serve.specs.Following.{WritesAll, WritesFront}
 use Rattle.zb_live_serve.specs.Moments.{Goes, Input, Moment}
 use Rattle.zb_live_serve.specs.WholeLines.{whole_lines}
 use Rattle.zb_live_serve.specs.declared.fault.LiveFault.{LiveFault}
@@ -47,6 +48,10 @@ pub record Lives {D W : Type 0} (x : Outside D W) (input : Input) (old : D) (bef
       → Appends (x.taken before) (x.taken after) (served (found_on (x.state old).seen) lines fresh).text)
   pub front : OnErr result (IsTrue x.tells.content → CanBeServed (x.state old)
       → AppendsFront (x.taken before) (x.taken after) (served (found_on (x.state old).seen) lines fresh).text)
+  -- over any store: at Ok what was written is the text of these lines, going on from some tables or none where one
+  -- opens the session, and at a fault a prefix of such a text
+  pub told : OnOk result (WritesAll lines (x.taken before) (x.taken after))
+  pub told_front : OnErr result (WritesFront lines (x.taken before) (x.taken after))
   -- at Ok every image holds the session after them
   pub last : OnOk result
       (IsTrue x.tells.content → CanBeServed (x.state old) → (image : List ℕ) → (x.state new).images image

@@ -7,7 +7,7 @@ ghost use Rattle.zb_centre_store.specs.Outside.{outside};
 ghost use Rattle.zb_disk.specs.View.{IsStill};
 ghost use Rattle.zb_live.specs.Alive.{CanGoOn, IsAlive, living_of};
 ghost use Rattle.zb_live.specs.Living.{Found, done};
-ghost use Rattle.zb_live_serve.specs.ServedLines.{HasServedLine, IsServeFault};
+ghost use Rattle.zb_live_serve.specs.ServedLines.{HasServedLine, HasWritten, HasWrittenFront, IsServeFault};
 ghost use Rattle.zb_live_serve.specs.Moments.{input_of};
 ghost use Rattle.zb_live_serve.specs.Serving.{Lives};
 
@@ -61,6 +61,11 @@ fn serve_line<W: Sink, D: Disk>(
         → IsAlive found session.old (D.state disk.old)
         → HasServedLine (outside D.tells D.state W.taken W.faults) found session.old
         (done found line.now (living_of session.old)) disk.old output.old result session.new disk.new output.new }
+    // Whatever the disk tells, it writes what the definition says.
+    ensures told { OnOk result
+        (HasWritten line.now session.old (W.taken output.old) session.new (W.taken output.new)) }
+    ensures told_front { OnErr result
+        (HasWrittenFront line.now session.old (W.taken output.old) (W.taken output.new)) }
     ensures store { OnOk result (CanGoOn session.new) }
     ensures empty { OnOk result (page.new.items ≡ []) }
     ensures waits { OnOk result (session.new.centre ≡ None

@@ -3,7 +3,7 @@ use Rattle.zb_centre_store.specs.Tasks.{task_of}
 use Rattle.zb_centre_store.specs.declared.fault.AdminFault.TheVariants.{Disk}
 use Rattle.zb_centre_store.proofs.StoreLemmas.{same_fault}
 use Rattle.zb_stored_tables.specs.Cores.{CoreValue}
-use Rattle.zb_live.proofs.SessionLemmas.{always, event_lines_lack, event_lines_stand, handled_fault, no_setting, told_short}
+use Rattle.zb_live.proofs.SessionLemmas.{always, event_lines_lack, event_lines_stand, handled_fault, lines_answered, no_setting, told_short}
 use Rattle.zb_live.proofs.session.happen.Goals as goal
 
 pub returns-in-Ok-clause-happened : goal.returns-in-Ok-clause-happened
@@ -47,3 +47,15 @@ returns-in-Ok-clause-configured g c =
     let core = c.args.host.now.core in
     always c.tell.result
     (ap (λ (x : CoreValue). x.setting) ((c.in-Ok.ensures.handled core.setting).follows core.tables refl).1)
+
+pub returns-in-Ok-clause-answered : goal.returns-in-Ok-clause-answered
+returns-in-Ok-clause-answered g c = λ setting s core called centre.
+    let place = c.args.place.now in
+    lines_answered g.D.Disk.tells setting s (task_of c.args.event.now) place.log place.event place.frame
+    place.me.bytes c.args.host.now c.handle.new.host (g.D.Disk.state c.args.disk.now)
+    (g.D.Disk.state c.handle.new.disk) c.in-Ok.plan c.tell.result c.args.page.now.items c.tell.new.page.items core
+    (c.in-Ok.ensures.handled setting) c.tell.ensures.prints c.tell.ensures.sends called centre
+
+pub returns-in-Err-clause-answered : goal.returns-in-Err-clause-answered
+returns-in-Err-clause-answered g c =
+    λ setting s core called centre. record { core = tt; prints = tt; sends = tt }

@@ -49,7 +49,7 @@ returns-in_err-serve_line-in-Some g c =
     c.serve_line.new.output c.in_err-serve_line-in-Some.field-0.0
     (c.without_carriage_return.ensures ∙ ap strip_carriage_return c.as_slice.ensures.value) next
     c.in_err-serve_line-in-Some.ensures.served c.in_err-serve_line-in-Some.ensures.faults
-    c.in_err-serve_line-in-Some.ensures.unrisen)
+    c.in_err-serve_line-in-Some.ensures.unrisen c.in_err-serve_line-in-Some.ensures.told_front)
 
 pub returns-in_err-read_on-in-None : goal.returns-in_err-read_on-in-None
 returns-in_err-read_on-in-None g c =
@@ -95,7 +95,8 @@ loop-preserved g c =
           c.serve_line.new.output
           (c.without_carriage_return.ensures ∙ ap strip_carriage_return c.as_slice.ensures.value) next
           c.in_ok-serve_line-in-Some.ensures.served c.in_ok-serve_line-in-Some.ensures.waits
-          (c.in_ok-serve_line-in-Some.ensures.unrisen (λ is. cc is)) c.in_ok-serve_line-in-Some.ensures.later,
+          (c.in_ok-serve_line-in-Some.ensures.unrisen (λ is. cc is)) c.in_ok-serve_line-in-Some.ensures.later
+          c.in_ok-serve_line-in-Some.ensures.told,
       c.in_ok-serve_line-in-Some.ensures.store,
       c.in_ok-serve_line-in-Some.ensures.empty,
     )

@@ -1,6 +1,7 @@
 use Rattle.zb_centre_store.specs.Outside.{outside}
 use Rattle.zb_live.specs.Alive.{living_of}
 use Rattle.zb_live.specs.Living.{done}
+use Rattle.zb_live_serve.proofs.FollowLemmas.{line_told, line_told_front, line_untold}
 use Rattle.zb_live_serve.proofs.ServingLemmas.{always, line_cut, line_fault, line_stands, line_written, write_fault}
 use Rattle.zb_live_serve.proofs.serving.serve_line.Goals as goal
 
@@ -44,3 +45,19 @@ returns-in-Err-clause-faults g c =
 
 pub returns-in-Err-clause-unrisen : goal.returns-in-Err-clause-unrisen
 returns-in-Err-clause-unrisen g c = line_stands c.in-Err.fault _ _ _ c.from.ensures c.in-Err.ensures.unrisen
+
+pub returns-in-Ok-clause-told : goal.returns-in-Ok-clause-told
+returns-in-Ok-clause-told g c =
+    line_told c.args.line.now c.args.session.now c.take.new.self c.args.page.now.items c.take.new.page.items
+    c.requires.empty c.in-Ok.ensures.follows c.write_page.result (g.W.Sink.taken c.args.output.now)
+    (g.W.Sink.taken c.write_page.new.output) c.write_page.ensures.whole
+
+pub returns-in-Ok-clause-told_front : goal.returns-in-Ok-clause-told_front
+returns-in-Ok-clause-told_front g c =
+    line_told_front c.args.line.now c.args.session.now c.take.new.self c.args.page.now.items c.take.new.page.items
+    c.requires.empty c.in-Ok.ensures.follows c.write_page.result (g.W.Sink.taken c.args.output.now)
+    (g.W.Sink.taken c.write_page.new.output) c.write_page.ensures.front
+
+pub returns-in-Err-clause-told_front : goal.returns-in-Err-clause-told_front
+returns-in-Err-clause-told_front g c =
+    line_untold c.args.line.now c.args.session.now (g.W.Sink.taken c.args.output.now)

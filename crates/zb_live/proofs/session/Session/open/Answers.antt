@@ -1,4 +1,4 @@
-use Rattle.std.proofs.Common.{◌∙◌, refl, sym}
+use Rattle.std.proofs.Common.{◌∙◌, None, Some, refl, sym}
 use Rattle.zb_centre_store.specs.declared.fault.AdminFault.TheVariants.{Disk}
 use Rattle.zb_centre_store.proofs.StoreLemmas.{same_fault}
 use Rattle.zb_disk.proofs.Moments.{still_refl}
@@ -6,7 +6,7 @@ use Rattle.zb_live.specs.Alive.{living_of}
 use Rattle.zb_live.specs.Living.{refused}
 use Rattle.zb_live_line.specs.declared.cause.Cause.TheVariants as cause
 use Rattle.zb_setting.specs.Settings.{setting_for}
-use Rattle.zb_live.proofs.SessionLemmas.{always, on_ok, opened_some, said, said_closed, said_open, setting_is, short_fault}
+use Rattle.zb_live.proofs.SessionLemmas.{always, on_ok, opened_follows, opened_some, said, said_closed, said_follows, said_open, setting_is, short_fault}
 use Rattle.zb_live.proofs.session.Session.open.Goals as goal
 
 pub returns-then-is_open-clause-taken : goal.returns-then-is_open-clause-taken
@@ -82,3 +82,33 @@ returns-in-Ok-Some-clause-store g c =
           ∙ sym
           (setting_is c.config.result.now c.args.self.now.network _ c.config.ensures.network c.config.ensures.me),
     )
+
+pub returns-then-is_open-clause-follows : goal.returns-then-is_open-clause-follows
+returns-then-is_open-clause-follows g c =
+    said_follows c.args.number _ c.args.self.now c.args.self.now c.args.page.now.items _ c.refuse.result
+    (on_ok c.refuse.result
+    (λ t. said_open c.args.number _ c.args.self.now c.args.page.now.items _ cause.Opened
+    (sym c.is_open.ensures ∙ c.if-is_open.true) (λ found s. refl) t) c.refuse.ensures.text)
+
+pub returns-then-not-has_centre-clause-follows : goal.returns-then-not-has_centre-clause-follows
+returns-then-not-has_centre-clause-follows g c =
+    said_follows c.args.number _ c.args.self.now c.args.self.now c.args.page.now.items _
+    c.refuse-then-not-has_centre.result
+    (on_ok c.refuse-then-not-has_centre.result
+    (λ t. said_closed c.args.number _ c.args.self.now c.args.self.now c.args.page.now.items _
+    (refused c.args.number cause.NoCentre (living_of c.args.self.now))
+    (sym c.is_open.ensures ∙ c.if-is_open.false)
+    (λ found. rw (sym c.has_centre.ensures ∙ c.if-not-has_centre.true) refl) t refl refl)
+    c.refuse-then-not-has_centre.ensures.text)
+
+pub returns-in-Ok-Some-clause-follows : goal.returns-in-Ok-Some-clause-follows
+returns-in-Ok-Some-clause-follows g c =
+    opened_follows c.args.number c.args.self.now _ c.args.page.now.items _ (Some c.in-Ok-Some.host.core.tables) _
+    c.confirm.result (sym c.is_open.ensures ∙ c.if-is_open.false)
+    (sym c.has_centre.ensures ∙ c.if-not-has_centre.false) refl c.confirm.ensures.text refl
+
+pub returns-in-Ok-None-clause-follows : goal.returns-in-Ok-None-clause-follows
+returns-in-Ok-None-clause-follows g c =
+    opened_follows c.args.number c.args.self.now c.args.self.now c.args.page.now.items _ None _
+    c.refuse-in-Ok-None.result (sym c.is_open.ensures ∙ c.if-is_open.false)
+    (sym c.has_centre.ensures ∙ c.if-not-has_centre.false) refl c.refuse-in-Ok-None.ensures.text refl

@@ -1,6 +1,8 @@
 use Rattle.zb_disk.proofs.Moments.{still_refl}
+use Rattle.zb_live.specs.Alive.{done_by, living_of}
+use Rattle.zb_live.specs.Living.{done}
 use Rattle.zb_live_line.specs.Views.{sentence_of}
-use Rattle.zb_live.proofs.SessionLemmas.{always, counted_faults, counted_taken, line_is, short_fault, unread_taken}
+use Rattle.zb_live.proofs.SessionLemmas.{always, counted_faults, counted_taken, follows_as, line_is, short_fault, unread_follows, unread_taken}
 use Rattle.zb_live.proofs.session.Session.take.Goals as goal
 
 pub returns-in-Some-clause-taken : goal.returns-in-Some-clause-taken
@@ -31,3 +33,19 @@ returns-in-None-clause-waits g c = always c.refuse.result (λ none. (none, still
 pub returns-in-None-clause-faults : goal.returns-in-None-clause-faults
 returns-in-None-clause-faults g c = short_fault g.D.Disk.tells c.args.self.now (g.D.Disk.state c.args.disk.now)
     c.refuse.result c.refuse.ensures.short
+
+pub returns-in-Some-clause-follows : goal.returns-in-Some-clause-follows
+returns-in-Some-clause-follows g c =
+    let old = c.args.self.now in
+    let n = c.next_number-self.result in
+    let sentence = sentence_of c.in-Some.line in
+    follows_as (λ found. done_by n found sentence (record old { lines = n }))
+    (λ found. done found c.args.line.now (living_of old)) c.args.page.now.items c.take_line.new.self _
+    c.take_line.result
+    (λ found. line_is found c.args.line.now old n sentence c.next_number-self.ensures c.in-Some.ensures.value)
+    c.take_line.ensures.follows
+
+pub returns-in-None-clause-follows : goal.returns-in-None-clause-follows
+returns-in-None-clause-follows g c =
+    unread_follows c.next_number-self.result c.args.self.now c.args.line.now c.args.page.now.items _ c.refuse.result
+    c.next_number-self.ensures c.in-None.ensures.value c.refuse.ensures.text

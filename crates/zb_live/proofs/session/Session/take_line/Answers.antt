@@ -1,8 +1,8 @@
-use Rattle.std.proofs.Common.{Ok, subst, sym}
+use Rattle.std.proofs.Common.{Ok, ap, subst, sym}
 use Rattle.zb_live.specs.Alive.{HasTaken, done_by}
 use Rattle.zb_live_line.specs.Views.{sentence_of}
 use Rattle.zb_live_line.specs.declared.line.Line.{Line}
-use Rattle.zb_live.proofs.SessionLemmas.{blank_said, said, said_can, said_taken, said_waits, short_fault}
+use Rattle.zb_live.proofs.SessionLemmas.{blank_said, follows_of, said, said_can, said_follows, said_taken, said_waits, short_fault}
 use Rattle.zb_live.proofs.session.Session.take_line.Goals as goal
 
 pub returns-in-Blank-clause-taken : goal.returns-in-Blank-clause-taken
@@ -134,3 +134,60 @@ returns-in-Event-clause-taken g c = λ told found alive.
     (g.D.Disk.state c.args.disk.now) c.args.page.now.items c.take_event.result c.take_event.new.self
     (g.D.Disk.state c.take_event.new.disk) c.take_event.new.page.items) (sym c.in-Event.is)
     (c.take_event.ensures.taken told found alive)
+
+pub returns-in-Blank-clause-follows : goal.returns-in-Blank-clause-follows
+returns-in-Blank-clause-follows g c =
+    let old = c.args.self.now in
+    let front = c.args.page.now.items in
+    follows_of c.args.number old old front _ (Ok tt) _ _ (ap sentence_of (sym c.in-Blank.is))
+    (said_follows c.args.number _ old old front _ (Ok tt) (blank_said c.args.number old front))
+
+pub returns-in-Centre-clause-follows : goal.returns-in-Centre-clause-follows
+returns-in-Centre-clause-follows g c =
+    let old = c.args.self.now in
+    let front = c.args.page.now.items in
+    follows_of c.args.number old c.take_centre.new.self front _ c.take_centre.result _ _
+    (ap sentence_of (sym c.in-Centre.is))
+    (said_follows c.args.number _ old c.take_centre.new.self front _ c.take_centre.result c.take_centre.ensures.said)
+
+pub returns-in-Peer-clause-follows : goal.returns-in-Peer-clause-follows
+returns-in-Peer-clause-follows g c =
+    let old = c.args.self.now in
+    let front = c.args.page.now.items in
+    follows_of c.args.number old c.take_peer.new.self front _ c.take_peer.result _ _
+    (ap sentence_of (sym c.in-Peer.is))
+    (said_follows c.args.number _ old c.take_peer.new.self front _ c.take_peer.result c.take_peer.ensures.said)
+
+pub returns-in-Log-clause-follows : goal.returns-in-Log-clause-follows
+returns-in-Log-clause-follows g c =
+    let old = c.args.self.now in
+    let front = c.args.page.now.items in
+    follows_of c.args.number old c.choose_log.new.self front _ c.choose_log.result _ _
+    (ap sentence_of (sym c.in-Log.is))
+    (said_follows c.args.number _ old c.choose_log.new.self front _ c.choose_log.result c.choose_log.ensures.said)
+
+pub returns-in-List-clause-follows : goal.returns-in-List-clause-follows
+returns-in-List-clause-follows g c =
+    let old = c.args.self.now in
+    let front = c.args.page.now.items in
+    follows_of c.args.number old old front _ c.list.result _ _
+    (ap sentence_of (sym c.in-List.is))
+    (said_follows c.args.number _ old old front _ c.list.result c.list.ensures.said)
+
+pub returns-in-Backup-clause-follows : goal.returns-in-Backup-clause-follows
+returns-in-Backup-clause-follows g c =
+    let old = c.args.self.now in
+    let front = c.args.page.now.items in
+    follows_of c.args.number old old front _ c.back_up.result _ _
+    (ap sentence_of (sym c.in-Backup.is))
+    (said_follows c.args.number _ old old front _ c.back_up.result c.back_up.ensures.said)
+
+pub returns-in-Open-clause-follows : goal.returns-in-Open-clause-follows
+returns-in-Open-clause-follows g c =
+    follows_of c.args.number c.args.self.now c.open.new.self c.args.page.now.items _ c.open.result _ _
+    (ap sentence_of (sym c.in-Open.is)) c.open.ensures.follows
+
+pub returns-in-Event-clause-follows : goal.returns-in-Event-clause-follows
+returns-in-Event-clause-follows g c =
+    follows_of c.args.number c.args.self.now c.take_event.new.self c.args.page.now.items _ c.take_event.result _ _
+    (ap sentence_of (sym c.in-Event.is)) c.take_event.ensures.follows

@@ -1,0 +1,23 @@
+-- What the lines of a session write over any store, one that tells nothing too. Each goes on from the session that the
+-- one before it left. Where a line opens the session, some tables are found in the store, or none.
+use Rattle.std.specs.Prelude.{◌≡◌, ◌++◌, List, [], ◌∷◌, Option, Ok}
+use Rattle.std.specs.Io.KnownBytes.{Appends}
+use Rattle.zb_base.specs.Outside.{AppendsFront}
+use Rattle.zb_live.specs.Living.{Living, done, fresh}
+use Rattle.zb_model.specs.Data.{Bytes}
+use Rattle.zb_model.specs.State.{NodeState}
+
+-- the text is that of lines, one after the other, the first of which finds the session so
+abbrev pub Writes : List Bytes → Living → Bytes → Type 0
+Writes [] v text = text ≡ []
+Writes (line ∷ lines) v text =
+    (found : Option NodeState) × (more : Bytes) × (text ≡ (done (Ok found) line v).text ++ more)
+    × Writes lines (done (Ok found) line v).after more
+
+-- all of such a text was written, from the first line of a session on
+abbrev pub WritesAll : List Bytes → Option Bytes → Option Bytes → Type 0
+WritesAll lines before after = (text : Bytes) × Writes lines fresh text × Appends before after text
+
+-- a prefix of such a text was written
+abbrev pub WritesFront : List Bytes → Option Bytes → Option Bytes → Type 0
+WritesFront lines before after = (text : Bytes) × Writes lines fresh text × AppendsFront before after text
