@@ -1,7 +1,22 @@
-//! Tests of the base over its public calls: sources and sinks that fail, and work that is cut into shares.
+//! Tests of what is below the nodes, over its public calls: adapters of input and output, cryptography by published
+//! vectors and frames and commands as they are on the air.
 #![tactic(auto)]
 
 #[cfg(test)]
-mod outside;
+mod adapters;
 #[cfg(test)]
-mod shares;
+mod aes;
+#[cfg(test)]
+mod ccm;
+#[cfg(test)]
+mod commands;
+#[cfg(test)]
+mod counting;
+#[cfg(test)]
+mod crc;
+#[cfg(test)]
+mod hash;
+#[cfg(test)]
+mod install_codes;
+#[cfg(test)]
+mod seals;

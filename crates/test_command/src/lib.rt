@@ -1,9 +1,20 @@
-//! Tests of the program's commands over the public call `run`: worked runs, refusals, sources and sinks that fail.
+//! Tests of the program over public calls: worked runs of each command, sources and sinks that fail, stops and
+//! failures of disks, disks that others take the place of, and work that really runs at once.
 #![tactic(auto)]
 
 #[cfg(test)]
-mod campaigns;
+mod captures;
 #[cfg(test)]
-mod joins;
+mod falls;
+#[cfg(test)]
+mod gates;
 #[cfg(test)]
 mod runs;
+#[cfg(test)]
+mod steps;
+#[cfg(test)]
+mod swaps;
+#[cfg(test)]
+mod texts;
+#[cfg(test)]
+mod worked;

@@ -1,9 +1,8 @@
-//! Disks: a value of each call as a person reckons it, faults and stops, and what a file holds.
-use crate::support::pattern;
+//! Disks: what a file holds, that one process alone has it, and its mode and size. No contract speaks of these.
 use std::os::unix::fs::MetadataExt;
 use std::process::Abort;
 use std::test::Fail;
-use zb_disk::{Disk, FileDisk, MemDisk, TrailDisk};
+use zb_disk::{Disk, FileDisk, TrailDisk};
 
 // What is done with a disk, and what it answers.
 enum Step {
@@ -59,123 +58,8 @@ const CALLS: [Step; 7] = [
 ];
 
 #[test]
-fn disks_in_memory(rt: HostRuntime) -> Result<(), Fail> {
-    follow(&rt, &mut MemDisk::new(rt.alloc(), &[1, 2])?, &CALLS);
+fn a_disk_with_a_trail(rt: HostRuntime) -> Result<(), Fail> {
     follow(&rt, &mut TrailDisk::new(rt.alloc(), &[1, 2], 2, 2)?, &CALLS);
-    Ok(())
-}
-
-// What is done with a disk in memory that stops or fails.
-enum Turn {
-    Step(Step),
-    ArmStop(u8, &'static [u8]),
-    ArmFail(u8),
-    Disarm,
-    PowerOn,
-    // Whether the disk is off.
-    IsOff(bool),
-    // The disk's bytes.
-    Bytes(&'static [u8]),
-}
-
-// Whether a disk in memory has these bytes.
-fn has(disk: &MemDisk, bytes: &[u8]) -> bool {
-    disk.bytes() == bytes
-}
-
-// Whether a disk in memory answers as it should.
-fn is_so(disk: &mut MemDisk, turn: &Turn) -> bool {
-    match turn {
-        Turn::Step(step) => return answers(disk, step),
-        Turn::IsOff(off) => return disk.is_off() == *off,
-        Turn::Bytes(bytes) => return has(disk, bytes),
-        Turn::ArmStop(calls, torn) => disk.arm_stop(*calls, pattern(torn)),
-        Turn::ArmFail(call) => disk.arm_fail(*call),
-        Turn::Disarm => disk.disarm(),
-        Turn::PowerOn => disk.power_on(),
-    }
-    true
-}
-
-// Takes turns with a disk in memory that holds these bytes.
-fn play(rt: &(impl AllocGlobal + Abort), bytes: &[u8], turns: &[Turn]) -> Result<(), Fail> {
-    assert!(rt; bytes.len() < 1_000);
-    let mut disk = MemDisk::new(rt.alloc(), bytes)?;
-    for (place, turn) in turns.iter().enumerate() {
-        assert!(rt; is_so(&mut disk, turn), "turn {place}");
-    }
-    Ok(())
-}
-
-const TORN_RUNS: [Turn; 18] = [
-    Turn::Step(Step::Write(0, &[2], true)),
-    Turn::Step(Step::Sync(true)),
-    Turn::ArmStop(4, &[5, 6, 7]),
-    // Ranges that touch are one run. The bytes of the gap past the old end are no part of a run.
-    Turn::Step(Step::Write(2, &[3], true)),
-    Turn::Step(Step::Write(3, &[3, 3, 3], true)),
-    Turn::Step(Step::Write(1, &[3], true)),
-    Turn::Step(Step::Write(8, &[3, 3], true)),
-    Turn::Step(Step::Write(0, &[9], false)),
-    Turn::IsOff(true),
-    Turn::Step(Step::Sync(false)),
-    Turn::Step(Step::Size(None)),
-    Turn::Step(Step::Four(0, None)),
-    Turn::PowerOn,
-    Turn::Bytes(&[2, 5, 6, 7, 5, 6, 0, 0, 5, 6]),
-    // Nothing is unsynced any more.
-    Turn::ArmStop(0, &[5]),
-    Turn::Step(Step::Sync(false)),
-    Turn::PowerOn,
-    Turn::Bytes(&[2, 5, 6, 7, 5, 6, 0, 0, 5, 6]),
-];
-
-#[test]
-fn a_stop_tears_each_run(rt: HostRuntime) -> Result<(), Fail> {
-    play(&rt, &[1; 4], &TORN_RUNS)
-}
-
-const ARMINGS: [Turn; 18] = [
-    Turn::ArmFail(2),
-    Turn::Step(Step::Write(0, &[1], true)),
-    Turn::Step(Step::Sync(false)),
-    Turn::IsOff(false),
-    Turn::Step(Step::Sync(true)),
-    // A later arming replaces an earlier one, and a stop without bytes leaves what was written.
-    Turn::ArmFail(1),
-    Turn::ArmStop(1, &[]),
-    Turn::Step(Step::Write(1, &[2], true)),
-    Turn::Step(Step::Sync(false)),
-    Turn::ArmFail(3),
-    Turn::Disarm,
-    Turn::Step(Step::Sync(false)),
-    Turn::PowerOn,
-    Turn::Bytes(&[1, 2]),
-    Turn::ArmStop(0, &[5]),
-    Turn::Disarm,
-    Turn::Step(Step::Write(1, &[3], true)),
-    Turn::Step(Step::Sync(true)),
-];
-
-#[test]
-fn armings_count_from_their_own_call(rt: HostRuntime) -> Result<(), Fail> {
-    play(&rt, &[], &ARMINGS)
-}
-
-const TRAIL: [Step; 6] = [
-    Step::Write(0, &[1; 6], false),
-    Step::Write(1, &[2; 3], true),
-    Step::Write(0, &[3; 3], false),
-    Step::Write(4, &[3; 2], true),
-    Step::Sync(true),
-    Step::Sync(false),
-];
-
-#[test]
-fn a_trail_has_its_room(rt: HostRuntime) -> Result<(), Fail> {
-    let mut disk = TrailDisk::new(rt.alloc(), &[4], 3, 5)?;
-    follow(&rt, &mut disk, &TRAIL);
-    assert!(rt; disk.bytes() == [4, 2, 2, 2, 3, 3].as_slice());
     Ok(())
 }
 

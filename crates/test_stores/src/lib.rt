@@ -1,14 +1,9 @@
-//! Tests of disks, stores and hosts over their public calls: stops, failures, torn writes and bad disks.
-//!
-//! The core of the hosts, `tally`, counts what it sealed.
+//! Tests of stores over their public calls: what a file of a disk holds, the layout of a store, and worked records.
 #![tactic(auto)]
 
 #[cfg(test)]
 mod disks;
 #[cfg(test)]
-mod hosts;
+mod records;
 #[cfg(test)]
 mod stores;
-#[cfg(test)]
-mod support;
-mod tally;
