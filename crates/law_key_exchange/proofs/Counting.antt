@@ -72,7 +72,8 @@ both_go_on tools c s k accepts place moves net to label link command key sequenc
     let a = answer_by tools c s k p in
     let v = accepted_all a.accepts (applied_all a.edits s) in
     let inner = aps_term sealed_command label link c.me.eui (k.counter Aps) (tools.spelled command) in
-    let outer = nwk_term secured_frame to c.me.short c.me.eui net.key net.sequence (k.counter Nwk) (tools.wire inner) in
+    let outer = nwk_term secured_frame to c.me.short c.me.eui net.key net.sequence (k.counter Nwk)
+    (tools.wire inner) in
     let seals = two_seals tools c s k accepts place moves net to label link command active unspent in
     let u = sealed_all a.seals v in
     let nets : u.nets ≡ at_net net.key (next_at (k.counter Nwk + 1)) v.nets =

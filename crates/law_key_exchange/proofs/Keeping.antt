@@ -237,7 +237,8 @@ proof_comes s u p key told rules h e =
       none_offered =
           none_before bare_link (offered u p)
           (offered_bare u p ∙ ap (find (is_offer p)) e ∙ none_offered_then p h.row.key key told (bare_link h.offer)
-          (map bare_link s.links) (bare_apart s rules) (sym (offered_bare s p) ∙ ap (option_map bare_link) h.is_offered)
+          (map bare_link s.links) (bare_apart s rules)
+          (sym (offered_bare s p) ∙ ap (option_map bare_link) h.is_offered)
           h.offer_key);
     }
 

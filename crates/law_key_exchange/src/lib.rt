@@ -1,6 +1,6 @@
 //! A device that has the network key gets a link key of its own from its centre, event by event: it asks, the centre
-//! offers a key, the device proves that it has it, and the centre confirms. Each law is the contract of a function with
-//! an empty body; docs/THEOREMS.md says it in words.
+//! offers a key, the device proves that it has it, and the centre confirms. Each law is the contract of a function
+//! with an empty body; docs/THEOREMS.md says it in words.
 #![tactic(auto)]
 
 ghost use Rattle.std.specs.Prelude.{◌≡◌, ℕ, ◌≤◌, true, false, length, Option, Some, None};
@@ -96,7 +96,8 @@ pub fn a_joined_device_keeps_an_offered_key()
         (key : Bytes) (draw : Option Bytes) → AreDeclared c m → StationsInRange c m → NwkInRange k → ApsInRange k
         → length key ≡ 16 → keeps_rules t ≡ true → IsJoined t c.me.eui k.key k.sequence k.link
         → has_link c.me.eui key t.links ≡ false → why_offer_not_kept t c.me.eui k key ≡ None
-        → IsOffered (after_task tools m t (Received (offer_bytes tools c m k key) draw)) c.me.eui k.key k.sequence key }
+        → IsOffered (after_task tools m t (Received (offer_bytes tools c m k key) draw))
+        c.me.eui k.key k.sequence key }
     ensures silent { (tools : Tools) → DeliversCommands tools → (c m : Setting) (t : NodeState) (k : Seals)
         (key : Bytes) (draw : Option Bytes) → AreDeclared c m → StationsInRange c m → NwkInRange k → ApsInRange k
         → length key ≡ 16 → keeps_rules t ≡ true → IsJoined t c.me.eui k.key k.sequence k.link
@@ -152,7 +153,8 @@ pub fn a_device_is_confirmed()
     ensures refused { (tools : Tools) → DeliversCommands tools → (c m : Setting) (t : NodeState) (k : Seals)
         (draw : Option Bytes) → AreDeclared c m → StationsInRange c m → NwkInRange k → ApsInRange k
         → IsOffered t c.me.eui k.key k.sequence k.link
-        → (answer tools m t (Received (confirmation_bytes tools c m k) draw)).refusal ≡ why_not_confirmed t c.me.eui k }
+        → (answer tools m t (Received (confirmation_bytes tools c m k) draw)).refusal
+        ≡ why_not_confirmed t c.me.eui k }
     ensures confirmed { (tools : Tools) → DeliversCommands tools → (c m : Setting) (t : NodeState) (k : Seals)
         (draw : Option Bytes) → AreDeclared c m → StationsInRange c m → NwkInRange k → ApsInRange k
         → keeps_rules t ≡ true → IsOffered t c.me.eui k.key k.sequence k.link → why_not_confirmed t c.me.eui k ≡ None

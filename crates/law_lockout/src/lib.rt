@@ -1,5 +1,5 @@
-//! The lockout of removed devices, in plain words: of what a device seals after its removal it doesn't matter when. The
-//! function says a law and does nothing.
+//! The lockout of removed devices, in plain words: of what a device seals after its removal it doesn't matter when.
+//! The function says a law and does nothing.
 #![tactic(auto)]
 
 ghost use Rattle.std.specs.Prelude.{◌≡◌, List, true};

@@ -26,8 +26,8 @@ pub if_then : {X : Type 0} (P : X → Type 0) (b : Bool) (x y : X) → (b ≡ tr
 if_then P true x y p q = p refl
 if_then P false x y p q = q
 
-pub mapped : {X : Type 0} (P : X → Type 0) (f : X → X) → ((x : X) → P x → P (f x)) → (xs : List X) → AllByRecursion P xs
-    → AllByRecursion P (map f xs)
+pub mapped : {X : Type 0} (P : X → Type 0) (f : X → X) → ((x : X) → P x → P (f x)) → (xs : List X)
+    → AllByRecursion P xs → AllByRecursion P (map f xs)
 mapped P f keeps [] all = tt
 mapped P f keeps (x ∷ xs) all = (keeps x all.0, mapped P f keeps xs all.1)
 
@@ -216,7 +216,8 @@ less_than_block kept number block most some = omega (arith, most, some)
 
 pub floor_at_most : (w : Schedule) (x : Front) (a b : ℕ) (own : LinkKey)
     → current (state_of x.lines b) (setting_of w a).me.eui ≡ Some own → CameFrom Aps w x a b own.key
-    → 1 ≤ (setting_of w b).me.in_block → own.kept - next_counter Aps (state_of x.lines a) < (setting_of w b).me.in_block
+    → 1 ≤ (setting_of w b).me.in_block
+    → own.kept - next_counter Aps (state_of x.lines a) < (setting_of w b).me.in_block
 floor_at_most w x a b own e came some =
     let number = next_counter Aps (state_of x.lines a) in
     let block = (setting_of w b).me.in_block in

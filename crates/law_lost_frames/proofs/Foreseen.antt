@@ -1,5 +1,5 @@
--- The obstacles of the exchange's later events are seen at the first front: what the first events leave of counters and
--- floors is known.
+-- The obstacles of the exchange's later events are seen at the first front: what the first events leave of counters
+-- and floors is known.
 use Rattle.std.proofs.Common.{◌≡◌, ℕ, ◌+◌, ◌<◌, ◌≤◌, Bool, true, false, not, ◌&&◌, if◌then◌else◌, List, [], ◌∷◌, filter, find, length, reverse, Option, Some, None, is_some, nat_eq, nat_lt, nat_le, refl, sym, ap, ◌∙◌, subst, arith}
 use Rattle.std.specs.List.{list_all}
 use Rattle.std.proofs.lemmas.Bool.{false≢true, le-ltb, leb-true, lt-leb}

@@ -129,8 +129,8 @@ low_rest n most (t ∷ ts) lt all =
 no_layer : {X : Type 0} → Nwk ≡ Aps → X
 no_layer e = absurd (cc)
 
-pub heard_links : (tools : Tools) → OpensAsJudged tools → (b : Setting) (s : NodeState) (f : NetFrame) (content : Bytes)
-    (row : NetKey) (draw : Option Bytes) → IsCarried tools f content → IsHeard b s f row
+pub heard_links : (tools : Tools) → OpensAsJudged tools → (b : Setting) (s : NodeState) (f : NetFrame)
+    (content : Bytes) (row : NetKey) (draw : Option Bytes) → IsCarried tools f content → IsHeard b s f row
     → why_not_heard row f.source f.counter ≡ None → (c : ℕ) (k : Bytes) (most : ℕ)
     → shown_counter (tools.read_aps content) < most → AllKept c k most s.links
     → AllKept c k most (after_task tools b s (Received (tools.wire (net_term f content)) draw)).links
@@ -156,7 +156,8 @@ unfolding after_task answer
 stale_leaves tools b s f content row draw a h late =
     let floor = (sender_floor f.source row).kept in
     let rest = aps_part tools b s draw (shown_of f a.body) (Some (net_term f content)) (tools.read_aps content) in
-    let plan : plan_of tools b s (Received (tools.wire (net_term f content)) draw) ≡ stopped_at [] AtNwk (Stale floor) =
+    let plan : plan_of tools b s (Received (tools.wire (net_term f content)) draw)
+    ≡ stopped_at [] AtNwk (Stale floor) =
     delivered tools b s f content row draw a h
     ∙ ap (λ t. plan_heard t (senders_full f.source f.counter row) floor rest) late in
     ap (λ p. answered (answer_by tools b s (counting_of b s p) p) s) plan ∙ stop_leaves tools b s AtNwk (Stale floor)

@@ -325,7 +325,8 @@ one_turn tools delivers opens w x c d k far nwk aps turns fit block b st =
     p.offered.come p.offered.range st.unknown (answered_then far t st.free.0) st.refused is_nwk is_aps
     (floors_kept t (state_of z.lines d) centre k.network k.sequence (nwk + top) p.still
     (device_network t centre k far h.device) b.floors)
-    (subst (AllKept centre (answer_key far k) (aps + top)) (sym (links_kept t (state_of z.lines d) p.still)) b.links) in
+    (subst (AllKept centre (answer_key far k) (aps + top))
+    (sym (links_kept t (state_of z.lines d) p.still)) b.links) in
     record {
       less = r.less;
       holds = record {

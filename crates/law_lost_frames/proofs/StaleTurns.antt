@@ -203,8 +203,8 @@ record Passed (tools : Tools) (w : Schedule) (x : Front) (c d : ℕ) (k : Keys) 
       (Received (asked_bytes far tools w c d (device_seals far (state_of x.lines d) k))
       (supply w (timed tools w x d).lines))
 
-passed : (tools : Tools) → OpensAsJudged tools → (w : Schedule) (x : Front) (c d : ℕ) (k : Keys) (far : Far) → KeysFit k
-    → HaveCome w x c d k far → IsStale tools w x c d k far → Passed tools w x c d k far
+passed : (tools : Tools) → OpensAsJudged tools → (w : Schedule) (x : Front) (c d : ℕ) (k : Keys) (far : Far)
+    → KeysFit k → HaveCome w x c d k far → IsStale tools w x c d k far → Passed tools w x c d k far
 passed tools opens w x c d k far fit h st =
     let frames = length (air x.lines) in
     let y = timed tools w x d in
@@ -262,8 +262,8 @@ request_next : (tools : Tools) → DeliversCommands tools → OpensAsJudged tool
     (after_task tools (setting_of w c) s
     (Received (request_bytes tools (setting_of w c) (setting_of w d) (seals_now t k.network k.sequence k.link)) draw))
     nwk aps turns
-request_next tools delivers opens w c d k t u s row draw nwk aps turns declared st rn ra i h here key late is_nwk is_aps
-    goes floors links =
+request_next tools delivers opens w c d k t u s row draw nwk aps turns declared st rn ra i h here key late is_nwk
+    is_aps goes floors links =
     let cs = setting_of w c in
     let m = setting_of w d in
     let g = seals_now t k.network k.sequence k.link in
@@ -430,8 +430,8 @@ proving_next tools delivers opens w x c d k nwk aps turns fit b st =
     ∙ refused_at_first tools w x c d k Proving st p.centre in
     let late = late_proof h.network.found (eui_of w d) g.nwk st.floor (why_not_sealed s)
     (sealed_other (both_spent s) st.floor) chain in
-    let r = proof_next tools delivers w c d k t s h.centre.row draw nwk turns h.met.declared h.met.stations p.sent.range
-    h.network h.centre.is_current late b.nwk_is h.device st.sends b.floors in
+    let r = proof_next tools delivers w c d k t s h.centre.row draw nwk turns h.met.declared h.met.stations
+    p.sent.range h.network h.centre.is_current late b.nwk_is h.device st.sends b.floors in
     record {
       less = r.less;
       holds = record {
@@ -462,8 +462,8 @@ proved_next tools delivers opens w x c d k nwk aps turns fit b st =
     ∙ refused_at_first tools w x c d k Proved st p.centre in
     let late = late_proof h.network.found (eui_of w d) g.nwk st.floor (why_not_sealed s)
     (sealed_other (both_spent s) st.floor) chain in
-    let r = proof_next tools delivers w c d k t s h.centre.row draw nwk turns h.met.declared h.met.stations p.sent.range
-    h.network h.centre.is_current late b.nwk_is h.device st.sends b.floors in
+    let r = proof_next tools delivers w c d k t s h.centre.row draw nwk turns h.met.declared h.met.stations
+    p.sent.range h.network h.centre.is_current late b.nwk_is h.device st.sends b.floors in
     record {
       less = r.less;
       holds = record {

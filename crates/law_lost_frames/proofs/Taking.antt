@@ -128,8 +128,8 @@ device_stays t centre k Proved j = j
 device_stays t centre k Done j = j
 
 -- a front with the centre's frame as the last on the air
-pub record IsTold (tools : Tools) (w : Schedule) (z : Front) (c d : ℕ) (k : Keys) (far : Far) (f : Seals) (frames : ℕ) :
-    Type 0 where
+pub record IsTold (tools : Tools) (w : Schedule) (z : Front) (c d : ℕ) (k : Keys) (far : Far) (f : Seals)
+    (frames : ℕ) : Type 0 where
   pub come : HaveCome w z c d k (unanswered_from far)
   pub range : NwkInRange f × ApsInRange f
   pub on_air : OnAir z frames (told_bytes far tools w c d k f)

@@ -510,8 +510,8 @@ second_time tools c u bytes draw floor e =
 
 -- ---- all of it
 
-pub heard_frame : (tools : Tools) → OpensAsJudged tools → (c : Setting) (s : NodeState) (f : NetFrame) (content : Bytes)
-    (draw : Option Bytes) → IsCarried tools f content → Hears c s f
+pub heard_frame : (tools : Tools) → OpensAsJudged tools → (c : Setting) (s : NodeState) (f : NetFrame)
+    (content : Bytes) (draw : Option Bytes) → IsCarried tools f content → Hears c s f
     → StandsOver f (after_task tools c s (Received (frame_bytes tools f content) draw))
 unfolding after_task answer
 heard_frame tools opens c s f content draw a m =

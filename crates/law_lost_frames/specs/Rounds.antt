@@ -54,8 +54,8 @@ IsBelow layer number block receiver sender key _ = ⊤
 abbrev pub CameFrom : Layer → Schedule → Front → ℕ → ℕ → Bytes → Type 0
 CameFrom layer w x a b key =
     AllByRecursion
-    (IsBelow layer (next_counter layer (state_of x.lines a)) (setting_of w b).me.in_block b (setting_of w a).me.eui key)
-    x.lines
+    (IsBelow layer (next_counter layer (state_of x.lines a)) (setting_of w b).me.in_block b
+    (setting_of w a).me.eui key) x.lines
 
 -- so of what a member accepted under the link key of its centre
 abbrev pub CameFromCentre : Schedule → Front → ℕ → ℕ → LinkKey → Type 0

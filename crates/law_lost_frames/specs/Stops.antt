@@ -32,7 +32,8 @@ pub record HaveKept (w : Schedule) (x : Front) (c d : ℕ) (k : Keys) (far : Far
 
 -- `Timer`: the device's timer comes. `Hearing`: the frame of this number, which the device sealed in this state, comes
 -- to the centre. `Taking`: the frame of this number, which the centre sealed in this state, comes to the device.
--- `Repelling`: a frame comes to one of the two, which refuses it. `Idle`: an event of neither, or that no node answers.
+-- `Repelling`: a frame comes to one of the two, which refuses it. `Idle`: an event of neither, or that no node
+-- answers.
 pub data Happening : Type 0 where
   Timer : Happening
   Hearing : (frame : ℕ) (sealed : NodeState) → Happening
@@ -123,8 +124,8 @@ pub record ComesToDevice (tools : Tools) (w : Schedule) (x : Front) (c d : ℕ) 
   pub sent : why_not_sealed sealed ≡ None
   pub free : DeviceTakes far w x c d k (centre_seals far sealed k)
 
--- No node answers: the node of the event has no power; or the event resets, boots or dumps a node, or arms its disk; or
--- it is one of the outside.
+-- No node answers: the node of the event has no power; or the event resets, boots or dumps a node, or arms its disk;
+-- or it is one of the outside.
 abbrev pub IsUnanswered : Front → Event → Type 0
 IsUnanswered x (Own n task) = is_up x.lines n ≡ false
 IsUnanswered x (RollOver n) = is_up x.lines n ≡ false

@@ -44,8 +44,8 @@ ghost use Rattle.zb_model.specs.Tools.{Tools};
 /// A turn in which a frame is lost leaves the two at a stage from which the next turn goes on. What is refused between
 /// turns changes no stage, nor does any event of another node.
 pub fn a_lost_frame_costs_a_repeat()
-    ensures turn { (tools : Tools) → DeliversCommands tools → OpensAsJudged tools → (w : Schedule) (x : Front) (c d : ℕ)
-        (k : Keys) (far : Far) (turn : Turn) → KeysInRange k.network k.sequence k.link → length k.drawn ≡ 16
+    ensures turn { (tools : Tools) → DeliversCommands tools → OpensAsJudged tools → (w : Schedule) (x : Front)
+        (c d : ℕ) (k : Keys) (far : Far) (turn : Turn) → KeysInRange k.network k.sequence k.link → length k.drawn ≡ 16
         → HaveCome w x c d k far → IsFree tools w x c d k far turn
         → HaveCome w (after_turn tools w c d x turn) c d k (far_after far turn) }
     ensures turns { (tools : Tools) → DeliversCommands tools → OpensAsJudged tools → (w : Schedule) (x : Front)
@@ -131,8 +131,8 @@ pub fn frames_of_the_exchange_are_on_the_air()
 ///
 /// Where all that it accepted under its link key came from its centre, these are fewer than its incoming block.
 pub fn stale_rounds_are_fewer_than_a_block()
-    ensures rounds { (tools : Tools) → DeliversKeys tools → OpensAsJudged tools → (w : Schedule) (x : Front) (c d n : ℕ)
-        → RejoinsLater w x c d n → EndsRejoined (after_rounds tools w c d (suc n) x) c d }
+    ensures rounds { (tools : Tools) → DeliversKeys tools → OpensAsJudged tools → (w : Schedule) (x : Front)
+        (c d n : ℕ) → RejoinsLater w x c d n → EndsRejoined (after_rounds tools w c d (suc n) x) c d }
     ensures bounded { (w : Schedule) (x : Front) (c d n : ℕ) (later : RejoinsLater w x c d n)
         → CameFromCentre w x c d later.linked.own → n < (setting_of w d).me.in_block }
 {}

@@ -28,11 +28,12 @@ use Rattle.zb_trace.specs.Text.{Word, AllProper, IsProper, line_of, spelled, tex
 use Rattle.zb_trace.specs.declared.line.Line.{Line}
 use Rattle.zb_trace_read.proofs.Taking.{one_front}
 use Rattle.zb_trace_read.specs.Faults.{IsFirstBad}
-use Rattle.zb_command.specs.Answers.{Answer, Exceeds, Writes, longest, play_answer}
+use Rattle.zb_command.specs.Answers.{Answer, Exceeds, Writes, play_answer}
 use Rattle.zb_command.specs.Auditing.{Audits, IsBrokenText, IsSoundText, IsTranscript, sound_line}
 use Rattle.zb_command.specs.declared.status.Status.{Status}
 use Rattle.zb_command.specs.declared.status.Status.TheVariants as status
 use Rattle.law_play_sound.specs.Played.{EndsSound, IsPlayedSound, IsPlayedText, SaysAsEnd, last_line}
+use Rattle.zb_base.specs.Limits.{longest_input}
 
 -- ---- what is to be written
 
@@ -112,7 +113,7 @@ none_bad output lines is line bad = all_good bad.before bad.rest lines bad.prope
 
 module _ (output : Bytes) (v : Verdict) (only : (other : Verdict) → IsSoundText output other → other ≡ v)
     (all_lines : (line : ℕ) → IsFirstBad output line → ⊥)
-    (unbroken : (line clause : ℕ) → IsBrokenText output line clause → ⊥) (short : length output ≤ longest)
+    (unbroken : (line clause : ℕ) → IsBrokenText output line clause → ⊥) (short : length output ≤ longest_input)
     (before after : Option Bytes) (old new : ℕ) where
   ends_sound : (s : Status) → Audits s (Some output) before after old new → EndsSound v s before after
   ends_sound status.Ok a = subst (λ x. Appends before after (sound_line x)) (only a.1.0 a.1.1) a.1.2
@@ -123,7 +124,7 @@ module _ (output : Bytes) (v : Verdict) (only : (other : Verdict) → IsSoundTex
   ends_sound status.NoMemory a = tt
   ends_sound status.DiskFault a = absurd a
   ends_sound status.NoStore a = absurd a
-  ends_sound (status.TooLong limit) a = let long : longest < length output =
+  ends_sound (status.TooLong limit) a = let long : longest_input < length output =
       a.1 in absurd (lt_irrefl (length output) (omega (arith, short, long)))
   ends_sound (status.Broken line clause) a = absurd (unbroken line clause a.0.1)
   ends_sound (status.BadStore at) a = absurd a
@@ -195,7 +196,7 @@ pub played_sound : (input : Bytes) → ((p : sched.Schedule) → schedule_in inp
     → ((p : sched.Schedule) → IsSchedule p → ReadsBack (schedule_of p)) → JudgesWords → (output : Bytes)
     → IsPlayedText input output → IsPlayedSound input output
 played_sound input valid sound back judges output is =
-    by_plan (plan_of (schedule_in input) (nat_lt longest (length input)) output is)
+    by_plan (plan_of (schedule_in input) (nat_lt longest_input (length input)) output is)
   where
     by_plan : IsOf (schedule_in input) output → IsPlayedSound input output
     by_plan (p, reads, same) =

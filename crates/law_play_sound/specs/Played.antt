@@ -12,11 +12,12 @@ use Rattle.law_schedules.specs.Schedules.{schedule_of}
 use Rattle.zb_sched.specs.Schedules as sched
 use Rattle.zb_sched.specs.Reading.{schedule_in}
 use Rattle.zb_trace_read.specs.Faults.{IsFirstBad}
-use Rattle.zb_command.specs.Answers.{Writes, longest, wanted}
+use Rattle.zb_command.specs.Answers.{Writes, wanted}
 use Rattle.zb_command.specs.Auditing.{Audits, IsBrokenText, IsSoundText, sound_line}
 use Rattle.zb_command.specs.Commands.{Playing}
 use Rattle.zb_command.specs.declared.status.Status.{Status}
 use Rattle.zb_command.specs.declared.status.Status.TheVariants as status
+use Rattle.zb_base.specs.Limits.{longest_input}
 
 -- The text is the output that `play` is to write for the input.
 abbrev pub IsPlayedText : Bytes → Bytes → Type 0
@@ -58,4 +59,4 @@ pub record IsPlayedSound (input text : Bytes) : Type 0 where
   pub only : (other : Verdict) → IsSoundText text other → other ≡ verdict
   pub all_lines : (line : ℕ) → IsFirstBad text line → ⊥
   pub unbroken : (line clause : ℕ) → IsBrokenText text line clause → ⊥
-  pub ends : length text ≤ longest → EndsOn text verdict
+  pub ends : length text ≤ longest_input → EndsOn text verdict

@@ -1,5 +1,5 @@
--- An exchange goes on at the end of a schedule's run: by turns that lose frames, where nodes are stopped, and by rounds
--- of rejoining that are stale.
+-- An exchange goes on at the end of a schedule's run: by turns that lose frames, where nodes are stopped, and by
+-- rounds of rejoining that are stale.
 use Rattle.std.proofs.Common.{◌≡◌, ℕ, zero, suc, ◌<◌, List, [], ◌∷◌, ◌++◌, fold, length, refl, sym, ap, ◌∙◌, subst}
 use Rattle.std.specs.List.{AllByRecursion}
 use Rattle.std.proofs.lemmas.List.Sums.{fold-append}

@@ -64,7 +64,7 @@ pub fn real_frames_deliver_commands()
     ensures { DeliversCommands real }
 {}
 
-/// States that a joined device is confirmed at the end of each schedule's run, unless one of the named obstacles holds.
+/// States that a joined device is confirmed at the end of each schedule's run, unless a named obstacle holds.
 ///
 /// The schedule ends with the six events of the exchange, and may have any events before them.
 pub fn a_device_is_confirmed_in_each_schedule()
@@ -73,8 +73,8 @@ pub fn a_device_is_confirmed_in_each_schedule()
         ≡ before ++ exchange_events (after_events real (schedule_of p) (first_front (schedule_of p)) before) c d
         → MayExchange (schedule_of p) (after_events real (schedule_of p) (first_front (schedule_of p)) before) c d
         key sequence link
-        → NothingStops real (schedule_of p) (after_events real (schedule_of p) (first_front (schedule_of p)) before) c d
-        key sequence link drawn
+        → NothingStops real (schedule_of p) (after_events real (schedule_of p) (first_front (schedule_of p)) before)
+        c d key sequence link drawn
         → EndsConfirmed (schedule_of p)
         (after_events real (schedule_of p) (first_front (schedule_of p)) (schedule_of p).events) c d
         key sequence drawn }

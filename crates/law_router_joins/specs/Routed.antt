@@ -46,8 +46,8 @@ pub record MayJoinThrough (w : Schedule) (x : Front) (c r d : ℕ) (router_link 
   pub router_size : length router_link ≡ 16
   pub meets : MeetsKey (state_of x.lines d) introduced.net.key introduced.net.sequence
 
--- Nothing is in the way of the four events, with this network key of the centre and this link key of the device. All is
--- asked of the first front.
+-- Nothing is in the way of the four events, with this network key of the centre and this link key of the device. All
+-- is asked of the first front.
 pub record RouteIsFree (w : Schedule) (x : Front) (c r d : ℕ) (router_link key : Bytes)
     (sequence : ℕ) (own : LinkKey) : Type 0 where
   pub report : why_no_report (state_of x.lines r) ≡ None

@@ -3,6 +3,7 @@ use Rattle.std.specs.Prelude.{ℕ, ◌≡◌, ◌&&◌, ◌++◌, List, length, 
 use Rattle.tc_c_centre.specs.declared.fault.CallFault.{CallFault}
 use Rattle.tc_c_centre.specs.declared.fault.CallFault.TheVariants.{Usage, Short, Refused, NoMemory, NoStore, TooLong, BadStore, Worn}
 use Rattle.tc_c_centre.specs.declared.used.TcUsed.{TcUsed}
+use Rattle.zb_base.specs.Sizes.{disk_size}
 
 -- the two buffers, and what is said of them
 pub record Buffers : Type 0 where
@@ -15,7 +16,7 @@ buffers store answer used = record { store = store; answer = answer; used = used
 
 -- The buffer of the store has the room of a store, and no more bytes are in use than a store has.
 abbrev pub is_ready : List ℕ → TcUsed → Bool
-is_ready store used = nat_le 131072 (length store) && nat_le used.store 131072
+is_ready store used = nat_le disk_size (length store) && nat_le used.store disk_size
 
 -- the store: the first bytes of its buffer
 abbrev pub in_use : Buffers → List ℕ

@@ -1,9 +1,10 @@
 -- What a call serves over, as contracts see it.
 use Rattle.std.specs.Prelude.{ℕ, ◌≤◌, List, length}
+use Rattle.zb_base.specs.Sizes.{disk_size}
 
 -- a disk has room for so many bytes
 abbrev pub HasRoom : List ℕ → Type 0
-HasRoom bytes = length bytes ≤ 131072
+HasRoom bytes = length bytes ≤ disk_size
 
 -- the answer so far, and how many of its writes failed
 pub record Written : Type 0 where

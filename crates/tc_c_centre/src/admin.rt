@@ -5,6 +5,7 @@ ghost use Rattle.tc_c_centre.specs.Scripts.{IsOfScript, cause_number as number_o
 ghost use Rattle.zb_script.specs.Reading.{script_in};
 ghost use Rattle.zb_script.specs.Scripts.{IsScript};
 ghost use Rattle.zb_script.specs.Views.{script_of};
+ghost use Rattle.zb_base.specs.Sizes.{disk_size};
 
 use crate::fault::CallFault;
 use crate::outside::{Answer, StoreBytes};
@@ -55,7 +56,7 @@ fn made_of_script(
 // Serves a script that was read.
 fn serve_over(alloc: Global, script: &Script, old: &[u8]) -> Result<Served, CallFault>
     requires script { IsScript script.now }
-    requires few { length old.now ≤ 131072 }
+    requires few { length old.now ≤ disk_size }
     ensures { (text : List ℕ) → length text ≤ longest_script → script_in text ≡ Ok (script_of script.now)
         → IsOfScript text old.now result }
 {
@@ -70,7 +71,7 @@ fn serve_over(alloc: Global, script: &Script, old: &[u8]) -> Result<Served, Call
 // Serves a script over the bytes of a store.
 #[tactic(auto, using(crate::proofs::Scripts::refused))]
 fn serve_script(alloc: Global, text: &[u8], old: &[u8]) -> Result<Served, CallFault>
-    requires { length old.now ≤ 131072 }
+    requires { length old.now ≤ disk_size }
     ensures { IsOfScript text.now old.now result }
 {
     if text.len() > LONGEST_SCRIPT {

@@ -2,6 +2,7 @@
 ghost use Rattle.std.specs.Prelude.{◌≡◌, ◌≤◌, length};
 ghost use Rattle.tc_c_centre.specs.Buffers.{Calls, buffers};
 ghost use Rattle.tc_c_centre.specs.Sessions.{IsOfLines, made_of_lines};
+ghost use Rattle.zb_base.specs.Sizes.{disk_size};
 
 use crate::fault::CallFault;
 use crate::outside::{Answer, StoreBytes};
@@ -35,7 +36,7 @@ fn made_of_lines(
 // Serves lines over the bytes of a store.
 #[tactic(auto, using(crate::proofs::Sessions::lines_served))]
 fn serve_lines(alloc: Global, text: &[u8], old: &[u8]) -> Result<Served, CallFault>
-    requires { length old.now ≤ 131072 }
+    requires { length old.now ≤ disk_size }
     ensures { IsOfLines text.now old.now result }
 {
     let Ok(mut input) = MemSource::new(alloc, text, &[]) else {

@@ -6,6 +6,7 @@ ghost use Rattle.zb_disk.specs.Calls.{IsRead, IsWrite, IsSync};
 ghost use Rattle.zb_disk.specs.Memory.{fresh, memory_tells, memory_view};
 ghost use Rattle.zb_disk.specs.MemoryLaws.{image_seen};
 ghost use Rattle.zb_disk.specs.View.{window};
+ghost use Rattle.zb_base.specs.Sizes.{disk_size};
 
 use std::alloc::Global;
 use std::marker::Model;
@@ -36,7 +37,7 @@ impl StoreBytes {
     /// # Errors
     /// `NoMemory`.
     pub fn new(alloc: Global, bytes: &[u8]) -> Result<StoreBytes, NoMemory>
-        requires { length bytes.now ≤ 131072 }
+        requires { length bytes.now ≤ disk_size }
         ensures { IfOk result (λ s. s ≡ fresh bytes.now) }
     {
         Ok(StoreBytes {
@@ -47,7 +48,7 @@ impl StoreBytes {
     /// Returns the bytes, at most 131,072.
     pub fn bytes(&self) -> &[u8]
         ensures bytes { result.now ≡ self.now.bytes }
-        ensures few { length self.now.bytes ≤ 131072 }
+        ensures few { length self.now.bytes ≤ disk_size }
     {
         self.disk.bytes()
     }
@@ -79,7 +80,7 @@ impl Disk for StoreBytes {
     }
 
     fn write(&mut self, at: u64, bytes: &[u8]) -> Result<(), Failed>
-        requires { at + length bytes.now ≤ 131072 }
+        requires { at + length bytes.now ≤ disk_size }
         ensures { IsWrite memory_tells at bytes.now (memory_view self.old) (memory_view self.new) result }
     {
         self.disk.write(at, bytes)

@@ -1,6 +1,7 @@
 //! The buffers that a call is given, and what it writes into them.
 ghost use Rattle.std.specs.Prelude.{◌≡◌, ◌≤◌, Ok, Err, true, length, IfOk};
 ghost use Rattle.tc_c_centre.specs.Buffers.{HandsOut, buffers, fitted, is_ready as are_ready, number_of, over, told, written};
+ghost use Rattle.zb_base.specs.Sizes.{disk_size};
 
 use crate::fault::CallFault;
 use crate::outside::{Answer, StoreBytes};
@@ -49,7 +50,7 @@ impl Served {
     // Returns the new bytes of the store, at most 131,072.
     fn store(&self) -> &[u8]
         ensures bytes { result.now ≡ self.now.store }
-        ensures few { length self.now.store ≤ 131072 }
+        ensures few { length self.now.store ≤ disk_size }
     {
         self.disk.bytes()
     }
@@ -65,8 +66,8 @@ impl Served {
 /// Returns whether the buffer of the store has its room, and no more bytes are in use than a store has.
 pub(crate) fn is_ready(store: &[u8], used: &TcUsed) -> bool
     ensures exact { result ≡ are_ready store.now used.now }
-    ensures room { result ≡ true → 131072 ≤ length store.now }
-    ensures in_use { result ≡ true → used.now.store ≤ 131072 }
+    ensures room { result ≡ true → disk_size ≤ length store.now }
+    ensures in_use { result ≡ true → used.now.store ≤ disk_size }
 {
     STORE_ROOM <= store.len() && used.store <= STORE_ROOM
 }
@@ -133,7 +134,7 @@ pub(crate) fn tell(fault: &CallFault, used: &mut TcUsed) -> u32
 
 // Writes what was made into the buffers.
 fn write(made: &Served, store: &mut [u8], answer: &mut [u8], used: &mut TcUsed)
-    requires room { 131072 ≤ length store.old }
+    requires room { disk_size ≤ length store.old }
     requires fits { length made.now.answer ≤ length answer.old }
     ensures { buffers store.new answer.new used.new ≡ written made.now (buffers store.old answer.old used.old) }
 {
@@ -150,7 +151,7 @@ pub(crate) fn hand_out(
     answer: &mut [u8],
     used: &mut TcUsed,
 ) -> u32
-    requires room { 131072 ≤ length store.old }
+    requires room { disk_size ≤ length store.old }
     requires fits { IfOk made (λ m. length m.answer ≤ length answer.old) }
     ensures { HandsOut made result (buffers store.old answer.old used.old) (buffers store.new answer.new used.new) }
 {

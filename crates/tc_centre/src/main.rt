@@ -1,5 +1,5 @@
-//! `tc_centre`: a proved Zigbee trust centre that lives. It answers the lines of standard input, each as it comes, over
-//! the centre's store in a file.
+//! `tc_centre`: a proved Zigbee trust centre that lives. It answers the lines of standard input, each as it comes,
+//! over the centre's store in a file.
 #![tactic(auto)]
 
 mod advice;

@@ -23,7 +23,8 @@ pub fn make(alloc: Global, start: u32, n: u32) -> Result<Schedule, GenFault>
     requires { (1 ≤ n) × (n ≤ 60) }
     ensures exact { Makes result (made_schedule start n) }
     ensures valid { IfOk result (λ schedule. IsSchedule (schedule_of schedule)) }
-    ensures again { IfOk result (λ schedule. schedule_in (printed (schedule_of schedule)) ≡ Ok (schedule_of schedule)) }
+    ensures again { IfOk result (λ schedule. schedule_in (printed (schedule_of schedule))
+        ≡ Ok (schedule_of schedule)) }
 {
     let mut maker = Maker::new(alloc);
     maker.reserve(81 * n + 2)?;

@@ -99,7 +99,8 @@ fn print_piece(alloc: Global, piece: Piece) -> Result<Vec<u8>, NoMemory>
 /// Writes pages, one after the other, and then a tail.
 fn write_all<W: Sink>(pages: &[Vec<u8>], tail: &[u8], out: &mut W) -> Result<(), Failed>
     ensures whole { OnOk result (Appends (W.taken out.old) (W.taken out.new) (pages_text pages.now ++ tail.now)) }
-    ensures front { OnErr result (AppendsFront (W.taken out.old) (W.taken out.new) (pages_text pages.now ++ tail.now)) }
+    ensures front { OnErr result (AppendsFront (W.taken out.old) (W.taken out.new)
+        (pages_text pages.now ++ tail.now)) }
     ensures cause { HasCause (W.faults out.old) (W.faults out.new) result }
 {
     write_pages(pages, out)?;

@@ -2,8 +2,8 @@
 //! the answer to it.
 //!
 //! A session has header lines, `open`, and then events of the centre, `list` and `backup`. The line rules, the lines
-//! of the network and those that scripts have too are those of `zb_script`. A line alone is judged here; whether it may
-//! stand where it does depends on the session.
+//! of the network and those that scripts have too are those of `zb_script`. A line alone is judged here; whether it
+//! may stand where it does depends on the session.
 #![tactic(auto)]
 
 mod answer;

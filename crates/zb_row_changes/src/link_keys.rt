@@ -50,7 +50,8 @@ fn admitted(device: Eui, key: &Key) -> Changes
     changes
 }
 
-/// Tells what the link key of a device's install code changes at the centre: its row is new or revived, and it is live.
+/// Tells what the link key of a device's install code changes at the centre: its row is new or revived, and it
+/// is live.
 ///
 /// Requires a device that isn't live.
 ///

@@ -33,7 +33,7 @@ pub fn add_active(changes: &mut Changes, tables: &Tables, key: &Key)
     }
 }
 
-/// Adds what a network key changes by its coming: in a node that waits for it, and where none is active, it becomes so.
+/// Adds what a network key changes by coming: in a node that waits for it, and where none is active, it becomes so.
 #[tactic(auto, unfolding(crate::specs::Planned::settled))]
 fn add_arrival(changes: &mut Changes, tables: &Tables, key: &Key)
     requires room { length changes.old.items ≤ 14 }

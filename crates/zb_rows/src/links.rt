@@ -168,7 +168,8 @@ pub fn has_row_as(tables: &Tables, partner: Eui, key: &Key, attribute: Attribute
 
 /// Returns whether one of these rows is that of a partner and a key, in use with an attribute.
 fn has_that_row(rows: &[LinkRow], partner: Eui, key: &Key, attribute: Attribute) -> bool
-    ensures { result ≡ list_any (λ r. is_row_as partner.0 key.now.0 (model_attribute attribute) (link_key r)) rows.now }
+    ensures { result
+        ≡ list_any (λ r. is_row_as partner.0 key.now.0 (model_attribute attribute) (link_key r)) rows.now }
 {
     rows.iter()
         .any(|row| is_row_as(row, partner, key, attribute))

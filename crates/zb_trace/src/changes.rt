@@ -180,7 +180,8 @@ pub(crate) fn put_pair(
     second: Eui,
     key: &Key,
 ) -> Result<(), AllocError>
-    ensures { OnOk result (out.new.items ≡ out.old.items ++ spec.text (line.Pair event node.now first second key.now)) }
+    ensures { OnOk result (out.new.items
+        ≡ out.old.items ++ spec.text (line.Pair event node.now first second key.now)) }
 {
     begin_of(out, event, b"pair", node)?;
     add_eui(out, first)?;

@@ -3,8 +3,8 @@ use Rattle.law_lost_frames.proofs.stale_turns_are_fewer_than_a_block.Goals as go
 
 pub returns : goal.returns
 returns c = record {
-  fewer = λ tools delivers opens w x c d k far n range long h came all. stale_turns_are_fewer tools delivers opens w c d
-      k far n x (record { range = range; drawn = long }) h came all;
+  fewer = λ tools delivers opens w x c d k far n range long h came all. stale_turns_are_fewer tools delivers opens w
+      c d k far n x (record { range = range; drawn = long }) h came all;
   stays = λ tools opens w x c d k far n range long h all. stays_as_far tools opens w c d k far n x
       (record { range = range; drawn = long }) h all;
 }
