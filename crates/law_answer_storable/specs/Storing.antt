@@ -3,6 +3,10 @@ use Rattle.std.specs.Prelude.{ℕ, ◌≡◌, Bool, true, length, Option, Some, 
 use Rattle.zb_model.specs.Data.{Bytes, Nwk, Aps, Term, DropNet, DropLink, Install, Active, Row, Pair, Edit, Reserve, Floor, Start, Moved}
 use Rattle.zb_model.specs.Tools.{Tools, NwkShown, NwkAuxiliary, ApsShown, ApsAuxiliary}
 
+-- the greatest number of bytes of an entry's payload
+abbrev pub payload_room : ℕ
+payload_room = 481
+
 -- the source that an APS frame shows, or the one that was given for it
 abbrev pub source_or : ℕ → Option ℕ → ℕ
 source_or given None = given

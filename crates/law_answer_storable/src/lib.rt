@@ -12,7 +12,7 @@ ghost use Rattle.zb_model.specs.Record.{payload};
 ghost use Rattle.zb_model.specs.Rules.{Setting};
 ghost use Rattle.zb_model.specs.State.{NodeState, applied_all};
 ghost use Rattle.zb_model.specs.Tools.{Tools};
-ghost use Rattle.law_answer_storable.specs.Storing.{OpensAsJudged, has_whole_keys};
+ghost use Rattle.law_answer_storable.specs.Storing.{OpensAsJudged, has_whole_keys, payload_room};
 
 /// States that each change of an answer fits the state after those before it.
 ///
@@ -54,5 +54,5 @@ pub fn an_answer_has_room_in_an_entry()
     ensures { (tools : Tools) → OpensAsJudged tools → (c : Setting) (s : NodeState) (task : Task)
         → keeps_rules s ≡ true → s.role ≡ c.me.role
         → list_all has_whole_keys (answer tools c s task).edits ≡ true
-        → length (payload (answer tools c s task).edits) ≤ 481 }
+        → length (payload (answer tools c s task).edits) ≤ payload_room }
 {}

@@ -6,6 +6,7 @@ use Rattle.std.specs.Int.{Width, w16, w32, w64, byte_len, from_le_bytes}
 use Rattle.std.specs.List.{AllByRecursion}
 use Rattle.zb_model.specs.Data.{Bytes, Role, Centre, Router, Device, State, Fresh, Knocked, Joined, Offered, Confirmed, Rejoining, Gone, Attribute, Provisional, Unverified, Verified}
 use Rattle.zb_model.specs.State.{SenderFloor, NetKey, LinkKey, PairKey, NodeState, net_of_active}
+use Rattle.zb_model.specs.Record.{no_place}
 
 -- Readings: a value is taken off the start of bytes
 
@@ -169,7 +170,7 @@ pair_at = do
 
 -- the key of the row at a place; FFFF is no place
 unfoldable pub active_at : ℕ → List NetKey → Option (Option Bytes)
-active_at place nets = if nat_eq place 65535 then Some None
+active_at place nets = if nat_eq place no_place then Some None
     else option_map (λ (r : NetKey). Some r.key) (slice_get nets place)
 
 -- The whole record, version 3.
@@ -239,7 +240,7 @@ HasActive s (Some key) = is_some (net_of_active (Some key) s) ≡ true
 pub record FitsRecord (s : NodeState) : Type 0 where
   pub declared : s.declared < 2 ^ 32
   pub aps_limit : s.aps_limit < 2 ^ 32
-  pub net_count : length s.nets < 65535
+  pub net_count : length s.nets < no_place
   pub link_count : length s.links < 2 ^ 16
   pub pair_count : length s.pairs < 2 ^ 16
   pub nets : AllByRecursion NetFits s.nets

@@ -18,7 +18,7 @@ ghost use Rattle.zb_model.specs.OwnEvents.{own};
 ghost use Rattle.zb_model.specs.Play.{Event, Schedule, setting_of, start, supply};
 ghost use Rattle.zb_model.specs.Readings.{state_of};
 ghost use Rattle.zb_model.specs.Rules.{Does, Sending, Setting, Stop};
-ghost use Rattle.zb_model.specs.Schedules.{IsSchedule};
+ghost use Rattle.zb_model.specs.Schedules.{IsSchedule, most_nodes};
 ghost use Rattle.zb_model.specs.State.{NodeState, is_centre};
 ghost use Rattle.zb_model.specs.Tools.{Tools};
 ghost use Rattle.law_run_lookups.specs.Carried.{answer_layers, carried};
@@ -48,7 +48,7 @@ pub fn no_draw_comes_where_the_supply_is_empty()
 /// Before each event of a run with at most 64 nodes: under each network key that a node may use there is room for the
 /// floor of each declared sender. So rows-full never comes at NWK, where only declared senders are asked for it.
 pub fn each_sender_has_room()
-    ensures { (tools : Tools) → Opens tools → (w : Schedule) → length w.nodes ≤ 64
+    ensures { (tools : Tools) → Opens tools → (w : Schedule) → length w.nodes ≤ most_nodes
         → BeforeEach (λ (h : List Line) (event : Event). (n : ℕ) → HasRoom w h n) tools w (start w) [] 1 w.events }
 {}
 

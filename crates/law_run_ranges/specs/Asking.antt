@@ -11,9 +11,24 @@ use Rattle.law_run_ranges.specs.Ranges.{IsCount, IsEui, IsByte, AreBytes, IsKey,
 
 -- ---- the schedule
 
--- application data, and what an outsider forges: at most 64 bytes
+-- the longest application data, and what an outsider forges at most, in bytes
+abbrev pub longest_content : ℕ
+longest_content = 64
+
+-- the most events of a schedule
+abbrev pub most_events : ℕ
+most_events = 100000
+
+-- the longest frame that the command Tunnel carries, in bytes
+abbrev pub longest_tunnelled : ℕ
+longest_tunnelled = 118
+
+-- the longest command but a Tunnel, in bytes
+abbrev pub longest_plain : ℕ
+longest_plain = 35
+
 abbrev pub IsSmall : Bytes → Type 0
-IsSmall bytes = AreBytes bytes × (length bytes ≤ 64)
+IsSmall bytes = AreBytes bytes × (length bytes ≤ longest_content)
 
 pub record NodeInRange (m : Node) : Type 0 where
   pub station : StationInRange m.station
@@ -55,7 +70,7 @@ pub record ScheduleInRange (w : Schedule) : Type 0 where
   pub centre : IsEui (centre_of (stations w))
   pub draws : AllByRecursion IsKey w.draws
   pub events : AllByRecursion EventInRange w.events
-  pub few_events : length w.events ≤ 100000
+  pub few_events : length w.events ≤ most_events
 
 -- ---- the tools
 
@@ -69,7 +84,7 @@ CommandInRange (RemoveDevice target) = IsEui target
 CommandInRange (RequestApp partner) = IsEui partner
 CommandInRange RequestLink = ⊤
 CommandInRange (SwitchKey sequence) = IsByte sequence
-CommandInRange (Tunnel destination inner) = IsEui destination × AreBytes inner × (length inner ≤ 118)
+CommandInRange (Tunnel destination inner) = IsEui destination × AreBytes inner × (length inner ≤ longest_tunnelled)
 CommandInRange (VerifyKey kind source hash) = IsByte kind × IsEui source × IsKey hash
 CommandInRange (ConfirmKey status kind destination) = IsByte status × IsByte kind × IsEui destination
 
@@ -94,7 +109,8 @@ pub record KeepsRanges (tools : Tools) : Type 0 where
   pub wire_length : (t : Term) → TermInRange t → length (tools.wire t) ≡ length t.header + length t.content + 4
   pub keyed : (key : Bytes) (b : ℕ) → IsKey key → IsByte b → IsKey (tools.keyed key b)
   pub spelled : (command : Command) → CommandInRange command → AreBytes (tools.spelled command)
-  pub plain : (command : Command) → CommandInRange command → IsPlain command → length (tools.spelled command) ≤ 35
+  pub plain : (command : Command) → CommandInRange command → IsPlain command → length (tools.spelled command)
+      ≤ longest_plain
   pub tunnel : (destination : ℕ) (inner : Bytes) → length (tools.spelled (Tunnel destination inner)) ≡ 9 + length inner
   pub read_nwk : (bytes : Bytes) → IsShort bytes → IfSome (tools.read_nwk bytes) (λ (f : NwkShown). IsShort f.body)
   pub open_nwk : (bytes key : Bytes) → IsShort bytes → IsKey key → IfSome (tools.open_nwk bytes key) TermInRange

@@ -1,16 +1,21 @@
 -- The ranges of what stands in lines: addresses have 64 and 16 bits, counters and numbers 32, sequences of network
 -- keys 8, keys 16 bytes, and what goes on the air at most 127.
-use Rattle.std.specs.Prelude.{◌≡◌, ◌<◌, ◌≤◌, ℕ, length, ⊤}
+use Rattle.std.specs.Prelude.{◌≡◌, ◌<◌, ◌≤◌, ◌^◌, ℕ, length, ⊤}
 use Rattle.std.specs.List.{AllByRecursion}
 use Rattle.zb_model.specs.Data.{Bytes, Station, Term, Move, Draw, DropNet, DropLink, Install, Active, Row, Pair, Became, Live, Removed, Roll, Told, Untold, Edit, Reserve, Floor, Start, Moved, Reason, Stale, KeyOld, KeyInUse}
+use Rattle.zb_model.specs.State.{greatest_counter}
 use Rattle.zb_model.specs.Lines.{Line, Declared, GivenNet, GivenLink, Counter, Changed, Commit, Accept, Refuse, Seal, Forge, Send, Inject, Stopped, DownReset, DownDisk, Boot, Dump, End}
+
+-- the longest frame, in bytes
+abbrev pub longest_frame : ℕ
+longest_frame = 127
 
 -- a counter, a limit, a floor; the number of an event or of a frame
 abbrev pub IsCount : ℕ → Type 0
-IsCount n = n ≤ 4294967295
+IsCount n = n ≤ greatest_counter
 
 abbrev pub IsEui : ℕ → Type 0
-IsEui n = n < 18446744073709551616
+IsEui n = n < 2 ^ 64
 
 abbrev pub IsByte : ℕ → Type 0
 IsByte b = b < 256
@@ -23,11 +28,11 @@ IsKey key = AreBytes key × (length key ≡ 16)
 
 -- a frame, a header, a content
 abbrev pub IsShort : Bytes → Type 0
-IsShort bytes = AreBytes bytes × (length bytes ≤ 127)
+IsShort bytes = AreBytes bytes × (length bytes ≤ longest_frame)
 
 pub record StationInRange (p : Station) : Type 0 where
   pub eui : IsEui p.eui
-  pub short : p.short < 65536
+  pub short : p.short < 2 ^ 16
   pub out_block : IsCount p.out_block
   pub in_block : IsCount p.in_block
 
@@ -76,7 +81,7 @@ LineInRange (GivenLink n partner key) = IsEui partner × IsKey key
 LineInRange (Counter n layer limit) = IsCount limit
 LineInRange (Changed event n edit) = IsCount event × EditInRange edit
 LineInRange (Commit event n) = IsCount event
-LineInRange (Accept event n t) = IsCount event × TermInRange t × (t.counter < 4294967295)
+LineInRange (Accept event n t) = IsCount event × TermInRange t × (t.counter < greatest_counter)
 LineInRange (Refuse event n place reason) = IsCount event × ReasonInRange reason
 LineInRange (Seal event n t) = IsCount event × TermInRange t
 LineInRange (Forge event t) = IsCount event × TermInRange t

@@ -12,6 +12,7 @@ use Rattle.zb_node_types.specs.Changes.{model_role}
 use Rattle.zb_script.specs.Grammar.{is_joiner}
 use Rattle.zb_script.specs.Scripts as script
 use Rattle.zb_script.specs.Scripts.{Script}
+use Rattle.zb_base.specs.Limits.{most_nodes}
 
 -- ---- the header
 
@@ -30,7 +31,7 @@ pub record IsHeader (network : Script) : Type 0 where
   pub centre : BeginsWithCentre network.stations
   pub differ : all_apart same_eui network.stations ≡ true
   pub euis : AllByRecursion (λ (p : script.Station). p.eui < 2 ^ 64) network.stations
-  pub few : length network.stations ≤ 64
+  pub few : length network.stations ≤ most_nodes
   pub out_block : 1 ≤ network.out_block
   pub in_block : 1 ≤ network.in_block
 

@@ -9,6 +9,7 @@ use Rattle.zb_seal.specs.Wire.{wire}
 use Rattle.zb_seal.specs.declared.envelope.OpenError.{OpenError}
 use Rattle.zb_seal.specs.declared.envelope.OpenError.TheVariants.{Frame, NotSecured, NoSource, BadMic}
 use Rattle.zb_seal.specs.declared.term.Term.{Term}
+use Rattle.zb_mmo.specs.Keyed.{longest_keyed}
 
 -- ---- numbers of all calls: a buffer of another length than is asked, a key that hasn't 16 bytes
 
@@ -35,12 +36,9 @@ link_key_number code room = if room == 16 then code_number (code_of code) else w
 
 -- ---- keyed hashes: 1 where the message is longer than the hash takes with a key before it
 
-abbrev pub longest_message : ℕ
-longest_message = 8175
-
 abbrev pub keyed_number : (key message room : ℕ) → ℕ
 keyed_number key message room =
-    if key == 16 then (if room == 16 then (if nat_le message longest_message then 0 else 1) else wrong_room)
+    if key == 16 then (if room == 16 then (if nat_le message longest_keyed then 0 else 1) else wrong_room)
     else wrong_key
 
 -- ---- opening: 1 no frame, 2 not secured, 3 no source, 4 a MIC that isn't that of a content under the key

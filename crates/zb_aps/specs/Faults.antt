@@ -7,6 +7,7 @@ use Rattle.zb_aps.specs.declared.header.ApsHeader.{ApsHeader}
 use Rattle.zb_aps.specs.declared.frame.ApsFrame.{ApsFrame}
 use Rattle.zb_aps.specs.Spelling.{header}
 use Rattle.zb_aps.specs.Shape.{kind, delivery, key_id, IsHeader, HeaderInRange, IsFrame}
+use Rattle.zb_base.specs.Limits.{longest_frame}
 
 -- Some longer bytes that begin so are a frame, be they more than 127.
 abbrev pub CanGoOn : List ℕ → Type 0
@@ -37,5 +38,5 @@ Explains bytes (KeyId found) = (control : ℕ) × (h : ApsHeader) × (rest : Lis
 
 -- The bytes have the fault.
 abbrev pub HasFault : List ℕ → ApsError → Type 0
-HasFault bytes TooLong = 127 < length bytes
-HasFault bytes e = (length bytes ≤ 127) × Explains bytes e
+HasFault bytes TooLong = longest_frame < length bytes
+HasFault bytes e = (length bytes ≤ longest_frame) × Explains bytes e

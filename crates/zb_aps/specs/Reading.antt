@@ -10,6 +10,7 @@ use Rattle.zb_aps.specs.declared.header.ApsHeader.{ApsHeader}
 use Rattle.zb_aps.specs.declared.auxiliary.ApsAux.{ApsAux}
 use Rattle.zb_aps.specs.declared.frame.ApsFrame.{ApsFrame}
 use Rattle.zb_aps.specs.Shape.{kind, delivery, is_ack, to_group, is_addressed, is_block, key_id}
+use Rattle.zb_base.specs.Limits.{longest_frame}
 
 unfoldable pub control_at : Reading ApsError ℕ
 control_at = do
@@ -93,4 +94,5 @@ whole (Err e) = Err e
 -- The frame that all of the bytes are, or their first fault: more than 127 bytes, or what the first field gives that
 -- is not whole or not known.
 unfoldable pub frame_of : List ℕ → Result ApsFrame ApsError
-frame_of bytes = if nat_lt 127 (length bytes) then Err TooLong else whole (frame_at (Short (length bytes)) bytes)
+frame_of bytes =
+    if nat_lt longest_frame (length bytes) then Err TooLong else whole (frame_at (Short (length bytes)) bytes)

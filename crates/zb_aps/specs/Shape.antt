@@ -6,6 +6,7 @@ use Rattle.zb_aps.specs.declared.header.ApsHeader.{ApsHeader}
 use Rattle.zb_aps.specs.declared.auxiliary.ApsAux.{ApsAux}
 use Rattle.zb_aps.specs.declared.frame.ApsFrame.{ApsFrame}
 use Rattle.zb_aps.specs.Spelling.{frame}
+use Rattle.zb_base.specs.Limits.{longest_frame}
 
 -- bits 0 and 1 of the control byte are the frame type, 2 and 3 the delivery mode
 abbrev pub kind : ℕ → ℕ
@@ -105,4 +106,4 @@ pub record IsFrame (bytes : List ℕ) (f : ApsFrame) : Type 0 where
 -- The bytes spell the frame: they are it, and they are at most 127.
 pub record Spells (bytes : List ℕ) (f : ApsFrame) : Type 0 where
   pub is_frame : IsFrame bytes f
-  pub fits : length bytes ≤ 127
+  pub fits : length bytes ≤ longest_frame

@@ -6,7 +6,7 @@ ghost use Rattle.zb_store.specs.Layout.{Standing};
 ghost use Rattle.zb_store.specs.Steps.{WentThrough};
 ghost use Rattle.zb_store.specs.Store.{IsHeld, both_gates_open};
 ghost use Rattle.zb_store.specs.Power.{stop_commits, failure_commits, stop_opens_both, failure_opens_both, open_stop_leaves_both, open_failure_leaves_both};
-ghost use Rattle.zb_model.specs.Play.{StopAfter, FailAt, BootCalls, falls, stands, leaves_both, commit_calls};
+ghost use Rattle.zb_model.specs.Play.{StopAfter, FailAt, BootCalls, falls, stands, leaves_both, commit_calls, commits_of_record};
 ghost use Rattle.zb_armed_host.specs.Arms.{IsUnarmed, commit_of};
 
 /// States that the model's words on stops and failures that fall are what the store promises of them.
@@ -28,7 +28,7 @@ pub fn stops_and_failures()
         → leaves_both (StopAfter calls torn) (BootCalls true) ≡ open_stop_leaves_both calls torn }
     ensures boot_fail_leaves { (call : ℕ) → falls (FailAt call) (BootCalls true) ≡ true
         → leaves_both (FailAt call) (BootCalls true) ≡ open_failure_leaves_both call }
-    ensures full_is { (entries commits : ℕ) → entries ≡ commits % 33
+    ensures full_is { (entries commits : ℕ) → entries ≡ commits % commits_of_record
         → commit_calls commits ≡ commit_of (entries == 32) }
 {}
 

@@ -49,13 +49,17 @@ or_zero (Some number) = number
 abbrev pub number_of : Numbers → List ℕ → ℕ
 number_of l key = or_zero (get key_cmp l.numbers (record { 0 = key }))
 
+-- how early the line of number 0 is: 2^32, above the number of each line
+abbrev pub earliest : ℕ
+earliest = 4294967296
+
 -- how early a device was removed: the earlier, the greater
 abbrev pub early_of : Spread → ℕ → ℕ
 early_of s d = or_zero (get eui_cmp s.devices (record { 0 = d }))
 
 -- whether a key was drawn after a removal that is so early
 abbrev pub is_late : Numbers → ℕ → List ℕ → Bool
-is_late drawn early key = nat_le 4294967296 (early + number_of drawn key)
+is_late drawn early key = nat_le earliest (early + number_of drawn key)
 
 -- the seals of a term by removed devices
 abbrev pub has_seal : List LateSeal → ℕ → ℕ → Bool

@@ -14,7 +14,7 @@ use Rattle.zb_audit_lockout.specs.Before.{before_group}
 use Rattle.zb_audit_lockout.specs.Facts.{Recalls}
 use Rattle.zb_audit_lockout.specs.Lockout.{admits, drawn_in, first_unlocked, keeps_out, locked, refuses_line, sealed_by}
 use Rattle.zb_audit_lockout.specs.Ordered.{is_listed}
-use Rattle.zb_audit_lockout.specs.Reading.{early_of, is_late_seal, late_by, number_of, open_at, opened_by}
+use Rattle.zb_audit_lockout.specs.Reading.{early_of, is_late_seal, late_by, number_of, open_at, opened_by, earliest}
 use Rattle.zb_audit_lockout.specs.Spreading.{IsShut, IsSpread, IsSpreadBut}
 use Rattle.zb_audit_lockout.specs.Windows.{EachWindow, SomeWindow}
 use Rattle.zb_audit_lockout.specs.declared.evidence.Evidence.{Evidence}
@@ -72,17 +72,17 @@ pub record IsReach (tools : Tools) (r : Reach) (h : List Line) : Type 0 where
   pub carried : (b k : List ℕ) → is_carried r.leads b k ≡ list_any (carries tools b k) (terms_of h)
   pub early : (k : List ℕ) → number_of r.drawn k ≤ r.windows.last
   pub last : r.windows.last ≤ length h
-  pub small : r.windows.last < 4294967296
+  pub small : r.windows.last < earliest
 
 -- a key comes out for no removed device, or was drawn before the removal
 abbrev pub IsBelow : Reach → List ℕ → Type 0
-IsBelow r k = (number_of r.spread.keys k ≡ 0) ⊎ (number_of r.spread.keys k + number_of r.drawn k < 4294967296)
+IsBelow r k = (number_of r.spread.keys k ≡ 0) ⊎ (number_of r.spread.keys k + number_of r.drawn k < earliest)
 
 -- The keys that come out for removed devices are spread, and none of them was drawn since.
 pub record IsSafe (r : Reach) : Type 0 where
   pub back : IsBack r.leads r.held r.back
   pub spread : IsSpread r.leads r.held r.spread
-  pub opened : (d number : ℕ) → open_at r.windows d ≡ Some number → 4294967296 ≤ early_of r.spread d + number
+  pub opened : (d number : ℕ) → open_at r.windows d ≡ Some number → earliest ≤ early_of r.spread d + number
   pub below : (k : List ℕ) → IsBelow r k
 
 -- A key comes out for a removed device that was drawn since.
@@ -111,7 +111,7 @@ pub record Settles (old new : Reach) : Type 0 where
 pub record IsNearlySafe (r : Reach) (key : Key) (early : ℕ) : Type 0 where
   pub back : IsBack r.leads r.held r.back
   pub spread : IsSpreadBut r.leads r.held r.spread (key ∷ []) early
-  pub opened : (d number : ℕ) → open_at r.windows d ≡ Some number → 4294967296 ≤ early_of r.spread d + number
+  pub opened : (d number : ℕ) → open_at r.windows d ≡ Some number → earliest ≤ early_of r.spread d + number
   pub below : (k : List ℕ) → IsBelow r k
 
 pub record Judged (old new : Reach) (key : Key) (early : ℕ) (stays : Bool) : Type 0 where
@@ -122,7 +122,7 @@ pub record Judged (old new : Reach) (key : Key) (early : ℕ) (stays : Bool) : T
 pub record IsSafeBut (r : Reach) (keys : List Key) : Type 0 where
   pub back : IsBack r.leads r.held r.back
   pub spread : IsSpread r.leads r.held r.spread
-  pub opened : (d number : ℕ) → open_at r.windows d ≡ Some number → 4294967296 ≤ early_of r.spread d + number
+  pub opened : (d number : ℕ) → open_at r.windows d ≡ Some number → earliest ≤ early_of r.spread d + number
   pub below : (k : List ℕ) → IsBelow r k ⊎ (is_among keys k ≡ true)
 
 -- Keys are checked.
@@ -144,7 +144,7 @@ pub record TakenBack (old new : Reach) (keys : List Key) (list : List Opening) :
 -- A removed device is entered, and the answer is whether no key that comes out for it was drawn since.
 pub record TriedOne (old new : Reach) (opening : Opening) (stays : Bool) : Type 0 where
   pub spread : IsSpread old.leads old.held old.spread → IsSpread new.leads new.held new.spread
-  pub reached : 4294967296 ≤ early_of new.spread opening.device.0 + opening.number
+  pub reached : earliest ≤ early_of new.spread opening.device.0 + opening.number
   pub kept : (e : ℕ) → early_of old.spread e ≤ early_of new.spread e
   pub below : stays ≡ true → (k : List ℕ) → IsBelow old k → IsBelow new k
   pub out : stays ≡ false → open_at old.windows opening.device.0 ≡ Some opening.number → IsUnsafe new
@@ -152,7 +152,7 @@ pub record TriedOne (old new : Reach) (opening : Opening) (stays : Bool) : Type 
 -- The same of all devices of a list.
 pub record EnteredAll (old new : Reach) (list : List Opening) (stays : Bool) : Type 0 where
   pub spread : stays ≡ true → IsSpread old.leads old.held old.spread → IsSpread new.leads new.held new.spread
-  pub reached : stays ≡ true → (n d : ℕ) → is_listed n d list ≡ true → 4294967296 ≤ early_of new.spread d + n
+  pub reached : stays ≡ true → (n d : ℕ) → is_listed n d list ≡ true → earliest ≤ early_of new.spread d + n
   pub kept : stays ≡ true → (e : ℕ) → early_of old.spread e ≤ early_of new.spread e
   pub below : stays ≡ true → (k : List ℕ) → IsBelow old k → IsBelow new k
   pub out : stays ≡ false → ((n d : ℕ) → is_listed n d list ≡ true → open_at old.windows d ≡ Some n) → IsUnsafe new
@@ -185,16 +185,16 @@ pub record Removes (old new : Reach) (d number : ℕ) : Type 0 where
   pub found : (e : ℕ) → open_at new.windows e ≡ option_or (open_at old.windows e) (if nat_eq e d then Some number
       else None)
   pub last : new.windows.last ≡ number
-  pub small : number < 4294967296
+  pub small : number < earliest
   pub leads : new.leads ≡ old.leads
   pub held : new.held ≡ old.held
   pub back : new.back ≡ old.back
   pub drawn : new.drawn ≡ old.drawn
   pub spread : IsSpread old.leads old.held old.spread → IsSpread old.leads old.held new.spread
-  pub reached : 4294967296 ≤ early_of new.spread d + number
+  pub reached : earliest ≤ early_of new.spread d + number
   pub kept : (e : ℕ) → early_of old.spread e ≤ early_of new.spread e
   pub told : (k : List ℕ) → (number_of new.spread.keys k ≡ number_of old.spread.keys k)
-      ⊎ (number_of new.spread.keys k + number ≡ 4294967296)
+      ⊎ (number_of new.spread.keys k + number ≡ earliest)
 
 pub record Admits (old new : Reach) (d : ℕ) : Type 0 where
   pub found : (e : ℕ) → open_at new.windows e ≡ (if nat_eq e d then None else open_at old.windows e)

@@ -6,7 +6,7 @@ ghost use Rattle.zb_audit_lockout.specs.Backing.{is_one_of};
 ghost use Rattle.zb_audit_lockout.specs.Withdrawing.{Unmarks, Withdraws, holds_any};
 ghost use Rattle.zb_audit_lockout.specs.Ordered.{is_number, opening_at, opening_cmp};
 ghost use Rattle.zb_audit_lockout.specs.Raising.{Raises};
-ghost use Rattle.zb_audit_lockout.specs.Reading.{early_of, number_of, open_at};
+ghost use Rattle.zb_audit_lockout.specs.Reading.{early_of, number_of, open_at, earliest};
 ghost use Rattle.zb_audit_lockout.specs.Spreading.{Enters};
 ghost use Rattle.zb_model.specs.Secrets.{well_known};
 
@@ -21,7 +21,7 @@ use zb_trace_watch::holdings::Holdings;
 
 /// Returns how early a removal is by the line of that number: the earlier, the greater.
 pub fn earliness(number: u32) -> u64
-    ensures { result + number ≡ 4294967296 }
+    ensures { result + number ≡ earliest }
 {
     4294967296 - u64::from(number)
 }

@@ -2,7 +2,7 @@
 ghost use Rattle.std.specs.Prelude.{◌≡◌, ◌<◌, ℕ, OnOk, None, Some, if◌then◌else◌, nat_eq};
 ghost use Rattle.std.specs.Map.{keys_of};
 ghost use Rattle.std.specs.Option.{option_or};
-ghost use Rattle.zb_audit_lockout.specs.Reading.{open_at, opened_by, some_open};
+ghost use Rattle.zb_audit_lockout.specs.Reading.{open_at, opened_by, some_open, earliest};
 
 use crate::opened::Opened;
 use std::alloc::{AllocError, Global};
@@ -34,7 +34,7 @@ impl Windows {
         ensures found { OnOk result ((d : ℕ)
             → open_at self.new d ≡ option_or (open_at self.old d) (if nat_eq d device.0 then Some number else None)) }
         ensures last { OnOk result (self.new.last ≡ number) }
-        ensures small { OnOk result (number < 4294967296) }
+        ensures small { OnOk result (number < earliest) }
     {
         self.removals.note(device, number)?;
         self.last = number;

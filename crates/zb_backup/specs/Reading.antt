@@ -1,5 +1,5 @@
 -- Which texts are backups, and of which tables.
-use Rattle.std.specs.Prelude.{◌≡◌, ℕ, Bool, true, false, ◌&&◌, ◌||◌, if◌then◌else◌, nat_eq, nat_lt, List, [], ◌∷◌, length, bytes_eq, Option, Some, None, Result, Ok, Err, option_map, option_and_then}
+use Rattle.std.specs.Prelude.{◌^◌, ◌≡◌, ℕ, Bool, true, false, ◌&&◌, ◌||◌, if◌then◌else◌, nat_eq, nat_lt, List, [], ◌∷◌, length, bytes_eq, Option, Some, None, Result, Ok, Err, option_map, option_and_then}
 use Rattle.std.specs.List.{list_all}
 use Rattle.std.specs.Str.{IsUtf8, is_utf8}
 use Rattle.serde_json.specs.Data.{Num, unsigned, Data, null, boolean, number, string, array, object, Items, no_items, item, Members, no_members, member}
@@ -23,10 +23,10 @@ abbrev pub is_key : Bytes → Bool
 is_key key = nat_eq (length key) 16 && list_all is_byte key
 
 abbrev pub is_eui : ℕ → Bool
-is_eui eui = nat_lt eui 18446744073709551616
+is_eui eui = nat_lt eui (2 ^ 64)
 
 abbrev pub is_counter : ℕ → Bool
-is_counter n = nat_lt n 4294967296
+is_counter n = nat_lt n (2 ^ 32)
 
 abbrev pub floor_fits : SenderFloor → Bool
 floor_fits f = is_eui f.sender && is_counter f.stored

@@ -2,7 +2,7 @@
 use Rattle.std.specs.Prelude.{◌≡◌, ◌&&◌, ℕ, Bool, true, nat_le, length, filter, Option, Some, None, Result, Ok, Err}
 use Rattle.serde_json.specs.Errors.{IsMemory}
 use Rattle.serde_json.specs.declared.error.Error.{Error}
-use Rattle.zb_model.specs.Fits.{keeps_rules}
+use Rattle.zb_model.specs.Fits.{keeps_rules, most_nets, most_centre_links, most_pairs}
 use Rattle.zb_model.specs.State.{NodeState, after_boot, shown}
 use Rattle.zb_record.specs.Ranges.{FitsBytes}
 use Rattle.zb_record.specs.RowViews.{net_key}
@@ -23,9 +23,9 @@ told_state t = state_written t.heading.aps_limit t.heading t.nets.items t.links.
 
 -- rows that have room in a record: at most 256 network keys, of which two are live, 1,024 link keys and 256 pairs
 abbrev pub has_room : Parts → Bool
-has_room t = nat_le (length t.nets.items) 256
+has_room t = nat_le (length t.nets.items) most_nets
     && (nat_le (length (filter (λ r. (net_key r).live) t.nets.items)) 2
-    && (nat_le (length t.links.items) 1024 && nat_le (length t.pairs.items) 256))
+    && (nat_le (length t.links.items) most_centre_links && nat_le (length t.pairs.items) most_pairs))
 
 -- Tables that were made of a state by its record. They are refused only where that breaks the rules for records.
 abbrev pub IsMade : Result NodeState BackupError → NodeState → Type 0

@@ -11,6 +11,7 @@ use Rattle.zb_record.specs.Records as record_places
 use Rattle.zb_model.specs.Data.{Bytes, Centre, Fresh, Attribute}
 use Rattle.zb_model.specs.Fits.{most_nets, most_links, most_pairs, most_senders}
 use Rattle.zb_model.specs.State.{SenderFloor, NetKey, LinkKey, PairKey, NodeState, greatest_counter}
+use Rattle.zb_model.specs.Record.{no_place}
 
 -- one step, and then what depends on it
 infixl 10 ◌>>=◌
@@ -110,7 +111,7 @@ key_in nets place = option_map Some (place >>= (λ n. record_places.key_of n net
 abbrev pub place_in : List NetKey → Data → Option (Option Bytes)
 place_in nets null = Some None
 place_in nets (boolean b) = None
-place_in nets (number n) = key_in nets (up_to 65535 (as_u64 n))
+place_in nets (number n) = key_in nets (up_to no_place (as_u64 n))
 place_in nets (string s) = None
 place_in nets (array ds) = None
 place_in nets (object ms) = None

@@ -44,3 +44,43 @@ most_runs = 1000
 -- The greatest start value of a campaign: its last run has a start value below 2^32 still.
 abbrev pub last_start : ℕ
 last_start = 4294966295
+
+-- The greatest count that is told or kept: 2^32 - 1, as of the events and frames of a run. A count stops there.
+abbrev pub greatest_count : ℕ
+greatest_count = 4294967295
+
+-- The longest content of application data that an event brings, and the longest command that it forges, in bytes.
+abbrev pub longest_content : ℕ
+longest_content = 64
+
+-- The longest frame that the command Tunnel carries, in bytes: of a command's 127, it leaves 9 to its own fields.
+abbrev pub longest_tunnelled : ℕ
+longest_tunnelled = 118
+
+-- The most nodes of a schedule or script.
+abbrev pub most_nodes : ℕ
+most_nodes = 64
+
+-- The most routers and devices of a made schedule.
+abbrev pub most_made : ℕ
+most_made = 60
+
+-- The most jobs that share the work of a report or campaign.
+abbrev pub most_jobs : ℕ
+most_jobs = 64
+
+-- The most keys that a capture gives, and that stand on a command line.
+abbrev pub most_keys : ℕ
+most_keys = 256
+
+-- The last short address that a router or device may have: 0xFFF7.
+abbrev pub last_short : ℕ
+last_short = 65527
+
+-- The EUI of all ones, which no node has.
+abbrev pub broadcast_eui : ℕ
+broadcast_eui = 18446744073709551615
+
+-- The most bytes of a write that a stopped node leaves on its disk, as an event gives them.
+abbrev pub longest_torn : ℕ
+longest_torn = 32

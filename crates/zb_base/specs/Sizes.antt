@@ -28,3 +28,15 @@ slot_size = 65536
 -- the last generation of a slot, 2^64 - 1: no record is written after it
 abbrev pub last_generation : ℕ
 last_generation = 18446744073709551615
+
+-- the greatest number of bytes of an entry: three before its payload
+abbrev pub entry_room : ℕ
+entry_room = 484
+
+-- the first generation that isn't far from the last one: 2^63
+abbrev pub late_generation : ℕ
+late_generation = 9223372036854775808
+
+-- the last generation of a disk that a test bench may give to a node: 2^62
+abbrev pub last_given_generation : ℕ
+last_given_generation = 4611686018427387904

@@ -8,7 +8,7 @@ ghost use Rattle.zb_campaign.specs.Outcomes.{Campaigns};
 ghost use Rattle.zb_parallel.specs.Shares.{AreShares};
 ghost use Rattle.zb_model.specs.Lines.{Line};
 ghost use Rattle.zb_sched.specs.declared.error.SchedError.{SchedError};
-ghost use Rattle.zb_base.specs.Limits.{most_runs, last_start};
+ghost use Rattle.zb_base.specs.Limits.{most_runs, last_start, most_jobs};
 
 use crate::fault::CampaignFault;
 use crate::lines::print;
@@ -40,7 +40,7 @@ pub fn campaign<T: Threads + Sync, G: Gate, W: Sink>(
 ) -> Result<(), CampaignFault>
     requires count { (1 ≤ count) × (count ≤ most_runs) }
     requires start { start ≤ last_start }
-    requires jobs { (1 ≤ jobs) × (jobs ≤ 64) }
+    requires jobs { (1 ≤ jobs) × (jobs ≤ most_jobs) }
     ensures ends { Campaigns (campaigned count start) (W.taken out.old) (W.taken out.new) (W.faults out.old)
         (W.faults out.new) result }
     ensures later { W.faults out.old ≤ W.faults out.new }

@@ -11,12 +11,12 @@ use Rattle.zb_capture.specs.declared.capture.Capture.{Capture}
 use Rattle.zb_capture.specs.declared.fault.CaptureCause.{CaptureCause}
 use Rattle.zb_capture.specs.declared.fault.CaptureCause.TheVariants.{Syntax, BadCode, TooMany, AddressTaken}
 use Rattle.zb_capture.specs.declared.fault.CaptureError.{CaptureError}
-use Rattle.zb_install.specs.Code.{code_of, code_key}
+use Rattle.zb_install.specs.Code.{code_of, code_key, longest_code}
 use Rattle.zb_install.specs.declared.code_error.CodeError.{CodeError}
 use Rattle.zb_text.specs.Fields.{eui_of, short_of, key_of}
 use Rattle.zb_text.specs.Hexadecimal.{bytes_of}
 use Rattle.zb_text.specs.Words.{words, field, nothing}
-use Rattle.zb_base.specs.Limits.{most_frames}
+use Rattle.zb_base.specs.Limits.{most_frames, longest_frame, broadcast_eui, most_keys}
 
 -- one step and then what depends on it
 infixl 10 ◌>>=◌
@@ -46,7 +46,7 @@ key_given (Ok code) = Some (record { 0 = code_key code })
 
 -- the link key of the install code that a string of bytes is; a code and its CRC have at most 18 bytes
 abbrev pub link_key_of : List ℕ → Option Key
-link_key_of word = bytes_of 18 word >>= (λ bytes. key_given (code_of bytes))
+link_key_of word = bytes_of longest_code word >>= (λ bytes. key_given (code_of bytes))
 
 -- HEX, and the link key where it is a code
 unfoldable pub code_in : List (List ℕ) → Option (Option Key)
@@ -57,7 +57,7 @@ code_in line = do
 
 -- an EUI that a node may have: not all bits 0, and not all 1
 abbrev pub is_address : ℕ → Bool
-is_address eui = nat_lt 0 eui && nat_lt eui 18446744073709551615
+is_address eui = nat_lt 0 eui && nat_lt eui broadcast_eui
 
 abbrev pub pair_of : ℕ → ℕ → Short × Eui
 pair_of short eui = (record { 0 = short }, record { 0 = eui })
@@ -73,7 +73,7 @@ addr_in line = do
 -- HEX of 1 to 127 bytes
 unfoldable pub frame_in : List (List ℕ) → Option (ArrayVec ℕ)
 frame_in line = do
-  bytes ← field (bytes_of 127) line
+  bytes ← field (bytes_of longest_frame) line
   end ← nothing bytes.1
   if length bytes.0 == 0 then None else Some (record { items = bytes.0 })
 
@@ -82,7 +82,8 @@ frame_in line = do
 -- a given key, of at most 256
 abbrev pub with_key : Capture → Option Key → Result Capture CaptureCause
 with_key c None = Err Syntax
-with_key c (Some key) = if nat_lt (length c.keys) 256 then Ok (record c { keys = c.keys ++ key ∷ [] }) else Err TooMany
+with_key c (Some key) =
+    if nat_lt (length c.keys) most_keys then Ok (record c { keys = c.keys ++ key ∷ [] }) else Err TooMany
 
 -- the link key of a given code
 abbrev pub with_code : Capture → Option (Option Key) → Result Capture CaptureCause
@@ -140,5 +141,5 @@ captured bytes = with_lines 1 empty (lines bytes)
 
 -- the limits of a capture
 pub record IsCapture (c : Capture) : Type 0 where
-  pub keys : length c.keys ≤ 256
+  pub keys : length c.keys ≤ most_keys
   pub frames : length c.frames ≤ most_frames

@@ -2,6 +2,7 @@
 use Rattle.std.specs.Prelude.{◌≡◌, ℕ, ◌+◌, ◌-◌, ◌≤◌, List, [], ◌∷◌, take, drop}
 use Rattle.std.specs.List.{flat_map}
 use Rattle.arrayvec.specs.ArrayVec.{ArrayVec}
+use Rattle.zb_base.specs.Limits.{longest_frame}
 
 -- the frames of a text, of which the first starts at `start` and each ends where the next one starts
 abbrev pub frames_in : List ℕ → ℕ → List ℕ → List (ArrayVec ℕ)
@@ -12,7 +13,7 @@ frames_in bytes start (end ∷ ends) = record { items = take (end - start) (drop
 -- frames of at most 127 bytes, the last of which ends where the text of `all` bytes does
 abbrev pub AreEnds : ℕ → ℕ → List ℕ → Type 0
 AreEnds all start [] = start ≡ all
-AreEnds all start (end ∷ ends) = (start ≤ end) × (end ≤ start + 127) × AreEnds all end ends
+AreEnds all start (end ∷ ends) = (start ≤ end) × (end ≤ start + longest_frame) × AreEnds all end ends
 
 -- the frames of all runs, one run after the other
 abbrev pub all_runs : List (List (ArrayVec ℕ)) → List (ArrayVec ℕ)

@@ -1,7 +1,7 @@
 //! A capture.
 ghost use Rattle.std.specs.Prelude.{◌≡◌, ◌≤◌, [], length, IfOk};
 ghost use Rattle.zb_capture.specs.Grammar.{IsCapture};
-ghost use Rattle.zb_base.specs.Limits.{most_frames};
+ghost use Rattle.zb_base.specs.Limits.{most_frames, most_keys};
 
 use crate::frames::Frames;
 use std::alloc::Global;
@@ -28,7 +28,7 @@ impl Capture {
     ///
     /// Requires at most 256 keys and 100,000 frames.
     pub fn of(alloc: Global, keys: &[Key], frames: Frames) -> Result<Capture, NoMemory>
-        requires keys { length keys.now ≤ 256 }
+        requires keys { length keys.now ≤ most_keys }
         requires frames { length frames ≤ most_frames }
         ensures value { IfOk result (λ c. c ≡ record { keys = keys.now; addrs = []; frames = frames }) }
         ensures valid { IfOk result (λ c. IsCapture c) }

@@ -9,6 +9,7 @@ use Rattle.zb_cmd.specs.declared.command.Command.TheVariants.{Tunnel}
 use Rattle.zb_cmd.specs.declared.leave.Leave.{Leave}
 use Rattle.zb_cmd.specs.Spelling.{command, leave}
 use Rattle.zb_cmd.specs.Shape.{IsCommand, InRange}
+use Rattle.zb_base.specs.Limits.{longest_tunnelled}
 
 -- The bytes are a command and then the rest.
 pub record BeginsWith (bytes : List ℕ) (c : Command) (rest : List ℕ) : Type 0 where
@@ -35,7 +36,7 @@ pub record IsCut (bytes : List ℕ) : Type 0 where
 
 -- a Tunnel takes all bytes up to the 127th of the command
 abbrev pub TakesAll : Command → Type 0
-TakesAll (Tunnel destination inner) = length inner.items ≡ 118
+TakesAll (Tunnel destination inner) = length inner.items ≡ longest_tunnelled
 TakesAll _ = Unit {0}
 
 -- The bytes have the fault.

@@ -9,6 +9,7 @@ use Rattle.zb_cmd.specs.declared.command.Command.TheVariants.{TransportNetwork, 
 use Rattle.zb_cmd.specs.declared.leave.Leave.{Leave}
 use Rattle.zb_cmd.specs.Spelling.{command}
 use Rattle.zb_cmd.specs.Shape.{is_inner, InRange, IsCommand, IsSmall}
+use Rattle.zb_base.specs.Limits.{longest_tunnelled}
 
 unfoldable pub network_at : Reading CmdError Command
 network_at = do
@@ -77,8 +78,11 @@ switch_at = do
 
 -- the frame in a Tunnel is all that is left, up to the 127th byte of the command
 unfoldable pub inner_at : Reading CmdError (ArrayVec ℕ)
-inner_at cut bytes = if is_inner (take (min (length bytes) 118) bytes)
-    then Ok (record { items = take (min (length bytes) 118) bytes }, drop (min (length bytes) 118) bytes) else Err cut
+inner_at cut bytes = if is_inner (take (min (length bytes) longest_tunnelled) bytes)
+    then Ok (
+      record { items = take (min (length bytes) longest_tunnelled) bytes },
+      drop (min (length bytes) longest_tunnelled) bytes,
+    ) else Err cut
 
 unfoldable pub tunnel_at : Reading CmdError Command
 tunnel_at = do

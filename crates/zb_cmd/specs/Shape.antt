@@ -5,11 +5,15 @@ use Rattle.zb_cmd.specs.declared.command.Command.{Command}
 use Rattle.zb_cmd.specs.declared.command.Command.TheVariants.{TransportNetwork, TransportApplication, TransportLink, Update, Remove, RequestApplication, RequestLink, Switch, Tunnel, Verify, Confirm}
 use Rattle.zb_cmd.specs.declared.leave.Leave.{Leave}
 use Rattle.zb_cmd.specs.Spelling.{command, leave}
+use Rattle.zb_base.specs.Limits.{longest_frame, longest_tunnelled}
 
 -- The frame in a Tunnel has an APS header of 2 bytes, an auxiliary header of 13 with the extended nonce (bit 5 of its
--- control byte) and a code of 4. No other place of it is judged.
+-- control byte) and a MIC of 4. No other place of it is judged.
+abbrev pub shortest_tunnelled : ℕ
+shortest_tunnelled = 19
+
 abbrev pub is_inner : List ℕ → Bool
-is_inner xs = nat_le 19 (length xs) && bit (slice_index xs 2) 5
+is_inner xs = nat_le shortest_tunnelled (length xs) && bit (slice_index xs 2) 5
 
 abbrev pub IsCommand : Command → Type 0
 IsCommand (Tunnel destination inner) = is_inner inner.items ≡ true
@@ -17,7 +21,7 @@ IsCommand _ = Unit {0}
 
 -- a command of at most 127 bytes
 abbrev pub IsSmall : Command → Type 0
-IsSmall (Tunnel destination inner) = length inner.items ≤ 118
+IsSmall (Tunnel destination inner) = length inner.items ≤ longest_tunnelled
 IsSmall _ = Unit {0}
 
 abbrev pub is_tunnel : Command → Bool
@@ -47,7 +51,7 @@ pub record Spells (bytes : List ℕ) (c : Command) : Type 0 where
   pub in_range : InRange c
   pub shaped : IsCommand c
   pub text : bytes ≡ command c
-  pub fits : length bytes ≤ 127
+  pub fits : length bytes ≤ longest_frame
 
 pub record SpellsLeave (bytes : List ℕ) (l : Leave) : Type 0 where
   pub in_range : l.options < 2 ^ 8

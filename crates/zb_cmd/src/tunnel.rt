@@ -7,6 +7,7 @@ ghost use Rattle.zb_cmd.specs.Spelling.{command};
 ghost use Rattle.zb_cmd.specs.Shape.{InRange, IsCommand, IsSmall};
 ghost use Rattle.zb_cmd.specs.Shape.{is_inner};
 ghost use Rattle.zb_cmd.specs.Reading.{inner_at, tunnel_at, IsRead};
+ghost use Rattle.zb_base.specs.Limits.{longest_tunnelled};
 
 use crate::command::Command;
 use crate::fault::CmdError;
@@ -29,7 +30,7 @@ fn read_inner(reader: &mut Reader<CmdError>) -> Result<Frame, CmdError>
     ensures exact { Gives result reader.new.rest.now (inner_at reader.old.cut reader.old.rest.now) }
     ensures spelled { IfOk result (λ x. reader.old.rest.now ≡ x.items ++ reader.new.rest.now) }
     ensures shaped { IfOk result (λ x. is_inner x.items ≡ true) }
-    ensures small { IfOk result (λ x. length x.items ≤ 118) }
+    ensures small { IfOk result (λ x. length x.items ≤ longest_tunnelled) }
     ensures shorter { length reader.new.rest.now ≤ length reader.old.rest.now }
     ensures cut { reader.new.cut ≡ reader.old.cut }
 {

@@ -4,7 +4,7 @@ use Rattle.zb_model.specs.Data.{Bytes}
 use Rattle.zb_base.specs.declared.key.Key.{Key}
 use Rattle.zb_text.specs.Numbers.{number_of}
 use Rattle.zb_command.specs.KeyWords.{all_keys, keys_in}
-use Rattle.zb_base.specs.Limits.{most_runs, last_start}
+use Rattle.zb_base.specs.Limits.{most_runs, last_start, greatest_count, most_jobs, most_made, most_keys}
 
 -- `play` plays the schedule on its input; `install CODE` writes the link key of an install code; `make N` writes the
 -- made schedule for N routers and devices; `inspect JOBS` writes the report on the capture on its input, worked out by
@@ -45,7 +45,8 @@ sniffing keys (Some jobs) = Some (Sniffing jobs keys)
 
 abbrev pub sniff_words : Bytes → List Bytes → Option Invocation
 sniff_words operand words =
-    if nat_le (length words) 256 && all_keys words then sniffing (keys_in words) (count_of 64 operand) else None
+    if nat_le (length words) most_keys && all_keys words then sniffing (keys_in words) (count_of most_jobs operand)
+    else None
 
 abbrev pub lone_word : Bytes → Option Invocation
 lone_word word =
@@ -56,9 +57,9 @@ lone_word word =
 -- a code has fewer than 2^32 - 1 bytes; a longer word is none
 abbrev pub word_and_operand : Bytes → Bytes → Option Invocation
 word_and_operand word operand =
-    if bytes_eq word (codes "install") && nat_lt (length operand) 4294967295 then Some (Installing operand)
-    else if bytes_eq word (codes "make") then making (count_of 60 operand)
-    else if bytes_eq word (codes "inspect") then inspecting (count_of 64 operand)
+    if bytes_eq word (codes "install") && nat_lt (length operand) greatest_count then Some (Installing operand)
+    else if bytes_eq word (codes "make") then making (count_of most_made operand)
+    else if bytes_eq word (codes "inspect") then inspecting (count_of most_jobs operand)
     else if bytes_eq word (codes "admin") then Some Serving
     else None
 
@@ -71,7 +72,7 @@ campaigning (Some count) (Some start) (Some jobs) = Some (Campaigning count star
 -- the start values of all runs are below 2^32
 abbrev pub campaign_words : Bytes → Bytes → Bytes → Option Invocation
 campaign_words count start jobs =
-    campaigning (count_of most_runs count) (number_of last_start start) (count_of 64 jobs)
+    campaigning (count_of most_runs count) (number_of last_start start) (count_of most_jobs jobs)
 
 abbrev pub word_and_three : Bytes → Bytes → Bytes → Bytes → Option Invocation
 word_and_three word first second third =

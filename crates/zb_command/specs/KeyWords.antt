@@ -1,5 +1,5 @@
 -- The key words of `sniff`: the 32 digits of a key, or the digits of an install code, which represents its link key.
-use Rattle.std.specs.Prelude.{nat_lt, List, [], ◌∷◌, length, is_some, Bool, if◌then◌else◌, Option, Some, None, Result, Ok, Err}
+use Rattle.std.specs.Prelude.{ℕ, nat_lt, List, [], ◌∷◌, length, is_some, Bool, if◌then◌else◌, Option, Some, None, Result, Ok, Err}
 use Rattle.std.specs.List.{list_all}
 use Rattle.zb_base.specs.declared.key.Key.{Key}
 use Rattle.zb_install.specs.Code.{code_of_text, code_key}
@@ -15,9 +15,14 @@ abbrev pub key_or : Option Bytes → Option Key → Option Key
 key_or None other = other
 key_or (Some key) other = Some (record { 0 = key })
 
--- the key that a word represents; a word has at most 36 characters
+-- the longest word for a key, in characters: the digits of the longest install code with its CRC
+abbrev pub longest_key_word : ℕ
+longest_key_word = 36
+
+-- the key that a word represents
 unfoldable pub key_word : Bytes → Option Key
-key_word word = if nat_lt 36 (length word) then None else key_or (key_of word) (code_given (code_of_text word))
+key_word word =
+    if nat_lt longest_key_word (length word) then None else key_or (key_of word) (code_given (code_of_text word))
 
 abbrev pub key_before : Option Key → List Key → List Key
 key_before None keys = keys

@@ -4,7 +4,7 @@ use Rattle.zb_command.specs.KeyWords.{keys_in}
 use Rattle.zb_command.specs.Commands.{Invocation, Playing, Installing, Making, Inspecting, Sniffing, Campaigning, Auditing, Serving}
 use Rattle.zb_command.specs.declared.command.Command.{Command}
 use Rattle.zb_command.specs.declared.command.Command.TheVariants.{Play, Install, Make, Inspect, Sniff, Campaign, Audit, Admin}
-use Rattle.zb_base.specs.Limits.{most_runs, last_start}
+use Rattle.zb_base.specs.Limits.{most_runs, last_start, most_jobs, most_made, most_keys}
 
 abbrev pub invocation : Command → Invocation
 invocation Play = Playing
@@ -21,9 +21,10 @@ invocation Admin = Serving
 abbrev pub Fits : Command → Type 0
 Fits Play = ⊤
 Fits (Install code) = length code.now < 2 ^ 32 - 1
-Fits (Make count) = (1 ≤ count) × (count ≤ 60)
-Fits (Inspect jobs) = (1 ≤ jobs) × (jobs ≤ 64)
-Fits (Sniff jobs words) = (1 ≤ jobs) × (jobs ≤ 64) × (length words.now ≤ 256)
-Fits (Campaign count start jobs) = (1 ≤ count) × (count ≤ most_runs) × (start ≤ last_start) × (1 ≤ jobs) × (jobs ≤ 64)
+Fits (Make count) = (1 ≤ count) × (count ≤ most_made)
+Fits (Inspect jobs) = (1 ≤ jobs) × (jobs ≤ most_jobs)
+Fits (Sniff jobs words) = (1 ≤ jobs) × (jobs ≤ most_jobs) × (length words.now ≤ most_keys)
+Fits (Campaign count start jobs) =
+    (1 ≤ count) × (count ≤ most_runs) × (start ≤ last_start) × (1 ≤ jobs) × (jobs ≤ most_jobs)
 Fits Audit = ⊤
 Fits Admin = ⊤

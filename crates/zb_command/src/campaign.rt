@@ -4,7 +4,7 @@ ghost use Rattle.zb_base.specs.Outside.{Unrisen};
 ghost use Rattle.zb_campaign.specs.Campaigns.{campaigned};
 ghost use Rattle.zb_command.specs.Answers.{campaign_answer};
 ghost use Rattle.zb_command.specs.Outcomes.{Ends};
-ghost use Rattle.zb_base.specs.Limits.{most_runs, last_start};
+ghost use Rattle.zb_base.specs.Limits.{most_runs, last_start, most_jobs};
 
 use crate::status::{Cause, Status};
 use std::alloc::Global;
@@ -24,7 +24,7 @@ pub(crate) fn write_campaign<T: Threads + Sync, W: Sink>(
 ) -> Status
     requires count { (1 ≤ count) × (count ≤ most_runs) }
     requires start { start ≤ last_start }
-    requires jobs { (1 ≤ jobs) × (jobs ≤ 64) }
+    requires jobs { (1 ≤ jobs) × (jobs ≤ most_jobs) }
     ensures ends { Ends result (Some (campaign_answer (campaigned count start))) (W.taken output.old)
         (W.taken output.new) (W.faults output.old) (W.faults output.new) }
     ensures read_fault { result ≡ Status.ReadFault → ⊥ }

@@ -6,6 +6,7 @@ ghost use Rattle.zb_sched.specs.Schedules.{schedule_of};
 ghost use Rattle.zb_sched.specs.Printed.{printed};
 ghost use Rattle.zb_command.specs.Answers.{make_answer, Writes};
 ghost use Rattle.zb_command.specs.Outcomes.{Ends, Made};
+ghost use Rattle.zb_base.specs.Limits.{most_made};
 
 use crate::status::{Cause, Status};
 use std::alloc::Global;
@@ -15,7 +16,7 @@ use zb_sched::{Schedule, write};
 
 /// Writes the made schedule of start value 0 for `count` routers and devices.
 pub(crate) fn make_schedule<W: Sink>(alloc: Global, count: u32, output: &mut W) -> Status
-    requires { (1 ≤ count) × (count ≤ 60) }
+    requires { (1 ≤ count) × (count ≤ most_made) }
     ensures ends { Ends result (Some (make_answer (made_schedule 0 count))) (W.taken output.old) (W.taken output.new)
         (W.faults output.old) (W.faults output.new) }
     ensures made { result ≡ Status.Ok → Made count (W.taken output.old) (W.taken output.new) }

@@ -10,7 +10,7 @@ ghost use Rattle.zb_command.specs.Commands.{Sniffing};
 ghost use Rattle.zb_command.specs.KeyWords.{keys_in};
 ghost use Rattle.zb_command.specs.Inputs.{TakesAtMost};
 ghost use Rattle.zb_command.specs.Outcomes.{Ends};
-ghost use Rattle.zb_base.specs.Limits.{first_too_long};
+ghost use Rattle.zb_base.specs.Limits.{first_too_long, most_keys};
 
 use crate::input::whole_input;
 use crate::keys::read_keys;
@@ -34,7 +34,7 @@ pub(crate) fn sniff_input<T: Threads + Sync, R: Source, W: Sink>(
     output: &mut W,
 ) -> Status
     requires jobs { 1 ≤ jobs }
-    requires words { length words.now ≤ 256 }
+    requires words { length words.now ≤ most_keys }
     ensures ends { Ends result (wanted (Sniffing jobs (keys_in (map string_bytes words.now))) (R.rest input.old))
         (W.taken output.old) (W.taken output.new) (W.faults output.old) (W.faults output.new) }
     ensures end { result ≡ Status.Ok → IsAtEnd (R.rest input.new) }

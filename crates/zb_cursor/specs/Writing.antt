@@ -1,7 +1,8 @@
 -- Writing at the end of a frame, which holds 127 bytes.
 use Rattle.std.specs.Prelude.{◌≡◌, ℕ, ◌+◌, ◌<◌, ◌≤◌, List, ◌++◌, length, Result, Ok, Err}
+use Rattle.zb_base.specs.Limits.{longest_frame}
 
 -- The piece stands at the end where it fits; it is refused exactly where it does not, and then the frame stays.
 abbrev pub Appends : {E : Type 0} → List ℕ → List ℕ → List ℕ → Result (Unit {0}) E → Type 0
-Appends old piece new (Ok _) = (new ≡ old ++ piece) × (length old + length piece ≤ 127)
-Appends old piece new (Err _) = 127 < length old + length piece
+Appends old piece new (Ok _) = (new ≡ old ++ piece) × (length old + length piece ≤ longest_frame)
+Appends old piece new (Err _) = longest_frame < length old + length piece

@@ -5,6 +5,8 @@ ghost use Rattle.std.specs.Int.{w16, to_le_bytes};
 ghost use Rattle.arrayvec.specs.ArrayVec.{array_vec_len};
 ghost use Rattle.zb_install.specs.Crc.{crc};
 ghost use Rattle.zb_gen.specs.Codes.{code_bytes};
+ghost use Rattle.zb_base.specs.Limits.{most_made};
+ghost use Rattle.zb_install.specs.Code.{longest_code};
 
 use crate::words::Words;
 use arrayvec::ArrayVec;
@@ -34,7 +36,7 @@ impl Model for Codes {
 impl Codes {
     /// Takes the codes of so many nodes from the words of a generator.
     pub fn take(alloc: Global, words: &mut Words, n: u32) -> Result<Codes, AllocError>
-        requires { (n ≤ 60) × (words.old.place ≡ 0) }
+        requires { (n ≤ most_made) × (words.old.place ≡ 0) }
         ensures codes { IfOk result (λ codes. codes ≡ record { start = words.old.start; count = n }) }
         ensures words { OnOk result (words.new ≡ record { start = words.old.start; place = 4 * n }) }
     {
@@ -69,7 +71,7 @@ fn install_code(key: &Key) -> InstallCode
 }
 
 fn add(bytes: &mut ArrayVec<u8, 18>, piece: &[u8])
-    requires { array_vec_len bytes.old + length piece.now ≤ 18 }
+    requires { array_vec_len bytes.old + length piece.now ≤ longest_code }
     ensures items { bytes.new.items ≡ bytes.old.items ++ piece.now }
     ensures len { array_vec_len bytes.new ≡ array_vec_len bytes.old + length piece.now }
 {

@@ -9,6 +9,8 @@ ghost use Rattle.zb_sched_line.specs.Said.{Happens, Introduces};
 ghost use Rattle.zb_sched_line.specs.Views.{event_of};
 ghost use Rattle.zb_gen.specs.Made.{centre_line, code_line, code_word, deliver_line, draw_line, join_lines, netkey_line, node_line, node_name, own_line, role_word};
 ghost use Rattle.zb_gen.specs.Progress.{after_sentence, after_texts, Comes};
+ghost use Rattle.zb_base.specs.Limits.{most_made};
+ghost use Rattle.zb_gen.specs.Bounds.{before_line, before_deliveries, before_lines, before_part, most_sent};
 
 use crate::codes::Codes;
 use crate::maker::{GenFault, Maker};
@@ -18,7 +20,7 @@ use zb_sched_line::{Event, Line};
 
 /// Makes the name of a node.
 pub fn name_of(i: u32) -> Name
-    requires { i ≤ 60 }
+    requires { i ≤ most_made }
     ensures { result.bytes ≡ node_name i }
 {
     let mut name = Name::new();
@@ -32,7 +34,7 @@ pub fn name_of(i: u32) -> Name
 }
 
 fn push_number(name: &mut Name, i: u32)
-    requires { (i ≤ 60) × (array_string_len name.old ≤ 1) }
+    requires { (i ≤ most_made) × (array_string_len name.old ≤ 1) }
     ensures { name.new.bytes ≡ name.old.bytes ++ decimal i }
 {
     if i < 10 {
@@ -61,7 +63,7 @@ fn role_of(i: u32) -> Role
 }
 
 fn take_node(maker: &mut Maker, peer: Peer) -> Result<(), GenFault>
-    requires { maker.old.line ≤ 30000 }
+    requires { maker.old.line ≤ before_line }
     ensures line { Comes result maker.new (after_sentence maker.old
         (Introduces peer.name.bytes peer.role peer.eui.0 peer.short.0 8 4)) }
     ensures count { OnOk result (maker.new.line ≡ maker.old.line + 1) }
@@ -75,7 +77,7 @@ fn take_node(maker: &mut Maker, peer: Peer) -> Result<(), GenFault>
 
 /// Takes the line of the centre.
 pub fn take_centre_line(maker: &mut Maker) -> Result<(), GenFault>
-    requires { maker.old.line ≤ 30000 }
+    requires { maker.old.line ≤ before_line }
     ensures lines { Comes result maker.new (after_texts maker.old (centre_line ∷ [])) }
     ensures count { OnOk result (maker.new.line ≡ maker.old.line + 1) }
 {
@@ -89,7 +91,7 @@ pub fn take_centre_line(maker: &mut Maker) -> Result<(), GenFault>
 }
 
 fn take_node_line(maker: &mut Maker, i: u32) -> Result<(), GenFault>
-    requires { (1 ≤ i) × (i ≤ 60) × (maker.old.line ≤ 30000) }
+    requires { (1 ≤ i) × (i ≤ most_made) × (maker.old.line ≤ before_line) }
     ensures lines { Comes result maker.new (after_texts maker.old (node_line i ∷ [])) }
     ensures count { OnOk result (maker.new.line ≡ maker.old.line + 1) }
 {
@@ -103,7 +105,7 @@ fn take_node_line(maker: &mut Maker, i: u32) -> Result<(), GenFault>
 }
 
 fn take_code_line(maker: &mut Maker, install_codes: &Codes, i: u32) -> Result<(), GenFault>
-    requires { (1 ≤ i) × (i ≤ install_codes.now.count) × (i ≤ 60) × (maker.old.line ≤ 30000) }
+    requires { (1 ≤ i) × (i ≤ install_codes.now.count) × (i ≤ most_made) × (maker.old.line ≤ before_line) }
     ensures lines { Comes result maker.new (after_texts maker.old (code_line install_codes.now.start i ∷ [])) }
     ensures count { OnOk result (maker.new.line ≡ maker.old.line + 1) }
 {
@@ -114,7 +116,7 @@ fn take_code_line(maker: &mut Maker, install_codes: &Codes, i: u32) -> Result<()
 }
 
 fn take_netkey_line(maker: &mut Maker, words: &mut Words, n: u32) -> Result<(), GenFault>
-    requires { (n ≤ 60) × (words.old.place ≡ 4 * n) × (maker.old.line ≤ 30000) }
+    requires { (n ≤ most_made) × (words.old.place ≡ 4 * n) × (maker.old.line ≤ before_line) }
     ensures lines { Comes result maker.new (after_texts maker.old (netkey_line words.old.start n ∷ [])) }
     ensures count { OnOk result (maker.new.line ≡ maker.old.line + 1) }
     ensures words { words.new ≡ record { start = words.old.start; place = 4 * n + 4 } }
@@ -127,7 +129,8 @@ fn take_netkey_line(maker: &mut Maker, words: &mut Words, n: u32) -> Result<(), 
 }
 
 fn take_draw_line(maker: &mut Maker, words: &mut Words, n: u32, j: u32) -> Result<(), GenFault>
-    requires { (n ≤ 60) × (j ≤ 60) × (words.old.place ≡ 4 * n + 4 + 4 * j) × (maker.old.line ≤ 30000) }
+    requires { (n ≤ most_made) × (j ≤ most_made) × (words.old.place ≡ 4 * n + 4 + 4 * j)
+        × (maker.old.line ≤ before_line) }
     ensures lines { Comes result maker.new (after_texts maker.old (draw_line words.old.start n j ∷ [])) }
     ensures count { OnOk result (maker.new.line ≡ maker.old.line + 1) }
     ensures words { words.new ≡ record { start = words.old.start; place = 4 * n + 8 + 4 * j } }
@@ -137,7 +140,7 @@ fn take_draw_line(maker: &mut Maker, words: &mut Words, n: u32, j: u32) -> Resul
 
 /// Takes the line of an event.
 pub fn take_event(maker: &mut Maker, event: Event) -> Result<(), GenFault>
-    requires { maker.old.line ≤ 30000 }
+    requires { maker.old.line ≤ before_line }
     ensures line { Comes result maker.new (after_sentence maker.old (Happens (event_of event))) }
     ensures count { OnOk result (maker.new.line ≡ maker.old.line + 1) }
 {
@@ -146,7 +149,7 @@ pub fn take_event(maker: &mut Maker, event: Event) -> Result<(), GenFault>
 
 /// Takes the line of a node's timer.
 pub fn take_timer_line(maker: &mut Maker, i: u32) -> Result<(), GenFault>
-    requires { (i ≤ 60) × (maker.old.line ≤ 30000) }
+    requires { (i ≤ most_made) × (maker.old.line ≤ before_line) }
     ensures lines { Comes result maker.new (after_texts maker.old (own_line (codes "timer") i ∷ [])) }
     ensures count { OnOk result (maker.new.line ≡ maker.old.line + 1) }
 {
@@ -155,7 +158,7 @@ pub fn take_timer_line(maker: &mut Maker, i: u32) -> Result<(), GenFault>
 
 /// Takes the line of a delivery.
 pub fn take_deliver_line(maker: &mut Maker, frame: u32, i: u32) -> Result<(), GenFault>
-    requires { (1 ≤ frame) × (i ≤ 60) × (maker.old.line ≤ 30000) }
+    requires { (1 ≤ frame) × (i ≤ most_made) × (maker.old.line ≤ before_line) }
     ensures lines { Comes result maker.new (after_texts maker.old (deliver_line frame i ∷ [])) }
     ensures count { OnOk result (maker.new.line ≡ maker.old.line + 1) }
 {
@@ -169,7 +172,7 @@ pub fn take_deliver_line(maker: &mut Maker, frame: u32, i: u32) -> Result<(), Ge
 }
 
 fn take_provision_line(maker: &mut Maker, install_codes: &Codes, i: u32) -> Result<(), GenFault>
-    requires { (1 ≤ i) × (i ≤ install_codes.now.count) × (i ≤ 60) × (maker.old.line ≤ 30000) }
+    requires { (1 ≤ i) × (i ≤ install_codes.now.count) × (i ≤ most_made) × (maker.old.line ≤ before_line) }
     ensures lines { Comes result maker.new (after_texts maker.old
         (line_of_words (codes "provision" ∷ node_name i ∷ code_word install_codes.now.start i ∷ []) ∷ [])) }
     ensures count { OnOk result (maker.new.line ≡ maker.old.line + 1) }
@@ -184,7 +187,7 @@ fn take_provision_line(maker: &mut Maker, install_codes: &Codes, i: u32) -> Resu
 }
 
 fn take_knock_line(maker: &mut Maker, i: u32) -> Result<(), GenFault>
-    requires { (i ≤ 60) × (maker.old.line ≤ 30000) }
+    requires { (i ≤ most_made) × (maker.old.line ≤ before_line) }
     ensures lines { Comes result maker.new (after_texts maker.old (own_line (codes "knock") i ∷ [])) }
     ensures count { OnOk result (maker.new.line ≡ maker.old.line + 1) }
 {
@@ -192,7 +195,7 @@ fn take_knock_line(maker: &mut Maker, i: u32) -> Result<(), GenFault>
 }
 
 fn take_child_line(maker: &mut Maker, i: u32) -> Result<(), GenFault>
-    requires { (i ≤ 60) × (maker.old.line ≤ 30000) }
+    requires { (i ≤ most_made) × (maker.old.line ≤ before_line) }
     ensures lines { Comes result maker.new (after_texts maker.old
         (line_of_words (codes "child" ∷ codes "c" ∷ node_name i ∷ codes "join" ∷ []) ∷ [])) }
     ensures count { OnOk result (maker.new.line ≡ maker.old.line + 1) }
@@ -208,7 +211,7 @@ fn take_child_line(maker: &mut Maker, i: u32) -> Result<(), GenFault>
 }
 
 fn take_join(maker: &mut Maker, install_codes: &Codes, i: u32) -> Result<(), GenFault>
-    requires { (1 ≤ i) × (i ≤ install_codes.now.count) × (i ≤ 60) × (maker.old.line ≤ 20000) }
+    requires { (1 ≤ i) × (i ≤ install_codes.now.count) × (i ≤ most_made) × (maker.old.line ≤ before_lines) }
     ensures lines { Comes result maker.new (after_texts maker.old (join_lines install_codes.now.start i)) }
     ensures count { OnOk result (maker.new.line ≡ maker.old.line + 10) }
 {
@@ -222,7 +225,7 @@ fn take_join(maker: &mut Maker, install_codes: &Codes, i: u32) -> Result<(), Gen
 }
 
 fn take_rest_of_join(maker: &mut Maker, sent: u32, i: u32) -> Result<(), GenFault>
-    requires { (i ≤ 60) × (sent ≤ 300) × (maker.old.line ≤ 25000) }
+    requires { (i ≤ most_made) × (sent ≤ most_sent) × (maker.old.line ≤ before_deliveries) }
     ensures lines { Comes result maker.new (after_texts maker.old
         (deliver_line (sent + 2) 0 ∷ deliver_line (sent + 3) i ∷ own_line (codes "timer") i
         ∷ deliver_line (sent + 4) 0 ∷ deliver_line (sent + 5) i ∷ [])) }
@@ -237,7 +240,7 @@ fn take_rest_of_join(maker: &mut Maker, sent: u32, i: u32) -> Result<(), GenFaul
 
 /// Takes the lines of all nodes but the centre.
 pub fn take_nodes(maker: &mut Maker, n: u32) -> Result<(), GenFault>
-    requires { (n ≤ 60) × (maker.old.line ≤ 10000) }
+    requires { (n ≤ most_made) × (maker.old.line ≤ before_part) }
     ensures lines { Comes result maker.new (after_texts maker.old (map node_line (range_with_len 1 n))) }
     ensures count { OnOk result (maker.new.line ≤ maker.old.line + n) }
 {
@@ -249,7 +252,7 @@ pub fn take_nodes(maker: &mut Maker, n: u32) -> Result<(), GenFault>
 
 /// Takes the lines of all install codes.
 pub fn take_codes(maker: &mut Maker, install_codes: &Codes, n: u32) -> Result<(), GenFault>
-    requires { (n ≤ install_codes.now.count) × (n ≤ 60) × (maker.old.line ≤ 10000) }
+    requires { (n ≤ install_codes.now.count) × (n ≤ most_made) × (maker.old.line ≤ before_part) }
     ensures lines { Comes result maker.new
         (after_texts maker.old (map (λ i. code_line install_codes.now.start i) (range_with_len 1 n))) }
     ensures count { OnOk result (maker.new.line ≤ maker.old.line + n) }
@@ -262,7 +265,7 @@ pub fn take_codes(maker: &mut Maker, install_codes: &Codes, n: u32) -> Result<()
 
 /// Takes the line of the network key and those of the supply.
 pub fn take_supply(maker: &mut Maker, words: &mut Words, n: u32) -> Result<(), GenFault>
-    requires { (n ≤ 60) × (words.old.place ≡ 4 * n) × (maker.old.line ≤ 10000) }
+    requires { (n ≤ most_made) × (words.old.place ≡ 4 * n) × (maker.old.line ≤ before_part) }
     ensures lines { Comes result maker.new (after_texts maker.old
         (netkey_line words.old.start n ∷ map (λ j. draw_line words.old.start n j) (range_with_len 0 (n + 1)))) }
     ensures count { OnOk result (maker.new.line ≤ maker.old.line + n + 2) }
@@ -273,7 +276,7 @@ pub fn take_supply(maker: &mut Maker, words: &mut Words, n: u32) -> Result<(), G
 }
 
 fn take_draws(maker: &mut Maker, words: &mut Words, n: u32) -> Result<(), GenFault>
-    requires { (n ≤ 60) × (words.old.place ≡ 4 * n + 4) × (maker.old.line ≤ 20000) }
+    requires { (n ≤ most_made) × (words.old.place ≡ 4 * n + 4) × (maker.old.line ≤ before_lines) }
     ensures lines { Comes result maker.new
         (after_texts maker.old (map (λ j. draw_line words.old.start n j) (range_with_len 0 (n + 1)))) }
     ensures count { OnOk result (maker.new.line ≤ maker.old.line + n + 1) }
@@ -287,7 +290,7 @@ fn take_draws(maker: &mut Maker, words: &mut Words, n: u32) -> Result<(), GenFau
 
 /// Takes the joins of all nodes.
 pub fn take_joins(maker: &mut Maker, install_codes: &Codes, n: u32) -> Result<(), GenFault>
-    requires { (n ≤ install_codes.now.count) × (n ≤ 60) × (maker.old.line ≤ 10000) }
+    requires { (n ≤ install_codes.now.count) × (n ≤ most_made) × (maker.old.line ≤ before_part) }
     ensures lines { Comes result maker.new
         (after_texts maker.old (flat_map (λ i. join_lines install_codes.now.start i) (range_with_len 1 n))) }
     ensures count { OnOk result (maker.new.line ≤ maker.old.line + 10 * n) }

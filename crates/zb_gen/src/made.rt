@@ -8,6 +8,8 @@ ghost use Rattle.zb_sched.specs.Valid.{IsSchedule};
 ghost use Rattle.zb_gen.specs.Made.{made_schedule, made_lines};
 ghost use Rattle.zb_gen.specs.Faults.{Makes};
 ghost use Rattle.zb_gen.specs.Progress.{after_texts, Comes, declarations, events};
+ghost use Rattle.zb_base.specs.Limits.{most_made};
+ghost use Rattle.zb_gen.specs.Bounds.{most_declarations};
 
 use crate::codes::Codes;
 use crate::lines::{take_centre_line, take_codes, take_joins, take_nodes, take_supply};
@@ -20,7 +22,7 @@ use zb_sched::Schedule;
 /// Makes the schedule of a start value for `n` routers and devices. Printed, it reads as itself. Requires 1 to 60 of
 /// them.
 pub fn make(alloc: Global, start: u32, n: u32) -> Result<Schedule, GenFault>
-    requires { (1 ≤ n) × (n ≤ 60) }
+    requires { (1 ≤ n) × (n ≤ most_made) }
     ensures exact { Makes result (made_schedule start n) }
     ensures valid { IfOk result (λ schedule. IsSchedule (schedule_of schedule)) }
     ensures again { IfOk result (λ schedule. schedule_in (printed (schedule_of schedule))
@@ -33,7 +35,7 @@ pub fn make(alloc: Global, start: u32, n: u32) -> Result<Schedule, GenFault>
 }
 
 fn take_made(alloc: Global, maker: &mut Maker, start: u32, n: u32) -> Result<(), GenFault>
-    requires { (1 ≤ n) × (n ≤ 60) × (maker.old.line ≤ 1) }
+    requires { (1 ≤ n) × (n ≤ most_made) × (maker.old.line ≤ 1) }
     ensures { Comes result maker.new (after_texts maker.old (made_lines start n)) }
 {
     let mut words = Words::new(start);
@@ -48,10 +50,10 @@ fn take_declarations(
     words: &mut Words,
     n: u32,
 ) -> Result<(), GenFault>
-    requires numbers { (n ≤ 60) × (n ≤ codes.now.count) × (maker.old.line ≤ 1) }
+    requires numbers { (n ≤ most_made) × (n ≤ codes.now.count) × (maker.old.line ≤ 1) }
     requires words { words.old ≡ record { start = codes.now.start; place = 4 * n } }
     ensures lines { Comes result maker.new (after_texts maker.old (declarations codes.now.start n)) }
-    ensures count { OnOk result (maker.new.line ≤ 200) }
+    ensures count { OnOk result (maker.new.line ≤ most_declarations) }
     ensures words { OnOk result (words.new ≡ record { start = codes.now.start; place = 8 * n + 8 }) }
 {
     take_centre_line(maker)?;
@@ -61,7 +63,7 @@ fn take_declarations(
 }
 
 fn take_events(maker: &mut Maker, codes: &Codes, words: &mut Words, n: u32) -> Result<(), GenFault>
-    requires numbers { (1 ≤ n) × (n ≤ 60) × (n ≤ codes.now.count) × (maker.old.line ≤ 200) }
+    requires numbers { (1 ≤ n) × (n ≤ most_made) × (n ≤ codes.now.count) × (maker.old.line ≤ most_declarations) }
     requires words { words.old ≡ record { start = codes.now.start; place = 8 * n + 8 } }
     ensures { Comes result maker.new (after_texts maker.old (events codes.now.start n)) }
 {

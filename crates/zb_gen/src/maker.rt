@@ -6,6 +6,7 @@ ghost use Rattle.zb_sched.specs.Reading.{reads};
 ghost use Rattle.zb_gen.specs.Faults.{Makes};
 ghost use Rattle.zb_gen.specs.Progress.{after_sentence, begun, Comes};
 ghost use Rattle.zb_gen.specs.declared.maker.GenFault.TheVariants.{NoMemory as lacks};
+ghost use Rattle.zb_gen.specs.Bounds.{before_line};
 
 use std::alloc::{AllocError, Global};
 use std::marker::Model;
@@ -68,7 +69,7 @@ impl Maker {
     /// # Errors
     /// The number of the line and why it may not stand there; or out of memory.
     pub fn take(&mut self, line: Line) -> Result<(), GenFault>
-        requires { self.old.line ≤ 30000 }
+        requires { self.old.line ≤ before_line }
         ensures line { Comes result self.new (after_sentence self.old (sentence_of line)) }
         ensures count { OnOk result (self.new.line ≡ self.old.line + 1) }
     {

@@ -5,6 +5,8 @@ ghost use Rattle.std.specs.List.{range_with_len, flat_map};
 ghost use Rattle.zb_gen.specs.Steps.{step_at};
 ghost use Rattle.zb_gen.specs.Made.{late_line, own_line, rollover_lines, say_line, step_lines, step_of, stop_line};
 ghost use Rattle.zb_gen.specs.Progress.{after_texts, Comes};
+ghost use Rattle.zb_base.specs.Limits.{most_made};
+ghost use Rattle.zb_gen.specs.Bounds.{before_line, before_lines, before_part};
 
 use crate::lines::{name_of, take_deliver_line, take_event, take_timer_line};
 use crate::maker::{GenFault, Maker};
@@ -14,7 +16,7 @@ use zb_base::Short;
 use zb_sched_line::Event;
 
 fn take_say_line(maker: &mut Maker, i: u32, byte: u8) -> Result<(), GenFault>
-    requires { (i ≤ 60) × (maker.old.line ≤ 30000) }
+    requires { (i ≤ most_made) × (maker.old.line ≤ before_line) }
     ensures lines { Comes result maker.new (after_texts maker.old (say_line i byte ∷ [])) }
     ensures count { OnOk result (maker.new.line ≡ maker.old.line + 1) }
 {
@@ -31,7 +33,7 @@ fn take_say_line(maker: &mut Maker, i: u32, byte: u8) -> Result<(), GenFault>
 }
 
 fn take_stop_line(maker: &mut Maker, i: u32, calls: u8, byte: u8) -> Result<(), GenFault>
-    requires { (i ≤ 60) × (calls ≤ 5) × (maker.old.line ≤ 30000) }
+    requires { (i ≤ most_made) × (calls ≤ 5) × (maker.old.line ≤ before_line) }
     ensures lines { Comes result maker.new (after_texts maker.old (stop_line i calls byte ∷ [])) }
     ensures count { OnOk result (maker.new.line ≡ maker.old.line + 1) }
 {
@@ -48,7 +50,7 @@ fn take_stop_line(maker: &mut Maker, i: u32, calls: u8, byte: u8) -> Result<(), 
 }
 
 fn take_reset_line(maker: &mut Maker, i: u32) -> Result<(), GenFault>
-    requires { (i ≤ 60) × (maker.old.line ≤ 30000) }
+    requires { (i ≤ most_made) × (maker.old.line ≤ before_line) }
     ensures lines { Comes result maker.new (after_texts maker.old (own_line (codes "reset") i ∷ [])) }
     ensures count { OnOk result (maker.new.line ≡ maker.old.line + 1) }
 {
@@ -56,7 +58,7 @@ fn take_reset_line(maker: &mut Maker, i: u32) -> Result<(), GenFault>
 }
 
 fn take_boot_line(maker: &mut Maker, i: u32) -> Result<(), GenFault>
-    requires { (i ≤ 60) × (maker.old.line ≤ 30000) }
+    requires { (i ≤ most_made) × (maker.old.line ≤ before_line) }
     ensures lines { Comes result maker.new (after_texts maker.old (own_line (codes "boot") i ∷ [])) }
     ensures count { OnOk result (maker.new.line ≡ maker.old.line + 1) }
 {
@@ -73,7 +75,7 @@ struct Step {
 }
 
 fn take_restart(maker: &mut Maker, i: u32) -> Result<(), GenFault>
-    requires { (i ≤ 60) × (maker.old.line ≤ 20000) }
+    requires { (i ≤ most_made) × (maker.old.line ≤ before_lines) }
     ensures lines { Comes result maker.new
         (after_texts maker.old (own_line (codes "reset") i ∷ own_line (codes "boot") i ∷ [])) }
     ensures count { OnOk result (maker.new.line ≡ maker.old.line + 2) }
@@ -83,7 +85,7 @@ fn take_restart(maker: &mut Maker, i: u32) -> Result<(), GenFault>
 }
 
 fn take_power_cut(maker: &mut Maker, i: u32, calls: u8, byte: u8) -> Result<(), GenFault>
-    requires { (i ≤ 60) × (calls ≤ 5) × (maker.old.line ≤ 20000) }
+    requires { (i ≤ most_made) × (calls ≤ 5) × (maker.old.line ≤ before_lines) }
     ensures lines { Comes result maker.new
         (after_texts maker.old (stop_line i calls byte ∷ say_line i 0 ∷ own_line (codes "boot") i ∷ [])) }
     ensures count { OnOk result (maker.new.line ≡ maker.old.line + 3) }
@@ -94,7 +96,7 @@ fn take_power_cut(maker: &mut Maker, i: u32, calls: u8, byte: u8) -> Result<(), 
 }
 
 fn take_step(maker: &mut Maker, n: u32, step: Step) -> Result<(), GenFault>
-    requires { (1 ≤ n) × (n ≤ 60) × (step.node ≤ 60) × (maker.old.line ≤ 20000) }
+    requires { (1 ≤ n) × (n ≤ most_made) × (step.node ≤ most_made) × (maker.old.line ≤ before_lines) }
     ensures lines { Comes result maker.new
         (after_texts maker.old (step_of n step.kind step.node step.p step.q)) }
     ensures count { OnOk result (maker.new.line ≤ maker.old.line + 3) }
@@ -114,7 +116,7 @@ fn take_step(maker: &mut Maker, n: u32, step: Step) -> Result<(), GenFault>
 }
 
 fn next_step(words: &mut Words, n: u32) -> Step
-    requires { (n ≤ 60) × (words.old.place + 4 < 2 ^ 32) }
+    requires { (n ≤ most_made) × (words.old.place + 4 < 2 ^ 32) }
     ensures step { result ≡ step_at words.old.start n words.old.place }
     ensures node { result.node ≤ n }
     ensures next { words.new ≡ record { start = words.old.start; place = words.old.place + 4 } }
@@ -128,7 +130,7 @@ fn next_step(words: &mut Words, n: u32) -> Step
 
 /// Takes the lines of all random steps.
 pub fn take_steps(maker: &mut Maker, words: &mut Words, n: u32) -> Result<(), GenFault>
-    requires { (1 ≤ n) × (n ≤ 60) × (words.old.place ≡ 8 * n + 8) × (maker.old.line ≤ 10000) }
+    requires { (1 ≤ n) × (n ≤ most_made) × (words.old.place ≡ 8 * n + 8) × (maker.old.line ≤ before_part) }
     ensures lines { Comes result maker.new (after_texts maker.old
         (flat_map (λ k. step_lines words.old.start n (8 * n + 8 + 4 * k)) (range_with_len 0 (20 * n)))) }
     ensures count { OnOk result (maker.new.line ≤ maker.old.line + 60 * n) }
@@ -143,7 +145,7 @@ pub fn take_steps(maker: &mut Maker, words: &mut Words, n: u32) -> Result<(), Ge
 
 /// Takes the removal of the first node and the rollover.
 pub fn take_rollover(maker: &mut Maker, n: u32) -> Result<(), GenFault>
-    requires { (1 ≤ n) × (n ≤ 60) × (maker.old.line ≤ 10000) }
+    requires { (1 ≤ n) × (n ≤ most_made) × (maker.old.line ≤ before_part) }
     ensures lines { Comes result maker.new (after_texts maker.old (rollover_lines n)) }
     ensures count { OnOk result (maker.new.line ≤ maker.old.line + n + 2) }
 {
@@ -154,7 +156,7 @@ pub fn take_rollover(maker: &mut Maker, n: u32) -> Result<(), GenFault>
 }
 
 fn take_removal(maker: &mut Maker) -> Result<(), GenFault>
-    requires { maker.old.line ≤ 30000 }
+    requires { maker.old.line ≤ before_line }
     ensures lines { Comes result maker.new (after_texts maker.old (codes "remove d1 via c" ∷ [])) }
     ensures count { OnOk result (maker.new.line ≡ maker.old.line + 1) }
 {
@@ -168,7 +170,7 @@ fn take_removal(maker: &mut Maker) -> Result<(), GenFault>
 }
 
 fn take_roll_line(maker: &mut Maker) -> Result<(), GenFault>
-    requires { maker.old.line ≤ 30000 }
+    requires { maker.old.line ≤ before_line }
     ensures lines { Comes result maker.new (after_texts maker.old (codes "roll" ∷ [])) }
     ensures count { OnOk result (maker.new.line ≡ maker.old.line + 1) }
 {
@@ -176,7 +178,7 @@ fn take_roll_line(maker: &mut Maker) -> Result<(), GenFault>
 }
 
 fn take_switch_line(maker: &mut Maker) -> Result<(), GenFault>
-    requires { maker.old.line ≤ 30000 }
+    requires { maker.old.line ≤ before_line }
     ensures lines { Comes result maker.new (after_texts maker.old (codes "switch" ∷ [])) }
     ensures count { OnOk result (maker.new.line ≡ maker.old.line + 1) }
 {
@@ -184,7 +186,7 @@ fn take_switch_line(maker: &mut Maker) -> Result<(), GenFault>
 }
 
 fn take_timers(maker: &mut Maker, count: u32) -> Result<(), GenFault>
-    requires { (count ≤ 60) × (maker.old.line ≤ 20000) }
+    requires { (count ≤ most_made) × (maker.old.line ≤ before_lines) }
     ensures lines { Comes result maker.new
         (after_texts maker.old (map (λ k. codes "timer c") (range_with_len 0 count))) }
     ensures count { OnOk result (maker.new.line ≤ maker.old.line + count) }
@@ -196,7 +198,7 @@ fn take_timers(maker: &mut Maker, count: u32) -> Result<(), GenFault>
 }
 
 fn take_late_line(maker: &mut Maker, words: &mut Words, n: u32) -> Result<(), GenFault>
-    requires { (1 ≤ n) × (n ≤ 60) × (words.old.place + 2 < 2 ^ 32) × (maker.old.line ≤ 30000) }
+    requires { (1 ≤ n) × (n ≤ most_made) × (words.old.place + 2 < 2 ^ 32) × (maker.old.line ≤ before_line) }
     ensures lines { Comes result maker.new
         (after_texts maker.old (late_line words.old.start n words.old.place ∷ [])) }
     ensures count { OnOk result (maker.new.line ≡ maker.old.line + 1) }
@@ -209,7 +211,7 @@ fn take_late_line(maker: &mut Maker, words: &mut Words, n: u32) -> Result<(), Ge
 
 /// Takes the late deliveries.
 pub fn take_late(maker: &mut Maker, words: &mut Words, n: u32) -> Result<(), GenFault>
-    requires { (1 ≤ n) × (n ≤ 60) × (words.old.place ≡ 88 * n + 8) × (maker.old.line ≤ 10000) }
+    requires { (1 ≤ n) × (n ≤ most_made) × (words.old.place ≡ 88 * n + 8) × (maker.old.line ≤ before_part) }
     ensures lines { Comes result maker.new (after_texts maker.old
         (map (λ k. late_line words.old.start n (88 * n + 8 + 2 * k)) (range_with_len 0 (10 * n)))) }
     ensures count { OnOk result (maker.new.line ≤ maker.old.line + 10 * n) }

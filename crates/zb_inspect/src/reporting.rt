@@ -8,6 +8,7 @@ ghost use Rattle.zb_inspect_ring.specs.Pieces.{all_blocks};
 ghost use Rattle.zb_inspect.specs.Report.{tail_text};
 ghost use Rattle.zb_inspect.specs.Texts.{blocks_text, pages_text, HaveRoom};
 ghost use Rattle.zb_inspect.specs.Reports.{Reports};
+ghost use Rattle.zb_inspect_ring.specs.Rings.{most_ring_keys};
 
 use crate::fault::InspectFault;
 use crate::lines::put_tail;
@@ -51,7 +52,7 @@ pub fn report<T: Threads + Sync, G: Gate, W: Sink>(
 
 /// Prints the lines of the keys, and the end.
 fn print_tail(alloc: Global, frames: u32, ring: &Ring) -> Result<Vec<u8>, AllocError>
-    requires { length ring.now.keys ≤ 300256 }
+    requires { length ring.now.keys ≤ most_ring_keys }
     ensures { IfOk result (λ v. v.items ≡ tail_text frames ring.now) }
 {
     let mut page = Vec::new(alloc);

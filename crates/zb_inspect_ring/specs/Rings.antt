@@ -25,6 +25,10 @@ has_key ring key = list_any (is_key key) ring
 abbrev pub with_key : List RingKey → Key → Option (ℕ × ℕ) → List RingKey
 with_key ring key found = if has_key ring key then ring else ring ++ record { key = key; found = found } ∷ []
 
+-- The most keys of a ring: 256 that are given, and three for each of 100,000 frames.
+abbrev pub most_ring_keys : ℕ
+most_ring_keys = 300256
+
 -- the given keys in order, repeats left out
 abbrev pub given_from : List RingKey → List Key → List RingKey
 given_from ring [] = ring

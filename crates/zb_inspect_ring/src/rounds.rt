@@ -3,7 +3,7 @@ ghost use Rattle.std.specs.Prelude.{◌≡◌, ◌+◌, ◌≤◌, ◌<◌, ◌^
 ghost use Rattle.std.specs.Int.{div_ceil};
 ghost use Rattle.std.specs.List.{AllByRecursion, AllZip};
 ghost use Rattle.zb_inspect_ring.specs.Pieces.{AreSized, all_blocks, all_leads, AllSee, AreShown, IsCut, IsNextPiece, IsWithin};
-ghost use Rattle.zb_inspect_ring.specs.Rings.{keys_of, learnt, ring_of, IsRing};
+ghost use Rattle.zb_inspect_ring.specs.Rings.{keys_of, learnt, ring_of, IsRing, most_ring_keys};
 ghost use Rattle.zb_capture.specs.Grammar.{IsCapture};
 ghost use Rattle.zb_base.specs.Limits.{most_frames};
 
@@ -42,8 +42,7 @@ pub fn open_all<T: Threads + Sync, G: Gate>(
     requires jobs { 1 ≤ jobs }
     ensures ring { IfOk result (λ o. o.ring ≡ ring_of capture.now) }
     ensures rounds { IfOk result (λ o. IsRing capture.now o.ring) }
-    // At most all that may be given, and three for each frame.
-    ensures few { IfOk result (λ o. length o.ring.keys ≤ 300256) }
+    ensures few { IfOk result (λ o. length o.ring.keys ≤ most_ring_keys) }
     ensures pieces { IfOk result (λ o. IsCut capture.now o.pieces.items) }
     ensures sized { IfOk result (λ o. AreSized (div_ceil (length capture.now.frames) jobs) 0
         (length capture.now.frames) o.pieces.items) }

@@ -12,9 +12,13 @@ use Rattle.zb_mmo.specs.Hash.{hash}
 use Rattle.zb_install.specs.declared.code_error.CodeError.{CodeError}
 use Rattle.zb_install.specs.declared.code_error.CodeError.TheVariants.{NotHex, Length, Crc}
 
+-- The longest code with its CRC, in bytes.
+abbrev pub longest_code : ℕ
+longest_code = 18
+
 -- The lengths of a code and its CRC together.
 abbrev pub is_code_length : ℕ → Bool
-is_code_length n = n == 8 || n == 10 || n == 14 || n == 18
+is_code_length n = n == 8 || n == 10 || n == 14 || n == longest_code
 
 -- The code before the CRC, and the CRC, whose low byte stands first.
 abbrev pub code_part : List ℕ → List ℕ

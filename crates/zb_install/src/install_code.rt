@@ -5,7 +5,7 @@ ghost use Rattle.hex.specs.Hex.{decode_of};
 ghost use Rattle.std.specs.List.{position};
 ghost use Rattle.std.specs.Result.{result_unwrap_or};
 ghost use Rattle.std.specs.Str.{chars};
-ghost use Rattle.zb_install.specs.Code.{code_key, code_of, code_of_text, is_code_length, is_no_digit};
+ghost use Rattle.zb_install.specs.Code.{code_key, code_of, code_of_text, is_code_length, is_no_digit, longest_code};
 
 use crate::check::crc;
 use crate::code_error::CodeError;
@@ -32,20 +32,20 @@ impl Model for InstallCode {
     ghost view = { λ code. code.bytes.items };
 
     ghost invariant = { λ code. (code_of code.bytes.items ≡ Ok code.bytes.items)
-        × (length code.bytes.items ≤ 18) × (code.link.0 ≡ code_key code.bytes.items) };
+        × (length code.bytes.items ≤ longest_code) × (code.link.0 ≡ code_key code.bytes.items) };
 }
 
 // Answers whether a code and its CRC have this length together.
 fn is_code_length(len: usize) -> bool
     ensures value { result ≡ is_code_length len }
-    ensures bounds { IsTrue result → (8 ≤ len) × (len ≤ 18) }
+    ensures bounds { IsTrue result → (8 ≤ len) × (len ≤ longest_code) }
 {
     len == 8 || len == 10 || len == 14 || len == 18
 }
 
 // Copies the bytes into an array that holds the longest code.
 fn array_of(bytes: &[u8]) -> ArrayVec<u8, 18>
-    requires { length bytes.now ≤ 18 }
+    requires { length bytes.now ≤ longest_code }
     ensures { result.items ≡ bytes.now }
 {
     let mut array = ArrayVec::new();
@@ -74,7 +74,7 @@ fn find_no_digit(text: &str) -> Option<usize>
 fn spelled(text: &str, bytes: &mut [u8]) -> Result<InstallCode, CodeError>
     requires digits { position is_no_digit (chars text.now) ≡ None }
     requires pairs { length (chars text.now) ≡ 2 * length bytes.old }
-    requires fits { length bytes.old ≤ 18 }
+    requires fits { length bytes.old ≤ longest_code }
     ensures { result ≡ code_of (result_unwrap_or (decode_of text.now) []) }
 {
     let _ = hex::decode_to_slice(text, bytes);

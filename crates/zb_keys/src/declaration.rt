@@ -6,7 +6,7 @@ ghost use Rattle.zb_record.specs.Headings.{active_bytes};
 ghost use Rattle.zb_keys.specs.Declarations.{held_nets, held_links, held_state, joined_unless_centre, network_of, code_of, declared_state, first_state, same_eui, code_with};
 ghost use Rattle.zb_model.specs.Play.{Node, Schedule, start, stations};
 ghost use Rattle.zb_model.specs.Readings.{state_of};
-ghost use Rattle.zb_model.specs.Fits.{all_apart, most_links};
+ghost use Rattle.zb_model.specs.Fits.{all_apart, most_links, most_nets};
 ghost use Rattle.zb_model.specs.Rules.{centre_of};
 ghost use Rattle.zb_model.specs.State.{after_boot};
 
@@ -57,7 +57,7 @@ fn held_nets(
     start: u32,
 ) -> Result<Vec<NetRow>, NoMemory>
     ensures rows { IfOk result (λ v. map net_key v.items ≡ held_nets start (network_of network)) }
-    ensures room { IfOk result (λ v. 256 ≤ vec_capacity v) }
+    ensures room { IfOk result (λ v. most_nets ≤ vec_capacity v) }
 {
     let mut rows = Vec::with_capacity(alloc, 256)?;
     match network {

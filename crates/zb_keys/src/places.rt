@@ -8,7 +8,7 @@ ghost use Rattle.zb_keys.specs.Places.{active_place, floor_of_link, gone_on, hea
 ghost use Rattle.zb_keys.specs.Reading.{floor_of_row};
 ghost use Rattle.zb_keys.specs.Tables.{state_of, IsSound};
 ghost use Rattle.zb_model.specs.Data.{Aps, Nwk};
-ghost use Rattle.zb_model.specs.Fits.{senders_ascend};
+ghost use Rattle.zb_model.specs.Fits.{senders_ascend, most_nets};
 ghost use Rattle.zb_model.specs.State.{after_counting, next_counter, pair_of, stored_limit};
 
 use crate::contents::Contents;
@@ -20,7 +20,7 @@ use zb_record::{LinkRow, NetRow, SenderFloor};
 
 /// Returns the place of a network key among these rows.
 fn net_place(rows: &[NetRow], key: &Key) -> Option<u32>
-    requires { length rows.now ≤ 256 }
+    requires { length rows.now ≤ most_nets }
     ensures { result ≡ net_place 0 key.now.0 (map net_key rows.now) }
 {
     for (i, row) in rows.iter().enumerate() {

@@ -6,7 +6,7 @@ ghost use Rattle.zb_node_types.specs.declared.fault.KeyError.TheVariants.{BadRec
 ghost use Rattle.zb_record.specs.RowViews.{heard_floor, net_key, link_key, pair_key};
 ghost use Rattle.zb_keys.specs.Tables.{state_of, IsRestored};
 ghost use Rattle.zb_record.specs.Headings.{active_bytes};
-ghost use Rattle.zb_model.specs.Fits.{most_links};
+ghost use Rattle.zb_model.specs.Fits.{most_links, most_nets, most_pairs, most_senders};
 ghost use Rattle.zb_record.specs.Records.{key_of, record_read, record_seen, BadPlace};
 ghost use Rattle.zb_record.specs.Rows.{sender_seen, net_seen, link_seen, pair_seen};
 
@@ -27,7 +27,7 @@ use zb_record::{
 
 /// Returns the floors of a record, as they are after a boot.
 fn senders(records: &[SenderRecord]) -> Senders
-    requires { length records.now ≤ 64 }
+    requires { length records.now ≤ most_senders }
     ensures { map heard_floor result.items ≡ map sender_seen records.now }
 {
     let mut floors = ArrayVec::new();
@@ -59,7 +59,7 @@ fn net_row(source: &NetRecord) -> NetRow
 /// Returns the network keys of a record, with room for 256.
 fn net_rows(alloc: Global, records: &[NetRecord]) -> Result<Vec<NetRow>, NoMemory>
     ensures rows { IfOk result (λ v. map net_key v.items ≡ map net_seen records.now) }
-    ensures room { IfOk result (λ v. 256 ≤ vec_capacity v) }
+    ensures room { IfOk result (λ v. most_nets ≤ vec_capacity v) }
 {
     let mut rows = Vec::with_capacity(alloc, 256)?;
     for source in records {
@@ -112,7 +112,7 @@ fn pair_row(source: &PairRecord) -> Pair
 /// Returns the keys of pairs of devices of a record, with room for 256.
 fn pair_rows(alloc: Global, records: &[PairRecord]) -> Result<Vec<Pair>, NoMemory>
     ensures rows { IfOk result (λ v. map pair_key v.items ≡ map pair_seen records.now) }
-    ensures room { IfOk result (λ v. 256 ≤ vec_capacity v) }
+    ensures room { IfOk result (λ v. most_pairs ≤ vec_capacity v) }
 {
     let mut rows = Vec::with_capacity(alloc, 256)?;
     for source in records {

@@ -27,6 +27,7 @@ use Rattle.zb_script.specs.Scripts.{Script}
 use Rattle.zb_script.specs.declared.error.ScriptCause.{ScriptCause}
 use Rattle.zb_script.specs.declared.error.ScriptCause.TheVariants.{Syntax, DuplicateNode, Block, UnknownNode, BadCode, Backup, TooMany, NoCentre}
 use Rattle.zb_text.specs.Pages.{ended, page}
+use Rattle.zb_base.specs.Limits.{greatest_count}
 
 -- ---- the header
 
@@ -81,7 +82,7 @@ fresh = record { lines = 0; log = All; network = start; tables = None; events = 
 
 -- the next number; numbers stop at 2^32 - 1
 abbrev pub next : ℕ → ℕ
-next n = min (n + 1) 4294967295
+next n = min (n + 1) greatest_count
 
 -- what stands in the store at first: the tables, nothing where the disk is empty, or why it is no store of a centre
 abbrev pub Found : Type 0

@@ -10,6 +10,7 @@ use Rattle.zb_script.specs.Grammar as script
 use Rattle.zb_script.specs.Said as said
 use Rattle.zb_live_line.specs.declared.line.Log.TheVariants.{All, NoKeys}
 use Rattle.zb_live_line.specs.Said.{Bytes, Event, Delivers, Adopts, Ticks, Says, Provisions, Removes, Rolls, Switches, Repeats, Shares, Sentence, Quiet, Founds, Introduces, Logs, Opens, Happens, Lists, BacksUp}
+use Rattle.zb_base.specs.Limits.{longest_frame, longest_content}
 
 -- ---- events, after their first word
 
@@ -20,7 +21,7 @@ draw_of word = if bytes_eq word (codes "-") then Some None else option_map Some 
 -- HEX DRAW: a frame has at most 127 bytes
 abbrev pub deliver_of : List (List ℕ) → Option Event
 deliver_of ws = do
-  bytes ← field (bytes_of 127) ws
+  bytes ← field (bytes_of longest_frame) ws
   draw ← field draw_of bytes.1
   end ← nothing draw.1
   Some (Delivers bytes.0 draw.0)
@@ -37,7 +38,7 @@ child_of ws = do
 abbrev pub say_of : List (List ℕ) → Option Event
 say_of ws = do
   to ← field short_of ws
-  bytes ← field (bytes_of 64) to.1
+  bytes ← field (bytes_of longest_content) to.1
   end ← nothing bytes.1
   Some (Says to.0 bytes.0)
 

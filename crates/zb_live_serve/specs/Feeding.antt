@@ -30,10 +30,14 @@ IsTakeFault held TooLong = BeginsLong held
 IsTakeFault held NoMemory = ⊤
 IsTakeFault held fault = ⊥
 
+-- The most bytes that one read takes.
+abbrev pub most_read : ℕ
+most_read = 4096
+
 -- A read took at most 4,096 bytes off the front of those that were to come.
 pub record TakesFew (old : List ℕ) (rest : Option (List ℕ)) : Type 0 where
   pub read : List ℕ
   pub left : List ℕ
   pub left_is : rest ≡ Some left
   pub whole : old ≡ read ++ left
-  pub few : length read ≤ 4096
+  pub few : length read ≤ most_read

@@ -9,6 +9,7 @@ use Rattle.zb_live.specs.Alive.{Holds}
 use Rattle.zb_live.specs.Living.{Found, fresh, served}
 use Rattle.zb_live_serve.specs.WholeLines.{whole_lines}
 use Rattle.zb_model.specs.Data.{Bytes}
+use Rattle.zb_live_serve.specs.Feeding.{most_read}
 
 -- what definitions have of a source: the bytes that are still to come, and its count of faults
 pub record Input : Type 0 where
@@ -44,7 +45,7 @@ pub record AnsweredFirst {D W : Type 0} (x : Outside D W) (found : Found) (all :
   pub all_is : all ≡ came ++ (read ++ left)
   pub to_come : now.input.rest ≡ Some (read ++ left)
   pub left_is : next.input.rest ≡ Some left
-  pub few : length read ≤ 4096
+  pub few : length read ≤ most_read
   pub answered : Appends (x.taken before) (x.taken now.out) (served found (whole_lines came) fresh).text
 
 -- From one moment to a later one. The disk is called, and nothing is written or read. Or something is written, and the

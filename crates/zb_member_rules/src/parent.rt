@@ -8,7 +8,7 @@ ghost use Rattle.zb_record.specs.RowViews.{link_key};
 ghost use Rattle.zb_rules.specs.Hearing.{heard_of};
 ghost use Rattle.zb_rules.specs.Outcomes.{decided, told, Keeps};
 ghost use Rattle.zb_member_rules.specs.Forms.{is_remove_form};
-ghost use Rattle.zb_send.specs.Sendings.{relayed_room};
+ghost use Rattle.zb_base.specs.Limits.{longest_tunnelled};
 
 use zb_base::{Eui, Frame, Label, Layer, Place, Short};
 use zb_cmd::Command;
@@ -168,7 +168,7 @@ pub fn take_tunnel(
     destination: Eui,
     inner: &Frame,
 ) -> Result<Effect, Refusal>
-    requires room { length inner.now.items ≤ relayed_room }
+    requires room { length inner.now.items ≤ longest_tunnelled }
     ensures rule { decided result ≡ told
         (take_tunnel network.now tables.now (heard_of heard.now) destination.0 inner.now.items) }
     ensures keeps { Keeps Aps result }

@@ -31,6 +31,10 @@ mixed value block = xored (enciphered value block) block
 abbrev pub mixed_all : List ℕ → List (List ℕ) → List ℕ
 mixed_all value blocks = fold mixed value blocks
 
+-- The longest message, in bytes: of fewer than 2^16 bits.
+abbrev pub longest_message : ℕ
+longest_message = 8191
+
 -- The hash of a message.
 unfoldable pub hash : List ℕ → List ℕ
 hash bytes = mixed_all (replicate 16 0) (blocks_of (padded bytes))

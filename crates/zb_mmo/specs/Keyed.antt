@@ -9,6 +9,10 @@ inner_pad key = map (λ b. bit_xor b 0x36) key
 abbrev pub outer_pad : List ℕ → List ℕ
 outer_pad key = map (λ b. bit_xor b 0x5c) key
 
+-- The longest message of a keyed hash, in bytes: it is hashed after a pad of 16.
+abbrev pub longest_keyed : ℕ
+longest_keyed = 8175
+
 -- The keyed hash of a message.
 unfoldable pub keyed : (key bytes : List ℕ) → List ℕ
 keyed key bytes = hash (outer_pad key ++ hash (inner_pad key ++ bytes))

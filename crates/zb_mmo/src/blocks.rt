@@ -2,7 +2,7 @@
 
 ghost use Rattle.std.specs.Prelude.{◌≡◌, ◌+◌, ◌-◌, ◌*◌, ◌%◌, ◌<◌, ◌≤◌, ◌∷◌, ◌++◌, length, take, replicate};
 ghost use Rattle.std.specs.Int.{w16, to_be_bytes};
-ghost use Rattle.zb_mmo.specs.Hash.{blocks_of, mixed, mixed_all, padding, zeros};
+ghost use Rattle.zb_mmo.specs.Hash.{blocks_of, mixed, mixed_all, padding, zeros, longest_message};
 
 use zb_aes::{Cipher, State, encrypt_under_zeros};
 
@@ -61,7 +61,7 @@ fn padded_end(value: &[u8; 16], bytes: &[u8], bits: u16) -> [u8; 16]
 /// Requires that the `before` bytes that led to `value` are whole blocks, and at most 8,191 bytes in all.
 pub fn finished(value: [u8; 16], before: usize, bytes: &[u8]) -> [u8; 16]
     requires whole { before % 16 ≡ 0 }
-    requires fits { before + length bytes.now ≤ 8191 }
+    requires fits { before + length bytes.now ≤ longest_message }
     ensures { result ≡ mixed_all value (blocks_of (bytes.now ++ padding (before + length bytes.now))) }
 {
     let mut value = value;

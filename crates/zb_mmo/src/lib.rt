@@ -2,8 +2,8 @@
 #![tactic(auto)]
 
 ghost use Rattle.std.specs.Prelude.{◌≡◌, ◌≤◌, length};
-ghost use Rattle.zb_mmo.specs.Hash.{hash};
-ghost use Rattle.zb_mmo.specs.Keyed.{keyed, load_key, transport_key, verify_hash};
+ghost use Rattle.zb_mmo.specs.Hash.{hash, longest_message};
+ghost use Rattle.zb_mmo.specs.Keyed.{keyed, load_key, transport_key, verify_hash, longest_keyed};
 
 pub use pads::KeyPads;
 
@@ -17,7 +17,7 @@ use zb_base::Key;
 ///
 /// Requires at most 8,191 bytes.
 pub fn hash(bytes: &[u8]) -> [u8; 16]
-    requires { length bytes.now ≤ 8191 }
+    requires { length bytes.now ≤ longest_message }
     ensures { result ≡ hash bytes.now }
 {
     match bytes.split_first_chunk::<16>() {
@@ -30,7 +30,7 @@ pub fn hash(bytes: &[u8]) -> [u8; 16]
 ///
 /// Requires at most 8,175 bytes. Where one key serves for several hashes, make its `KeyPads` once.
 pub fn keyed(key: &Key, bytes: &[u8]) -> [u8; 16]
-    requires { length bytes.now ≤ 8175 }
+    requires { length bytes.now ≤ longest_keyed }
     ensures { result ≡ keyed key.now.0 bytes.now }
 {
     KeyPads::new(key).keyed(bytes)

@@ -1,7 +1,7 @@
 //! A key whose two pad blocks were hashed once, for any number of keyed hashes.
 
 ghost use Rattle.std.specs.Prelude.{◌≡◌, ◌≤◌, length, map, bit_xor};
-ghost use Rattle.zb_mmo.specs.Keyed.{keyed, load_key, transport_key, verify_hash};
+ghost use Rattle.zb_mmo.specs.Keyed.{keyed, load_key, transport_key, verify_hash, longest_keyed};
 
 use crate::blocks::{begin, finished};
 use std::marker::Model;
@@ -57,7 +57,7 @@ impl KeyPads {
     ///
     /// Requires at most 8,175 bytes.
     pub fn keyed(&self, bytes: &[u8]) -> [u8; 16]
-        requires { length bytes.now ≤ 8175 }
+        requires { length bytes.now ≤ longest_keyed }
         ensures { result ≡ keyed self.now bytes.now }
     {
         finished(self.outer, 16, &finished(self.inner, 16, bytes))

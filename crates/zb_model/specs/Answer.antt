@@ -2,7 +2,7 @@
 -- is a function; where only the policy is meant, the counters are a parameter (`Counting`).
 use Rattle.std.specs.Prelude.{ℕ, ◌+◌, min, Bool, true, false, not, if◌then◌else◌, ◌&&◌, ◌||◌, List, [], ◌∷◌, ◌++◌, filter, find, Option, Some, None, nat_eq, nat_le, flat_map, option_map, option_to_list, is_some}
 use Rattle.std.specs.List.{list_any}
-use Rattle.zb_model.specs.Data.{Bytes, Layer, Nwk, Aps, ForTransport, ForData, Term, Move, Active, Row, Became, Edit, Reserve, Floor, Start, Moved, Place, AtNwk, AtAps, AtEvent, Reason, Malformed, Policy, Tunnel, Task, Received}
+use Rattle.zb_model.specs.Data.{Bytes, Layer, Nwk, Aps, ForTransport, ForData, Term, Move, Active, Row, Became, Edit, Reserve, Floor, Start, Moved, Place, AtNwk, AtAps, AtEvent, Reason, Malformed, Policy, Tunnel, Task, Received, nobody}
 use Rattle.zb_model.specs.State.{greatest_counter, NetKey, LinkKey, NodeState, same_key, is_link, net_of, active_row, next_counter, stored_limit, applied_all, after_accepting, after_sealing, same_layer, is_active_key}
 use Rattle.zb_model.specs.Fits.{net_stored, link_stored}
 use Rattle.zb_model.specs.Record.{state_byte, attribute_byte}
@@ -36,7 +36,7 @@ source_or other (Some t) = t.source
 abbrev pub heard_clear : Option Term → Heard
 heard_clear nwk =
     record {
-      sender = source_or 18446744073709551616 nwk;
+      sender = source_or nobody nwk;
       label = None;
       row = None;
       nwk_source = option_map (λ (t : Term). t.source) nwk;

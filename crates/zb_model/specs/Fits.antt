@@ -10,8 +10,14 @@ use Rattle.zb_model.specs.State.{SenderFloor, NetKey, LinkKey, PairKey, NodeStat
 abbrev pub most_nets : ℕ
 most_nets = 256
 
+abbrev pub most_centre_links : ℕ
+most_centre_links = 1024
+
+abbrev pub most_member_links : ℕ
+most_member_links = 64
+
 abbrev pub most_links : Role → ℕ
-most_links role = if is_centre role then 1024 else 64
+most_links role = if is_centre role then most_centre_links else most_member_links
 
 abbrev pub most_pairs : ℕ
 most_pairs = 256

@@ -113,8 +113,12 @@ count_of EntryCalls = 4
 count_of RecordCalls = 6
 count_of (BootCalls both) = if both then 3 else 1
 
+-- After so many commits a node writes its whole record anew: 32 entries, and the record.
+abbrev pub commits_of_record : ℕ
+commits_of_record = 33
+
 abbrev pub commit_calls : ℕ → Calls
-commit_calls commits = if nat_eq ((commits + 1) % 33) 0 then RecordCalls else EntryCalls
+commit_calls commits = if nat_eq ((commits + 1) % commits_of_record) 0 then RecordCalls else EntryCalls
 
 -- An armed stop falls on the first event with more than its calls, an armed failure on the first with as many.
 abbrev pub falls : Armed → Calls → Bool

@@ -41,16 +41,20 @@ layer_byte Aps = 1
 abbrev pub worth : ℕ → Bool → ℕ
 worth n b = if b then n else 0
 
--- the place of the active row, FFFF for none
+-- what stands for the place of the active row where there is none: FFFF
+abbrev pub no_place : ℕ
+no_place = 65535
+
+-- the place of the active row
 abbrev pub place_from : ℕ → Bytes → List NetKey → ℕ
-place_from at key [] = 65535
+place_from at key [] = no_place
 place_from at key (r ∷ rs) = if same_key r.key key then at else place_from (at + 1) key rs
 
 abbrev pub active_place : NodeState → ℕ
 active_place s = place s.active
   where
     place : Option Bytes → ℕ
-    place None = 65535
+    place None = no_place
     place (Some key) = place_from 0 key s.nets
 
 -- A network row: key 16, sequence 1, flags 1 (bit 0 live, bit 1 started), limit 4.

@@ -2,7 +2,7 @@
 -- which is the changes that it makes and what it sends.
 use Rattle.std.specs.Prelude.{ℕ, Bool, true, false, not, if◌then◌else◌, ◌&&◌, ◌||◌, List, [], ◌∷◌, map, filter, find, length, Option, Some, None, nat_eq, nat_le, is_some}
 use Rattle.std.specs.List.{list_any}
-use Rattle.zb_model.specs.Data.{Bytes, Role, Router, Layer, Nwk, Aps, State, Knocked, Joined, Offered, Confirmed, Rejoining, Label, Station, Term, Move, DropNet, DropLink, Place, Reason, Command}
+use Rattle.zb_model.specs.Data.{Bytes, Role, Router, Layer, Nwk, Aps, State, Knocked, Joined, Offered, Confirmed, Rejoining, Label, Station, Term, Move, DropNet, DropLink, Place, Reason, Command, nobody}
 use Rattle.zb_model.specs.State.{greatest_counter, NetKey, LinkKey, NodeState, same_key, is_centre, is_live_of, has_net, next_counter, live_nets, is_active_key}
 use Rattle.zb_model.specs.Fits.{most_nets, most_links, most_pairs}
 
@@ -74,7 +74,7 @@ short_or other None = other
 short_or other (Some p) = p.short
 
 unfoldable pub centre_of : List Station → ℕ
-centre_of stations = eui_or 18446744073709551616 (find (λ (p : Station). is_centre p.role) stations)
+centre_of stations = eui_or nobody (find (λ (p : Station). is_centre p.role) stations)
 
 -- the declared short of a node that is declared
 unfoldable pub short_of : Setting → ℕ → ℕ

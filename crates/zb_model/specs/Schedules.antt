@@ -53,8 +53,12 @@ SuitsRole w (Own n task) = is_for_role (is_centre (setting_of w n).me.role) task
 SuitsRole w (RollOver n) = is_centre (setting_of w n).me.role ≡ true
 SuitsRole w _ = ⊤
 
+-- The most nodes of a schedule.
+abbrev pub most_nodes : ℕ
+most_nodes = 64
+
 pub record IsSchedule (w : Schedule) : Type 0 where
-  pub few_nodes : length w.nodes ≤ 64
+  pub few_nodes : length w.nodes ≤ most_nodes
   pub nodes : AllByRecursion IsMember w.nodes
   pub events : AllByRecursion (NamesNode w) w.events
   pub roles : AllByRecursion (SuitsRole w) w.events

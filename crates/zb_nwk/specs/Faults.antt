@@ -8,6 +8,7 @@ use Rattle.zb_nwk.specs.declared.header.NwkHeader.{NwkHeader}
 use Rattle.zb_nwk.specs.declared.frame.NwkFrame.{NwkFrame}
 use Rattle.zb_nwk.specs.Spelling.{header}
 use Rattle.zb_nwk.specs.Shape.{kind, version, key_id, IsHeader, HeaderInRange, IsFrame}
+use Rattle.zb_base.specs.Limits.{longest_frame}
 
 -- Some longer bytes that begin so are a frame, be they more than 127.
 abbrev pub CanGoOn : List ℕ → Type 0
@@ -45,5 +46,5 @@ Explains bytes NoSource = (control : ℕ) × (h : NwkHeader) × (rest : List ℕ
 
 -- The bytes have the fault.
 abbrev pub HasFault : List ℕ → NwkError → Type 0
-HasFault bytes TooLong = 127 < length bytes
-HasFault bytes e = (length bytes ≤ 127) × Explains bytes e
+HasFault bytes TooLong = longest_frame < length bytes
+HasFault bytes e = (length bytes ≤ longest_frame) × Explains bytes e

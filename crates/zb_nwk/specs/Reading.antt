@@ -10,6 +10,7 @@ use Rattle.zb_nwk.specs.declared.header.NwkHeader.{NwkHeader}
 use Rattle.zb_nwk.specs.declared.auxiliary.NwkAux.{NwkAux}
 use Rattle.zb_nwk.specs.declared.frame.NwkFrame.{NwkFrame}
 use Rattle.zb_nwk.specs.Shape.{kind, version, key_id}
+use Rattle.zb_base.specs.Limits.{longest_frame}
 
 unfoldable pub control_at : Reading NwkError ℕ
 control_at = do
@@ -97,4 +98,5 @@ whole (Err e) = Err e
 -- The frame that all of the bytes are, or their first fault: more than 127 bytes, or what the first field gives that
 -- is not whole or not known.
 unfoldable pub frame_of : List ℕ → Result NwkFrame NwkError
-frame_of bytes = if nat_lt 127 (length bytes) then Err TooLong else whole (frame_at (Short (length bytes)) bytes)
+frame_of bytes =
+    if nat_lt longest_frame (length bytes) then Err TooLong else whole (frame_at (Short (length bytes)) bytes)

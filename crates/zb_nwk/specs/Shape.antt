@@ -7,6 +7,7 @@ use Rattle.zb_nwk.specs.declared.header.NwkHeader.{NwkHeader}
 use Rattle.zb_nwk.specs.declared.auxiliary.NwkAux.{NwkAux}
 use Rattle.zb_nwk.specs.declared.frame.NwkFrame.{NwkFrame}
 use Rattle.zb_nwk.specs.Spelling.{frame}
+use Rattle.zb_base.specs.Limits.{longest_frame}
 
 -- bits 0 and 1 of the control word are the frame type, 2 to 5 the version of the protocol
 abbrev pub kind : ℕ → ℕ
@@ -81,4 +82,4 @@ pub record IsFrame (bytes : List ℕ) (f : NwkFrame) : Type 0 where
 -- The bytes spell the frame: they are it, and they are at most 127.
 pub record Spells (bytes : List ℕ) (f : NwkFrame) : Type 0 where
   pub is_frame : IsFrame bytes f
-  pub fits : length bytes ≤ 127
+  pub fits : length bytes ≤ longest_frame

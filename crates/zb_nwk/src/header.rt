@@ -105,7 +105,7 @@ fn read_control(reader: &mut Reader<NwkError>) -> Result<u16, NwkError>
 
 #[tactic(auto, unfolding(crate::specs::Reading::route_at))]
 fn read_route(reader: &mut Reader<NwkError>) -> Result<Route, NwkError>
-    requires { length reader.old.rest.now ≤ 123 }
+    requires { length reader.old.rest.now + 4 ≤ longest_frame }
     ensures exact { Gives result reader.new.rest.now (route_at reader.old.cut reader.old.rest.now) }
     ensures spelled { IfOk result (λ x. reader.old.rest.now ≡ route_of x ++ reader.new.rest.now) }
     ensures in_range { IfOk result (λ x. RouteInRange x) }
@@ -120,7 +120,7 @@ fn read_route(reader: &mut Reader<NwkError>) -> Result<Route, NwkError>
 
 // Reads a source route into the place of one that may be there.
 fn read_some_route(reader: &mut Reader<NwkError>, route: &mut Option<Route>) -> Result<(), NwkError>
-    requires { length reader.old.rest.now ≤ 123 }
+    requires { length reader.old.rest.now + 4 ≤ longest_frame }
     ensures exact { Gives (read_into result route.new) reader.new.rest.now
         (optional_at true route_at reader.old.cut reader.old.rest.now) }
     ensures spelled { OnOk result (reader.old.rest.now ≡ optional route_of route.new ++ reader.new.rest.now) }
@@ -148,7 +148,7 @@ fn read_optional_route(
     present: bool,
     route: &mut Option<Route>,
 ) -> Result<(), NwkError>
-    requires { length reader.old.rest.now ≤ 123 }
+    requires { length reader.old.rest.now + 4 ≤ longest_frame }
     ensures exact { Gives (read_into result route.new) reader.new.rest.now
         (optional_at present route_at reader.old.cut reader.old.rest.now) }
     ensures spelled { OnOk result (reader.old.rest.now ≡ optional route_of route.new ++ reader.new.rest.now) }
@@ -172,7 +172,7 @@ fn read_fields(
     control: u16,
     header: &mut NwkHeader,
 ) -> Result<(), NwkError>
-    requires room { length reader.old.rest.now ≤ 125 }
+    requires room { length reader.old.rest.now + 2 ≤ longest_frame }
     requires shaped { IsControl control }
     ensures exact { Gives (read_into result header.new) reader.new.rest.now
         (fields_at control reader.old.cut reader.old.rest.now) }

@@ -5,7 +5,7 @@ use Rattle.arrayvec.specs.ArrayVec.{ArrayVec}
 use Rattle.zb_base.specs.declared.key.Key.{Key}
 use Rattle.zb_base.specs.declared.fault.OrMemory.{OrMemory}
 use Rattle.zb_base.specs.declared.fault.OrMemory.TheVariants as error
-use Rattle.zb_pcap.specs.Files.{Record, header_of, records, fault_at}
+use Rattle.zb_pcap.specs.Files.{Record, header_of, records, fault_at, file_header_size}
 use Rattle.zb_pcap.specs.Mac.{mac_of}
 use Rattle.zb_pcap.specs.declared.extraction.Extraction.{Extraction}
 use Rattle.zb_pcap.specs.declared.fault.PcapCause.{PcapCause}
@@ -64,7 +64,8 @@ extract_packets keys check (Ok packets) = Ok (extract_of keys check packets)
 
 abbrev pub extract_form : List Key → List ℕ → Result Form PcapCause → Result Extraction PcapError
 extract_form keys bytes (Err cause) = Err (fault_at 0 cause)
-extract_form keys bytes (Ok form) = extract_packets keys form.check (records most_frames 1 form.order (drop 24 bytes))
+extract_form keys bytes (Ok form) =
+    extract_packets keys form.check (records most_frames 1 form.order (drop file_header_size bytes))
 
 -- What a capture file gives under some keys, or its first fault. At most 100,000 records are taken.
 unfoldable pub extracted : List Key → List ℕ → Result Extraction PcapError

@@ -1,5 +1,5 @@
 -- Capture files (pcap, in this project's profile): a header of 24 bytes, and records of 16 bytes and a packet.
-use Rattle.std.specs.Prelude.{ℕ, zero, suc, ◌+◌, ◌-◌, ◌%◌, ◌==◌, ◌&&◌, ◌||◌, not, nat_le, nat_lt, Bool, true, false, if◌then◌else◌, List, [], ◌∷◌, length, take, drop, slice_index, bytes_eq, Option, Some, None, Result, Ok, Err}
+use Rattle.std.specs.Prelude.{◌^◌, ℕ, zero, suc, ◌+◌, ◌-◌, ◌%◌, ◌==◌, ◌&&◌, ◌||◌, not, nat_le, nat_lt, Bool, true, false, if◌then◌else◌, List, [], ◌∷◌, length, take, drop, slice_index, bytes_eq, Option, Some, None, Result, Ok, Err}
 use Rattle.std.specs.Int.{w16, w32, from_be_bytes, from_le_bytes}
 use Rattle.zb_pcap.specs.declared.fault.PcapCause.{PcapCause}
 use Rattle.zb_pcap.specs.declared.fault.PcapCause.TheVariants.{Magic, Version, Link, Cut, TooMany}
@@ -32,13 +32,27 @@ order_of magic =
     then Some Little
     else None
 
--- the low 16 bits of the link type: 195 has check sequences, 230 has none
+-- the link types of IEEE 802.15.4, with check sequences and without
+abbrev pub with_check_sequences : ℕ
+with_check_sequences = 195
+
+abbrev pub without_check_sequences : ℕ
+without_check_sequences = 230
+
+-- whether there are check sequences, by the low 16 bits of the link type
 abbrev pub link_of : ℕ → Option Bool
-link_of link = if link % 65536 == 195 then Some true else if link % 65536 == 230 then Some false else None
+link_of link =
+    if link % 2 ^ 16 == with_check_sequences then Some true
+    else if link % 2 ^ 16 == without_check_sequences then Some false
+    else None
 
 abbrev pub form_of : Order → Option Bool → Result Form PcapCause
 form_of order None = Err Link
 form_of order (Some check) = Ok (record { order = order; check = check })
+
+-- the number of bytes before the first record
+abbrev pub file_header_size : ℕ
+file_header_size = 24
 
 -- version 2.4
 abbrev pub form_in : List ℕ → Option Order → Result Form PcapCause
@@ -49,7 +63,7 @@ form_in bytes (Some order) =
 
 -- what the header says, or the first of its faults
 unfoldable pub header_of : List ℕ → Result Form PcapCause
-header_of bytes = if nat_lt (length bytes) 24 then Err Magic else form_in bytes (order_of (take 4 bytes))
+header_of bytes = if nat_lt (length bytes) file_header_size then Err Magic else form_in bytes (order_of (take 4 bytes))
 
 -- a packet, and whether it was cut when it was caught
 abbrev pub Record : Type 0

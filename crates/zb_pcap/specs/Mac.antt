@@ -3,6 +3,7 @@ use Rattle.std.specs.Prelude.{ℕ, ◌+◌, ◌-◌, ◌*◌, ◌/◌, ◌%◌, 
 use Rattle.zb_pcap.specs.CheckSequence.{check_sequence}
 use Rattle.zb_pcap.specs.declared.mac.Mac.{Mac}
 use Rattle.zb_pcap.specs.declared.mac.Mac.TheVariants.{Payload, BadCheck, Other}
+use Rattle.zb_base.specs.Limits.{longest_frame}
 
 -- the number of two bytes, low byte first
 abbrev pub number16 : List ℕ → ℕ → ℕ
@@ -60,11 +61,11 @@ payload_of body =
 unfoldable pub mac_of : Bool → List ℕ → Mac
 mac_of check packet =
     if has_wrong_check check packet then BadCheck
-    else if nat_le (length packet) 127 then payload_of (body check packet)
+    else if nat_le (length packet) longest_frame then payload_of (body check packet)
     else Other
 
 -- a payload lies within its packet, and is no longer than a packet may be
 abbrev pub IsWithin : Mac → ℕ → Type 0
-IsWithin (Payload at len) size = (at + len ≤ size) × (len ≤ 127)
+IsWithin (Payload at len) size = (at + len ≤ size) × (len ≤ longest_frame)
 IsWithin BadCheck size = Unit {0}
 IsWithin Other size = Unit {0}

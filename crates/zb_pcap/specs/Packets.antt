@@ -1,6 +1,6 @@
 -- A capture file as it is: its packets, or its first fault.
 use Rattle.std.specs.Prelude.{ℕ, Bool, List, map, drop, Result, Ok, Err}
-use Rattle.zb_pcap.specs.Files.{Record, header_of, records, fault_at}
+use Rattle.zb_pcap.specs.Files.{Record, header_of, records, fault_at, file_header_size}
 use Rattle.zb_pcap.specs.declared.fault.PcapCause.{PcapCause}
 use Rattle.zb_pcap.specs.declared.fault.PcapError.{PcapError}
 use Rattle.zb_pcap.specs.declared.header.Form.{Form}
@@ -23,7 +23,7 @@ held_packets check (Ok packets) = Ok (held check packets)
 
 abbrev pub held_form : List ℕ → Result Form PcapCause → Result Pcap PcapError
 held_form bytes (Err cause) = Err (fault_at 0 cause)
-held_form bytes (Ok form) = held_packets form.check (records most_frames 1 form.order (drop 24 bytes))
+held_form bytes (Ok form) = held_packets form.check (records most_frames 1 form.order (drop file_header_size bytes))
 
 -- What a capture file holds, or its first fault. At most 100,000 records are taken.
 unfoldable pub pcap_in : List ℕ → Result Pcap PcapError

@@ -3,7 +3,7 @@ ghost use Rattle.std.specs.Prelude.{◌≡◌, ◌+◌, ◌≤◌, length, take,
 ghost use Rattle.zb_capture.specs.Grammar.{IsCapture};
 ghost use Rattle.zb_pcap.specs.Mac.{IsWithin};
 ghost use Rattle.zb_pcap.specs.Extracts.{record_in, verdict, extract_of, extracted, Answers};
-ghost use Rattle.zb_base.specs.Limits.{longest_frame, most_frames};
+ghost use Rattle.zb_base.specs.Limits.{longest_frame, most_frames, most_keys};
 
 use crate::fault::PcapError;
 use crate::header::read_header;
@@ -43,7 +43,7 @@ pub struct Extraction {
 /// The first fault of the file.
 #[tactic(auto, unfolding(crate::specs::Extracts::extracted))]
 pub fn extract(alloc: Global, bytes: &[u8], keys: &[Key]) -> Result<Extraction, OrMemory<PcapError>>
-    requires { length keys.now ≤ 256 }
+    requires { length keys.now ≤ most_keys }
     ensures exact { Answers (λ e. e) result (extracted keys.now bytes.now) }
     ensures valid { IfOk result (λ e. IsCapture e.capture) }
 {
@@ -64,7 +64,7 @@ fn sort(
     packets: &[Packet<'_>],
     keys: &[Key],
 ) -> Result<Extraction, NoMemory>
-    requires keys { length keys.now ≤ 256 }
+    requires keys { length keys.now ≤ most_keys }
     requires packets { length packets.now ≤ most_frames }
     ensures value { IfOk result (λ e. e ≡ extract_of keys.now check (map record_in packets.now)) }
     ensures valid { IfOk result (λ e. IsCapture e.capture) }

@@ -1,6 +1,6 @@
 //! The header of a capture file.
 ghost use Rattle.std.specs.Prelude.{◌≡◌, ◌+◌, ◌≤◌, ◌==◌, ◌&&◌, length, IfOk};
-ghost use Rattle.zb_pcap.specs.Files.{number16_at, number32_at, order_of as order_in, link_of as link_in, header_of};
+ghost use Rattle.zb_pcap.specs.Files.{number16_at, number32_at, order_of as order_in, link_of as link_in, header_of, file_header_size};
 
 use crate::fault::PcapCause;
 
@@ -26,7 +26,7 @@ pub(crate) struct Form {
 #[tactic(auto, unfolding(crate::specs::Files::header_of))]
 pub(crate) fn read_header(bytes: &[u8]) -> Result<Form, PcapCause>
     ensures value { result ≡ header_of bytes.now }
-    ensures long { IfOk result (λ form. 24 ≤ length bytes.now) }
+    ensures long { IfOk result (λ form. file_header_size ≤ length bytes.now) }
 {
     if bytes.len() < 24 {
         return Err(PcapCause::Magic);
@@ -61,7 +61,7 @@ fn order_of(magic: &[u8]) -> Option<Order>
 
 /// Returns whether the version is 2.4.
 fn is_version(order: Order, bytes: &[u8]) -> bool
-    requires { 24 ≤ length bytes.now }
+    requires { file_header_size ≤ length bytes.now }
     ensures { result ≡ (number16_at order bytes.now 4 == 2 && number16_at order bytes.now 6 == 4) }
 {
     number16(order, bytes, 4) == 2 && number16(order, bytes, 6) == 4

@@ -11,6 +11,10 @@ use Rattle.law_schedules.specs.Schedules.{schedule_of}
 use Rattle.zb_sched.specs.Schedules as sched
 use Rattle.zb_sched_line.specs.Said.{Event}
 
+-- the most nodes whose places a bench is asked about
+abbrev pub most_seats : ℕ
+most_seats = 256
+
 -- ---- what it is asked
 
 -- the number of an event, and the place of its node
@@ -34,10 +38,10 @@ Asks (Some old) (Some new') more = new' ≡ old ++ more
 Asks None None more = ⊤
 Asks _ _ more = ⊥
 
--- the same for each way to see at most 256 nodes in these seats
+-- the same for each way to see at most so many nodes in these seats
 abbrev pub AsksFor : Seats → ℕ → List Event → Option (List Question) → Option (List Question) → Type 0
 AsksFor seats number events before after =
-    (known : List Station) → AreSeats seats known → length known ≤ 256
+    (known : List Station) → AreSeats seats known → length known ≤ most_seats
     → Asks before after (questions known number events)
 
 -- those of a schedule's run
@@ -75,11 +79,11 @@ abbrev pub GaveAt : Option (ℕ → Option Medium) → Option (ℕ → Option Me
 GaveAt old new' number gives None = new' ≡ old
 GaveAt old new' number gives (Some seat) = Gave old new' number (gives number seat.place)
 
--- the same for each way to see at most 256 nodes in these seats
+-- the same for each way to see at most so many nodes in these seats
 abbrev pub GaveFor : Seats → ℕ → Event → (ℕ → ℕ → Option Medium) → Option (ℕ → Option Medium)
     → Option (ℕ → Option Medium) → Type 0
 GaveFor seats number e gives before after =
-    (known : List Station) → AreSeats seats known → length known ≤ 256
+    (known : List Station) → AreSeats seats known → length known ≤ most_seats
     → GaveAt before after number gives (seat_for known e)
 
 -- The disks over which an event is answered: under its node is the one that the bench gives, if it gives one.

@@ -1,5 +1,5 @@
 -- What a run is of the lines so far, and what an event makes of it.
-use Rattle.std.specs.Prelude.{◌≡◌, ℕ, ◌+◌, ◌<◌, List, [], ◌∷◌, ◌++◌, map, length, get_or, Some, ⊤}
+use Rattle.std.specs.Prelude.{◌^◌, ◌≡◌, ℕ, ◌+◌, ◌<◌, List, [], ◌∷◌, ◌++◌, map, length, get_or, Some, ⊤}
 use Rattle.std.specs.Io.KnownBytes.{append_known}
 use Rattle.zb_base.specs.declared.key.Key.{Key}
 use Rattle.zb_disk.specs.Memory.{Medium}
@@ -80,7 +80,7 @@ pub record IsEventAt (p : sched.Schedule) (place : ℕ) (q : Station) (act : Act
 
 -- What an event asks of a schedule: it fits it, and the model's event is one of its node's role.
 pub record FitsRun (p : sched.Schedule) (number : ℕ) (e : said.Event) : Type 0 where
-  pub early : number < 4294967296
+  pub early : number < 2 ^ 32
   pub fits : FitsSchedule p e
   pub roles : SuitsRole (schedule_of p) (event_for (stations_for p) e)
   pub calls : CountsCalls (event_for (stations_for p) e)

@@ -18,6 +18,7 @@ use Rattle.zb_player_events.specs.Nodes.{Holds}
 use Rattle.zb_player_scribe.specs.Pages.{IsFor}
 use Rattle.zb_sched.specs.Schedules as sched
 use Rattle.zb_sched_line.specs.Said as said
+use Rattle.zb_base.specs.Sizes.{last_given_generation}
 
 -- ---- what is given
 
@@ -44,7 +45,7 @@ AreFit latest w gifts given h xs number (event ∷ events) =
 
 -- The disks that are given before the events of a schedule. Their generations are at most 2^62 + 1.
 abbrev pub AreGifts : sched.Schedule → (ℕ → Option Stood) → (ℕ → Option Medium) → Type 0
-AreGifts p gifts given = AreFit 4611686018427387904 (schedule_of p) gifts given (start (schedule_of p))
+AreGifts p gifts given = AreFit last_given_generation (schedule_of p) gifts given (start (schedule_of p))
     (first_nodes (schedule_of p)) 1 (schedule_of p).events
 
 -- What holds for all that stands on the disks that a bench tells that it gave, where they are such disks.
@@ -98,7 +99,7 @@ AgreesTo n given (Some told) = (k : ℕ) → k ≤ n → told k ≡ given k
 pub record IsGiven (p : sched.Schedule) (gifts : ℕ → Option Stood) (given : ℕ → Option Medium) (h : List Line)
     (xs : ℕ → Condition) (latest : ℕ) (events : List said.Event) (run : Run) (disks : List Medium) : Type 0 where
   pub played : IsPlayed p events
-  pub few : latest ≤ 4611686018427387904
+  pub few : latest ≤ last_given_generation
   pub stands : RunIn p h xs latest run disks
   pub fit : AreFit latest (schedule_of p) gifts given h xs 1 (acts_of p events)
 

@@ -10,6 +10,7 @@ ghost use Rattle.zb_sched.specs.Valid.{IsSchedule};
 ghost use Rattle.zb_sched_line.specs.Views.{event_of};
 ghost use Rattle.zb_player_scribe.specs.Pages.{IsClear, IsFor};
 ghost use Rattle.zb_base.specs.Limits.{most_events};
+ghost use Rattle.zb_player_start.specs.Starts.{most_start_lines};
 
 use crate::bench::{Bench, Still};
 use crate::fault::PlayFault;
@@ -151,7 +152,7 @@ fn answer_all<'a, B: Bench, W: Sink>(
     requires clear { IsClear run.old.ledger.page }
     requires fit { IsFor run.old.ledger.page (W.taken out.old) }
     requires few { length events.now ≤ most_events }
-    requires room { lines_told run.old.ledger ≤ 400 }
+    requires room { lines_told run.old.ledger ≤ most_start_lines }
     ensures clear { OnOk result (IsClear run.new.ledger.page) }
     ensures whole { OnOk result (B.still bench.old ≡ true → Answers run.old disks.old
         (map event_of events.now) (length events.now) run.new disks.new (W.taken out.old) (W.taken out.new)) }

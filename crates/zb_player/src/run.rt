@@ -10,16 +10,18 @@ ghost use Rattle.zb_model.specs.Play as model;
 ghost use Rattle.zb_model.specs.Play.{Disk, stations, step};
 ghost use Rattle.zb_model_real.specs.Real.{real};
 ghost use Rattle.law_schedules.specs.Schedules.{event_for, schedule_of, stations_for};
-ghost use Rattle.zb_player_events.specs.Told.{HasRoom, lines_told};
+ghost use Rattle.zb_player_events.specs.Told.{HasRoom, lines_told, most_event_lines};
 ghost use Rattle.law_run_steps.specs.Conditions.{Condition};
 ghost use Rattle.law_run_swaps.specs.Swaps.{Stood, node_of};
-ghost use Rattle.zb_player.specs.Benches.{Asks, AsksFor, Gave, GaveFor, given_for, put_at, under};
+ghost use Rattle.zb_player.specs.Benches.{Asks, AsksFor, Gave, GaveFor, given_for, put_at, under, most_seats};
 ghost use Rattle.zb_player.specs.Playing.{AreCalledBy, FitsRun, IsEventAt, RunGoes, RunIn, RunPasses, RunStands, passed_by, step_of};
 ghost use Rattle.zb_player.specs.Swapping.{FitsAt, passed_with};
 ghost use Rattle.zb_player.specs.Runs.{text_in};
 ghost use Rattle.zb_sched.specs.Schedules as sched;
 ghost use Rattle.zb_sched.specs.Valid.{IsSchedule};
 ghost use Rattle.zb_sched_line.specs.Views.{event_of};
+ghost use Rattle.zb_player_start.specs.Starts.{most_start_lines};
+ghost use Rattle.zb_base.specs.Sizes.{late_generation};
 
 use crate::bench::Bench;
 use std::alloc::Global;
@@ -58,7 +60,7 @@ impl<'a> Run<'a> {
             (model.start (schedule_of (sched.schedule_of schedule.now))) [] 1 run disks.new.items) }
         ensures page { IfOk result (λ run. run.ledger.page ≡ append_known page (text_in
             (sched.schedule_of schedule.now) (model.start (schedule_of (sched.schedule_of schedule.now))))) }
-        ensures few { IfOk result (λ run. lines_told run.ledger ≤ 400) }
+        ensures few { IfOk result (λ run. lines_told run.ledger ≤ most_start_lines) }
         ensures calls { OnOk result (AllByRecursion (λ (m : medium). m.calls ≡ 6) disks.new.items) }
     {
         let declared = schedule.nodes.as_slice();
@@ -92,7 +94,7 @@ impl<'a> Run<'a> {
         event: &Event,
     ) -> Result<(), NoMemory>
         requires room { HasRoom self.old.ledger }
-        ensures few { OnOk result (lines_told self.new.ledger ≤ lines_told self.old.ledger + 24) }
+        ensures few { OnOk result (lines_told self.new.ledger ≤ lines_told self.old.ledger + most_event_lines) }
         ensures still { B.still bench.old ≡ true → B.still bench.new ≡ true }
         ensures asked { AsksFor self.old.seats number (event_of event.now ∷ []) (B.asked bench.old)
             (B.asked bench.new) }
@@ -101,7 +103,7 @@ impl<'a> Run<'a> {
             (B.gave bench.new) }
         ensures passes { OnOk result ((p : sched.Schedule) (h : List Line) (xs : ℕ → Condition) (latest : ℕ)
             (gift : Option Stood) → IsSchedule p → FitsRun p number (event_of event.now)
-            → latest < 9223372036854775808 → RunIn p h xs latest self.old disks.old
+            → latest < late_generation → RunIn p h xs latest self.old disks.old
             → FitsAt latest gift
             (given_for (B.gives bench.old) (stations (schedule_of p)) number (event_of event.now)) xs
             (node_of (event_for (stations_for p) (event_of event.now)))
@@ -140,9 +142,9 @@ impl<'a> Run<'a> {
     ) -> Result<(), NoMemory>
         requires room { HasRoom self.old.ledger }
         ensures seats { self.new.seats ≡ self.old.seats }
-        ensures few { OnOk result (lines_told self.new.ledger ≤ lines_told self.old.ledger + 24) }
+        ensures few { OnOk result (lines_told self.new.ledger ≤ lines_told self.old.ledger + most_event_lines) }
         ensures goes { OnOk result ((p : sched.Schedule) (h : List Line) (xs : ℕ → Condition) (latest : ℕ)
-            (event : model.Event) (q : station) → latest < 9223372036854775808 → IsSchedule p
+            (event : model.Event) (q : station) → latest < late_generation → IsSchedule p
             → RunIn p h xs latest self.old disks.old → IsEventAt p place q act event
             → RunPasses p (passed_by p h xs number event) h latest self.old self.new disks.new) }
         ensures calls { OnOk result ((p : sched.Schedule) (h : List Line) (ds : List Disk) (event : model.Event)
@@ -162,11 +164,12 @@ impl<'a> Run<'a> {
 fn swap<B: Bench>(disks: &mut [MemDisk], bench: &mut B, number: u32, seat: Seat)
     ensures disks { B.still bench.old ≡ true → disks.new ≡ disks.old }
     ensures still { B.still bench.old ≡ true → B.still bench.new ≡ true }
-    ensures asked { seat.place < 256 → Asks (B.asked bench.old) (B.asked bench.new)
+    ensures asked { seat.place < most_seats → Asks (B.asked bench.old) (B.asked bench.new)
         (record { event = number; place = seat.place } ∷ []) }
-    ensures gave { seat.place < 256 → Gave (B.gave bench.old) (B.gave bench.new) number
+    ensures gave { seat.place < most_seats → Gave (B.gave bench.old) (B.gave bench.new) number
         (B.gives bench.old number seat.place) }
-    ensures put { seat.place < 256 → disks.new ≡ put_at seat.place disks.old (B.gives bench.old number seat.place) }
+    ensures put { seat.place < most_seats
+        → disks.new ≡ put_at seat.place disks.old (B.gives bench.old number seat.place) }
 {
     if let Ok(node) = u8::try_from(seat.place) {
         if let Some(disk) = bench.swap(number, node) {

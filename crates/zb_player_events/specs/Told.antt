@@ -23,13 +23,22 @@ use Rattle.zb_player_scribe.specs.Kept.{Kept, told}
 use Rattle.zb_text.specs.Fields.{is_name}
 use Rattle.zb_trace.specs.declared.line.Line.{Line as Printed}
 use Rattle.zb_trace.specs.Views.{the_centre}
+use Rattle.zb_base.specs.Sizes.{late_generation}
 
--- how many lines were counted; an event adds at most 24
+-- The most lines that an event adds.
+abbrev pub most_event_lines : ℕ
+most_event_lines = 24
+
+-- how many lines were counted
 abbrev pub lines_told : Ledger → ℕ
 lines_told k = told k.scribe
 
+-- How many lines may have been counted before an event. It is so far below the most that any event has room.
+abbrev pub most_before_event : ℕ
+most_before_event = 4294967000
+
 abbrev pub HasRoom : Ledger → Type 0
-HasRoom k = lines_told k ≤ 4294967000
+HasRoom k = lines_told k ≤ most_before_event
 
 -- The lines so far declare the nodes of the schedule, and the scribe has of them what a run needs.
 pub record IsTold (w : Schedule) (h : List Line) (k : Ledger) : Type 0 where
@@ -68,7 +77,7 @@ pub record Before (w : Schedule) (h : List Line) (x : Condition) (latest n : ℕ
   pub is_in : IsIn x latest node m
   pub setting : x.setting ≡ setting_of w n
   pub seat : IsSeated w n node
-  pub few : latest < 9223372036854775808
+  pub few : latest < late_generation
 
 -- the count of a disk's calls after so many more; it stops at 2^64 - 1
 abbrev pub counted_on : ℕ → ℕ → ℕ

@@ -3,7 +3,7 @@ ghost use Rattle.std.specs.Prelude.{◌≡◌, ◌≤◌, ◌<◌, ◌+◌, ℕ,
 ghost use Rattle.std.specs.Option.{option_map};
 ghost use Rattle.zb_base.specs.declared.key.Key.{Key as key};
 ghost use Rattle.zb_player_events.specs.Acts.{IsFor, act_for};
-ghost use Rattle.zb_player_events.specs.Told.{Adds, Before, Calls, Goes, HasRoom, IsTold, lines_told};
+ghost use Rattle.zb_player_events.specs.Told.{Adds, Before, Calls, Goes, HasRoom, IsTold, lines_told, most_event_lines};
 ghost use Rattle.zb_model.specs.Lines as log;
 ghost use Rattle.zb_model.specs.Play as model;
 ghost use Rattle.zb_model.specs.Play.{Schedule, stations};
@@ -90,7 +90,7 @@ impl Ledger {
         act: Act,
     ) -> Result<(), NoMemory>
         requires room { HasRoom self.old }
-        ensures few { OnOk result (lines_told self.new ≤ lines_told self.old + 24) }
+        ensures few { OnOk result (lines_told self.new ≤ lines_told self.old + most_event_lines) }
         ensures seat { node.new.peer ≡ node.old.peer }
         ensures goes { OnOk result ((w : Schedule) (h : List log.Line) (x : Condition) (latest n : ℕ)
             (event : model.Event) → Before w h x latest n self.old node.old disk.old

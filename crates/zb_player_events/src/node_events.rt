@@ -11,7 +11,7 @@ ghost use Rattle.zb_player_events.specs.Calls.{event_calls, frame_calls, task_ca
 ghost use Rattle.law_run_steps.specs.Conditions.{Condition};
 ghost use Rattle.law_run_swaps.specs.Turns.{deliver_turn, event_turn, task_turn};
 ghost use Rattle.zb_player_node.specs.Tasks.{model_task, suits};
-ghost use Rattle.zb_player_events.specs.Told.{Adds, Before, Calls, Goes, HasRoom, IsFallen, IsRefusedFor, IsTold, fall_line, lines_told};
+ghost use Rattle.zb_player_events.specs.Told.{Adds, Before, Calls, Goes, HasRoom, IsFallen, IsRefusedFor, IsTold, fall_line, lines_told, most_event_lines};
 ghost use Rattle.zb_trace_model.specs.Naming.{IsCalled};
 ghost use Rattle.zb_base.specs.Limits.{most_lines};
 
@@ -47,7 +47,7 @@ impl Ledger {
         task: Task,
     ) -> Result<(), NoMemory>
         requires room { HasRoom self.old }
-        ensures few { OnOk result (lines_told self.new ≤ lines_told self.old + 24) }
+        ensures few { OnOk result (lines_told self.new ≤ lines_told self.old + most_event_lines) }
         ensures goes { OnOk result ((w : Schedule) (h : List log.Line) (x : Condition) (latest n : ℕ)
             → Before w h x latest n self.old node.old disk.old
             → suits x.setting.me.role (model_task task) ≡ true
@@ -102,7 +102,7 @@ impl Ledger {
         frame: u32,
     ) -> Result<(), NoMemory>
         requires room { HasRoom self.old }
-        ensures few { OnOk result (lines_told self.new ≤ lines_told self.old + 24) }
+        ensures few { OnOk result (lines_told self.new ≤ lines_told self.old + most_event_lines) }
         ensures goes { OnOk result ((w : Schedule) (h : List log.Line) (x : Condition) (latest n : ℕ)
             → Before w h x latest n self.old node.old disk.old → map (λ (k : key). k.0) draws.now ≡ w.draws
             → Goes w (deliver_turn real w h x event n (frame_at h frame)) h latest
@@ -128,7 +128,7 @@ impl Ledger {
         bytes: Frame,
     ) -> Result<(), NoMemory>
         requires room { HasRoom self.old }
-        ensures few { OnOk result (lines_told self.new ≤ lines_told self.old + 24) }
+        ensures few { OnOk result (lines_told self.new ≤ lines_told self.old + most_event_lines) }
         ensures seat { node.new.peer ≡ node.old.peer }
         ensures goes { OnOk result ((w : Schedule) (h : List log.Line) (x : Condition) (latest n : ℕ)
             → Before w h x latest n self.old node.old disk.old → map (λ (k : key). k.0) draws.now ≡ w.draws
@@ -146,7 +146,7 @@ impl Ledger {
     // No frame of that number went on the air.
     fn miss(&mut self, node: &mut Node, event: u32) -> Result<(), NoMemory>
         requires room { HasRoom self.old }
-        ensures few { OnOk result (lines_told self.new ≤ lines_told self.old + 24) }
+        ensures few { OnOk result (lines_told self.new ≤ lines_told self.old + most_event_lines) }
         ensures node { node.new ≡ node.old }
         ensures goes { OnOk result ((w : Schedule) (h : List log.Line) (x : Condition) (latest n : ℕ) (m : medium)
             → Before w h x latest n self.old node.old m
@@ -162,7 +162,7 @@ impl Ledger {
     /// `NoMemory`.
     pub fn reset(&mut self, node: &mut Node, disk: &mut MemDisk, event: u32) -> Result<(), NoMemory>
         requires room { HasRoom self.old }
-        ensures few { OnOk result (lines_told self.new ≤ lines_told self.old + 24) }
+        ensures few { OnOk result (lines_told self.new ≤ lines_told self.old + most_event_lines) }
         ensures seat { node.new.peer ≡ node.old.peer }
         ensures goes { OnOk result ((w : Schedule) (h : List log.Line) (x : Condition) (latest n : ℕ)
             → Before w h x latest n self.old node.old disk.old
@@ -183,7 +183,7 @@ impl Ledger {
     /// `NoMemory`.
     pub fn boot(&mut self, node: &mut Node, disk: &mut MemDisk, event: u32) -> Result<(), NoMemory>
         requires room { HasRoom self.old }
-        ensures few { OnOk result (lines_told self.new ≤ lines_told self.old + 24) }
+        ensures few { OnOk result (lines_told self.new ≤ lines_told self.old + most_event_lines) }
         ensures seat { node.new.peer ≡ node.old.peer }
         ensures goes { OnOk result ((w : Schedule) (h : List log.Line) (x : Condition) (latest n : ℕ)
             → Before w h x latest n self.old node.old disk.old
@@ -208,7 +208,7 @@ impl Ledger {
     /// `NoMemory`.
     pub fn dump(&mut self, node: &Node, disk: &mut MemDisk, event: u32) -> Result<(), NoMemory>
         requires room { HasRoom self.old }
-        ensures few { OnOk result (lines_told self.new ≤ lines_told self.old + 24) }
+        ensures few { OnOk result (lines_told self.new ≤ lines_told self.old + most_event_lines) }
         ensures goes { OnOk result ((w : Schedule) (h : List log.Line) (x : Condition) (latest n : ℕ)
             → Before w h x latest n self.old node.now disk.old
             → Goes w (event_turn real w h x event (model.ShowRecord n)) h latest self.old self.new node.now disk.new) }

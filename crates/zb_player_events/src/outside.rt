@@ -1,7 +1,7 @@
 //! The events of the outside: bytes that are put on the air, and forged frames.
 ghost use Rattle.std.specs.Prelude.{◌≡◌, ◌≤◌, ◌<◌, ◌+◌, List, None, OnOk, codes, length, true, ◌∷◌, []};
 ghost use Rattle.zb_player_events.specs.Outside.{IsSent, forges_command, is_outside};
-ghost use Rattle.zb_player_events.specs.Told.{Adds, HasRoom, IsTold, lines_told};
+ghost use Rattle.zb_player_events.specs.Told.{Adds, HasRoom, IsTold, lines_told, most_event_lines};
 ghost use Rattle.zb_model.specs.Data.{Station};
 ghost use Rattle.zb_model.specs.Lines as log;
 ghost use Rattle.zb_model.specs.Play.{Disk, Schedule, forged_both, forged_net, forged_open, step};
@@ -12,6 +12,7 @@ ghost use Rattle.law_schedules.specs.Schedules.{event_for};
 ghost use Rattle.zb_sched_line.specs.Views.{event_of};
 ghost use Rattle.zb_seal.specs.Wire.{wire_length};
 ghost use Rattle.zb_base.specs.Limits.{longest_frame, most_lines};
+ghost use Rattle.zb_send.specs.Sendings.{clear_room};
 
 use crate::ledger::Ledger;
 use zb_base::{Frame, Name, NoMemory, Short};
@@ -38,7 +39,7 @@ impl Ledger {
     /// An event of a node is passed over. Errors: `NoMemory`.
     pub fn answer_outside(&mut self, event: u32, what: &Event) -> Result<(), NoMemory>
         requires room { HasRoom self.old }
-        ensures few { OnOk result (lines_told self.new ≤ lines_told self.old + 24) }
+        ensures few { OnOk result (lines_told self.new ≤ lines_told self.old + most_event_lines) }
         ensures sent { OnOk result ((w : Schedule) (h : List log.Line) (ds : List Disk) (known : List Station)
             → IsTold w h self.old → is_outside (event_of what.now) ≡ true
             → IsSent w h ds (step real w h ds event (event_for known (event_of what.now))) self.old self.new) }
@@ -70,7 +71,7 @@ impl Ledger {
     // An APS command is forged under a link key. A frame that is sealed at NWK too carries it, or one that isn't.
     fn forge_command(&mut self, event: u32, what: &Event) -> Result<(), NoMemory>
         requires room { HasRoom self.old }
-        ensures few { OnOk result (lines_told self.new ≤ lines_told self.old + 24) }
+        ensures few { OnOk result (lines_told self.new ≤ lines_told self.old + most_event_lines) }
         ensures sent { OnOk result ((w : Schedule) (h : List log.Line) (ds : List Disk) (known : List Station)
             → IsTold w h self.old → forges_command (event_of what.now) ≡ true
             → IsSent w h ds (step real w h ds event (event_for known (event_of what.now))) self.old self.new) }
@@ -115,7 +116,7 @@ impl Ledger {
     // Bytes go on the air.
     fn inject(&mut self, event: u32, bytes: &Frame) -> Result<(), NoMemory>
         requires room { HasRoom self.old }
-        ensures few { OnOk result (lines_told self.new ≤ lines_told self.old + 24) }
+        ensures few { OnOk result (lines_told self.new ≤ lines_told self.old + most_event_lines) }
         ensures adds { OnOk result ((w : Schedule) (h : List log.Line) → IsTold w h self.old
             → Adds w h (log.Inject event (length (air h) + 1) bytes.now.items ∷ []) self.old self.new) }
     {
@@ -127,7 +128,7 @@ impl Ledger {
     fn forge_net(&mut self, event: u32, term: Term) -> Result<(), NoMemory>
         requires room { HasRoom self.old }
         requires fits { wire_length term ≤ longest_frame }
-        ensures few { OnOk result (lines_told self.new ≤ lines_told self.old + 24) }
+        ensures few { OnOk result (lines_told self.new ≤ lines_told self.old + most_event_lines) }
         ensures adds { OnOk result ((w : Schedule) (h : List log.Line) → IsTold w h self.old
             → Adds w h (forged_net real h event (model_term term)) self.old self.new) }
     {
@@ -140,7 +141,7 @@ impl Ledger {
     fn forge_both(&mut self, event: u32, inner: Term, term: Term) -> Result<(), NoMemory>
         requires room { HasRoom self.old }
         requires fits { wire_length term ≤ longest_frame }
-        ensures few { OnOk result (lines_told self.new ≤ lines_told self.old + 24) }
+        ensures few { OnOk result (lines_told self.new ≤ lines_told self.old + most_event_lines) }
         ensures adds { OnOk result ((w : Schedule) (h : List log.Line) → IsTold w h self.old
             → Adds w h (forged_both real h event (model_term inner) (model_term term)) self.old self.new) }
     {
@@ -159,8 +160,8 @@ impl Ledger {
         inner: Term,
     ) -> Result<(), NoMemory>
         requires room { HasRoom self.old }
-        requires fits { wire_length inner ≤ 119 }
-        ensures few { OnOk result (lines_told self.new ≤ lines_told self.old + 24) }
+        requires fits { wire_length inner ≤ clear_room }
+        ensures few { OnOk result (lines_told self.new ≤ lines_told self.old + most_event_lines) }
         ensures adds { OnOk result ((w : Schedule) (h : List log.Line) → IsTold w h self.old
             → Adds w h (forged_open real h event to.0 from.0 (model_term inner)) self.old self.new) }
     {

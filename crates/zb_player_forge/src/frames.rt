@@ -5,7 +5,8 @@ ghost use Rattle.zb_model.specs.Play.{forged_control};
 ghost use Rattle.zb_model_real.specs.Real.{real};
 ghost use Rattle.zb_model_real.specs.Terms.{model_label, model_term};
 ghost use Rattle.zb_seal.specs.Wire.{wire_length};
-ghost use Rattle.zb_base.specs.Limits.{longest_frame};
+ghost use Rattle.zb_base.specs.Limits.{longest_frame, longest_content};
+ghost use Rattle.zb_send.specs.Sendings.{sealed_room, clear_room};
 
 use zb_base::{Eui, Frame, Key, Label, Short};
 use zb_cmd::read_leave;
@@ -18,7 +19,7 @@ use zb_send::{CLEAR, COMMAND, SECURED, command_term, joined, nwk_header, nwk_ter
 /// Requires a content of at most 64 bytes.
 #[tactic(auto, using(crate::proofs::Controls::of_leave, crate::proofs::Controls::of_data))]
 pub fn forged_control(content: &[u8]) -> u16
-    requires { length content.now ≤ 64 }
+    requires { length content.now ≤ longest_content }
     ensures { result ≡ forged_control real content.now }
 {
     match read_leave(content) {
@@ -40,7 +41,7 @@ pub fn nwk_frame(
     counter: u32,
     content: &[u8],
 ) -> Term
-    requires { length content.now ≤ 101 }
+    requires { length content.now ≤ sealed_room }
     ensures term { model_term result
         ≡ nwk_term control to.0 from.0 source.0 key.now.0 sequence counter content.now }
     ensures len { wire_length result ≡ length content.now + 26 }
@@ -61,7 +62,7 @@ pub fn nwk_frame(
 ///
 /// Requires a command of at most 64 bytes.
 pub fn aps_command(label: Label, key: &Key, source: Eui, counter: u32, command: &[u8]) -> Term
-    requires { length command.now ≤ 64 }
+    requires { length command.now ≤ longest_content }
     ensures term { model_term result
         ≡ aps_term sealed_command (model_label label) key.now.0 source.0 counter command.now }
     ensures len { wire_length result ≡ length command.now + 19 }
@@ -88,7 +89,7 @@ pub fn sealed(term: &Term) -> Frame
 ///
 /// Requires a payload of at most 119 bytes.
 pub fn clear_frame(to: Short, from: Short, payload: &[u8]) -> Frame
-    requires { length payload.now ≤ 119 }
+    requires { length payload.now ≤ clear_room }
     ensures { result.items ≡ nwk_header plain_frame to.0 from.0 0 ++ payload.now }
 {
     joined(nwk_header(CLEAR, to, from, 0).as_slice(), payload)

@@ -37,13 +37,14 @@ use Rattle.zb_store.specs.Layout.{Standing}
 use Rattle.zb_store.specs.Store.{IsHeld}
 use Rattle.zb_stored_tables.specs.Cores.{CoreValue, IsBooted}
 use Rattle.zb_stored_tables.specs.Stored.{IsStorable}
+use Rattle.zb_base.specs.Sizes.{late_generation}
 
 -- ---- of a node
 
 -- A task that a node in this condition may have: it is of its role. The generations of its disk are far from the last
 -- one.
 pub record CanHave (x : Condition) (number : ℕ) (task : model.Task) : Type 0 where
-  pub early : number < 9223372036854775808
+  pub early : number < late_generation
   pub suits : suits x.setting.me.role task ≡ true
 
 -- An event was handled: nothing falls on it, it gave this answer, the node is in the condition after it, and so many

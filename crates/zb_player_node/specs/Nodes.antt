@@ -8,7 +8,7 @@ use Rattle.zb_host.specs.Calls.{Words}
 use Rattle.zb_host.specs.Hosts.{Gives, IsCurrent}
 use Rattle.zb_model.specs.Data.{Role, Station}
 use Rattle.zb_model.specs.Lines.{Line}
-use Rattle.zb_model.specs.Play.{Schedule, Disk}
+use Rattle.zb_model.specs.Play.{Schedule, Disk, commits_of_record}
 use Rattle.zb_model.specs.Record.{payload, record_of}
 use Rattle.zb_model.specs.State.{NodeState, after_boot, shown}
 use Rattle.law_run_steps.specs.Conditions.{Condition, condition_of}
@@ -27,7 +27,7 @@ pub record IsStored (role : Role) (t : NodeState) (commits number : ℕ) (s : St
   pub reads : state_given role s.content (concat s.payloads) ≡ Ok (after_boot (shown t))
   pub gives_it : Gives (restored role) s (record_of t)
   pub newest : get_or s.content 0 0 ≢ 1
-  pub entries : length s.payloads ≡ commits % 33
+  pub entries : length s.payloads ≡ commits % commits_of_record
   pub generation : s.generation ≤ number + 1
 
 -- what the laws on calls have of a core of this role

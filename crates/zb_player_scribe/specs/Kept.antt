@@ -19,6 +19,10 @@ pub record Kept (h : List log.Line) (k : Scribe) : Type 0 where
   pub accepts : k.accepts ≡ fold accept_count 0 h
   pub refusals : k.refusals ≡ fold refuse_count 0 h
 
+-- The most lines for the changes that an event stores.
+abbrev pub most_stored_lines : ℕ
+most_stored_lines = 17
+
 -- how many lines it counted
 abbrev pub told : Scribe → ℕ
 told k = k.used + (k.seals + (k.accepts + (k.refusals + length k.air)))

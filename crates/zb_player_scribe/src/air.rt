@@ -1,5 +1,5 @@
 //! The frames on the air, looked up by number.
-ghost use Rattle.std.specs.Prelude.{◌≡◌, ◌≤◌, ◌<◌, ◌-◌, ◌∷◌, length, get_or, take, drop, slice_get};
+ghost use Rattle.std.specs.Prelude.{◌^◌, ◌≡◌, ◌≤◌, ◌<◌, ◌-◌, ◌∷◌, length, get_or, take, drop, slice_get};
 ghost use Rattle.zb_player_scribe.specs.Frames.{AreEnds, frames_in};
 ghost use Rattle.zb_player_scribe.specs.Outcomes.{items_of};
 
@@ -46,7 +46,7 @@ impl Air {
     /// Returns how many frames went on the air.
     #[tactic(auto, using(crate::proofs::FramesIn::frame_count))]
     pub fn count(&self) -> u32
-        requires { length self.now < 4294967296 }
+        requires { length self.now < 2 ^ 32 }
         ensures { result ≡ length self.now }
     {
         self.ends.len() as u32

@@ -7,7 +7,7 @@ ghost use Rattle.zb_model_real.specs.Terms.{model_term};
 ghost use Rattle.zb_node_types.specs.Changes.{edit, edits};
 ghost use Rattle.zb_trace_model.specs.Naming.{IsCalled};
 ghost use Rattle.zb_trace_model.specs.Said.{IsOfCentre};
-ghost use Rattle.zb_player_scribe.specs.Kept.{Tells, told};
+ghost use Rattle.zb_player_scribe.specs.Kept.{Tells, told, most_stored_lines};
 ghost use Rattle.zb_player_scribe.specs.Outcomes.{AreOfCentre, items_of, lines_of_edits, out_lines, refused_lines};
 ghost use Rattle.zb_text.specs.Fields.{is_name};
 ghost use Rattle.zb_base.specs.Limits.{most_lines};
@@ -35,12 +35,12 @@ impl Scribe {
         node: Name,
         changes: &Changes,
     ) -> Result<(), NoMemory>
-        requires { told self.old + 17 ≤ most_lines }
+        requires { told self.old + most_stored_lines ≤ most_lines }
         ensures tells { OnOk result ((known : List Station) (n : ℕ) → IsCalled known n node.bytes
             → AreOfCentre known n changes.now.items
             → Tells known (lines_of_edits event n (edits changes.now.items))
             self.old page.old self.new page.new) }
-        ensures told { OnOk result (told self.new ≤ told self.old + 17) }
+        ensures told { OnOk result (told self.new ≤ told self.old + most_stored_lines) }
     {
         self.changed(alloc, page, event, node, changes.as_slice())?;
         if !changes.is_empty() {

@@ -8,6 +8,10 @@ use Rattle.zb_model.specs.Play.{limit_line, link_line, net_line}
 use Rattle.zb_trace_model.specs.Naming.{IsCalled}
 use Rattle.zb_sched.specs.declared.schedule.Node.{Node as CodeNode}
 
+-- How many lines there are at most before the first event: five and some for each of 64 nodes.
+abbrev pub most_start_lines : ℕ
+most_start_lines = 400
+
 -- a declared node as a station of the model
 abbrev pub station_of : CodeNode → Station
 station_of node = (model_node node).station

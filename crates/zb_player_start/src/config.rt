@@ -10,6 +10,7 @@ ghost use Rattle.law_schedules.specs.Schedules.{schedule_of};
 ghost use Rattle.zb_setting.specs.Settings.{setting_for};
 ghost use Rattle.zb_sched.specs.Reading.{is_centre};
 ghost use Rattle.zb_sched.specs.Schedules.{Schedule};
+ghost use Rattle.zb_base.specs.Limits.{most_nodes};
 
 use arrayvec::ArrayVec;
 use zb_base::{Config, Eui, Peer, Role};
@@ -17,7 +18,7 @@ use zb_sched::Node;
 
 // Answers the peers of a schedule. Requires at most 64 nodes.
 fn peers_of(declared: &[Node]) -> ArrayVec<Peer, 64>
-    requires { length declared.now ≤ 64 }
+    requires { length declared.now ≤ most_nodes }
     ensures { result.items ≡ map (λ node. node.peer) declared.now }
 {
     let mut peers = ArrayVec::new();

@@ -132,7 +132,7 @@ pub(crate) fn tell_limits(
     page: &mut Page,
     node: &Node,
 ) -> Result<(), NoMemory>
-    requires { told scribe.old < 4294967294 }
+    requires { told scribe.old + 2 ≤ most_lines }
     ensures tells { OnOk result ((known : List Station) → IsKnown known node.now
         → Tells known (counter_lines node.now) scribe.old page.old scribe.new page.new) }
     ensures told { OnOk result (told scribe.new ≤ told scribe.old + 2) }

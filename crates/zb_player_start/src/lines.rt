@@ -9,7 +9,7 @@ ghost use Rattle.law_schedules.specs.Schedules.{schedule_of};
 ghost use Rattle.zb_trace_model.specs.Said.{text_of};
 ghost use Rattle.zb_sched.specs.Schedules.{Schedule};
 ghost use Rattle.zb_player_scribe.specs.Kept.{Kept, Tells, told};
-ghost use Rattle.zb_player_start.specs.Starts.{AreKnown, code_lines, counter_lines, declared_lines, network_lines};
+ghost use Rattle.zb_player_start.specs.Starts.{AreKnown, code_lines, counter_lines, declared_lines, network_lines, most_start_lines};
 ghost use Rattle.zb_base.specs.Limits.{most_lines};
 
 use crate::config::centre_of;
@@ -30,12 +30,12 @@ pub fn tell_start(
     declared: &[Node],
 ) -> Result<(), NoMemory>
     requires schedule { AreOfSchedule declared.now }
-    requires room { told scribe.old + 400 ≤ most_lines }
+    requires room { told scribe.old + most_start_lines ≤ most_lines }
     ensures page { OnOk result ((p : Schedule) → AreNodesOf p declared.now
         → page.new ≡ append_known page.old (text_of (stations (schedule_of p)) (start (schedule_of p)))) }
     ensures kept { OnOk result ((p : Schedule) → AreNodesOf p declared.now → Kept [] scribe.old
         → Kept (start (schedule_of p)) scribe.new) }
-    ensures told { OnOk result (told scribe.new ≤ told scribe.old + 400) }
+    ensures told { OnOk result (told scribe.new ≤ told scribe.old + most_start_lines) }
 {
     let centre = centre_of(declared);
     tell_nodes(alloc, scribe, page, declared)?;

@@ -3,7 +3,7 @@ use Rattle.std.specs.Prelude.{ℕ, List, map, Option, Some, None}
 use Rattle.zb_base.specs.declared.key.Key.{Key}
 use Rattle.zb_node_types.specs.Changes.{model_role, model_state, is_sending}
 use Rattle.zb_model.specs.Data.{Bytes}
-use Rattle.zb_model.specs.Record.{place_from}
+use Rattle.zb_model.specs.Record.{place_from, no_place}
 use Rattle.zb_model.specs.State.{NodeState}
 use Rattle.zb_record.specs.RowViews.{net_key, link_key, pair_key}
 use Rattle.zb_record.specs.declared.write.Heading.{Heading}
@@ -17,7 +17,7 @@ active_bytes (Some key) = Some key.0
 
 -- the place of the active network key among the rows, 65,535 for none
 abbrev pub place_in : Option Key → List NetRow → ℕ
-place_in None rows = 65535
+place_in None rows = no_place
 place_in (Some key) rows = place_from 0 key.0 (map net_key rows)
 
 -- the same with another active key

@@ -18,7 +18,7 @@ link_number partner unverified told = spread ((partner * 4 % 2 ^ 64
 
 -- in which of so many bytes a number is marked, by its high half
 unfoldable pub place_of : ℕ → ℕ → ℕ
-place_of size number = number / 4294967296 * size % 2 ^ 64 / 4294967296
+place_of size number = number / 2 ^ 32 * size % 2 ^ 64 / 2 ^ 32
 
 -- as what, by its low bits; 0 is no mark, and 1 is that of all numbers
 unfoldable pub mark_of : ℕ → ℕ

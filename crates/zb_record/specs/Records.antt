@@ -21,6 +21,7 @@ use Rattle.zb_record.specs.Fields.{version_at, role_at, state_at, rollover_at}
 use Rattle.zb_record.specs.Redoing.{place_of}
 use Rattle.zb_record.specs.Placed.{Placed, ◌>>=◌, give, field, whole, rows_at}
 use Rattle.zb_record.specs.Rows.{net_seen, link_seen, pair_seen, net_at, all_floors_at, links_at, pairs_at}
+use Rattle.zb_model.specs.Record.{no_place}
 
 -- the centre stays in the first state, and it alone sends a new network key
 abbrev pub may_enter : Role → State → Bool
@@ -41,7 +42,7 @@ abbrev pub has_net_room : ℕ → Bool
 has_net_room n = nat_le n most_nets
 
 abbrev pub is_place : ℕ → ℕ → Bool
-is_place nets place = place == 65535 || nat_lt place nets
+is_place nets place = place == no_place || nat_lt place nets
 
 unfoldable pub head_at : Node → Placed Head
 head_at node = do

@@ -13,6 +13,7 @@ use Rattle.zb_model.specs.Fits.{fits}
 use Rattle.zb_record.specs.declared.version.Version.{Version}
 use Rattle.zb_record.specs.declared.version.Version.TheVariants.{First, Second, Third}
 use Rattle.zb_record.specs.Changes.{change_at}
+use Rattle.zb_base.specs.Limits.{greatest_count}
 
 -- After a record of version 1 there is one NWK limit for all network rows: the declared start is that limit, too, and
 -- each row counts as started with it.
@@ -106,7 +107,7 @@ HasOneLimit s = AllByRecursion (GoesOn s.declared) s.nets
 
 -- the place of a fault: how many bytes stand before it, or 2^32 - 1 where there are more
 abbrev pub place_of : ℕ → ℕ → ℕ
-place_of total left = min (total - left) 4294967295
+place_of total left = min (total - left) greatest_count
 
 -- what a call answers that makes the entries again, of so many bytes
 abbrev pub redo_answer : ℕ → Result (List ℕ) ℕ → Result (Unit {0}) KeyError

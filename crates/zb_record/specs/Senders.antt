@@ -3,9 +3,10 @@ use Rattle.std.specs.Prelude.{◌≡◌, ℕ, ◌+◌, ◌≤◌, List, ◌∷�
 use Rattle.zb_model.specs.State.{NetKey, floor_stored, net_floor}
 use Rattle.zb_record.specs.declared.net_row.SenderFloor.{SenderFloor}
 use Rattle.zb_record.specs.RowViews.{heard_floor}
+use Rattle.zb_model.specs.Fits.{most_senders}
 
 abbrev pub HasRoom : NetKey → Type 0
-HasRoom r = length r.floors ≤ 64
+HasRoom r = length r.floors ≤ most_senders
 
 -- a floor is stored where the row is in use
 abbrev pub live_floor : ℕ → ℕ → NetKey → NetKey

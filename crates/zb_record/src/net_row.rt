@@ -6,6 +6,7 @@ ghost use Rattle.zb_record.specs.RowViews.{net_key, heard_floor};
 ghost use Rattle.zb_model.specs.State.{booted_floor, booted_net, at_net, new_net, given_net, same_key, reserved, started_at, dropped_net, shown_net, next_at, net_kept, floor_stored, floor_kept};
 ghost use Rattle.zb_record.specs.Redoing.{limited};
 ghost use Rattle.zb_record.specs.Senders.{IsPlace, IsAbsent, HasRoom, live_floor};
+ghost use Rattle.zb_model.specs.Fits.{most_senders};
 
 use arrayvec::ArrayVec;
 use zb_base::{Eui, Key};
@@ -175,7 +176,7 @@ fn place(floors: &[SenderFloor], sender: Eui) -> usize
 
 /// Stores a sender's floor. A stored floor never falls.
 fn store(floors: &mut Senders, sender: Eui, value: u32)
-    requires { length (floor_stored sender.0 value (map heard_floor floors.old.items)) ≤ 64 }
+    requires { length (floor_stored sender.0 value (map heard_floor floors.old.items)) ≤ most_senders }
     ensures { map heard_floor floors.new.items ≡ floor_stored sender.0 value (map heard_floor floors.old.items) }
 {
     let at = place(floors.as_slice(), sender);

@@ -2,7 +2,7 @@
 ghost use Rattle.std.specs.Prelude.{◌≡◌, ◌≤◌, [], IfOk, map, true};
 ghost use Rattle.std.specs.Int.{w32};
 ghost use Rattle.zb_cursor.specs.Reading.{byte_at, eui_at, number_at};
-ghost use Rattle.zb_model.specs.Fits.{senders_ascend};
+ghost use Rattle.zb_model.specs.Fits.{senders_ascend, most_senders};
 ghost use Rattle.zb_record.specs.Placed.{Gives, field, rows_at};
 ghost use Rattle.zb_record.specs.Rows.{sender_seen, net_seen, is_last, isnt_zero, has_few, sender_at, floors_at, live_floors_at, all_floors_at};
 
@@ -72,7 +72,7 @@ fn read_sender(reader: &mut Reader<usize>, floors: &[SenderRecord]) -> Result<Se
 
 /// So many floors of senders, of which there are 64 at most.
 fn read_senders(reader: &mut Reader<usize>, count: u8) -> Result<ArrayVec<SenderRecord, 64>, usize>
-    requires { count ≤ 64 }
+    requires { count ≤ most_senders }
     ensures { Gives (λ v. map sender_seen v.items) result reader.new.rest.now
         (rows_at sender_at count [] reader.old.rest.now) }
 {
@@ -87,7 +87,7 @@ fn read_senders(reader: &mut Reader<usize>, count: u8) -> Result<ArrayVec<Sender
 /// Returns how many floors there are: 64 at most.
 fn read_count(reader: &mut Reader<usize>) -> Result<u8, usize>
     ensures exact { Gives (λ n. n) result reader.new.rest.now (field byte_at has_few reader.old.rest.now) }
-    ensures few { IfOk result (λ n. n ≤ 64) }
+    ensures few { IfOk result (λ n. n ≤ most_senders) }
 {
     let left = begin(reader);
     let count = reader.byte()?;

@@ -5,9 +5,10 @@ ghost use Rattle.zb_node_types.specs.Changes.{model_role, model_state, is_sendin
 ghost use Rattle.zb_record.specs.Headings.{place_in, state_written};
 ghost use Rattle.zb_record.specs.RowViews.{net_key, link_key, pair_key, heard_floor};
 ghost use Rattle.zb_base.specs.Sizes.{record_room};
-ghost use Rattle.zb_record.specs.Sizes.{greatest_record};
+ghost use Rattle.zb_record.specs.Sizes.{greatest_record, floors_room, nets_room, links_room, pairs_room};
 ghost use Rattle.zb_record.specs.Written.{Writes};
-ghost use Rattle.zb_model.specs.Record.{record_of, place_from, role_byte, state_byte, two_bytes, four_bytes, eight_bytes, net_bytes, sender_bytes, floors_bytes, link_bytes, pair_bytes, worth};
+ghost use Rattle.zb_model.specs.Record.{record_of, place_from, role_byte, state_byte, two_bytes, four_bytes, eight_bytes, net_bytes, sender_bytes, floors_bytes, link_bytes, pair_bytes, worth, no_place};
+ghost use Rattle.zb_model.specs.Fits.{most_nets, most_centre_links, most_pairs};
 
 use crate::link_row::LinkRow;
 use crate::net_row::{NetRow, SenderFloor, Senders};
@@ -93,10 +94,10 @@ fn put_senders(into: &mut [u8], at: usize, floors: &[SenderFloor]) -> usize
 
 /// Returns the floors under a network key: their number 1, and each of them.
 fn put_floors(into: &mut [u8], at: usize, floors: &Senders) -> usize
-    requires { at + 769 ≤ length into.old }
+    requires { at + floors_room ≤ length into.old }
     ensures writes { Writes into.old into.new at result (length floors.now.items
         ∷ flat_map sender_bytes (map heard_floor floors.now.items)) }
-    ensures short { result ≤ at + 769 }
+    ensures short { result ≤ at + floors_room }
 {
     let at = put(into, at, &[floors.len() as u8]);
     put_senders(into, at, floors.as_slice())
@@ -104,10 +105,10 @@ fn put_floors(into: &mut [u8], at: usize, floors: &Senders) -> usize
 
 /// Returns the floors of a network key, if it is in use.
 fn put_live_floors(into: &mut [u8], at: usize, row: &NetRow) -> usize
-    requires { at + 769 ≤ length into.old }
+    requires { at + floors_room ≤ length into.old }
     ensures writes { Writes into.old into.new at result (if (net_key row.now).live
         then floors_bytes (net_key row.now) else []) }
-    ensures short { result ≤ at + (if (net_key row.now).live then 769 else 0) }
+    ensures short { result ≤ at + (if (net_key row.now).live then floors_room else 0) }
 {
     if row.live {
         put_floors(into, at, &row.floors)
@@ -119,10 +120,10 @@ fn put_live_floors(into: &mut [u8], at: usize, row: &NetRow) -> usize
 /// Returns the floors of the network keys in use, of which there are two at most.
 fn put_all_floors(into: &mut [u8], at: usize, rows: &[NetRow]) -> usize
     requires few { length (filter (λ r. (net_key r).live) rows.now) ≤ 2 }
-    requires room { at + 2307 ≤ length into.old }
+    requires room { at + 3 * floors_room ≤ length into.old }
     ensures writes { Writes into.old into.new at result (flat_map (λ r. if (net_key r).live
         then floors_bytes (net_key r) else []) rows.now) }
-    ensures short { result ≤ at + 1538 }
+    ensures short { result ≤ at + 2 * floors_room }
 {
     let mut end = at;
     for row in rows {
@@ -211,7 +212,7 @@ fn put_pairs(into: &mut [u8], at: usize, pairs: &[Pair]) -> usize
 
 /// Returns the place of the active network key among the rows; 65,535 where there is none.
 fn key_number(rows: &[NetRow], key: &Key) -> u16
-    requires { length rows.now ≤ 65535 }
+    requires { length rows.now ≤ no_place }
     ensures { result ≡ place_from 0 key.now.0 (map net_key rows.now) }
 {
     for (i, row) in rows.iter().enumerate() {
@@ -225,7 +226,7 @@ fn key_number(rows: &[NetRow], key: &Key) -> u16
 impl Heading {
     /// Returns the place of the active network key; 65,535 where none is active.
     fn active_number(&self, nets: &[NetRow]) -> u16
-        requires { length nets.now ≤ 65535 }
+        requires { length nets.now ≤ no_place }
         ensures { result ≡ place_in self.now.active nets.now }
     {
         match &self.active {
@@ -258,7 +259,7 @@ impl Heading {
 
     /// Writes the number of network keys 2, and the place of the active one 2.
     fn put_net_numbers(&self, into: &mut [u8], at: usize, nets: &[NetRow]) -> usize
-        requires few { length nets.now ≤ 256 }
+        requires few { length nets.now ≤ most_nets }
         requires room { at + 4 ≤ length into.old }
         ensures writes { Writes into.old into.new at result (two_bytes (length nets.now)
             ++ two_bytes (place_in self.now.active nets.now)) }
@@ -270,14 +271,14 @@ impl Heading {
 
     /// Writes the part of the record that speaks of network keys.
     fn put_net_part(&self, into: &mut [u8], at: usize, nets: &[NetRow]) -> usize
-        requires few { length nets.now ≤ 256 }
+        requires few { length nets.now ≤ most_nets }
         requires live { length (filter (λ r. (net_key r).live) nets.now) ≤ 2 }
-        requires room { at + 7943 ≤ length into.old }
+        requires room { at + nets_room + floors_room ≤ length into.old }
         ensures writes { Writes into.old into.new at result ((two_bytes (length nets.now)
             ++ two_bytes (place_in self.now.active nets.now))
             ++ (flat_map net_bytes (map net_key nets.now)
             ++ flat_map (λ r. if (net_key r).live then floors_bytes (net_key r) else []) nets.now)) }
-        ensures short { result ≤ at + 7174 }
+        ensures short { result ≤ at + nets_room }
     {
         let at = self.put_net_numbers(into, at, nets);
         let at = put_nets(into, at, nets);
@@ -287,11 +288,11 @@ impl Heading {
 
 /// Writes the part of the record that speaks of link keys.
 fn put_link_part(into: &mut [u8], at: usize, links: &[LinkRow]) -> usize
-    requires few { length links.now ≤ 1024 }
-    requires room { at + 30722 ≤ length into.old }
+    requires few { length links.now ≤ most_centre_links }
+    requires room { at + links_room ≤ length into.old }
     ensures writes { Writes into.old into.new at result (two_bytes (length links.now)
         ++ flat_map link_bytes (map link_key links.now)) }
-    ensures short { result ≤ at + 30722 }
+    ensures short { result ≤ at + links_room }
 {
     let at = put_number(into, at, links.len() as u16);
     put_links(into, at, links)
@@ -299,11 +300,11 @@ fn put_link_part(into: &mut [u8], at: usize, links: &[LinkRow]) -> usize
 
 /// Writes the part of the record that speaks of pairs.
 fn put_pair_part(into: &mut [u8], at: usize, pairs: &[Pair]) -> usize
-    requires few { length pairs.now ≤ 256 }
-    requires room { at + 8450 ≤ length into.old }
+    requires few { length pairs.now ≤ most_pairs }
+    requires room { at + pairs_room ≤ length into.old }
     ensures writes { Writes into.old into.new at result (two_bytes (length pairs.now)
         ++ flat_map pair_bytes (map pair_key pairs.now)) }
-    ensures short { result ≤ at + 8450 }
+    ensures short { result ≤ at + pairs_room }
 {
     let at = put_number(into, at, pairs.len() as u16);
     put_pairs(into, at, pairs)
@@ -329,10 +330,10 @@ pub fn write_record(
     pairs: &[Pair],
     into: &mut [u8],
 ) -> u32
-    requires few_nets { length nets.now ≤ 256 }
+    requires few_nets { length nets.now ≤ most_nets }
     requires few_live { length (filter (λ r. (net_key r).live) nets.now) ≤ 2 }
-    requires few_links { length links.now ≤ 1024 }
-    requires few_pairs { length pairs.now ≤ 256 }
+    requires few_links { length links.now ≤ most_centre_links }
+    requires few_pairs { length pairs.now ≤ most_pairs }
     requires room { record_room ≤ length into.old }
     ensures bytes { (aps_next : ℕ)
         → take result into.new ≡ record_of (state_written aps_next heading.now nets.now links.now pairs.now) }

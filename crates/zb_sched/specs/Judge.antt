@@ -12,7 +12,7 @@ use Rattle.zb_sched_line.specs.Said.{Bytes, Event, Says, Delivers, Ticks, Knocks
 use Rattle.zb_sched.specs.Schedules.{Node}
 use Rattle.zb_sched.specs.declared.error.SchedCause.{SchedCause}
 use Rattle.zb_sched.specs.declared.error.SchedCause.TheVariants.{Syntax, DuplicateNode, DuplicateCode, DrawRepeated, UnknownNode, BadCode, Block, TooMany}
-use Rattle.zb_base.specs.Limits.{most_out_block, most_in_block, most_events}
+use Rattle.zb_base.specs.Limits.{most_out_block, most_in_block, most_events, most_nodes}
 
 -- A node so far, and whether its counters were declared (a declared 0 is as good as none, but stands once).
 pub record Seat : Type 0 where
@@ -134,7 +134,7 @@ after_node seen name role eui short out_block in_block =
     if has_begun seen then Err Syntax
     else if list_any (λ seat. is_taken name eui short seat) seen.seats then Err DuplicateNode
     else if not (are_blocks out_block in_block) then Err Block
-    else if nat_le 64 (length seen.seats) then Err TooMany
+    else if nat_le most_nodes (length seen.seats) then Err TooMany
     else Ok (record seen { seats = seen.seats ++ new_seat name role eui short out_block in_block ∷ [] })
 
 abbrev pub has_code : Bytes → List Seat → Bool

@@ -8,7 +8,7 @@ use Rattle.zb_sched_line.specs.Said.{Bytes, Event, Introduces}
 use Rattle.zb_sched.specs.Judge.{Seat, Seen, are_blocks, has_its_nodes, link_of, network_of, provision_clashes, well_known}
 use Rattle.zb_sched.specs.Schedules.{Node, Schedule}
 use Rattle.zb_sched.specs.Reading.{is_centre}
-use Rattle.zb_base.specs.Limits.{most_events}
+use Rattle.zb_base.specs.Limits.{most_events, most_nodes}
 
 -- Each two items of a list, in their order.
 abbrev pub Pairwise : {X : Type 0} → (X → X → Type 0) → List X → Type 0
@@ -65,7 +65,7 @@ FitsSchedule p event = FitsEvent event × (has_its_nodes event (map seated p.nod
 
 -- A schedule but for its centre.
 pub record IsSoFar (p : Schedule) : Type 0 where
-  pub few_nodes : length p.nodes ≤ 64
+  pub few_nodes : length p.nodes ≤ most_nodes
   pub nodes : AllByRecursion FitsNode p.nodes
   pub apart : Pairwise Apart p.nodes
   pub keys : AllByRecursion (λ m. AllByRecursion (λ n. KeysApart m n) p.nodes) p.nodes

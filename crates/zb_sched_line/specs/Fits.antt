@@ -6,6 +6,7 @@ use Rattle.zb_sched_line.specs.Codes.{is_code}
 use Rattle.zb_sched_line.specs.Grammar.{greatest, is_aps_label, is_real_eui, is_short_of, Sealed}
 use Rattle.zb_sched_line.specs.Said.{Bytes, Event, Says, Delivers, Ticks, Knocks, Rejoins, Adopts, Provisions, Repeats, Rolls, Switches, Removes, Resets, Boots, Dumps, Stops, Fails, Injects, ForgesNet, ForgesBoth, ForgesOpen, Asks, Shares, Tells, Sentence, Quiet, Introduces, Codes, Holds, Starts, Draws, Misprovisions, Happens}
 use Rattle.zb_base.specs.declared.label.Label.{Label}
+use Rattle.zb_base.specs.Limits.{longest_frame, longest_content, longest_torn}
 
 abbrev pub IsName : Bytes → Type 0
 IsName name = is_name name ≡ true
@@ -29,10 +30,11 @@ abbrev pub IsApsLabel : Label → Type 0
 IsApsLabel label = is_aps_label label ≡ true
 
 abbrev pub FitsSealed : Sealed → Type 0
-FitsSealed part = IsApsLabel part.label × IsKey part.base × (part.counter ≤ greatest) × SomeUpTo 64 part.command
+FitsSealed part =
+    IsApsLabel part.label × IsKey part.base × (part.counter ≤ greatest) × SomeUpTo longest_content part.command
 
 abbrev pub FitsEvent : Event → Type 0
-FitsEvent (Says name to bytes) = IsName name × (to < 2 ^ 16) × AtMost 64 bytes
+FitsEvent (Says name to bytes) = IsName name × (to < 2 ^ 16) × AtMost longest_content bytes
 FitsEvent (Delivers frame name) = (1 ≤ frame) × (frame ≤ greatest) × IsName name
 FitsEvent (Ticks name) = IsName name
 FitsEvent (Knocks name) = IsName name
@@ -46,12 +48,12 @@ FitsEvent (Removes name parent) = IsName name × IsName parent
 FitsEvent (Resets name) = IsName name
 FitsEvent (Boots name) = IsName name
 FitsEvent (Dumps name) = IsName name
-FitsEvent (Stops name calls torn) = IsName name × (calls ≤ 5) × AtMost 32 torn
+FitsEvent (Stops name calls torn) = IsName name × (calls ≤ 5) × AtMost longest_torn torn
 FitsEvent (Fails name call) = IsName name × (1 ≤ call) × (call ≤ 6)
-FitsEvent (Injects bytes) = SomeUpTo 127 bytes
+FitsEvent (Injects bytes) = SomeUpTo longest_frame bytes
 FitsEvent (ForgesNet to from source key sequence counter content) =
     (to < 2 ^ 16) × (from < 2 ^ 16) × IsEui source × IsKey key × (sequence ≤ 255) × (counter ≤ greatest)
-    × SomeUpTo 64 content
+    × SomeUpTo longest_content content
 FitsEvent (ForgesBoth to from source key sequence counter label base aps_counter command) =
     (to < 2 ^ 16) × (from < 2 ^ 16) × IsEui source × IsKey key × (sequence ≤ 255) × (counter ≤ greatest)
     × FitsSealed (record { label = label; base = base; counter = aps_counter; command = command })
@@ -60,7 +62,7 @@ FitsEvent (ForgesOpen to from source label base aps_counter command) =
     × FitsSealed (record { label = label; base = base; counter = aps_counter; command = command })
 FitsEvent (Asks name partner) = IsName name × IsName partner
 FitsEvent (Shares name partner) = IsName name × IsName partner
-FitsEvent (Tells name partner bytes) = IsName name × IsName partner × AtMost 64 bytes
+FitsEvent (Tells name partner bytes) = IsName name × IsName partner × AtMost longest_content bytes
 
 abbrev pub FitsCode : Option Bytes → Type 0
 FitsCode None = ⊤

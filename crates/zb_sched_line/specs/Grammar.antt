@@ -12,6 +12,7 @@ use Rattle.zb_text.specs.Numbers.{number_of}
 use Rattle.zb_text.specs.Words.{words, first_of, field, nothing}
 use Rattle.zb_sched_line.specs.Codes.{is_code}
 use Rattle.zb_sched_line.specs.Said.{Bytes, Event, Says, Delivers, Ticks, Knocks, Rejoins, Adopts, Provisions, Repeats, Rolls, Switches, Removes, Resets, Boots, Dumps, Stops, Fails, Injects, ForgesNet, ForgesBoth, ForgesOpen, Asks, Shares, Tells, Sentence, Quiet, Introduces, Codes, Holds, Starts, Draws, Misprovisions, Happens}
+use Rattle.zb_base.specs.Limits.{longest_frame, broadcast_eui, longest_content, last_short, longest_torn}
 
 -- The next step of a grammar, where the one before it found what it wants.
 infixl 10 ◌>>=◌
@@ -36,7 +37,7 @@ number_from low high word = kept (λ number. nat_le low number) (number_of high 
 
 -- An IEEE address that a node can have: not all 0, nor all F.
 abbrev pub is_real_eui : ℕ → Bool
-is_real_eui eui = not (eui == 0) && not (eui == 18446744073709551615)
+is_real_eui eui = not (eui == 0) && not (eui == broadcast_eui)
 
 abbrev pub real_eui_of : List ℕ → Option ℕ
 real_eui_of word = kept is_real_eui (eui_of word)
@@ -52,8 +53,8 @@ literal expected word = if bytes_eq word expected then Some tt else None
 -- The short address of the centre is 0, and that of others 0001 to FFF7 (05-3474-21, 3.6.1).
 abbrev pub is_short_of : Role → ℕ → Bool
 is_short_of Centre short = short == 0
-is_short_of Router short = nat_le 1 short && nat_le short 65527
-is_short_of Device short = nat_le 1 short && nat_le short 65527
+is_short_of Router short = nat_le 1 short && nat_le short last_short
+is_short_of Device short = nat_le 1 short && nat_le short last_short
 
 -- The key identifiers of an APS command: not that of the network layer.
 abbrev pub is_aps_label : Label → Bool
@@ -137,7 +138,7 @@ abbrev pub say_of : List (List ℕ) → Option Event
 say_of ws = do
   name ← field name_of ws
   to ← field short_of name.1
-  bytes ← field (bytes_of 64) to.1
+  bytes ← field (bytes_of longest_content) to.1
   end ← nothing bytes.1
   Some (Says name.0 to.0 bytes.0)
 
@@ -168,7 +169,7 @@ abbrev pub stop_of : List (List ℕ) → Option Event
 stop_of ws = do
   name ← field name_of ws
   calls ← field (number_of 5) name.1
-  torn ← field (bytes_of 32) calls.1
+  torn ← field (bytes_of longest_torn) calls.1
   end ← nothing torn.1
   Some (Stops name.0 calls.0 torn.0)
 
@@ -181,7 +182,7 @@ fail_of ws = do
 
 abbrev pub inject_of : List (List ℕ) → Option Event
 inject_of ws = do
-  bytes ← field (some_bytes_of 127) ws
+  bytes ← field (some_bytes_of longest_frame) ws
   end ← nothing bytes.1
   Some (Injects bytes.0)
 
@@ -189,7 +190,7 @@ abbrev pub tell_of : List (List ℕ) → Option Event
 tell_of ws = do
   name ← field name_of ws
   partner ← field name_of name.1
-  bytes ← field (bytes_of 64) partner.1
+  bytes ← field (bytes_of longest_content) partner.1
   end ← nothing bytes.1
   Some (Tells name.0 partner.0 bytes.0)
 
@@ -219,14 +220,14 @@ sealed_of ws = do
   label ← field aps_label_of ws
   base ← field key_of label.1
   counter ← field (number_of greatest) base.1
-  command ← field (some_bytes_of 64) counter.1
+  command ← field (some_bytes_of longest_content) counter.1
   end ← nothing command.1
   Some (record { label = label.0; base = base.0; counter = counter.0; command = command.0 })
 
 -- The content of a forged frame as its last word.
 abbrev pub last_content : List ℕ → List (List ℕ) → Option Bytes
 last_content word ws = do
-  content ← some_bytes_of 64 word
+  content ← some_bytes_of longest_content word
   end ← nothing ws
   Some content
 

@@ -5,6 +5,7 @@ ghost use Rattle.zb_text.specs.Words.{left, Shows};
 ghost use Rattle.zb_sched_line.specs.Fits.{FitsEvent, FitsSealed, IsEui, SomeUpTo};
 ghost use Rattle.zb_sched_line.specs.Grammar.{forge_content, forge_net_of, forge_of, forge_open_of, last_content, sealed_of};
 ghost use Rattle.zb_sched_line.specs.Views.{event_of, sealed};
+ghost use Rattle.zb_base.specs.Limits.{longest_content};
 
 use crate::event::Event;
 use crate::fields::{aps_label, byte, keyword, real_eui, some_bytes};
@@ -138,7 +139,7 @@ fn forge_net(route: Route, mut words: Words) -> Option<Event>
 
 fn only_content(word: &[u8], words: Words) -> Option<ArrayVec<u8, 64>>
     ensures value { Shows (λ bytes. bytes.items) result (last_content word.now (left words.entry)) }
-    ensures fits { IfSome result (λ bytes. SomeUpTo 64 bytes.items) }
+    ensures fits { IfSome result (λ bytes. SomeUpTo longest_content bytes.items) }
 {
     let content = hexadecimal::bytes::<64>(word)?;
     if content.is_empty() {

@@ -16,7 +16,7 @@ use Rattle.zb_script.specs.declared.error.ScriptCause.{ScriptCause}
 use Rattle.zb_script.specs.declared.error.ScriptCause.TheVariants.{Syntax, DuplicateNode, Block, UnknownNode, BadCode, Backup as NoBackup, TooMany}
 use Rattle.zb_script.specs.declared.script.Order.{Order}
 use Rattle.zb_script.specs.declared.script.Order.TheVariants.{Init, Provision, Remove, List as ListAll, Backup, Restore}
-use Rattle.zb_base.specs.Limits.{most_steps}
+use Rattle.zb_base.specs.Limits.{most_steps, most_nodes}
 
 -- ---- nodes: first the centre, then its peers, before all commands
 
@@ -48,7 +48,7 @@ abbrev pub after_peer : Script → Bytes → Role → ℕ → ℕ → Result Scr
 after_peer s name role eui short =
     if not (has_centre s) || has_begun s then Err Syntax
     else if list_any (λ station. is_taken name eui short station) s.stations then Err DuplicateNode
-    else if nat_le 64 (length s.stations) then Err TooMany
+    else if nat_le most_nodes (length s.stations) then Err TooMany
     else Ok (record s { stations = s.stations ++ record { name = name; role = role; eui = eui; short = short } ∷ [] })
 
 -- ---- commands

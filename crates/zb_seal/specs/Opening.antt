@@ -28,6 +28,7 @@ use Rattle.zb_seal.specs.declared.envelope.OpenError.TheVariants.{Frame, NotSecu
 use Rattle.zb_seal.specs.declared.term.Term.{Term}
 use Rattle.zb_seal.specs.Wire.{real_level, zero_level, at_place, nonce, wire}
 use Rattle.zb_seal.specs.Keys.{sealing_key}
+use Rattle.zb_base.specs.Limits.{longest_frame}
 
 -- the label of a key identifier (05-3474-21, 4.5.1.1.2)
 abbrev pub label_of : ℕ → Label
@@ -170,7 +171,7 @@ pub record OpensNwk (bytes : List ℕ) (base : Key) (t : Term) : Type 0 where
   pub aux : NwkAux
   pub is_term : IsNwkTerm t header aux
   pub base_is : t.base ≡ base
-  pub fits : length bytes ≤ 127
+  pub fits : length bytes ≤ longest_frame
   pub same : at_place zero_level (length t.header.items - 14) bytes ≡ wire t
 
 -- The same at APS, where the header may leave the source out.
@@ -193,5 +194,5 @@ pub record OpensAps (bytes : List ℕ) (base : Key) (given : Option Eui) (t : Te
   pub is_term : IsApsTerm t header aux
   pub source : source_of aux.source given ≡ Some t.source
   pub base_is : t.base ≡ base
-  pub fits : length bytes ≤ 127
+  pub fits : length bytes ≤ longest_frame
   pub same : at_place zero_level (length t.header.items - aps_size aux.source) bytes ≡ wire t

@@ -7,6 +7,7 @@ use Rattle.zb_model_real.specs.Terms.{model_label}
 use Rattle.zb_send.specs.declared.sending.Body.{Body}
 use Rattle.zb_send.specs.declared.sending.Body.TheVariants.{Saying, Clear, Secret, Tunnelled, Telling, Leaving, Relayed}
 use Rattle.zb_send.specs.declared.sending.Sending.{Sending}
+use Rattle.zb_base.specs.Limits.{longest_tunnelled}
 
 abbrev pub body_of : Body → model.Body
 body_of (Saying bytes) = model.Saying bytes.items
@@ -21,18 +22,28 @@ abbrev pub sending_of : Sending → model.Sending
 sending_of s = record { to = s.to.0; secured = s.secured; body = body_of s.body }
 
 -- The bytes for which a NWK frame has room, of its 127: its header has 8, and where it is sealed there are an
--- auxiliary header of 14 and a code of 4.
-abbrev pub room : Bool → ℕ
-room false = 119
-room true = 101
+-- auxiliary header of 14 and a MIC of 4.
+abbrev pub clear_room : ℕ
+clear_room = 119
 
--- The longest frame that a Tunnel brings: of the 127 bytes of the command 9 are its own.
-abbrev pub relayed_room : ℕ
-relayed_room = 118
+abbrev pub sealed_room : ℕ
+sealed_room = 101
+
+-- The longest command but a Tunnel, in bytes: a Transport-Key.
+abbrev pub longest_plain : ℕ
+longest_plain = 35
+
+-- The longest frame in a Tunnel that is made here: such a command with an APS header, an auxiliary header and a MIC.
+abbrev pub longest_inner : ℕ
+longest_inner = 54
+
+abbrev pub room : Bool → ℕ
+room false = clear_room
+room true = sealed_room
 
 -- What is relayed isn't sealed at NWK, since it goes to a device without the network key.
 abbrev pub IsRelayable : Bool → List ℕ → Type 0
-IsRelayable false bytes = length bytes ≤ relayed_room
+IsRelayable false bytes = length bytes ≤ longest_tunnelled
 IsRelayable true bytes = ⊥
 
 -- The frame of the body fits: no command that it has is a Tunnel, which the body itself represents, and so does what

@@ -9,7 +9,7 @@ ghost use Rattle.zb_model_real.specs.Readers.{model_command};
 ghost use Rattle.zb_model_real.specs.Real.{real};
 ghost use Rattle.zb_model_real.specs.Terms.{model_label, model_term};
 ghost use Rattle.zb_seal.specs.Wire.{wire_length};
-ghost use Rattle.zb_send.specs.Sendings.{IsSendable, body_of, room};
+ghost use Rattle.zb_send.specs.Sendings.{IsSendable, body_of, room, sealed_room, longest_plain, longest_inner};
 ghost use Rattle.zb_send.specs.Parts.{part_seen};
 ghost use Rattle.zb_base.specs.Limits.{longest_frame};
 
@@ -26,7 +26,7 @@ use zb_seal::{KeyMemo, Term};
 fn spelled(command: &Command) -> Frame
     requires { is_tunnel command.now ≡ false }
     ensures text { result.items ≡ real.spelled (model_command command.now) }
-    ensures short { length result.items ≤ 35 }
+    ensures short { length result.items ≤ longest_plain }
 {
     match write_command(command) {
         Ok(bytes) => bytes,
@@ -63,9 +63,9 @@ pub(crate) fn put_sealed(memo: &KeyMemo, term: &Term, frame: &mut Option<Frame>)
 #[tactic(auto, using(zb_model_real::proofs::SameTerms::same_spelling))]
 fn tunnel(device: Eui, inner: Frame) -> Frame
     requires shaped { is_inner inner.items ≡ true }
-    requires small { length inner.items ≤ 54 }
+    requires small { length inner.items ≤ longest_inner }
     ensures text { result.items ≡ real.spelled (Tunnel device.0 inner.items) }
-    ensures len { length result.items ≤ 63 }
+    ensures len { length result.items ≤ longest_inner + 9 }
 {
     let command = Command::Tunnel {
         destination: device,
@@ -82,7 +82,7 @@ fn tunnel(device: Eui, inner: Frame) -> Frame
 fn saying(to: Short, nwk: u32, bytes: &Payload, seal: &mut Option<Term>, out: &mut Frame) -> u16
     ensures part { (me aps : ℕ) → part_seen result seal.new out.new
         ≡ part_of real me to.0 nwk aps (model.Saying bytes.now.items) }
-    ensures room { length out.new.items ≤ 101 }
+    ensures room { length out.new.items ≤ sealed_room }
 {
     forget(seal);
     let header = [data_control(to), 1, 0, 0, 4, 1, 1, low_byte(nwk)];
@@ -96,7 +96,7 @@ fn clear(control: u8, nwk: u32, command: &Command, seal: &mut Option<Term>, out:
     requires { is_tunnel command.now ≡ false }
     ensures part { (me to aps : ℕ) → part_seen result seal.new out.new
         ≡ part_of real me to nwk aps (model.Clear control (model_command command.now)) }
-    ensures room { length out.new.items ≤ 101 }
+    ensures room { length out.new.items ≤ sealed_room }
 {
     forget(seal);
     let header = [control, low_byte(nwk)];
@@ -120,7 +120,7 @@ fn secret(
     requires { is_tunnel command.now ≡ false }
     ensures part { (to nwk : ℕ) → part_seen result seal.new out.new
         ≡ part_of real me.0 to nwk aps (model.Secret (model_label label) key.now.0 (model_command command.now)) }
-    ensures room { length out.new.items ≤ 101 }
+    ensures room { length out.new.items ≤ sealed_room }
 {
     let term = command_term(label, key, me, aps, spelled(command));
     let bytes = sealed(memo, &term);
@@ -145,7 +145,7 @@ fn tunnelled(
     requires { is_tunnel command.now ≡ false }
     ensures part { (to : ℕ) → part_seen result seal.new out.new
         ≡ part_of real me.0 to nwk aps (model.Tunnelled device.0 key.now.0 (model_command command.now)) }
-    ensures room { length out.new.items ≤ 101 }
+    ensures room { length out.new.items ≤ sealed_room }
 {
     let term = command_term(Label::Transport, key, me, aps, spelled(command));
     let inner = sealed(memo, &term);
@@ -169,7 +169,7 @@ fn telling(
 ) -> u16
     ensures part { (to nwk : ℕ) → part_seen result seal.new out.new
         ≡ part_of real me.0 to nwk aps (model.Telling key.now.0 bytes.now.items) }
-    ensures room { length out.new.items ≤ 101 }
+    ensures room { length out.new.items ≤ sealed_room }
 {
     let term = data_term(key, me, aps, frame_from(bytes.as_slice()));
     let bytes = sealed(memo, &term);
@@ -183,7 +183,7 @@ fn telling(
 fn leaving(seal: &mut Option<Term>, out: &mut Frame) -> u16
     ensures part { (me to nwk aps : ℕ) → part_seen result seal.new out.new
         ≡ part_of real me to nwk aps model.Leaving }
-    ensures room { length out.new.items ≤ 101 }
+    ensures room { length out.new.items ≤ sealed_room }
 {
     forget(seal);
     fill(out, &[0x04, 0x40]);

@@ -7,8 +7,8 @@ ghost use Rattle.zb_base.specs.Outside.{HasCause};
 ghost use Rattle.zb_disk.specs.Calls.{IsRead};
 ghost use Rattle.zb_store.specs.Layout.{Standing, slot, stands, entry_of, payloads_of, extent};
 ghost use Rattle.zb_store.specs.Reading.{IsHeaderOf, opens, chosen, IsFoundIn, IsReadIn, IsBehind, size_at, AreCounted};
-ghost use Rattle.zb_base.specs.Sizes.{record_room, payload_room, entries_room, payloads_room, disk_size};
-ghost use Rattle.zb_store.specs.Sizes.{body_room};
+ghost use Rattle.zb_base.specs.Sizes.{record_room, payload_room, entries_room, payloads_room, disk_size, entry_room};
+ghost use Rattle.zb_store.specs.Sizes.{body_room, entries_reach};
 ghost use Rattle.zb_store.specs.Faults.{OnlyReads, IsBytesFault, IsReadFault, IsStandingFault};
 
 use crate::StoreFault;
@@ -152,9 +152,9 @@ pub(crate) fn count_entries<D: Disk>(
     ensures cause { HasCause (D.state disk.old).faults (D.state disk.new).faults result }
     ensures refusal { OnErr result (IsTrue D.tells.refusals → (D.state disk.old).off 0 ≡ true) }
     ensures few { IfOk result (λ r. r.0 ≤ entries_room) }
-    ensures short { IfOk result (λ r. r.1 ≤ 484 * r.0) }
+    ensures short { IfOk result (λ r. r.1 ≤ entry_room * r.0) }
     ensures entries { IfOk result (λ r. IsTrue D.tells.content
-        → (b : List ℕ) → IsBehind b start room 15616 (D.state disk.old).seen
+        → (b : List ℕ) → IsBehind b start room entries_reach (D.state disk.old).seen
         → (r.0 ≡ length (payloads_of entries_room b)) × (r.1 ≡ extent (payloads_of entries_room b))) }
 {
     let mut taken = 0;
@@ -241,7 +241,7 @@ fn read_found<D: Disk>(alloc: Global, disk: &mut D, found: Found) -> Result<Cont
     ensures faults { IfErr result (IsBytesFault (D.state disk.old) (D.state disk.new)) }
     ensures found { IfOk result (λ r. r.found ≡ found) }
     ensures few { IfOk result (λ r. r.entries ≤ entries_room) }
-    ensures end { IfOk result (λ r. r.end ≤ body_room + 484 * r.entries) }
+    ensures end { IfOk result (λ r. r.end ≤ body_room + entry_room * r.entries) }
     ensures record_size { IfOk result (λ r. length r.content.items ≤ record_room) }
     ensures payloads_size { IfOk result (λ r. length r.payloads.items ≤ payloads_room) }
     ensures read { IfOk result (λ r. IsTrue D.tells.content → IsFoundIn found (D.state disk.old).seen
@@ -271,7 +271,7 @@ pub(crate) fn read_standing<D: Disk>(alloc: Global, disk: &mut D) -> Result<Cont
     ensures reads { OnlyReads D.tells (D.state disk.old) (D.state disk.new) result }
     ensures faults { IfErr result (IsReadFault D.tells (D.state disk.old) (D.state disk.new)) }
     ensures few { IfOk result (λ r. r.entries ≤ entries_room) }
-    ensures end { IfOk result (λ r. r.end ≤ body_room + 484 * r.entries) }
+    ensures end { IfOk result (λ r. r.end ≤ body_room + entry_room * r.entries) }
     ensures record_size { IfOk result (λ r. length r.content.items ≤ record_room) }
     ensures payloads_size { IfOk result (λ r. length r.payloads.items ≤ payloads_room) }
     ensures read { IfOk result (λ r. IsTrue D.tells.content → IsReadIn r (D.state disk.old).seen) }

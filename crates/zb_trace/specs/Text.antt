@@ -1,5 +1,5 @@
 -- The text of a line: words, separated by one space each and ended by a line feed.
-use Rattle.std.specs.Prelude.{◌≡◌, ◌<◌, ◌≤◌, ◌⊎◌, ℕ, List, [], ◌∷◌, ◌++◌, length, map, codes, decimal, true}
+use Rattle.std.specs.Prelude.{◌^◌, ◌≡◌, ◌<◌, ◌≤◌, ◌⊎◌, ℕ, List, [], ◌∷◌, ◌++◌, length, map, codes, decimal, true}
 use Rattle.std.specs.List.{AllByRecursion, flat_map}
 use Rattle.hex.specs.Hex.{encode_upper, IsBytes}
 use Rattle.zb_base.specs.declared.place.Place.{Place}
@@ -16,6 +16,7 @@ use Rattle.zb_text.specs.Hexadecimal.{bytes_text}
 use Rattle.zb_text.specs.Words.{then}
 use Rattle.zb_trace.specs.declared.line.Line.{Line}
 use Rattle.zb_trace.specs.declared.line.Line.TheVariants as line
+use Rattle.zb_base.specs.Limits.{longest_frame, greatest_count}
 
 -- The words that a line is made of.
 pub data Word : Type 0 where
@@ -57,8 +58,8 @@ MayStand (Chosen among text) = Unit {0}
 MayStand (Number limit number) = number ≤ limit
 MayStand (Called name) = is_name name ≡ true
 MayStand (CalledOrNobody name) = (is_name name ≡ true) ⊎ (name ≡ codes "-")
-MayStand (Address eui) = eui < 18446744073709551616
-MayStand (ShortAddress short) = short < 65536
+MayStand (Address eui) = eui < 2 ^ 64
+MayStand (ShortAddress short) = short < 2 ^ 16
 MayStand (Secret key) = IsBytes key × (length key ≡ 16)
 MayStand (Octet byte) = byte < 256
 MayStand (Octets limit bytes) = IsBytes bytes × (length bytes ≤ limit)
@@ -110,7 +111,7 @@ answers = map answer_text choices.answers
 
 -- a counter, a limit, the number of an event or a frame
 abbrev pub counted : ℕ → Word
-counted number = Number 4294967295 number
+counted number = Number greatest_count number
 
 -- the sequence number of a network key
 abbrev pub sequenced : ℕ → Word
@@ -120,7 +121,8 @@ sequenced number = Number 255 number
 unfoldable pub term_words : Term → List Word
 term_words t =
     Chosen layers (layer_text t.layer) ∷ Chosen labels (label_text t.label) ∷ Secret t.base.0 ∷ Address t.source.0
-    ∷ counted t.counter ∷ Octet t.control ∷ Octets 127 t.header.items ∷ Octets 127 t.content.items ∷ []
+    ∷ counted t.counter ∷ Octet t.control ∷ Octets longest_frame t.header.items
+    ∷ Octets longest_frame t.content.items ∷ []
 
 -- where and why an event was refused
 abbrev pub reason : Place → List ℕ → List Word
@@ -185,8 +187,9 @@ words (line.Refuse event node r) = begun_of event (codes "refuse") node.bytes (r
 words (line.Seal event node t) = begun_of event (codes "seal") node.bytes (term_words t)
 words (line.Forge event t) = begun event (codes "forge") (term_words t)
 words (line.Send event node frame bytes) =
-    begun event (codes "send") (CalledOrNobody node.bytes ∷ counted frame ∷ Octets 127 bytes.items ∷ [])
-words (line.Inject event frame bytes) = begun event (codes "inject") (counted frame ∷ Octets 127 bytes.items ∷ [])
+    begun event (codes "send") (CalledOrNobody node.bytes ∷ counted frame ∷ Octets longest_frame bytes.items ∷ [])
+words (line.Inject event frame bytes) =
+    begun event (codes "inject") (counted frame ∷ Octets longest_frame bytes.items ∷ [])
 words (line.Stopped event node) = begun_of event (codes "stopped") node.bytes []
 words (line.DownReset event node) = begun_of event (codes "down") node.bytes (Fixed (codes "reset") ∷ [])
 words (line.DownDisk event node) = begun_of event (codes "down") node.bytes (Fixed (codes "disk") ∷ [])

@@ -11,6 +11,7 @@ use Rattle.zb_text.specs.Hexadecimal.{fixed_of, bytes_of}
 use Rattle.zb_text.specs.Numbers.{number_of}
 use Rattle.zb_text.specs.Words.{first_of, field, nothing}
 use Rattle.zb_trace.specs.Text.{Word, Fixed, Chosen, Number, Called, CalledOrNobody, Address, ShortAddress, Secret, Octet, Octets, AllOctets, layers, labels, places}
+use Rattle.zb_base.specs.Limits.{longest_frame, greatest_count}
 
 -- What may stand in a place of a line.
 pub data Field : Type 0 where
@@ -75,7 +76,7 @@ shaped (place ∷ more) words =
 -- The shapes
 
 abbrev pub a_count : Field
-a_count = UpTo 4294967295
+a_count = UpTo greatest_count
 
 abbrev pub a_sequence : Field
 a_sequence = UpTo 255
@@ -85,7 +86,9 @@ a_layer = OneOf layers
 
 -- a term: layer, label, base key, source, counter, control byte, header, content
 abbrev pub a_term : List Field
-a_term = a_layer ∷ OneOf labels ∷ AKey ∷ AnAddress ∷ a_count ∷ AByte ∷ SomeBytes 127 ∷ SomeBytes 127 ∷ []
+a_term =
+    a_layer ∷ OneOf labels ∷ AKey ∷ AnAddress ∷ a_count ∷ AByte
+    ∷ SomeBytes longest_frame ∷ SomeBytes longest_frame ∷ []
 
 -- words after a word that says which of two forms they have
 abbrev pub two_forms : List ℕ → List Field → List ℕ → List Field → List (List ℕ) → Option (List Word)

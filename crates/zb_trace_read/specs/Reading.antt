@@ -6,6 +6,7 @@ use Rattle.zb_text.specs.Numbers.{number_of}
 use Rattle.zb_text.specs.Words.{first_of, field}
 use Rattle.zb_trace.specs.Text.{Word, Fixed, roles, attributes, states, rollovers, answers, begun, begun_of}
 use Rattle.zb_trace_read.specs.Grammar.{OneOf, ANameOrDash, AnAddress, AShort, AKey, SomeBytes, AllBytes, a_count, a_sequence, a_layer, a_term, shaped, two_forms, a_refusal}
+use Rattle.zb_base.specs.Limits.{longest_frame, greatest_count}
 
 -- after the name of a node, at the start
 unfoldable pub of_start : List ℕ → List ℕ → List (List ℕ) → Option (List Word)
@@ -65,10 +66,10 @@ of_node event kind node words =
 unfoldable pub of_nobody : ℕ → List ℕ → List (List ℕ) → Option (List Word)
 of_nobody event kind words =
     if bytes_eq kind (codes "send")
-    then option_map (begun event (codes "send")) (shaped (ANameOrDash ∷ a_count ∷ SomeBytes 127 ∷ []) words)
+    then option_map (begun event (codes "send")) (shaped (ANameOrDash ∷ a_count ∷ SomeBytes longest_frame ∷ []) words)
     else if bytes_eq kind (codes "forge") then option_map (begun event (codes "forge")) (shaped a_term words)
     else if bytes_eq kind (codes "inject")
-    then option_map (begun event (codes "inject")) (shaped (a_count ∷ SomeBytes 127 ∷ []) words)
+    then option_map (begun event (codes "inject")) (shaped (a_count ∷ SomeBytes longest_frame ∷ []) words)
     else if bytes_eq kind (codes "draw") then option_map (begun event (codes "draw")) (shaped (AKey ∷ []) words)
     else if bytes_eq kind (codes "live") then option_map (begun event (codes "live")) (shaped (AnAddress ∷ []) words)
     else if bytes_eq kind (codes "removed")
@@ -102,5 +103,5 @@ unfoldable pub read_words : List (List ℕ) → Option (List Word)
 read_words words =
     option_and_then (λ (first : List ℕ × List (List ℕ)).
     if bytes_eq first.0 (codes "end") then of_end first.1
-    else option_and_then (λ event. of_event event first.1) (number_of 4294967295 first.0))
+    else option_and_then (λ event. of_event event first.1) (number_of greatest_count first.0))
     (first_of words)

@@ -1,12 +1,12 @@
 //! The words of a line, one by one, each as what stands in its place.
-ghost use Rattle.std.specs.Prelude.{◌≡◌, ◌∷◌, ◌≤◌, ◌<◌, ◌⊎◌, List, [], length, codes, IfSome, OnOk, IfOk, Option, Some, None, true};
+ghost use Rattle.std.specs.Prelude.{◌^◌, ◌≡◌, ◌∷◌, ◌≤◌, ◌<◌, ◌⊎◌, List, [], length, codes, IfSome, OnOk, IfOk, Option, Some, None, true};
 ghost use Rattle.hex.specs.Hex.{IsBytes};
 ghost use Rattle.zb_text.specs.Fields.{is_name};
 ghost use Rattle.zb_text.specs.Words.{left, field, Takes, Shows};
 ghost use Rattle.zb_trace.specs.Text as spec;
 ghost use Rattle.zb_trace.specs.Text.{Chosen, CalledOrNobody, Address, ShortAddress, Secret, Octet, Octets, AllOctets, counted, sequenced};
 ghost use Rattle.zb_trace_read.specs.Grammar.{OneOf, ANameOrDash, AnAddress, AShort, AKey, AByte, SomeBytes, AllBytes, a_count, a_sequence, value_of, in_capitals, lacks_small};
-ghost use Rattle.zb_base.specs.Limits.{longest_frame};
+ghost use Rattle.zb_base.specs.Limits.{longest_frame, greatest_count};
 
 use zb_base::{
     Attribute, Eui, Frame, Key, Label, Layer, Name, Place, Role, Rollover, Short, State,
@@ -97,7 +97,7 @@ pub(crate) fn answer(reader: &mut Words<'_>) -> Option<bool>
 /// Takes a counter, a limit, or the number of a frame.
 pub(crate) fn count(reader: &mut Words<'_>) -> Option<u32>
     ensures value { Takes (λ n. counted n) result (left reader.new) (field (value_of a_count) (left reader.old)) }
-    ensures fits { IfSome result (λ n. n ≤ 4294967295) }
+    ensures fits { IfSome result (λ n. n ≤ greatest_count) }
 {
     reader.number(u32::MAX)
 }
@@ -137,7 +137,7 @@ pub(crate) fn has_no_small_letter(word: &[u8]) -> bool
 /// Takes an IEEE address.
 pub(crate) fn eui(reader: &mut Words<'_>) -> Option<Eui>
     ensures value { Takes (λ e. Address e.0) result (left reader.new) (field (value_of AnAddress) (left reader.old)) }
-    ensures fits { IfSome result (λ e. e.0 < 18446744073709551616) }
+    ensures fits { IfSome result (λ e. e.0 < 2 ^ 64) }
 {
     let word = digits(reader)?;
     zb_text::fields::eui(word)
@@ -147,7 +147,7 @@ pub(crate) fn eui(reader: &mut Words<'_>) -> Option<Eui>
 pub(crate) fn short(reader: &mut Words<'_>) -> Option<Short>
     ensures value { Takes (λ s. ShortAddress s.0) result (left reader.new)
         (field (value_of AShort) (left reader.old)) }
-    ensures fits { IfSome result (λ s. s.0 < 65536) }
+    ensures fits { IfSome result (λ s. s.0 < 2 ^ 16) }
 {
     let word = digits(reader)?;
     zb_text::fields::short(word)
@@ -165,7 +165,8 @@ pub(crate) fn key(reader: &mut Words<'_>) -> Option<Key>
 /// Takes the bytes of a frame, of a header or of a content.
 pub(crate) fn some_bytes(reader: &mut Words<'_>) -> Option<Frame>
     ensures value { Takes
-        (λ f. Octets 127 f.items) result (left reader.new) (field (value_of (SomeBytes 127)) (left reader.old)) }
+        (λ f. Octets longest_frame f.items) result (left reader.new)
+        (field (value_of (SomeBytes longest_frame)) (left reader.old)) }
     ensures fits { IfSome result (λ f. IsBytes f.items × (length f.items ≤ longest_frame)) }
 {
     let word = digits(reader)?;

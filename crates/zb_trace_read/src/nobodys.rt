@@ -7,6 +7,7 @@ ghost use Rattle.zb_trace.specs.Text.{MayStand, begun, words};
 ghost use Rattle.zb_trace_read.specs.Grammar.{AKey, AnAddress, ANameOrDash, SomeBytes, a_count, a_term, shaped};
 ghost use Rattle.zb_trace_read.specs.Places.{read_into};
 ghost use Rattle.zb_trace_read.specs.Reading as spec;
+ghost use Rattle.zb_base.specs.Limits.{longest_frame};
 
 use crate::fields::{count, eui, key, sender, some_bytes};
 use crate::happenings::read_of_node;
@@ -57,7 +58,7 @@ pub(crate) fn read_of_nobody(
 fn read_send(event: u32, reader: &mut Words<'_>, line: &mut Line) -> Option<()>
     ensures value { Shows words (read_into result line.new)
         (option_map (begun event (codes "send"))
-        (shaped (ANameOrDash ∷ a_count ∷ SomeBytes 127 ∷ []) (left reader.old))) }
+        (shaped (ANameOrDash ∷ a_count ∷ SomeBytes longest_frame ∷ []) (left reader.old))) }
     ensures fits { IfSome result (λ _. AllByRecursion MayStand (words line.new)) }
 {
     let node = sender(reader)?;
@@ -92,7 +93,8 @@ fn read_forge(event: u32, reader: &mut Words<'_>, line: &mut Line) -> Option<()>
 /// Reads injected bytes.
 fn read_inject(event: u32, reader: &mut Words<'_>, line: &mut Line) -> Option<()>
     ensures value { Shows words (read_into result line.new)
-        (option_map (begun event (codes "inject")) (shaped (a_count ∷ SomeBytes 127 ∷ []) (left reader.old))) }
+        (option_map (begun event (codes "inject"))
+        (shaped (a_count ∷ SomeBytes longest_frame ∷ []) (left reader.old))) }
     ensures fits { IfSome result (λ _. AllByRecursion MayStand (words line.new)) }
 {
     let frame = count(reader)?;

@@ -10,6 +10,7 @@ use Rattle.zb_base.specs.declared.label.Layer.{Layer}
 use Rattle.zb_base.specs.declared.label.Layer.TheVariants as layer
 use Rattle.zb_seal.specs.declared.term.Term.{Term}
 use Rattle.zb_trace_watch.specs.declared.terms.Terms.{Terms}
+use Rattle.zb_model.specs.State.{greatest_counter}
 
 -- the n lowest bytes of a number, and then what is left of it
 abbrev pub low_bytes : ℕ → ℕ → List ℕ
@@ -36,9 +37,13 @@ term_bytes t =
     low_bytes 3 t.counter ++ (layer_number t.layer ∷ (sized t.base.0 ++ (label_number t.label
     ∷ (low_bytes 7 t.source.0 ++ (t.control ∷ (sized t.header.items ++ t.content.items))))))
 
+-- The most bytes of a term.
+abbrev pub term_room : ℕ
+term_room = 287
+
 -- A number in which two terms mostly differ: some of its source, its layer, and how many counters come after its own.
 abbrev pub term_head : Term → ℕ
-term_head t = (t.source.0 % 16777216 * 256 + layer_number t.layer) * 4294967296 + (4294967295 - t.counter)
+term_head t = (t.source.0 % 16777216 * 256 + layer_number t.layer) * 4294967296 + (greatest_counter - t.counter)
 
 -- whether these bytes are kept
 abbrev pub is_kept : Option (Vec ℕ) → List ℕ → Bool

@@ -4,9 +4,10 @@ ghost use Rattle.std.specs.List.{list_any};
 ghost use Rattle.zb_model.specs.Secrets.{same_term};
 ghost use Rattle.zb_model_real.specs.Terms.{model_term};
 ghost use Rattle.zb_seal.specs.declared.term.Term.{Term};
-ghost use Rattle.zb_trace_watch.specs.Terms.{has_spelled, has_term, is_kept, label_number, layer_number, low_bytes, term_bytes, term_head};
+ghost use Rattle.zb_trace_watch.specs.Terms.{has_spelled, has_term, is_kept, label_number, layer_number, low_bytes, term_bytes, term_head, term_room};
 ghost use Rattle.std.specs.BTreeMap.{get, is_at};
 ghost use Rattle.std.specs.Ordering.{nat_cmp};
+ghost use Rattle.zb_model.specs.State.{greatest_counter};
 
 use arrayvec::ArrayVec;
 use std::alloc::{AllocError, Global};
@@ -130,7 +131,7 @@ fn head_of(term: &Term) -> u64
 }
 
 fn counters_after(counter: u32) -> u32
-    ensures { result ≡ 4294967295 - counter }
+    ensures { result ≡ greatest_counter - counter }
 {
     u32::MAX - counter
 }
@@ -152,7 +153,7 @@ fn put_bytes(bytes: &mut TermBytes, term: &Term)
 
 // Puts the bytes at the end, where they have room.
 fn put(out: &mut TermBytes, piece: &[u8])
-    ensures { length out.old.items + length piece.now ≤ 287 → out.new.items ≡ out.old.items ++ piece.now }
+    ensures { length out.old.items + length piece.now ≤ term_room → out.new.items ≡ out.old.items ++ piece.now }
 {
     let _ = out.try_extend_from_slice(piece);
 }
