@@ -7,6 +7,7 @@ mod fault;
 mod frame;
 mod key;
 mod label;
+mod limits;
 mod list;
 mod node;
 mod numbers;
@@ -21,6 +22,10 @@ pub use fault::{Failed, NoMemory, OrMemory};
 pub use frame::{Frame, Name};
 pub use key::{Key, WELL_KNOWN};
 pub use label::{Label, Layer};
+pub use limits::{
+    LAST_START, LONGEST_FRAME, MOST_EVENTS, MOST_FRAMES, MOST_IN_BLOCK, MOST_JOBS, MOST_KEYS,
+    MOST_MADE, MOST_NODES, MOST_OUT_BLOCK, MOST_RUNS, MOST_STEPS,
+};
 pub use list::List;
 pub use node::{Config, Peer, Role};
 pub use place::Place;

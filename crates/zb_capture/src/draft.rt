@@ -8,7 +8,7 @@ use crate::fault::CaptureCause;
 use crate::fields::{addr, code, frame, key};
 use crate::frames::Frames;
 use std::alloc::Global;
-use zb_base::{Key, List, NoMemory, OrMemory};
+use zb_base::{Key, List, MOST_FRAMES, MOST_KEYS, NoMemory, OrMemory};
 use zb_text::words::Words;
 
 /// The keys, addresses and frames of the lines so far.
@@ -83,7 +83,8 @@ impl Draft {
         requires other { IsCapture (capture_of more.now) }
         ensures { OnTrue result (IsCapture (both (capture_of self.now) (capture_of more.now))) }
     {
-        more.keys.len() <= 256 - self.keys.len() && more.frames.len() <= 100_000 - self.frames.len()
+        more.keys.len() <= MOST_KEYS - self.keys.len()
+            && more.frames.len() <= MOST_FRAMES - self.frames.len()
     }
 
     /// Puts what other lines give after this.
@@ -175,7 +176,7 @@ impl Draft {
         ensures exact { Steps result (capture_of self.new) (with_key (capture_of self.old) (Some key)) }
         ensures valid { IsCapture (capture_of self.new) }
     {
-        if self.keys.len() >= 256 {
+        if self.keys.len() >= MOST_KEYS {
             return Err(OrMemory::Fault(CaptureCause::TooMany));
         }
         self.keys.push(key)?;
@@ -208,7 +209,7 @@ impl Draft {
         let Some(frame) = frame(words) else {
             return Err(OrMemory::Fault(CaptureCause::Syntax));
         };
-        if self.frames.len() >= 100_000 {
+        if self.frames.len() >= MOST_FRAMES {
             return Err(OrMemory::Fault(CaptureCause::TooMany));
         }
         self.frames.push(&frame)?;

@@ -7,7 +7,7 @@ use crate::run::{FrameRun, Run};
 use std::alloc::Global;
 use std::marker::Model;
 use std::mem;
-use zb_base::{Frame, NoMemory};
+use zb_base::{Frame, MOST_FRAMES, NoMemory};
 
 /// Keeps the frames of a capture, in the order in which they were caught.
 ///
@@ -55,7 +55,7 @@ impl Frames {
         // The line of a frame has two digits for each byte, and 7 characters beside them.
         Ok(Frames {
             runs: Vec::new(alloc),
-            last: Run::with_room(alloc, text / 2, (text / 9 + 1).min(100_000))?,
+            last: Run::with_room(alloc, text / 2, (text / 9 + 1).min(MOST_FRAMES))?,
             count: 0,
         })
     }

@@ -5,6 +5,7 @@ ghost use Rattle.zb_command.specs.Commands.{campaign_words, count_of, lone_word,
 ghost use Rattle.zb_command.specs.Words.{invocation, Fits};
 
 use crate::keys::are_keys;
+use zb_base::{LAST_START, MOST_JOBS, MOST_KEYS, MOST_MADE, MOST_RUNS};
 use zb_text::numbers::number;
 
 /// A command of the program.
@@ -72,10 +73,10 @@ fn sniff<'a>(operand: &str, words: &'a [String]) -> Option<Command<'a>>
     ensures value { option_map invocation result ≡ sniff_words operand.now (map string_bytes words.now) }
     ensures fits { IfSome result Fits }
 {
-    if words.len() > 256 || !are_keys(words) {
+    if words.len() > MOST_KEYS || !are_keys(words) {
         return None;
     }
-    let jobs = count(operand, 64)?;
+    let jobs = count(operand, MOST_JOBS)?;
     Some(Command::Sniff { jobs, words })
 }
 
@@ -96,13 +97,13 @@ fn with_operand<'a>(word: &str, operand: &'a str) -> Option<Command<'a>>
     ensures value { option_map invocation result ≡ word_and_operand word.now operand.now }
     ensures fits { IfSome result Fits }
 {
-    if word == "install" && operand.len() < 4_294_967_295 {
+    if word == "install" && operand.len() < u32::MAX as usize {
         Some(Command::Install { code: operand })
     } else if word == "make" {
-        let count = count(operand, 60)?;
+        let count = count(operand, MOST_MADE)?;
         Some(Command::Make { count })
     } else if word == "inspect" {
-        let jobs = count(operand, 64)?;
+        let jobs = count(operand, MOST_JOBS)?;
         Some(Command::Inspect { jobs })
     } else if word == "admin" {
         Some(Command::Admin)
@@ -126,9 +127,9 @@ fn campaign<'a>(runs: &str, start: &str, jobs: &str) -> Option<Command<'a>>
     ensures value { option_map invocation result ≡ campaign_words runs.now start.now jobs.now }
     ensures fits { IfSome result Fits }
 {
-    let runs = count(runs, 1000)?;
-    let start = number(4_294_966_295, start.as_bytes())?;
-    let jobs = count(jobs, 64)?;
+    let runs = count(runs, MOST_RUNS)?;
+    let start = number(LAST_START, start.as_bytes())?;
+    let jobs = count(jobs, MOST_JOBS)?;
     Some(Command::Campaign {
         count: runs,
         start,

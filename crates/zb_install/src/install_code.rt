@@ -25,7 +25,7 @@ pub struct InstallCode {
 
 impl Model for InstallCode {
     ghost use Rattle.std.specs.Prelude.{◌≡◌, ℕ, ◌≤◌, List, Ok, length};
-    ghost use Rattle.zb_install.specs.Code.{code_key, code_of};
+    ghost use Rattle.zb_install.specs.Code.{code_key, code_of, longest_code};
 
     ghost Value = { List ℕ };
 

@@ -15,7 +15,7 @@ use crate::auxiliary::{NwkAux, put_aux, read_aux};
 use crate::fault::NwkError;
 use crate::header::{NwkHeader, put_header, read_header};
 use arrayvec::ArrayVec;
-use zb_base::Frame;
+use zb_base::{Frame, LONGEST_FRAME};
 use zb_cursor::{Reader, TooLong, fill, has_bit, put};
 
 /// A NWK frame (05-3474-21, 3.3.1). A secured one has an auxiliary header, and its body is the cipher text.
@@ -102,7 +102,7 @@ pub fn read_into(bytes: &[u8], frame: &mut NwkFrame) -> Result<(), NwkError>
     ensures found { OnOk result (Spells bytes.now frame.new) }
     ensures exact { read_into result frame.new ≡ frame_of bytes.now }
 {
-    if bytes.len() > 127 {
+    if bytes.len() > LONGEST_FRAME {
         return Err(NwkError::TooLong);
     }
     let mut reader = Reader {

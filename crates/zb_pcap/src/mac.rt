@@ -4,6 +4,7 @@ ghost use Rattle.zb_pcap.specs.Mac.{number16 as number_at, is_plain_data as is_d
 ghost use Rattle.zb_base.specs.Limits.{longest_frame};
 
 use crate::check::fcs;
+use zb_base::LONGEST_FRAME;
 
 /// What a packet is.
 #[derive(Clone, Copy, Debug, PartialEq, Eq)]
@@ -30,7 +31,7 @@ pub fn classify(packet: &[u8], check: bool) -> Mac
     if has_wrong_check(packet, check) {
         return Mac::BadCheck;
     }
-    if packet.len() > 127 {
+    if packet.len() > LONGEST_FRAME {
         return Mac::Other;
     }
     payload(body(packet, check))

@@ -7,7 +7,7 @@ ghost use Rattle.zb_base.specs.Limits.{most_frames};
 use crate::fault::{PcapCause, PcapError};
 use crate::header::{Order, number32};
 use std::alloc::Global;
-use zb_base::OrMemory;
+use zb_base::{MOST_FRAMES, OrMemory};
 
 /// The packet of a record.
 #[derive(Clone, Copy, Debug, PartialEq, Eq)]
@@ -35,7 +35,7 @@ pub(crate) fn read_packets<'a>(
             None => return Err(fault(place, PcapCause::Cut)),
             Some(taken) => taken,
         };
-        if packets.len() >= 100_000 {
+        if packets.len() >= MOST_FRAMES {
             return Err(fault(place, PcapCause::TooMany));
         }
         packets.push(packet)?;

@@ -19,7 +19,10 @@ use crate::schedule::Schedule;
 use crate::supply::Supply;
 use std::alloc::{AllocError, Global};
 use std::marker::Model;
-use zb_base::{Key, Layer, List, Name, OrMemory, Peer, Role, WELL_KNOWN};
+use zb_base::{
+    Key, Layer, List, MOST_EVENTS, MOST_IN_BLOCK, MOST_NODES, MOST_OUT_BLOCK, Name, OrMemory, Peer,
+    Role, WELL_KNOWN,
+};
 use zb_install::InstallCode;
 use zb_sched_line::{Event, Line, read_line, read_own_event};
 
@@ -148,7 +151,7 @@ impl Draft {
         if !are_blocks(out_block, in_block) {
             return refuse(SchedCause::Block);
         }
-        if 64 <= self.entries.len() {
+        if MOST_NODES <= self.entries.len() {
             return refuse(SchedCause::TooMany);
         }
         self.hints.note(&peer.name, self.entries.len());
@@ -336,7 +339,7 @@ impl Draft {
         if !self.has_nodes_of(&event) {
             return refuse(SchedCause::UnknownNode);
         }
-        if 100_000 <= self.events.len() {
+        if MOST_EVENTS <= self.events.len() {
             return refuse(SchedCause::TooMany);
         }
         self.events.push(event)?;
@@ -427,7 +430,7 @@ impl Draft {
         if !self.has_nodes_of(event) {
             return Err(OrMemory::Fault(SchedCause::UnknownNode));
         }
-        if 100_000 <= last {
+        if MOST_EVENTS <= last {
             return Err(OrMemory::Fault(SchedCause::TooMany));
         }
         Ok(true)
@@ -455,7 +458,7 @@ fn refuse(cause: SchedCause) -> Result<(), OrMemory<SchedCause>>
 fn are_blocks(out_block: u32, in_block: u32) -> bool
     ensures { result ≡ are_blocks out_block in_block }
 {
-    1 <= out_block && out_block <= 65_536 && 1 <= in_block && in_block <= 1024
+    1 <= out_block && out_block <= MOST_OUT_BLOCK && 1 <= in_block && in_block <= MOST_IN_BLOCK
 }
 
 fn is_joiner(role: Option<Role>) -> bool

@@ -25,7 +25,10 @@ use arrayvec::ArrayVec;
 use std::alloc::{AllocError, Global};
 use std::marker::Model;
 use zb_backup::{BackupError, read_backup};
-use zb_base::{Config, Eui, List, Name, OrMemory, Peer, RECORD_ROOM, Role, Short};
+use zb_base::{
+    Config, Eui, List, MOST_IN_BLOCK, MOST_NODES, MOST_OUT_BLOCK, MOST_STEPS, Name, OrMemory, Peer,
+    RECORD_ROOM, Role, Short,
+};
 use zb_install::InstallCode;
 use zb_keys::Tables;
 
@@ -112,7 +115,7 @@ fn is_parent(role: Role) -> bool
 fn are_blocks(out_block: u32, in_block: u32) -> bool
     ensures { result ≡ are_blocks out_block in_block }
 {
-    1 <= out_block && out_block <= 65_536 && 1 <= in_block && in_block <= 1024
+    1 <= out_block && out_block <= MOST_OUT_BLOCK && 1 <= in_block && in_block <= MOST_IN_BLOCK
 }
 
 /// Refuses a line.
@@ -251,7 +254,7 @@ impl Draft {
         if self.is_taken(&peer) {
             return refuse(ScriptCause::DuplicateNode);
         }
-        if 64 <= self.config.peers.len() {
+        if MOST_NODES <= self.config.peers.len() {
             return refuse(ScriptCause::TooMany);
         }
         self.config.peers.push(peer);
@@ -263,7 +266,7 @@ impl Draft {
         requires { IsOrder order }
         ensures { Steps result self.new (with_order line order self.old) }
     {
-        if 10_000 <= self.steps.len() {
+        if MOST_STEPS <= self.steps.len() {
             return refuse(ScriptCause::TooMany);
         }
         self.steps.push(Step { line, order })?;

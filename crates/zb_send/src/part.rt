@@ -1,5 +1,5 @@
 //! The payload of a NWK frame, and what is sealed in it.
-ghost use Rattle.std.specs.Prelude.{◌≡◌, ◌≤◌, ℕ, Some, false, length, option_map, true};
+ghost use Rattle.std.specs.Prelude.{◌≡◌, ◌+◌, ◌≤◌, ℕ, Some, false, length, option_map, true};
 ghost use Rattle.arrayvec.specs.ArrayVec.{ArrayVec};
 ghost use Rattle.zb_cmd.specs.Shape.{is_inner, is_tunnel};
 ghost use Rattle.zb_model.specs.Answer.{part_of};

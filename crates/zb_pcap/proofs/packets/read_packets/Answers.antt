@@ -13,12 +13,12 @@ returns-in-None-clause-exact c =
     (map record_in c.loop-rest.packets.items) c.loop-rest.rest.now
     c.loop-rest.invariant.so_far some c.in-None.ensures.value)
 
-pub returns-then-len-ge100000-clause-exact : goal.returns-then-len-ge100000-clause-exact
-returns-then-len-ge100000-clause-exact c =
+pub returns-then-len-ge-MOST_FRAMES-clause-exact : goal.returns-then-len-ge-MOST_FRAMES-clause-exact
+returns-then-len-ge-MOST_FRAMES-clause-exact c =
     let some : 0 < length c.loop-rest.rest.now = search rules in
     let many : 100000 ≤ length c.loop-rest.packets.items = search rules in
-    refused {T = Vec Packet Global} (λ v. map record_in v.items) c.fault-then-len-ge100000.result _ _
-    c.fault-then-len-ge100000.ensures
+    refused {T = Vec Packet Global} (λ v. map record_in v.items) c.fault-then-len-ge-MOST_FRAMES.result _ _
+    c.fault-then-len-ge-MOST_FRAMES.ensures
     (too_many_here (length c.loop-rest.packets.items) c.loop-rest.place c.args.order
     (records 100000 1 c.args.order c.args.bytes.now)
     (map record_in c.loop-rest.packets.items) c.loop-rest.rest.now _ c.loop-rest.invariant.so_far many some

@@ -25,7 +25,7 @@ returns-clause-exact c =
     ∙ own_taken before c.args.text.now (event_of e) own
     (clash_of _ _ c.index-event.result.now e _ _ c.provision_clashes.ensures same view c.if-provision_clashes.false)
     (nodes_of_last _ _ c.index-event.result.now e _ c.has_nodes_of.ensures same c.if-not-has_nodes_of.false)
-    (has_room events c.len-last.result at c.if-last-ge100000.false)
+    (has_room events c.len-last.result at c.if-last-ge-MOST_EVENTS.false)
     ∙ ap Ok (sym view)
 
 pub returns-clause-kept : goal.returns-clause-kept
