@@ -10,6 +10,7 @@ ghost use Rattle.zb_text.specs.Pages.{ended, page as page_of};
 use std::alloc::AllocError;
 use zb_base::{Attribute, Key};
 use zb_keys::{LinkRow, NetRow, Tables};
+use zb_text::choices::attribute_text;
 use zb_text::page::{add_eui, add_key, add_number, add_word, end_line, put};
 
 // Answers the word for whether a row is used.
@@ -44,11 +45,7 @@ fn net_word(active: &Option<Key>, row: &NetRow) -> &'static [u8]
 fn attribute_word(attribute: Attribute) -> &'static [u8]
     ensures { result.now ≡ attribute_word (model_attribute attribute) }
 {
-    match attribute {
-        Attribute::Provisional => b"provisional",
-        Attribute::Unverified => b"unverified",
-        Attribute::Verified => b"verified",
-    }
+    attribute_text(attribute)
 }
 
 // Prints a network key.

@@ -16,6 +16,7 @@ use crate::fault::CmdError;
 use crate::request::{put_partner, read_request};
 use crate::transport::{put_application, put_link, put_network, read_transport};
 use crate::tunnel::{put_tunnel, read_tunnel};
+use crate::whole::{begin, end};
 use arrayvec::ArrayVec;
 use zb_base::{Eui, Frame, Key, Short};
 use zb_cursor::{Reader, TooLong, put, put_byte, put_eui, put_short};
@@ -201,16 +202,9 @@ fn read_whole(bytes: &[u8]) -> Result<Command, CmdError>
     ensures found { IfOk result (λ c. Spells bytes.now c) }
     ensures exact { result ≡ command_of bytes.now }
 {
-    let mut reader = Reader {
-        rest: bytes,
-        cut: CmdError::Short {
-            at: bytes.len() as u32,
-        },
-    };
+    let mut reader = begin(bytes);
     let command = read_front(&mut reader)?;
-    reader.end(CmdError::Trailing {
-        count: reader.rest.len() as u32,
-    })?;
+    end(&reader)?;
     Ok(command)
 }
 

@@ -9,6 +9,7 @@ ghost use Rattle.zb_cmd.specs.Reading.{leave_body, leave_at, leave_of};
 ghost use Rattle.zb_cmd.specs.Faults.{HasLeaveFault};
 
 use crate::fault::CmdError;
+use crate::whole::{begin, end};
 use zb_base::Frame;
 use zb_cursor::{Reader, frame_from};
 
@@ -53,16 +54,9 @@ fn read_whole(bytes: &[u8]) -> Result<Leave, CmdError>
     ensures found { IfOk result (λ l. SpellsLeave bytes.now l) }
     ensures exact { result ≡ leave_of bytes.now }
 {
-    let mut reader = Reader {
-        rest: bytes,
-        cut: CmdError::Short {
-            at: bytes.len() as u32,
-        },
-    };
+    let mut reader = begin(bytes);
     let leave = read_front(&mut reader)?;
-    reader.end(CmdError::Trailing {
-        count: reader.rest.len() as u32,
-    })?;
+    end(&reader)?;
     Ok(leave)
 }
 
