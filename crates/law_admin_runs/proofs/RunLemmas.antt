@@ -2,7 +2,7 @@
 use Rattle.std.proofs.Common.{◌≡◌, ℕ, ◌≤◌, ◌<◌, ◌+◌, ◌++◌, suc, zero, Bool, true, false, if◌then◌else◌, IfOk, List, [], ◌∷◌, take, length, Option, Some, None, Result, Ok, Err, refl, sym, ap, ◌∙◌, subst, arith, append_assoc, append-nil}
 use Rattle.std.specs.Prelude.{slice_get}
 use Rattle.std.specs.List.{AllByRecursion, concat}
-use Rattle.law_admin_runs.specs.Runs.{AreRuns, Found, Holds, IsLeft, Restores, Run, after_run, backup_tables, commands_of, left_by_all, order_seals, run_seals, sealed_on, setting_of, step_seals, steps_seal}
+use Rattle.law_admin_runs.specs.Runs.{AreRuns, Found, KeepsTables, IsLeft, Restores, Run, after_run, backup_tables, commands_of, left_by_all, order_seals, run_seals, sealed_on, setting_of, step_seals, steps_seal}
 use Rattle.law_answer_seals.specs.Sealing.{IsWithinLimits}
 use Rattle.law_answer_seals.proofs.Limits.{booted_within}
 use Rattle.law_sessions.specs.Sessions.{IsUnderKept, NoneAgain, NoneTwice, TakeOneCounter}
@@ -111,7 +111,7 @@ abbrev IsFoundUsed : List Term → Found → Type 0
 IsFoundUsed used (Ok standing) = IsUsedIn used standing
 IsFoundUsed used (Err fault) = NoneTwice used
 
-left_used : (standing : Option NodeState) (left : List ℕ) (used : List Term) → Holds standing left
+left_used : (standing : Option NodeState) (left : List ℕ) (used : List Term) → KeepsTables standing left
     → IsUsedIn used standing → IsFoundUsed used (found_on left)
 unfolding found_on
 left_used None left used none is = subst (λ image. IsFoundUsed used (found_on image)) (sym none) is

@@ -62,16 +62,16 @@ after_run r standing = (served (setting_of r) (commands_of r) standing).after
 
 -- The image holds the tables that stand, or nothing where none do. Tables of a centre keep the rules for records and
 -- the widths of a record.
-abbrev pub Holds : Option NodeState → List ℕ → Type 0
-Holds None image = image ≡ []
-Holds (Some s) image = IsKept s × StandsAs (Some s) image
+abbrev pub KeepsTables : Option NodeState → List ℕ → Type 0
+KeepsTables None image = image ≡ []
+KeepsTables (Some s) image = IsKept s × StandsAs (Some s) image
 
 abbrev pub Found : Type 0
 Found = Result (Option NodeState) AdminFault
 
 -- What a run leaves, by what it found. A store that is no centre's stays so.
 abbrev pub IsLeft : Run → Found → Type 0
-IsLeft r (Ok standing) = Holds (after_run r standing) r.left
+IsLeft r (Ok standing) = KeepsTables (after_run r standing) r.left
 IsLeft r (Err fault) = found_on r.left ≡ Err fault
 
 -- each run begins on the image that the one before left

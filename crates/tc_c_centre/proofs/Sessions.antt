@@ -10,7 +10,7 @@ use Rattle.zb_base.specs.Outside.{Supply}
 use Rattle.zb_centre_store.specs.Standing.{found_on}
 use Rattle.zb_disk.specs.Memory.{Medium, fresh as disk_of, memory_view}
 use Rattle.zb_disk.specs.MemoryLaws.{image_seen}
-use Rattle.zb_live.specs.Alive.{Holds}
+use Rattle.zb_live.specs.Alive.{CrashLeaves}
 use Rattle.zb_live.specs.Living.{fresh, served}
 use Rattle.zb_live_serve.specs.Moments.{Input, input_of}
 use Rattle.zb_live_serve.specs.Serving.{Ended, Lives}
@@ -30,7 +30,7 @@ lines_done text old rest new answer lives =
       answer_is = refl;
       says = λ sound. subst (λ (ls : List (List ℕ)). answer.text ≡ (served (found_on old) ls fresh).text) (sym all)
           (lives.text refl (can_be_served old sound));
-      holds = λ sound. subst (λ (ls : List (List ℕ)). Holds (memory_view (disk_of old))
+      holds = λ sound. subst (λ (ls : List (List ℕ)). CrashLeaves (memory_view (disk_of old))
           (served (found_on old) ls fresh).after.tables new.bytes) (sym all)
           (lives.last refl (can_be_served old sound) new.bytes (image_seen new.bytes new.written new.grown));
     }

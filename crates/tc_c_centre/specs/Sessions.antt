@@ -8,7 +8,7 @@ use Rattle.tc_c_centre.specs.declared.fault.CallFault.TheVariants.{Usage, Short,
 use Rattle.zb_centre_store.specs.Standing.{found_on}
 use Rattle.zb_centre_store.specs.declared.fault.AdminFault.TheVariants as store
 use Rattle.zb_disk.specs.Memory.{Medium, fresh as disk_of, memory_view}
-use Rattle.zb_live.specs.Alive.{Holds}
+use Rattle.zb_live.specs.Alive.{CrashLeaves}
 use Rattle.zb_live.specs.Living.{fresh, served}
 use Rattle.zb_live_serve.specs.Feeding.{BeginsLong}
 use Rattle.zb_live_serve.specs.Moments.{Input, input_of}
@@ -31,7 +31,7 @@ pub record ServesLines (text old : List ℕ) (made : Made) : Type 0 where
   -- the answer is what the whole lines write
   pub says : IsSound old → made.answer ≡ (served (found_on old) (whole_lines text) fresh).text
   -- the new bytes hold the session after them
-  pub holds : IsSound old → Holds (memory_view (disk_of old))
+  pub holds : IsSound old → CrashLeaves (memory_view (disk_of old))
       (served (found_on old) (whole_lines text) fresh).after.tables made.store
 
 -- what comes of the lines, or why nothing does

@@ -9,7 +9,7 @@ use Rattle.zb_audit_names.specs.Naming.{declared_in}
 use Rattle.zb_audit_names.specs.Secrets.{ever, forged_in, held_by, terms_in, terms_of}
 use Rattle.zb_audit_lockout.specs.Lockout.{admits, drawn_in, refuses_line, sealed_by}
 use Rattle.zb_audit_lockout.specs.Reading.{late_by, number_of}
-use Rattle.zb_audit_lockout.specs.Standing.{Carries, CarriesSome, Draws, Holds, IsEvidence, IsJudged, IsReach, IsReady, IsSafe, IsWindow, Tells}
+use Rattle.zb_audit_lockout.specs.Standing.{Carries, CarriesSome, Draws, CameToHold, IsEvidence, IsJudged, IsReach, IsReady, IsSafe, IsWindow, Tells}
 use Rattle.zb_audit_lockout.specs.Windows.{Claim, EachAt, EachWindow}
 use Rattle.zb_audit_lockout.specs.declared.evidence.Evidence.{Evidence}
 use Rattle.zb_audit_lockout.specs.declared.numbers.Numbers.{Numbers}
@@ -120,7 +120,7 @@ carried_same tools r new h l reach same none b k =
 
 -- Devices come to hold a key.
 pub held_judged : (tools : Tools) (names : List Bytes) (old new : Lockout) (h : List Line) (l : Line) (stays : Bool)
-    (more : ℕ → Bytes → Bool) → IsReady tools names old h l → Holds old.reach new.reach more
+    (more : ℕ → Bytes → Bool) → IsReady tools names old h l → CameToHold old.reach new.reach more
     → Tells old.reach new.reach stays → new.evidence ≡ old.evidence → IsPlain l → IsUnsealed l → drawn_in l ≡ []
     → ((Q : Claim) → EachAt Q h l [])
     → ((d : ℕ) (k : Bytes) → more d k ≡ holds (held_by d (declared_in h) l) k) → IsJudged tools new h l stays

@@ -14,7 +14,7 @@ use Rattle.zb_audit_names.specs.declared.node.Who.{Who}
 use Rattle.zb_audit_lockout.specs.Facts.{eui_of_node, partner_of}
 use Rattle.zb_audit_lockout.specs.Lockout.{drawn_in, locked, refuses_line}
 use Rattle.zb_audit_lockout.specs.Reading.{accepts}
-use Rattle.zb_audit_lockout.specs.Standing.{Admits, CarriesSome, Draws, Forges, Forgets, Holds, IsEvidence, IsHeld, IsJudged, IsPast, IsReach, IsReady, IsSafe, Judges, Removes, Seals, Stands, Tells}
+use Rattle.zb_audit_lockout.specs.Standing.{Admits, CarriesSome, Draws, Forges, Forgets, CameToHold, IsEvidence, IsHeld, IsJudged, IsPast, IsReach, IsReady, IsSafe, Judges, Removes, Seals, Stands, Tells}
 use Rattle.zb_audit_lockout.specs.Windows.{Claim, EachAt}
 use Rattle.zb_audit_lockout.specs.declared.evidence.Evidence.{Evidence}
 use Rattle.zb_audit_lockout.specs.declared.lockout.Lockout.{Lockout}
@@ -50,7 +50,7 @@ record IsHolding (l : Line) : Type 1 where
   pub no_removal : (Q : Claim) (h : List Line) → EachAt Q h l []
 
 holding_judges : (old new : Lockout) (number : ℕ) (l : Line) (who : Who) (stays : Bool) (more : ℕ → Bytes → Bool)
-    → IsHolding l → new.past ≡ old.past → Holds old.reach new.reach more
+    → IsHolding l → new.past ≡ old.past → CameToHold old.reach new.reach more
     → Tells old.reach new.reach stays → new.evidence ≡ old.evidence
     → ((names : List Bytes) (known : List Station) → IsSpeaker who names known l → (d : ℕ) (k : Bytes) → more d k
     ≡ holds (held_by d known l) k) → Judges old new number l who stays
@@ -63,7 +63,7 @@ holding_judges old new number l who stays more is past hold tells evidence more_
 
 module _ (old new : Lockout) (number : ℕ) (who : Who) (stays : Bool) (first second : Option Eui) (key : Key)
     (past : new.past ≡ old.past)
-    (hold : Holds old.reach new.reach (both_hold first second key)) (tells : Tells old.reach new.reach stays)
+    (hold : CameToHold old.reach new.reach (both_hold first second key)) (tells : Tells old.reach new.reach stays)
     (evidence : new.evidence ≡ old.evidence) where
   own_alone : (known : List Station) (name : Bytes) → first ≡ eui_of_node who.node → second ≡ None
       → ((d : ℕ) → is_node (eui_of_node who.node) d ≡ is_of known d name) → (d : ℕ) (k : Bytes)

@@ -12,7 +12,7 @@ use Rattle.zb_audit_lockout.specs.Backing.{IsBack, Notes, is_holder}
 use Rattle.zb_audit_lockout.specs.Raising.{Raises}
 use Rattle.zb_audit_lockout.specs.Reading.{early_of, is_late, number_of, open_at, or_zero}
 use Rattle.zb_audit_lockout.specs.Spreading.{Enters, IsShut}
-use Rattle.zb_audit_lockout.specs.Standing.{Checked, Holds, IsBelow, IsNearlySafe, IsSafe, IsSafeBut}
+use Rattle.zb_audit_lockout.specs.Standing.{Checked, CameToHold, IsBelow, IsNearlySafe, IsSafe, IsSafeBut}
 use Rattle.zb_audit_lockout.specs.Standing.{IsUnsafe, Judged, Removes, Tells, TriedOne}
 use Rattle.zb_audit_lockout.specs.declared.back.Back.{Back}
 use Rattle.zb_audit_lockout.specs.declared.numbers.Numbers.{Numbers}
@@ -373,7 +373,7 @@ held_tells old new held back device key early stays held_is notes early_is judge
 pub nothing_tells : (r : Reach) → Tells r r true
 nothing_tells r = record { safe = λ safe stay. safe; out = λ out. cc }
 
-module _ (old new : Reach) (more : ℕ → Bytes → Bool) (holds : Holds old new more) where
+module _ (old new : Reach) (more : ℕ → Bytes → Bool) (holds : CameToHold old new more) where
   shut_before : (S : Bytes → Bool) (d : ℕ) → IsShut new.leads new.held d S → IsShut old.leads old.held d S
   shut_before S d shut = record {
     has = λ k there. shut.has k (elim (either (bytes_eq k well_known) (node_has old.held d k) there) [
@@ -401,7 +401,7 @@ both_tell old mid new first second a b on =
     record { safe = λ safe stay. b.safe (a.safe safe on) stay; out = λ out. b.out out }
 
 pub first_tells : (old mid new : Reach) (first : Bool) (more : ℕ → Bytes → Bool) → Tells old mid first
-    → Holds mid new more → first ≡ false → Tells old new first
+    → CameToHold mid new more → first ≡ false → Tells old new first
 first_tells old mid new first more a holds off =
     record {
       safe = λ safe stay. absurd (not_both first stay off);

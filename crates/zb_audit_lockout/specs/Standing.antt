@@ -174,7 +174,7 @@ pub record Carries (old new : Reach) (base key : Key) : Type 0 where
       ≡ (is_carried old.leads b k || (bytes_eq b base.0 && bytes_eq k key.0))
 
 -- Devices came to hold a key.
-pub record Holds (old new : Reach) (more : ℕ → List ℕ → Bool) : Type 0 where
+pub record CameToHold (old new : Reach) (more : ℕ → List ℕ → Bool) : Type 0 where
   pub windows : new.windows ≡ old.windows
   pub leads : new.leads ≡ old.leads
   pub drawn : new.drawn ≡ old.drawn

@@ -6,7 +6,7 @@ ghost use Rattle.zb_audit_names.specs.Standing.{IsSpeaker};
 ghost use Rattle.zb_audit_lockout.specs.Lockout as of_lines;
 ghost use Rattle.zb_audit_lockout.specs.Facts.{eui_of_node};
 ghost use Rattle.zb_audit_lockout.specs.Reading.{accepts, is_foul, knows};
-ghost use Rattle.zb_audit_lockout.specs.Standing.{Admits, CarriesSome, Draws, Forges, Forgets, Holds, Judges, Removes};
+ghost use Rattle.zb_audit_lockout.specs.Standing.{Admits, CarriesSome, Draws, Forges, Forgets, CameToHold, Judges, Removes};
 ghost use Rattle.zb_audit_lockout.specs.Standing.{Seals, Stands, Tells};
 ghost use Rattle.zb_model.specs.Data.{Bytes};
 ghost use Rattle.zb_model.specs.Tools.{Tools};
@@ -148,7 +148,7 @@ impl Lockout {
         second: Option<Eui>,
         key: Key,
     ) -> Result<bool, NoMemory>
-        ensures reach { OnOk result (Holds self.old.reach self.new.reach
+        ensures reach { OnOk result (CameToHold self.old.reach self.new.reach
             (λ d k. (is_node first d && bytes_eq k key.0) || (is_node second d && bytes_eq k key.0))) }
         ensures tells { IfOk result (λ stays. Tells self.old.reach self.new.reach stays) }
         ensures evidence { self.new.evidence ≡ self.old.evidence }

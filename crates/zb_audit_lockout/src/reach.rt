@@ -4,7 +4,7 @@ ghost use Rattle.std.specs.Prelude.{IfOk, OnOk};
 ghost use Rattle.std.specs.List.{list_any};
 ghost use Rattle.zb_base.specs.declared.key.Key.{Key as AnyKey};
 ghost use Rattle.zb_audit_lockout.specs.Reading.{early_of, is_late, number_of, open_at};
-ghost use Rattle.zb_audit_lockout.specs.Standing.{Carries, Checked, Draws, EnteredAll, Holds, Judged};
+ghost use Rattle.zb_audit_lockout.specs.Standing.{Carries, Checked, Draws, EnteredAll, CameToHold, Judged};
 ghost use Rattle.zb_audit_lockout.specs.Standing.{Removes, Settles, TakenBack, Tells, TriedOne};
 ghost use Rattle.zb_trace_watch.specs.Sets.{is_among, is_carried, is_node, node_has};
 
@@ -82,7 +82,7 @@ impl Reach {
 
     /// Notes that a device, if there is one, came to hold a key, and returns whether drawn keys stay out of reach.
     pub fn hold(&mut self, alloc: Global, device: Option<Eui>, key: Key) -> Result<bool, AllocError>
-        ensures holds { OnOk result (Holds self.old self.new (λ d k. is_node device d && bytes_eq k key.0)) }
+        ensures holds { OnOk result (CameToHold self.old self.new (λ d k. is_node device d && bytes_eq k key.0)) }
         ensures tells { IfOk result (λ stays. Tells self.old self.new stays) }
     {
         match device {
@@ -92,7 +92,7 @@ impl Reach {
     }
 
     fn hold_one(&mut self, alloc: Global, device: Eui, key: Key) -> Result<bool, AllocError>
-        ensures holds { OnOk result (Holds self.old self.new (λ d k. nat_eq d device.0 && bytes_eq k key.0)) }
+        ensures holds { OnOk result (CameToHold self.old self.new (λ d k. nat_eq d device.0 && bytes_eq k key.0)) }
         ensures tells { IfOk result (λ stays. Tells self.old self.new stays) }
     {
         self.back.hold(alloc, &self.held, device, key)?;
@@ -110,7 +110,7 @@ impl Reach {
         second: Option<Eui>,
         key: Key,
     ) -> Result<bool, AllocError>
-        ensures holds { OnOk result (Holds self.old self.new
+        ensures holds { OnOk result (CameToHold self.old self.new
             (λ d k. (is_node first d && bytes_eq k key.0) || (is_node second d && bytes_eq k key.0))) }
         ensures tells { IfOk result (λ stays. Tells self.old self.new stays) }
     {

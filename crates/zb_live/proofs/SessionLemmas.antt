@@ -20,7 +20,7 @@ use Rattle.zb_disk.proofs.Moments.{started, still_refl, weakened}
 use Rattle.arrayvec.specs.ArrayVec.{ArrayVec}
 use Rattle.zb_core.specs.CorePlans.{CorePlan}
 use Rattle.zb_host.specs.Hosts.{Hosted}
-use Rattle.zb_live.specs.Alive.{CanServe, HasFollowed, HasSaid, HasTaken, Holds, HoldsEither, IsAlive, IsCentreOf, IsDeclared, IsLineFault, IsWaiting, answer_text, done_by, living_of, tables_of}
+use Rattle.zb_live.specs.Alive.{CanServe, HasFollowed, HasSaid, HasTaken, CrashLeaves, LeavesEither, IsAlive, IsCentreOf, IsDeclared, IsLineFault, IsWaiting, answer_text, done_by, living_of, tables_of}
 use Rattle.zb_live.specs.Happening.{HasAnswered, HasHappened, IsHappeningFault}
 use Rattle.zb_live.specs.Events.{task_for}
 use Rattle.zb_live.specs.Living.{Done, Found, Living, after_event, counted, declared, done, first_station, happened, next as next_number, on_meaning, on_stage, opened, refused, says_nothing, setting_of, station}
@@ -114,11 +114,11 @@ declared_so number v after (Err memory) expected front text steps kept is prints
 
 -- before the session is open, and once it is
 pub held : (found : Found) (session : Session) (now : View) → IsAlive found session now → (image : List ℕ)
-    → now.images image → Holds now (living_of session).tables image
+    → now.images image → CrashLeaves now (living_of session).tables image
 held found session now alive image left = by_centre session.centre alive
   where
     by_centre : (o : Option (Hosted CoreValue)) → IsCentreOf found session.network o now
-        → Holds now (tables_of o) image
+        → CrashLeaves now (tables_of o) image
     by_centre None waits = there now waits.can image left
     by_centre (Some host) up = images_stand (setting_of session.network) (Some host.core.tables) (Some host) now up
         image left
@@ -132,7 +132,7 @@ said_taken number sentence found old next v front text has alive only_now = reco
   alive = goes_on old.centre refl;
   after = has.after found;
   text = has.text found;
-  between = started v (HoldsEither v (living_of old).tables (done_by number found sentence old).after.tables) only_now
+  between = started v (LeavesEither v (living_of old).tables (done_by number found sentence old).after.tables) only_now
       (λ image left. inl (held found old v alive image left));
 }
   where
@@ -155,7 +155,7 @@ said_short number sentence found old next v front text f alive only_now = record
   alive = tt;
   after = tt;
   text = tt;
-  between = started v (HoldsEither v (living_of old).tables (done_by number found sentence old).after.tables) only_now
+  between = started v (LeavesEither v (living_of old).tables (done_by number found sentence old).after.tables) only_now
       (λ image left. inl (held found old v alive image left));
 }
 
@@ -284,9 +284,9 @@ module _ (number : ℕ) (found : Found) (old next : Session) (tells : Telling) (
       (closed_of old.centre none) ∙ rw has refl
 
   was_held : (image : List ℕ) → WasThereOrEmpty before image
-      → HoldsEither before (living_of old).tables d.after.tables image
+      → LeavesEither before (living_of old).tables d.after.tables image
   was_held image was =
-      inl (subst (λ (o : Option (Hosted CoreValue)). Holds before (tables_of o) image)
+      inl (subst (λ (o : Option (Hosted CoreValue)). CrashLeaves before (tables_of o) image)
       (sym (closed_of old.centre none)) was)
 
   pub opened_some : (host : Hosted CoreValue) (r : Result (Unit {0}) AdminFault) → setting_of old.network ≡ c
@@ -305,7 +305,7 @@ module _ (number : ℕ) (found : Found) (old next : Session) (tells : Telling) (
         after = always r (ap living_of is ∙ sym (ap (λ (e : Done). e.after) here));
         text = on_ok r (λ t. t ∙ ap (λ (e : Done). front ++ e.text) (sym here)) prints;
         between = weakened before after (WasThereOrEmpty before)
-            (HoldsEither before (living_of old).tables d.after.tables) was_held (judged.moments waits.can told);
+            (LeavesEither before (living_of old).tables d.after.tables) was_held (judged.moments waits.can told);
       }
 
 -- ---- an event of the centre
@@ -379,10 +379,10 @@ module _ (number : ℕ) (found : Found) (old : Session) (event : Event) (task : 
       is_up ∙ ap (happened number (living_of old) host.core.tables) stands_for
 
   either : (image : List ℕ) → StandsAsEither (Some host.core.tables) (Some (tables_after c2 task host.core.tables))
-      image → HoldsEither before (living_of old).tables done2.after.tables image
+      image → LeavesEither before (living_of old).tables done2.after.tables image
   either image (inl was) =
-      inl (subst (λ (o : Option (Hosted CoreValue)). Holds before (tables_of o) image) (sym is_up) was)
-  either image (inr is) = inr (subst (λ (e : Done). Holds before e.after.tables image) (sym event_is) is)
+      inl (subst (λ (o : Option (Hosted CoreValue)). CrashLeaves before (tables_of o) image) (sym is_up) was)
+  either image (inr is) = inr (subst (λ (e : Done). CrashLeaves before e.after.tables image) (sym event_is) is)
 
   pub event_taken : (next : Session) (front page text : List ℕ) (sends : Bool) (r : Result (Unit {0}) AdminFault)
       → HasHappened c2 host.core.tables task old.log (next_number old.events) (next_number old.frames) before front
@@ -408,7 +408,7 @@ module _ (number : ℕ) (found : Found) (old : Session) (event : Event) (task : 
         (λ (e : Done). front ++ e.text) (sym event_is)) prints;
     between =
         weakened before after (StandsAsEither (Some host.core.tables) (Some (tables_after c2 task host.core.tables)))
-        (HoldsEither before (living_of old).tables done2.after.tables) either h.moments;
+        (LeavesEither before (living_of old).tables done2.after.tables) either h.moments;
   }
     where
       tables_are : host2.core.tables ≡ tables_after c2 task host.core.tables
@@ -669,7 +669,7 @@ counted_taken n found old d e v front r next new page is h = record {
   alive = h.alive;
   after = on_ok r (λ a. a ∙ sym (ap (λ (x : Done). x.after) is)) h.after;
   text = on_ok r (λ t. t ∙ ap (λ (x : Done). front ++ x.text) (sym is)) h.text;
-  between = subst (λ (x : Done). LeavesOnly v new (HoldsEither v (living_of old).tables x.after.tables)) (sym is)
+  between = subst (λ (x : Done). LeavesOnly v new (LeavesEither v (living_of old).tables x.after.tables)) (sym is)
       h.between;
 }
 
@@ -725,6 +725,6 @@ unread_taken n found old line v front page r count value prints alive only_now =
       alive = always r alive;
       after = always r (sym (ap (λ (x : Done). x.after) is));
       text = on_ok r (λ t. t ∙ ap (λ (x : Done). front ++ x.text) (sym is)) prints;
-      between = started v (HoldsEither v (living_of old).tables (done found line (living_of old)).after.tables)
+      between = started v (LeavesEither v (living_of old).tables (done found line (living_of old)).after.tables)
           only_now (λ image left. inl (held found old v alive image left));
     }

@@ -67,12 +67,12 @@ abbrev pub IsAlive : Found → Session → View → Type 0
 IsAlive found session now = IsCentreOf found session.network session.centre now
 
 -- What a crash leaves: before the session is open what was there on this disk, and then the record of its tables.
-abbrev pub Holds : View → Option NodeState → List ℕ → Type 0
-Holds disk None image = WasThereOrEmpty disk image
-Holds disk (Some s) image = StandsAs (Some s) image
+abbrev pub CrashLeaves : View → Option NodeState → List ℕ → Type 0
+CrashLeaves disk None image = WasThereOrEmpty disk image
+CrashLeaves disk (Some s) image = StandsAs (Some s) image
 
-abbrev pub HoldsEither : View → Option NodeState → Option NodeState → List ℕ → Type 0
-HoldsEither disk before after image = Holds disk before image ⊎ Holds disk after image
+abbrev pub LeavesEither : View → Option NodeState → Option NodeState → List ℕ → Type 0
+LeavesEither disk before after image = CrashLeaves disk before image ⊎ CrashLeaves disk after image
 
 -- A line that calls no disk was taken: what it writes stands on the page after what stood there, the session is the
 -- one after it, and the centre is as it was.
@@ -90,7 +90,7 @@ pub record HasTaken (found : Found) (session : Session) (d : Done) (old : View) 
   pub alive : OnOk result (IsAlive found next new)
   pub after : OnOk result (living_of next ≡ d.after)
   pub text : OnOk result (page ≡ front ++ d.text)
-  pub between : LeavesOnly old new (HoldsEither old (living_of session).tables d.after.tables)
+  pub between : LeavesOnly old new (LeavesEither old (living_of session).tables d.after.tables)
 
 -- A line was taken over any disk, one that tells nothing too: what it writes stands on the page after what stood
 -- there, and the session is the one after it. Where it opens the session, some tables are found in the store, or none.

@@ -6,7 +6,7 @@ use Rattle.zb_base.specs.Outside.{AppendsFront}
 use Rattle.zb_centre_store.specs.Outside.{Outside}
 use Rattle.zb_disk.proofs.Moments.{weakened}
 use Rattle.zb_disk.specs.View.{View, LeavesOnly}
-use Rattle.zb_live.specs.Alive.{Holds, HoldsEither}
+use Rattle.zb_live.specs.Alive.{CrashLeaves, LeavesEither}
 use Rattle.zb_live.specs.Living.{Done, Found, Living, done, fresh, served}
 use Rattle.zb_live_serve.specs.Moments.{AnsweredFirst, Covers, Goes, Input, Moment, Stretch, calls, reads, writes}
 use Rattle.zb_model.specs.Data.{Bytes}
@@ -138,20 +138,20 @@ module _ {D W : Type 0} (x : Outside D W) (found : Found) (first : View) (input 
         (λ (w : Living). (served found lines fresh).text ++ (done found line w).text) (sym so_far.session)
 
     -- what a crash leaves while the disk is called for the line
-    covers_either : (image : List ℕ) → HoldsEither first v.tables d.after.tables image
+    covers_either : (image : List ℕ) → LeavesEither first v.tables d.after.tables image
         → Covers x found first longer before out image
     covers_either image (inl holds) = record {
       taken = lines;
       more = line ∷ [];
       split = refl;
-      holds = subst (λ (w : Living). Holds first w.tables image) so_far.session holds;
+      holds = subst (λ (w : Living). CrashLeaves first w.tables image) so_far.session holds;
       written = front_of_all (x.taken before) (x.taken out) (served found lines fresh).text so_far.written;
     }
     covers_either image (inr holds) = record {
       taken = longer;
       more = [];
       split = append-nil longer;
-      holds = subst (λ (w : Living). Holds first w.tables image) after_is holds;
+      holds = subst (λ (w : Living). CrashLeaves first w.tables image) after_is holds;
       written = subst (AppendsFront (x.taken before) (x.taken out)) (sym text_is)
           (front_within (x.taken before) (x.taken out) (served found lines fresh).text d.text
           (front_of_all (x.taken before) (x.taken out) (served found lines fresh).text so_far.written));
@@ -159,12 +159,12 @@ module _ {D W : Type 0} (x : Outside D W) (found : Found) (first : View) (input 
 
     -- ... and while what it writes is written
     covers_after : (sink : W) → AppendsFront (x.taken out) (x.taken sink) d.text → (image : List ℕ)
-        → Holds first d.after.tables image → Covers x found first longer before sink image
+        → CrashLeaves first d.after.tables image → Covers x found first longer before sink image
     covers_after sink front image holds = record {
       taken = longer;
       more = [];
       split = append-nil longer;
-      holds = subst (λ (w : Living). Holds first w.tables image) after_is holds;
+      holds = subst (λ (w : Living). CrashLeaves first w.tables image) after_is holds;
       written = subst (AppendsFront (x.taken before) (x.taken sink)) (sym text_is)
           (front_behind (x.taken before) (x.taken out) (x.taken sink) (served found lines fresh).text d.text
           so_far.written front);
@@ -175,22 +175,22 @@ module _ {D W : Type 0} (x : Outside D W) (found : Found) (first : View) (input 
         (present disk2 out2 rest)
 
     -- the disk was called for the line
-    pub called : (disk2 : D) → LeavesOnly (x.state disk) (x.state disk2) (HoldsEither first v.tables d.after.tables)
+    pub called : (disk2 : D) → LeavesOnly (x.state disk) (x.state disk2) (LeavesEither first v.tables d.after.tables)
         → Way disk2 out
     called disk2 leaves = (
       so_far.between ++ present disk2 out rest ∷ [],
       goes_on longer (begun old) so_far.between (present disk out rest) (present disk2 out rest)
           (goes_more lines (line ∷ []) (begun old) so_far.between (present disk out rest) so_far.goes)
           (calls refl refl
-          (weakened (x.state disk) (x.state disk2) (HoldsEither first v.tables d.after.tables)
+          (weakened (x.state disk) (x.state disk2) (LeavesEither first v.tables d.after.tables)
           (Covers x found first longer before out) covers_either leaves)),
     )
 
     -- and then a prefix of what it writes was written
     pub told : (disk2 : D) (sink : W)
-        → LeavesOnly (x.state disk) (x.state disk2) (HoldsEither first v.tables d.after.tables)
+        → LeavesOnly (x.state disk) (x.state disk2) (LeavesEither first v.tables d.after.tables)
         → AppendsFront (x.taken out) (x.taken sink) d.text
-        → ((image : List ℕ) → (x.state disk2).images image → Holds first d.after.tables image) → Way disk2 sink
+        → ((image : List ℕ) → (x.state disk2).images image → CrashLeaves first d.after.tables image) → Way disk2 sink
     told disk2 sink leaves front holds =
         let way = called disk2 leaves in (
           way.0 ++ present disk2 sink rest ∷ [],
@@ -200,9 +200,9 @@ module _ {D W : Type 0} (x : Outside D W) (found : Found) (first : View) (input 
 
     -- all of it was
     pub one_more : (v2 : Living) (disk2 : D) (sink : W)
-        → LeavesOnly (x.state disk) (x.state disk2) (HoldsEither first v.tables d.after.tables)
+        → LeavesOnly (x.state disk) (x.state disk2) (LeavesEither first v.tables d.after.tables)
         → Appends (x.taken out) (x.taken sink) d.text
-        → ((image : List ℕ) → (x.state disk2).images image → Holds first d.after.tables image) → v2 ≡ d.after
+        → ((image : List ℕ) → (x.state disk2).images image → CrashLeaves first d.after.tables image) → v2 ≡ d.after
         → SoFar longer v2 old disk2 sink rest
     one_more v2 disk2 sink leaves text holds is =
         let way = told disk2 sink leaves (front_of_all (x.taken out) (x.taken sink) d.text text) holds in record {

@@ -14,7 +14,7 @@ use Rattle.zb_disk.proofs.Moments.{still_refl, still_trans, weakened}
 use Rattle.zb_disk.specs.View.{IsStill, LeavesOnly, View}
 use Rattle.zb_host.specs.Hosts.{Hosted}
 use Rattle.zb_live.proofs.SessionLemmas.{held}
-use Rattle.zb_live.specs.Alive.{HasTaken, Holds, HoldsEither, IsAlive, IsCentreOf, IsLineFault, living_of, tables_of}
+use Rattle.zb_live.specs.Alive.{HasTaken, CrashLeaves, LeavesEither, IsAlive, IsCentreOf, IsLineFault, living_of, tables_of}
 use Rattle.zb_live.specs.Living.{Done, Found, Living, counted, done, fresh, happened, next as next_number, on_meaning, on_open, on_stage, served, setting_of}
 use Rattle.zb_live.specs.Events.{task_for}
 use Rattle.zb_live.specs.declared.session.Session.{Session}
@@ -47,7 +47,7 @@ no_tables (Some host) e = absurd (cc)
 
 -- a disk on which nothing has changed leaves what it left at first
 at_first : (first disk : View) (o : Option NodeState) (image : List ℕ) → (o ≡ None → IsStill first disk)
-    → Holds disk o image → Holds first o image
+    → CrashLeaves disk o image → CrashLeaves first o image
 at_first first disk None image still holds = was_there_still first disk (still refl) image holds
 at_first first disk (Some s) image still holds = holds
 
@@ -148,9 +148,10 @@ module _ {D W : Type 0} (x : Outside D W) (input : Input) (old : D) (before : W)
     closed : (living_of session).tables ≡ None → IsStill (x.state old) (x.state disk)
     closed none = now.waits (no_tables session.centre none)
 
-    each_first : (line : Bytes) (image : List ℕ) → HoldsEither (x.state disk) (living_of session).tables
+    each_first : (line : Bytes) (image : List ℕ) → LeavesEither (x.state disk) (living_of session).tables
         (done found line (living_of session)).after.tables image
-        → HoldsEither (x.state old) (living_of session).tables (done found line (living_of session)).after.tables image
+        → LeavesEither (x.state old) (living_of session).tables
+        (done found line (living_of session)).after.tables image
     each_first line image (inl holds) =
         inl (at_first (x.state old) (x.state disk) (living_of session).tables image closed holds)
     each_first line image (inr holds) =
@@ -248,7 +249,7 @@ module _ {D W : Type 0} (x : Outside D W) (input : Input) (old : D) (before : W)
       front = tt;
       told = told_all now.lines (x.taken before) (x.taken out) (living_of session) now.wrote;
       told_front = tt;
-      last = λ told can image there. subst (λ (v : Living). Holds (x.state old) v.tables image)
+      last = λ told can image there. subst (λ (v : Living). CrashLeaves (x.state old) v.tables image)
           (now.so_far told can).session
           (at_first (x.state old) (x.state disk) (living_of session).tables image closed
           (held found session (x.state disk) (now.alive told can) image there));
@@ -367,11 +368,11 @@ module _ {D W : Type 0} (x : Outside D W) (input : Input) (old : D) (before : W)
               one_more x found (x.state old) input before now.lines taken (living_of session) old disk out rest
               (now.so_far told can) (living_of session2) disk2 out2
               (weakened (x.state disk) (x.state disk2)
-              (HoldsEither (x.state disk) (living_of session).tables
+              (LeavesEither (x.state disk) (living_of session).tables
               (done found taken (living_of session)).after.tables)
-              (HoldsEither (x.state old) (living_of session).tables
+              (LeavesEither (x.state old) (living_of session).tables
               (done found taken (living_of session)).after.tables) (each_first taken) h.between) h.lines
-              (λ image there. subst (λ (v : Living). Holds (x.state old) v.tables image) h.after_it
+              (λ image there. subst (λ (v : Living). CrashLeaves (x.state old) v.tables image) h.after_it
               (at_first (x.state old) (x.state disk2) (living_of session2).tables image
               (λ none. let w = waits (no_tables session2.centre none) in still_trans (x.state old) (x.state disk)
               (x.state disk2) (now.waits w.0) w.1)
@@ -409,7 +410,7 @@ module _ {D W : Type 0} (x : Outside D W) (input : Input) (old : D) (before : W)
         (out2 ≡ out)
         ⊎ (AppendsFront (x.taken out) (x.taken out2) (done found taken (living_of session)).text
         × ((image : List ℕ) → (x.state disk2).images image
-        → Holds (x.state disk2) (done found taken (living_of session)).after.tables image)
+        → CrashLeaves (x.state disk2) (done found taken (living_of session)).after.tables image)
         × ((done found taken (living_of session)).after.tables ≡ None → IsStill (x.state disk) (x.state disk2)))
 
     pub ends_at : (hold2 : Bytes) (line : Vec ℕ Global) (text : Bytes) (session2 : Session) (disk2 : D) (out2 : W)
@@ -462,23 +463,24 @@ module _ {D W : Type 0} (x : Outside D W) (input : Input) (old : D) (before : W)
 
         leaves_first : (taken : Bytes) (disk2 : D)
             → LeavesOnly (x.state disk) (x.state disk2)
-            (HoldsEither (x.state disk) (living_of session).tables (done found taken (living_of session)).after.tables)
+            (LeavesEither (x.state disk) (living_of session).tables
+            (done found taken (living_of session)).after.tables)
             → LeavesOnly (x.state disk) (x.state disk2)
-            (HoldsEither (x.state old) (living_of session).tables
+            (LeavesEither (x.state old) (living_of session).tables
             (done found taken (living_of session)).after.tables)
         leaves_first taken disk2 leaves =
             weakened (x.state disk) (x.state disk2)
-            (HoldsEither (x.state disk) (living_of session).tables
+            (LeavesEither (x.state disk) (living_of session).tables
             (done found taken (living_of session)).after.tables)
-            (HoldsEither (x.state old) (living_of session).tables (done found taken (living_of session)).after.tables)
+            (LeavesEither (x.state old) (living_of session).tables (done found taken (living_of session)).after.tables)
             (each_first taken) leaves
 
         holds_first : (taken : Bytes) (disk2 : D)
             → ((image : List ℕ) → (x.state disk2).images image
-            → Holds (x.state disk2) (done found taken (living_of session)).after.tables image)
+            → CrashLeaves (x.state disk2) (done found taken (living_of session)).after.tables image)
             → ((done found taken (living_of session)).after.tables ≡ None → IsStill (x.state disk) (x.state disk2))
             → (image : List ℕ) → (x.state disk2).images image
-            → Holds (x.state old) (done found taken (living_of session)).after.tables image
+            → CrashLeaves (x.state old) (done found taken (living_of session)).after.tables image
         holds_first taken disk2 holds still image there =
             at_first (x.state old) (x.state disk2) (done found taken (living_of session)).after.tables image
             (λ none. still_trans (x.state old) (x.state disk) (x.state disk2)
@@ -530,7 +532,7 @@ module _ {D W : Type 0} (x : Outside D W) (f : Found) (session next : Session) (
     lines = tt;
     cut = inr (
       subst (AppendsFront (x.taken out) (x.taken sink)) (h.text ∙ ap (λ l. l ++ d.text) empty) cut,
-      λ image there. subst (λ (v : Living). Holds (x.state new) v.tables image) h.after
+      λ image there. subst (λ (v : Living). CrashLeaves (x.state new) v.tables image) h.after
           (held f next (x.state new) h.alive image there),
       λ none. (waits (no_tables next.centre (ap (λ (v : Living). v.tables) h.after ∙ none))).1,
     );

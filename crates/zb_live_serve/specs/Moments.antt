@@ -5,7 +5,7 @@ use Rattle.std.specs.Io.KnownBytes.{Appends}
 use Rattle.zb_base.specs.Outside.{AppendsFront}
 use Rattle.zb_centre_store.specs.Outside.{Outside}
 use Rattle.zb_disk.specs.View.{View, LeavesOnly}
-use Rattle.zb_live.specs.Alive.{Holds}
+use Rattle.zb_live.specs.Alive.{CrashLeaves}
 use Rattle.zb_live.specs.Living.{Found, fresh, served}
 use Rattle.zb_live_serve.specs.WholeLines.{whole_lines}
 use Rattle.zb_model.specs.Data.{Bytes}
@@ -32,7 +32,7 @@ pub record Covers {D W : Type 0} (x : Outside D W) (found : Found) (first : View
   pub taken : List Bytes
   pub more : List Bytes
   pub split : taken ++ more ≡ lines
-  pub holds : Holds first (served found taken fresh).after.tables image
+  pub holds : CrashLeaves first (served found taken fresh).after.tables image
   pub written : AppendsFront (x.taken before) (x.taken out) (served found taken fresh).text
 
 -- Of all bytes of the input these came so far, and the whole lines among them were all answered: what was written is

@@ -5,7 +5,7 @@ use Rattle.zb_base.specs.Outside.{AppendsFront, Rose}
 use Rattle.zb_centre_store.specs.Outside.{Outside}
 use Rattle.zb_centre_store.specs.declared.fault.AdminFault.TheVariants as store
 use Rattle.zb_disk.specs.View.{IsStill, LeavesOnly}
-use Rattle.zb_live.specs.Alive.{Holds, HoldsEither, IsAlive, IsLineFault, living_of}
+use Rattle.zb_live.specs.Alive.{CrashLeaves, LeavesEither, IsAlive, IsLineFault, living_of}
 use Rattle.zb_live.specs.Living.{Done, Found, done}
 use Rattle.zb_live.specs.declared.session.Session.{Session}
 use Rattle.zb_live_serve.specs.declared.fault.LiveFault.{LiveFault}
@@ -18,12 +18,12 @@ pub record HasServedLine {D W : Type 0} (x : Outside D W) (found : Found) (sessi
   pub alive : OnOk result (IsAlive found next (x.state new))
   pub after_it : OnOk result (living_of next ≡ d.after)
   pub between : LeavesOnly (x.state old) (x.state new)
-      (HoldsEither (x.state old) (living_of session).tables d.after.tables)
+      (LeavesEither (x.state old) (living_of session).tables d.after.tables)
   pub lines : OnOk result (Appends (x.taken before) (x.taken after) d.text)
   -- nothing was written, or a prefix of what the line writes was, once every image holds the session after it
   pub cut : OnErr result ((after ≡ before)
       ⊎ (AppendsFront (x.taken before) (x.taken after) d.text
-      × ((image : List ℕ) → (x.state new).images image → Holds (x.state new) d.after.tables image)
+      × ((image : List ℕ) → (x.state new).images image → CrashLeaves (x.state new) d.after.tables image)
       × (d.after.tables ≡ None → IsStill (x.state old) (x.state new))))
 
 -- Over any store, one that tells nothing too, what a line writes was written, and the session is the one after it.

@@ -5,7 +5,7 @@ use Rattle.zb_base.specs.Outside.{AppendsFront, Rose, Unrisen}
 use Rattle.zb_centre_store.specs.Outside.{Outside}
 use Rattle.zb_centre_store.specs.Standing.{CanBeServed, IsWornOut, found_on}
 use Rattle.zb_centre_store.specs.declared.fault.AdminFault.TheVariants as store
-use Rattle.zb_live.specs.Alive.{Holds}
+use Rattle.zb_live.specs.Alive.{CrashLeaves}
 use Rattle.zb_live.specs.Living.{fresh, served}
 use Rattle.zb_live_serve.specs.Feeding.{BeginsLong}
 use Rattle.zb_live_serve.specs.Following.{WritesAll, WritesFront}
@@ -55,7 +55,7 @@ pub record Lives {D W : Type 0} (x : Outside D W) (input : Input) (old : D) (bef
   -- at Ok every image holds the session after them
   pub last : OnOk result
       (IsTrue x.tells.content → CanBeServed (x.state old) → (image : List ℕ) → (x.state new).images image
-      → Holds (x.state old) (served (found_on (x.state old).seen) lines fresh).after.tables image)
+      → CrashLeaves (x.state old) (served (found_on (x.state old).seen) lines fresh).after.tables image)
   -- at every moment an image holds the session after some first lines, and each line is among them of whose answer a
   -- byte was written; and before each read all whole lines that came were answered
   pub moments : IsTrue x.tells.content → CanBeServed (x.state old)

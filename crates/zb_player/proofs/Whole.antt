@@ -14,7 +14,7 @@ use Rattle.zb_model.specs.Transcript.{end_line, run_lines, transcript}
 use Rattle.zb_model_real.specs.Real.{real}
 use Rattle.law_schedules.specs.Schedules.{event_for, schedule_of, stations_for}
 use Rattle.zb_player.specs.Playing.{RunStands}
-use Rattle.zb_player.specs.Runs.{Answers, HaveMade, IsFront, IsPlayed, IsWhole, Played, PrintsAll, Sums, acts_of, disks_after, last_line, lines_of, text_in, transcript_text}
+use Rattle.zb_player.specs.Runs.{Answers, HaveMade, IsFront, IsPlayed, IsWhole, WerePlayed, PrintsAll, Sums, acts_of, disks_after, last_line, lines_of, text_in, transcript_text}
 use Rattle.zb_player.specs.declared.run.Run.{Run}
 use Rattle.zb_player.specs.declared.summary.Summary.{Summary}
 use Rattle.zb_player.proofs.RunSteps.{front_at, front_of}
@@ -138,7 +138,7 @@ whole_run p run disks before mid after e out =
 pub played_disks : (p : sched.Schedule) (run : Run) (disks : List Medium) (before after : Option Bytes)
     → Ended p run disks before after
     → HaveMade (run_calls real (schedule_of p) (start (schedule_of p)) [] 1 (schedule_of p).events)
-    (stations (schedule_of p)) disks → Played p disks
+    (stations (schedule_of p)) disks → WerePlayed p disks
 played_disks p run disks before after e calls = record {
   nodes = run.nodes.items;
   ds = e.ds;

@@ -94,7 +94,7 @@ HaveMade more _ _ = ⊥
 
 -- The disks are those of nodes that stand as the lines of the whole run say, one a node, in their order. After the
 -- start each made the device calls that the model counts for the events of its node.
-pub record Played (p : sched.Schedule) (disks : List Medium) : Type 0 where
+pub record WerePlayed (p : sched.Schedule) (disks : List Medium) : Type 0 where
   pub nodes : List NodeValue
   pub ds : List Disk
   pub stand : AllStand (schedule_of p) (run_lines real (schedule_of p)) ds (length p.events + 1)

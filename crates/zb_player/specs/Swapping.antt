@@ -14,7 +14,7 @@ use Rattle.zb_player.specs.Playing.{RunIn, passed_by}
 use Rattle.zb_player.specs.Runs.{IsPlayed, acts_of, last_line, text_in}
 use Rattle.zb_player.specs.declared.run.Run.{Run}
 use Rattle.zb_player.specs.declared.summary.Summary.{Summary}
-use Rattle.zb_player_events.specs.Nodes.{Holds}
+use Rattle.zb_player_events.specs.Nodes.{CanBootFrom}
 use Rattle.zb_player_scribe.specs.Pages.{IsFor}
 use Rattle.zb_sched.specs.Schedules as sched
 use Rattle.zb_sched_line.specs.Said as said
@@ -26,7 +26,7 @@ use Rattle.zb_base.specs.Sizes.{last_given_generation}
 -- then the node is down.
 abbrev pub Fits : ℕ → Option Stood → Option Medium → Condition → Type 0
 Fits latest None None x = ⊤
-Fits latest (Some s) (Some m) x = (x.up ≡ false) × Holds x.setting.me.role latest m s
+Fits latest (Some s) (Some m) x = (x.up ≡ false) × CanBootFrom x.setting.me.role latest m s
 Fits latest _ _ x = ⊥
 
 -- before an event of this node, if it is of one

@@ -3,7 +3,7 @@ ghost use Rattle.std.specs.Prelude.{◌≡◌, ◌≢◌, ◌≤◌, ◌+◌, []
 ghost use Rattle.zb_base.specs.Outside.{Rose, Unrisen};
 ghost use Rattle.zb_player_events.specs.Told.{lines_told};
 ghost use Rattle.zb_player.specs.Benches.{AsksFor, AsksAll};
-ghost use Rattle.zb_player.specs.Runs.{Answers, AreMade, IsFront, IsWhole, Played, PrintsAll, Sums};
+ghost use Rattle.zb_player.specs.Runs.{Answers, AreMade, IsFront, IsWhole, WerePlayed, PrintsAll, Sums};
 ghost use Rattle.zb_player.specs.Swapping.{AnswersGiven, IsSwapped, IsSwappedFront, PrintsGiven, SumsSwapped};
 ghost use Rattle.zb_sched.specs.Schedules as sched;
 ghost use Rattle.zb_sched.specs.Valid.{IsSchedule};
@@ -47,7 +47,8 @@ pub fn play<B: Bench, W: Sink>(
     ensures front { B.still bench.old ≡ true → OnErr result (IsFront (sched.schedule_of schedule.now)
         (W.taken out.old) (W.taken out.new)) }
     ensures summary { B.still bench.old ≡ true → IfOk result (Sums (sched.schedule_of schedule.now)) }
-    ensures disks { B.still bench.old ≡ true → OnOk result (Played (sched.schedule_of schedule.now) disks.new.items) }
+    ensures disks { B.still bench.old ≡ true
+        → OnOk result (WerePlayed (sched.schedule_of schedule.now) disks.new.items) }
 
     // Where the bench tells what it gives, and gives disks under nodes that are down alone, from which they can boot,
     // what is written is the transcript of a run whose nodes are given these disks, or a prefix of it; and the summary
@@ -90,7 +91,7 @@ pub fn play_unread(
     requires schedule { IsSchedule (sched.schedule_of schedule.now) }
     requires none { disks.old.items ≡ [] }
     ensures summary { IfOk result (Sums (sched.schedule_of schedule.now)) }
-    ensures disks { OnOk result (Played (sched.schedule_of schedule.now) disks.new.items) }
+    ensures disks { OnOk result (WerePlayed (sched.schedule_of schedule.now) disks.new.items) }
 {
     let page = Page::unread();
     let mut out = NullSink::new();
@@ -120,7 +121,8 @@ fn play_onto<B: Bench, W: Sink>(
     ensures front { B.still bench.old ≡ true → OnErr result (IsFront (sched.schedule_of schedule.now)
         (W.taken out.old) (W.taken out.new)) }
     ensures summary { B.still bench.old ≡ true → IfOk result (Sums (sched.schedule_of schedule.now)) }
-    ensures disks { B.still bench.old ≡ true → OnOk result (Played (sched.schedule_of schedule.now) disks.new.items) }
+    ensures disks { B.still bench.old ≡ true
+        → OnOk result (WerePlayed (sched.schedule_of schedule.now) disks.new.items) }
     ensures swapped { OnOk result (IsSwapped (sched.schedule_of schedule.now) (B.gave bench.new)
         (W.taken out.old) (W.taken out.new)) }
     ensures swapped_front { OnErr result (IsSwappedFront (sched.schedule_of schedule.now) (B.gave bench.new)

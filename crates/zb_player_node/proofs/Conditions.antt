@@ -36,7 +36,7 @@ use Rattle.law_run_swaps.specs.Swaps.{Stood, after_swap}
 use Rattle.zb_player_node.proofs.Showing.{same_answer}
 use Rattle.zb_player_node.proofs.Standing.{after_alike, boot_alike, calls_are, same_given, stored_as, stored_from, stored_later, stored_next, writes_are}
 use Rattle.zb_player_node.specs.Answers.{CanHave, CanStart, HasBooted, HasGiven, HasMade, IsPlanFor, IsStarted, IsStillDown, IsUpAgain, WasAnswered, WasCut, start_condition}
-use Rattle.zb_player_node.specs.Nodes.{Holds, IsIn, IsPowered, IsRunning, IsStored, words_for}
+use Rattle.zb_player_node.specs.Nodes.{CanBootFrom, IsIn, IsPowered, IsRunning, IsStored, words_for}
 use Rattle.zb_player_node.specs.Tasks.{suits}
 use Rattle.zb_player_node.specs.Values.{NodeValue, Running}
 use Rattle.zb_node_types.specs.Changes.{edits, model_role}
@@ -461,8 +461,9 @@ in_from x number later node m from is = record {
 
 -- ---- another disk
 
-pub holds_from : (role : Role) (number later : ℕ) (m : Medium) (s : Stood) → number ≤ later → Holds role number m s
-    → Holds role later m s
+pub holds_from : (role : Role) (number later : ℕ) (m : Medium) (s : Stood) → number ≤ later
+    → CanBootFrom role number m s
+    → CanBootFrom role later m s
 holds_from role number later m s from holds = record {
   standing = holds.standing;
   stored = stored_from role s.state s.commits number later holds.standing from holds.stored;
@@ -471,7 +472,7 @@ holds_from role number later m s from holds = record {
 }
 
 pub over_another : (x : Condition) (number : ℕ) (node : NodeValue) (old new : Medium) (s : Stood)
-    → IsIn x number node old → x.up ≡ false → Holds x.setting.me.role number new s
+    → IsIn x number node old → x.up ≡ false → CanBootFrom x.setting.me.role number new s
     → IsIn (after_swap (Some s) x) number node new
 over_another x number node old new s is off holds = record {
   standing = holds.standing;

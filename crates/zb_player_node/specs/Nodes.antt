@@ -64,7 +64,7 @@ pub record IsIn (x : Condition) (number : ℕ) (node : NodeValue) (m : Medium) :
 
 -- Another disk that a node of this role can boot from: it is at rest, and this stands on it. No generation on it is
 -- past that number by more than one.
-pub record Holds (role : Role) (number : ℕ) (m : Medium) (s : Stood) : Type 0 where
+pub record CanBootFrom (role : Role) (number : ℕ) (m : Medium) (s : Stood) : Type 0 where
   pub standing : Standing
   pub stored : IsStored role s.state s.commits number standing
   pub rest : IsAtRest standing m

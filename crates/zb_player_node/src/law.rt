@@ -3,7 +3,7 @@ ghost use Rattle.std.specs.Prelude.{◌≡◌, ◌+◌, ℕ, Some, false, is_som
 ghost use Rattle.zb_disk.specs.Memory.{Medium};
 ghost use Rattle.law_run_steps.specs.Conditions.{Condition};
 ghost use Rattle.law_run_swaps.specs.Swaps.{Stood, after_swap};
-ghost use Rattle.zb_player_node.specs.Nodes.{Holds, IsIn};
+ghost use Rattle.zb_player_node.specs.Nodes.{CanBootFrom, IsIn};
 ghost use Rattle.zb_player_node.specs.Values.{NodeValue};
 
 /// States that a node on which nothing acts is in the same condition before the next event.
@@ -23,5 +23,6 @@ pub fn a_host_has_power()
 /// The disk is one that a node of its role can boot from.
 pub fn another_disk_sets_the_condition()
     ensures { (x : Condition) (number : ℕ) (node : NodeValue) (old other : Medium) (s : Stood) → IsIn x number node old
-        → x.up ≡ false → Holds x.setting.me.role number other s → IsIn (after_swap (Some s) x) number node other }
+        → x.up ≡ false → CanBootFrom x.setting.me.role number other s
+        → IsIn (after_swap (Some s) x) number node other }
 {}

@@ -6,7 +6,7 @@ use Rattle.zb_disk.specs.Memory.{Medium}
 use Rattle.zb_model.specs.Play.{stations}
 use Rattle.law_schedules.specs.Schedules.{schedule_of}
 use Rattle.zb_player.specs.Playing.{RunStands}
-use Rattle.zb_player.specs.Runs.{Played, last_line, text_in}
+use Rattle.zb_player.specs.Runs.{WerePlayed, last_line, text_in}
 use Rattle.zb_player.specs.declared.run.Run.{Run}
 use Rattle.zb_player.proofs.CallsMade.{all_made}
 use Rattle.zb_player.proofs.Ending.{are_played, disks_kept, last_text}
@@ -265,7 +265,7 @@ returns-clause-disks g c = λ s.
     (length events) before
     (g.W.Sink.taken c.hand_out.new.out) (g.W.Sink.taken c.answer_all.new.out)
     played (sym (length-map events event_of)) stands1 out (c.in_ok-answer_all.ensures.whole s) in
-    subst (Played p)
+    subst (WerePlayed p)
     (sym (disks_kept c.start.new.disks.len c.answer_all.new.disks c.start.new.disks.items
     (c.answer_all.auto.disks ∙ c.deref_mut.ensures.len)))
     (played_disks p c.answer_all.new.run c.answer_all.new.disks before (g.W.Sink.taken c.answer_all.new.out) ended

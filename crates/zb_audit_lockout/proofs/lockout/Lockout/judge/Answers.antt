@@ -1,6 +1,6 @@
 use Rattle.std.proofs.Common.{◌≡◌, Bool, sym, refl, subst, true}
 use Rattle.zb_audit_lockout.specs.Facts.{eui_of_node}
-use Rattle.zb_audit_lockout.specs.Standing.{CarriesSome, Draws, Forges, Forgets, Holds, Judges, Removes, Seals, Tells}
+use Rattle.zb_audit_lockout.specs.Standing.{CarriesSome, Draws, Forges, Forgets, CameToHold, Judges, Removes, Seals, Tells}
 use Rattle.zb_audit_lockout.specs.Reading.{accepts}
 use Rattle.zb_trace.specs.declared.line.Line.{Line}
 use Rattle.zb_carried_keys.specs.Carrying.{carried}
@@ -10,7 +10,7 @@ use Rattle.zb_audit_lockout.proofs.lockout.Lockout.judge.Goals as goal
 
 pub returns-in-GivenNet-clause-judges : goal.returns-in-GivenNet-clause-judges
 returns-in-GivenNet-clause-judges c =
-    let kept : (stays : Bool) → Holds c.args.self.now.reach c.hold.new.self.reach _
+    let kept : (stays : Bool) → CameToHold c.args.self.now.reach c.hold.new.self.reach _
     → Tells c.args.self.now.reach c.hold.new.self.reach stays
     → Judges c.args.self.now c.hold.new.self c.args.number c.args.line.now c.args.who stays =
     λ stays reach tells. subst (λ (l : Line). Judges c.args.self.now c.hold.new.self c.args.number l c.args.who stays)
@@ -22,7 +22,7 @@ returns-in-GivenNet-clause-judges c =
 
 pub returns-in-GivenLink-clause-judges : goal.returns-in-GivenLink-clause-judges
 returns-in-GivenLink-clause-judges c =
-    let kept : (stays : Bool) → Holds c.args.self.now.reach c.hold-in-GivenLink.new.self.reach _
+    let kept : (stays : Bool) → CameToHold c.args.self.now.reach c.hold-in-GivenLink.new.self.reach _
     → Tells c.args.self.now.reach c.hold-in-GivenLink.new.self.reach stays
     → Judges c.args.self.now c.hold-in-GivenLink.new.self c.args.number c.args.line.now c.args.who stays =
     λ stays reach tells. subst
@@ -35,7 +35,7 @@ returns-in-GivenLink-clause-judges c =
 
 pub returns-in-Install-clause-judges : goal.returns-in-Install-clause-judges
 returns-in-Install-clause-judges c =
-    let kept : (stays : Bool) → Holds c.args.self.now.reach c.hold-in-Install.new.self.reach _
+    let kept : (stays : Bool) → CameToHold c.args.self.now.reach c.hold-in-Install.new.self.reach _
     → Tells c.args.self.now.reach c.hold-in-Install.new.self.reach stays
     → Judges c.args.self.now c.hold-in-Install.new.self c.args.number c.args.line.now c.args.who stays =
     λ stays reach tells. subst
@@ -48,7 +48,7 @@ returns-in-Install-clause-judges c =
 
 pub returns-in-Row-clause-judges : goal.returns-in-Row-clause-judges
 returns-in-Row-clause-judges c =
-    let kept : (stays : Bool) → Holds c.args.self.now.reach c.hold-in-Row.new.self.reach _
+    let kept : (stays : Bool) → CameToHold c.args.self.now.reach c.hold-in-Row.new.self.reach _
     → Tells c.args.self.now.reach c.hold-in-Row.new.self.reach stays
     → Judges c.args.self.now c.hold-in-Row.new.self c.args.number c.args.line.now c.args.who stays =
     λ stays reach tells. subst
@@ -61,7 +61,7 @@ returns-in-Row-clause-judges c =
 
 pub returns-in-Pair-clause-judges : goal.returns-in-Pair-clause-judges
 returns-in-Pair-clause-judges c =
-    let kept : (stays : Bool) → Holds c.args.self.now.reach c.hold-in-Pair.new.self.reach _
+    let kept : (stays : Bool) → CameToHold c.args.self.now.reach c.hold-in-Pair.new.self.reach _
     → Tells c.args.self.now.reach c.hold-in-Pair.new.self.reach stays
     → Judges c.args.self.now c.hold-in-Pair.new.self c.args.number c.args.line.now c.args.who stays =
     λ stays reach tells. subst

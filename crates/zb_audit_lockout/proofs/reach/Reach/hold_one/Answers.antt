@@ -1,7 +1,7 @@
 use Rattle.std.proofs.Common.{ap, ◌∙◌}
 use Rattle.zb_audit_names.proofs.Entries.{if_ok, on_ok}
 use Rattle.zb_base.specs.declared.address.Eui.{Eui}
-use Rattle.zb_audit_lockout.specs.Standing.{Holds, Settles}
+use Rattle.zb_audit_lockout.specs.Standing.{CameToHold, Settles}
 use Rattle.zb_audit_lockout.specs.declared.reach.Reach.{Reach}
 use Rattle.zb_audit_lockout.proofs.Telling.{held_tells}
 use Rattle.std.proofs.Common.{ℕ, bytes_eq, nat_eq, ◌&&◌}
@@ -22,7 +22,7 @@ returns-clause-holds c =
       drawn = c.args.self.now.drawn;
       spread = c.args.self.now.spread;
     } in
-    let read : Settles mid c.follow.new.self → Holds c.args.self.now c.follow.new.self
+    let read : Settles mid c.follow.new.self → CameToHold c.args.self.now c.follow.new.self
     (λ (d : ℕ) (k : Bytes). nat_eq d c.args.device.0 && bytes_eq k c.args.key.0) =
     λ s. record {
       windows = s.windows;
