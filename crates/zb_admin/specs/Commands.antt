@@ -29,8 +29,8 @@ lays_out (Init key) None = true
 lays_out (Restore by bytes) None = true
 lays_out _ _ = false
 
--- At each moment of a command, one that is cut too, an image represents what stood before it or for what stands after
--- it. Of the moments inside a command that makes a new store nothing is said.
+-- At each moment of a command, one that is cut too, an image represents what stood before it or what stands after it.
+-- Of the moments inside a command that makes a new store nothing is said.
 abbrev pub IsBetween : Bool → Option NodeState → Option NodeState → View → View → Type 0
 IsBetween lays before after old new = lays ≡ false → LeavesOnly old new (StandsAsEither before after)
 

@@ -13,7 +13,7 @@ use Rattle.zb_model.specs.Rules.{Setting}
 use Rattle.zb_model.specs.State.{NodeState}
 use Rattle.zb_script.specs.declared.script.Step.{Step}
 
--- what stands after the first so many commands of a script, and what they write
+-- what stands after the first `n` commands of a script, and what they write
 abbrev pub standing_after : Setting → List Step → Option NodeState → ℕ → Option NodeState
 standing_after c steps first n = (served c (take n steps) first).after
 
@@ -25,16 +25,16 @@ pub record Moment (D W : Type 0) : Type 0 where
   pub disk : D
   pub out : W
 
--- An image represents what stands after the first so many commands, and all that was written by then is a prefix of
--- what these write. So each command is among them of whose lines a byte was written.
+-- An image represents what stands after the first commands, as many as `commands` says, and all that was written by
+-- then is a prefix of what these write. So each command is among them of whose lines a byte was written.
 pub record Covers {D W : Type 0} (x : Outside D W) (c : Setting) (steps : List Step) (first : Option NodeState)
     (before out : W) (image : List ℕ) : Type 0 where
   pub commands : ℕ
   pub stands_so : StandsAs (standing_after c steps first commands) image
   pub written : AppendsFront (x.taken before) (x.taken out) (text_after c steps first commands)
 
--- What the first so many commands write was written, and the next one makes a new store: it is `init` or `restore`,
--- and nothing stands.
+-- What the first commands write was written, and the next one makes a new store: it is `init` or `restore`, and
+-- nothing stands.
 pub record MakesStore {D W : Type 0} (x : Outside D W) (c : Setting) (steps : List Step) (first : Option NodeState)
     (before out : W) : Type 0 where
   pub commands : ℕ
@@ -44,8 +44,8 @@ pub record MakesStore {D W : Type 0} (x : Outside D W) (c : Setting) (steps : Li
   pub comes_next : drop commands steps ≡ step ∷ rest
   pub makes : lays_out step.order (standing_after c steps first commands) ≡ true
 
--- The next command after the first so many has something to store: a store stands then, and the policy's answer in
--- that state has changes.
+-- The next command after the first ones has something to store: a store stands then, and the policy's answer in that
+-- state has changes.
 pub record IsWornAt (c : Setting) (steps : List Step) (first : Option NodeState) : Type 0 where
   pub commands : ℕ
   pub step : Step
@@ -54,8 +54,8 @@ pub record IsWornAt (c : Setting) (steps : List Step) (first : Option NodeState)
   pub changes : HasChanges c step (standing_after c steps first commands)
 
 -- From one moment of a run to a later one. Either the disk is called, and nothing is written; or something is written,
--- and the disk stays as it is. A crash at any moment in between leaves an image that covers what was written by then;
--- but nothing is said of the moments inside the calls of a command that makes a new store.
+-- and the disk stays as it is. A crash at any moment in between leaves an image that covers what was written by then.
+-- But nothing is said of the moments inside the calls of a command that makes a new store.
 pub data Stretch {D W : Type 0} (x : Outside D W) (c : Setting) (steps : List Step) (first : Option NodeState)
     (before : W) (now next : Moment D W) : Type 0 where
   calls : next.out ≡ now.out → LeavesOnly (x.state now.disk) (x.state next.disk)
@@ -72,8 +72,8 @@ Goes x c steps first before now [] last = last ≡ now
 Goes x c steps first before now (next ∷ more) last = Stretch x c steps first before now next
     × Goes x c steps first before next more last
 
--- The whole run. While the store is opened nothing is written, and an image is empty or represents what one stood for
--- before; from then on the run goes to its end by stretches.
+-- The whole run. While the store is opened nothing is written, and an image is empty or represents the same as some
+-- image before. From then on the run goes to its end by stretches.
 pub record IsRun {D W : Type 0} (x : Outside D W) (c : Setting) (steps : List Step) (first : Option NodeState)
     (old : D) (before : W) (new : D) (after : W) : Type 0 where
   pub opened : D
@@ -82,7 +82,7 @@ pub record IsRun {D W : Type 0} (x : Outside D W) (c : Setting) (steps : List St
   pub goes : Goes x c steps first before (record { disk = opened; out = before }) moments
       (record { disk = new; out = after })
 
--- An image that represents what one stood for before the call, or for what stands after the first so many commands.
+-- An image that represents the same as some image before the call, or what stands after some first commands.
 abbrev pub IsOfRun : {D W : Type 0} → Outside D W → Setting → List Step → Option NodeState → D → List ℕ → Type 0
 IsOfRun x c steps first old image = WasThereOrEmpty (x.state old) image
     ⊎ ((n : ℕ) × StandsAs (standing_after c steps first n) image)

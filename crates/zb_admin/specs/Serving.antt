@@ -34,8 +34,8 @@ pub record IsStored (c : Setting) (step : Step) (standing : Option NodeState) (o
   -- a refused command leaves the disk as it was, and what stands
   pub spared : IsRefusal (done c step standing) → IsStill old new × ((done c step standing).after ≡ standing)
 
--- The script ends at this command: it failed before its lines were written, as worn only where it had something to
--- store; or the output failed, and a prefix of them was written.
+-- The script ends at this command. Either it failed before its lines were written, as worn only where it had something
+-- to store. Or the output failed, and a prefix of them was written.
 abbrev pub EndsAt : {D W : Type 0} → Outside D W → Setting → Step → Option NodeState → AdminFault → D → W → D → W
     → Type 0
 EndsAt x c step standing fault old before new after =
@@ -44,8 +44,8 @@ EndsAt x c step standing fault old before new after =
     ⊎ (IsStored c step standing (x.state old) (x.state new)
     × AppendsFront (x.taken before) (x.taken after) (page (done c step standing).lines) × (fault ≡ Write))
 
--- The commands are served in their order. Of each one first the disk is called, while nothing is written; once what
--- stands after it is stored, its lines are written, while the disk stays as it is; then comes the next one.
+-- The commands are served in their order. For each one the disk is called first, while nothing is written. Once what
+-- stands after it is stored, its lines are written, while the disk stays as it is. Then comes the next one.
 abbrev pub Runs : {D W : Type 0} → Outside D W → Setting → List Step → Option NodeState → D → W → Ended → D → W
     → Type 0
 Runs x c [] standing old before result new after = (result ≡ Ok tt) × (new ≡ old) × (after ≡ before)
@@ -80,7 +80,7 @@ IsServiceFault x c centre old before new after NoMemory = Unrisen (x.state old).
 -- ---- the whole script
 
 -- The store was judged and opened, and then the commands were served. While it is opened, an image is empty or
--- represents what one stood for before.
+-- represents the same as some image before.
 abbrev pub IsServed : {D W : Type 0} → Outside D W → Setting → List Step → Option NodeState → D → W → Ended → D → W
     → Type 0
 IsServed {D} x c steps standing old before result new after =
@@ -154,8 +154,8 @@ pub record Serves {D W : Type 0} (x : Outside D W) (script : Script) (old : D) (
   pub all : IsTrue x.tells.content → CanBeServed (x.state old) → (s : NodeState) → found_on (x.state old).seen
       ≡ Ok (Some s)
       → LeavesOnly (x.state old) (x.state new) (IsOfRun x (setting_for script.config) script.steps (Some s) old)
-  -- over any store: at Ok what was written are the lines of the commands under the script's setting, going on from
-  -- some tables or none, and at a fault a prefix of such lines
+  -- Over any store: at Ok the lines of the commands under the script's setting were written, going on from some tables
+  -- or none. At a fault a prefix of such lines was.
   pub told : OnOk result ((standing : Option NodeState)
       × WritesAll (setting_for script.config) script.steps standing (x.taken before) (x.taken after))
   pub told_front : OnErr result ((standing : Option NodeState)

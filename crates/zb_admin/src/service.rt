@@ -411,10 +411,12 @@ fn serve_steps<D: Disk, W: Sink>(
 /// written, before the next one begins. Requires a script that `zb_script::read` gives.
 ///
 /// # Errors
-/// `Disk`, and nothing else, where a call of the disk failed; `NoStore`, where the disk isn't empty and no slot stands
-/// open; `BadStore`, where what stands is no record of a centre, with the place of the fault; `Worn`, where a command
-/// has something to store, for which the whole record has to be written, and there is no further generation; `Write`;
-/// `NoMemory`.
+/// - `Disk`, and nothing else, where a call of the disk failed.
+/// - `NoStore` where the disk isn't empty and no slot is open.
+/// - `BadStore` where what is there is no record of a centre, with the place of the fault.
+/// - `Worn` where a command has something to store, the whole record has to be written, and no generation is left.
+/// - `Write` where the output failed.
+/// - `NoMemory`.
 pub fn serve<D: Disk, W: Sink>(
     alloc: Global,
     script: &Script,

@@ -18,7 +18,7 @@ pub struct ApsAux {
     pub control: u8,
     /// The frame counter of the node that sealed.
     pub counter: u32,
-    /// The IEEE address of the node that sealed, there exactly where the extended nonce bit is 1.
+    /// The EUI of the node that sealed, there exactly where the extended nonce bit is 1.
     pub source: Option<Eui>,
 }
 

@@ -27,7 +27,7 @@ pub struct ApsFrame {
     pub aux: Option<ApsAux>,
     /// The payload, or its cipher text where the frame is secured.
     pub body: Frame,
-    /// The message integrity code, which is zero in a frame that is not secured.
+    /// The MIC, which is zero in a frame that is not secured.
     pub mic: [u8; 4],
 }
 
@@ -42,7 +42,7 @@ impl ApsFrame {
         }
     }
 
-    /// Returns whether this value is a frame that the reader can answer.
+    /// Returns whether this value is a frame that the reader can return.
     ///
     /// The reader takes the type, the delivery and the key identifier, the options agree with the control byte, and
     /// the MIC is zero where there is no security.

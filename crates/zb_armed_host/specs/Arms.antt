@@ -61,7 +61,7 @@ arms_stand NotArmed = false
 arms_stand (StopAfter calls torn) = stop_commits calls torn
 arms_stand (FailAt call) = failure_commits call
 
--- whether what is armed falls on one of so many calls of a disk that is off, or isn't
+-- whether what is armed falls on one of the first `made` calls of a disk that is off, or isn't
 abbrev pub falls_within : Armed → Bool → ℕ → Bool
 falls_within NotArmed was_off made = false
 falls_within (StopAfter calls torn) was_off made = not was_off && nat_lt calls made

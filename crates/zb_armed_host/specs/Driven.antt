@@ -35,9 +35,9 @@ fall_seen true is_off = Failed
 fall_seen false true = Stopped
 fall_seen false false = Failed
 
--- How a call of a host ended that went wrong, on any disk. So many writes and syncs were made, as the disk counts
--- them. It is stopped where the disk went off on one of them, and what was armed fired where it falls on one of them.
--- The power is back.
+-- How a call of a host ended that went wrong, on any disk. `made` writes and syncs were made, as the disk counts them.
+-- It is stopped where the disk went off on one of them, and what was armed fired where it falls on one of them. The
+-- power is back.
 pub record HasEnded (a : Armed) (old : Medium) (fallen : Fallen) (new : Medium) : Type 0 where
   pub made : ℕ
   pub calls : new.calls ≡ calls_then old.calls made
@@ -80,7 +80,8 @@ pub record IsUp {C : Type 0} (words : Words C Medium) (s : Standing) (a : Armed)
   pub arming : IsArming a
   pub lasting : s.generation < last_generation
 
--- An event on which nothing fell: the host is up, its changes stand, and so many device calls were made.
+-- An event on which nothing fell: the host is up, its changes stand, and the disk counts the device calls of the
+-- event.
 pub record WasHandled {C : Type 0} (words : Words C Medium) (s : Standing) (a : Armed) (before : Hosted C)
     (old : Medium) (changes : List Change) (after : Hosted C) (new : Medium) : Type 0 where
   pub missed : falls a (calls_in (writes_whole before) changes) ≡ false
@@ -139,7 +140,7 @@ pub record HasFallenAtBoot (s : Standing) (a : Armed) (old : Medium) (fallen : F
   pub gates : both_gates_open new.bytes ≡ leaves_both a (BootCalls (both_gates_open old.bytes))
   pub calls : new.calls ≡ risen old.calls (fallen_calls a)
 
--- the record is shown: so many bytes of the room are its bytes
+-- the record is shown: the first `len` bytes of the room are its bytes
 abbrev pub IsShown : Option ℕ → List ℕ → List ℕ → Type 0
 IsShown None room w = ⊥
 IsShown (Some len) room w = take len room ≡ w

@@ -7,12 +7,12 @@ use arrayvec::ArrayVec;
 use zb_disk::MemDisk;
 use zb_store::{failure_commits, stop_commits};
 
-/// What is armed on a node's disk: it falls on the first call of the host with so many device calls.
+/// What is armed on a node's disk. It falls on the first call of the host that makes enough device calls.
 #[derive(Debug, Drop)]
 pub enum Arms {
     /// Nothing is armed.
     Unarmed,
-    /// After so many device calls the next one is refused, and the disk is off.
+    /// After some device calls the next one is refused, and the disk is off.
     Stop {
         /// Counts the device calls that go through first.
         calls: u8,

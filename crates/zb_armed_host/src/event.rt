@@ -14,7 +14,7 @@ use zb_host::{Core, Host, Plan};
 /// Handles an event of a node that is up, over its disk, with what is armed on that.
 ///
 /// It writes the changes and what goes out into `plan`. Where what was armed falls, or the disk fails otherwise, the
-/// host is down, the power of the disk is back, and nothing of it is armed; `plan` then has the changes that were to
+/// host is down. The power of the disk is back then, and nothing of it is armed. `plan` has the changes that were to
 /// be stored, and nothing that goes out.
 ///
 /// # Errors

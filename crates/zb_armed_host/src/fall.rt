@@ -36,7 +36,7 @@ pub struct Cut {
     pub stored: bool,
 }
 
-/// Brings the power back and takes back what was armed, if anything was. Answers how a call on the disk ended.
+/// Brings the power back and takes back what was armed, if anything was. Returns how a call on the disk ended.
 #[tactic(auto, unfolding(zb_disk::specs::Memory::powered))]
 pub(crate) fn recover(disk: &mut MemDisk, arms: &Arms, was_off: bool) -> Fallen
     ensures fall { result.fall ≡ fall_seen was_off (is_stopped disk.old.arming) }

@@ -11,8 +11,8 @@ ghost use Rattle.zb_armed_host.specs.Arms.{IsUnarmed, commit_of};
 
 /// States that the model's words on stops and failures that fall are what the store promises of them.
 ///
-/// A commit on which one falls stands exactly where the model says, and so many gates of slots stand open. The calls
-/// of a commit are those of a whole record exactly where no entry more fits after the record.
+/// A commit on which one falls is stored exactly where the model says. The gates of both slots are open exactly where
+/// it says. The calls of a commit are those of a whole record exactly where no entry more fits after the record.
 pub fn stops_and_failures()
     ensures stop_stands { (whole : Bool) (calls : ℕ) (torn : List ℕ)
         → falls (StopAfter calls torn) (commit_of whole) ≡ true
@@ -39,7 +39,8 @@ pub fn nothing_armed_stays()
         → WentThrough memory_tells run (memory_view old) (memory_view new) → IsUnarmed new }
 {}
 
-/// States that the gates of both slots aren't open where a record is held, as after a commit and after a boot.
+/// States that where a record is held the gates of both slots aren't open at once. A record is held after a commit and
+/// after a boot.
 #[tactic(auto, using(crate::proofs::Resets::one_open))]
 pub fn one_gate_stands_open()
     ensures { (s : Standing) (m : Medium) → IsHeld s (memory_view m) → both_gates_open m.bytes ≡ false }

@@ -20,9 +20,8 @@ use zb_store::{Store, StoreFault};
 
 /// Writes the record that the disk of a node represents, up or down, and returns its length.
 ///
-/// It answers None where the disk is off, nothing stands on it, or what stands is no record of such a node. It changes
-/// nothing on the disk.
-/// Requires a configuration of a node of the core's role, and room for `RECORD_ROOM` bytes.
+/// It returns None where the disk is off, nothing stands on it, or what stands is no record of such a node. It changes
+/// nothing on the disk. Requires a configuration of a node of the core's role, and room for `RECORD_ROOM` bytes.
 ///
 /// # Errors
 /// `NoMemory`.

@@ -48,7 +48,7 @@ pub record IsSound (tools : Tools) (v : Verdict) (lines : List Line) : Type 0 wh
   pub accepts : v.accepts ≡ accepts_in lines
   pub locked : v.locked ≡ (ideal tools lines && private tools lines)
 
--- What an audit answers: the verdict exactly where no line is bad, else the first fault.
+-- What an audit returns: the verdict exactly where no line is bad, else the first fault.
 abbrev pub IsAnswer : Tools → List Line → Result Verdict AuditFault → Type 0
 IsAnswer tools lines (Ok v) = IsSound tools v lines
 IsAnswer tools lines (Err (Broken line clause)) = first_fault tools lines

@@ -49,6 +49,9 @@ pub struct Auditor {
 
 impl Auditor {
     /// Makes the auditor of no lines.
+    ///
+    /// # Errors
+    /// `NoMemory`.
     pub fn new(alloc: Global) -> Result<Auditor, NoMemory>
         ensures { IfOk result (λ auditor. (tools : Tools) → Stands tools auditor []) }
     {
@@ -66,6 +69,9 @@ impl Auditor {
     }
 
     /// Makes the auditor of these lines.
+    ///
+    /// # Errors
+    /// `NoMemory`.
     pub fn over(alloc: Global, lines: &[Line]) -> Result<Auditor, NoMemory>
         ensures { IfOk result (λ auditor. (tools : Tools) → FindKeys tools → Stands tools auditor lines.now) }
     {
@@ -76,7 +82,10 @@ impl Auditor {
         Ok(auditor)
     }
 
-    /// Goes on by one line. After `NoMemory` the auditor isn't used further.
+    /// Goes on by one line.
+    ///
+    /// # Errors
+    /// `NoMemory`; the auditor isn't used further then.
     pub fn line(&mut self, alloc: Global, line: &Line) -> Result<(), NoMemory>
         ensures { OnOk result ((tools : Tools) (h : List AnyLine) → FindKeys tools → Stands tools self.old h
             → Stands tools self.new (h ++ line.now ∷ [])) }
@@ -96,7 +105,10 @@ impl Auditor {
         Ok(())
     }
 
-    /// Ends the transcript: answers the verdict, or the first bad line and the first claim that it breaks.
+    /// Ends the transcript, and returns the verdict.
+    ///
+    /// # Errors
+    /// `Broken` with the first bad line and the first claim that it breaks.
     pub fn end(&self) -> Result<Verdict, AuditFault>
         ensures { (tools : Tools) (h : List AnyLine) → Stands tools self.now h → IsAnswer tools h result }
     {

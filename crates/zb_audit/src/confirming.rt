@@ -54,6 +54,9 @@ impl Confirming {
     }
 
     /// Goes on by one line, whose node is `who`.
+    ///
+    /// # Errors
+    /// `NoMemory`.
     pub fn line(&mut self, number: u32, line: &Line, who: Who) -> Result<(), NoMemory>
         ensures { OnOk result ((names : List Bytes) (h : List AnyLine) → number ≡ length h + 1
             → IsSpeaker who names (declared_in h) line.now → AreConfirmed self.old h
@@ -181,8 +184,8 @@ impl Confirming {
     }
 }
 
-/// Returns the device whose key a term confirms: the content is a Confirm-Key of status 00 (05-3474-21, 4.4.10.8),
-/// sealed as an APS command.
+/// Returns the device whose key a term confirms. The content is then a Confirm-Key of status 00 (05-3474-21,
+/// 4.4.10.8), sealed as an APS command.
 #[tactic(auto, unfolding(crate::specs::Confirming::confirmed))]
 fn confirmed(term: &Term) -> Option<Eui>
     ensures { result ≡ confirmed_by term.now }

@@ -51,7 +51,10 @@ impl Ending {
         }
     }
 
-    /// Goes on by one line; `ideal` and `private` are the two words of the lines before it.
+    /// Goes on by one line. `ideal` and `private` are the two words of the lines before it.
+    ///
+    /// # Errors
+    /// `NoMemory`.
     pub fn line(
         &mut self,
         number: u32,
@@ -127,8 +130,10 @@ impl Ending {
         }
     }
 
-    /// Returns the number of the first line that is an end line before the last line, or the last line where it isn't
-    /// an end line that sums up; where there is no line, 1.
+    /// Returns the number of the first line that ends the transcript badly, if there is one.
+    ///
+    /// That is an end line before the last line, or a last line that isn't an end line that sums up. Without any line
+    /// it is 1.
     pub fn end(&self) -> Option<u32>
         ensures { (tools : Tools) (h : List AnyLine) → Ends tools self.now h → result ≡ head (ill_ended tools h) }
     {

@@ -1,4 +1,4 @@
-//! What an audit answers.
+//! What an audit returns.
 /// What is told of a transcript that keeps all that is claimed.
 #[derive(Clone, Copy, Debug, PartialEq, Eq)]
 pub struct Verdict {
@@ -6,8 +6,8 @@ pub struct Verdict {
     pub seals: u32,
     /// How many terms were accepted.
     pub accepts: u32,
-    /// Whether all that was accepted came from earlier terms and outsiders forged with no more than they may know:
-    /// then removed devices are locked out.
+    /// Whether all that was accepted came from earlier terms, and outsiders forged with no more than they may know.
+    /// Then removed devices are locked out.
     pub locked: bool,
 }
 

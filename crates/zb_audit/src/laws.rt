@@ -4,7 +4,8 @@ ghost use Rattle.zb_audit.specs.Claims.{ConfirmLine};
 ghost use Rattle.zb_audit.specs.Confirming.{is_confirmable};
 ghost use Rattle.zb_trace.specs.declared.line.Line.{Line};
 
-/// States that a line keeps the third claim exactly where it confirms no key, or one that the centre has stored.
+/// States that a line is confirmable exactly where it keeps the third claim. It then confirms no key, or one that the
+/// centre has stored.
 ///
 /// What the auditor goes by is thus what the lines before say of the key: a row line that makes it verified, a commit
 /// after that, and nothing since that unsettles it.

@@ -2,8 +2,14 @@
 //! sound.
 //!
 //! It goes by the lines alone, whoever wrote them, and never by what this program would have done. A line is bad by
-//! one of six claims: a nonce comes again, a counter is taken twice, a key is confirmed that isn't stored, a counter
-//! isn't the one that the lines before it ask for, a removed device isn't locked out, or the end line doesn't sum up.
+//! one of six claims:
+//!
+//! 1. a nonce comes again;
+//! 2. a counter is taken twice;
+//! 3. a key is confirmed that isn't stored;
+//! 4. a counter isn't the one that the lines before it ask for;
+//! 5. a removed device isn't locked out;
+//! 6. the end line doesn't sum up.
 #![tactic(auto)]
 
 mod auditor;

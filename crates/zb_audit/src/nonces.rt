@@ -50,6 +50,9 @@ impl Nonces {
     }
 
     /// Goes on by one line.
+    ///
+    /// # Errors
+    /// `NoMemory`.
     pub fn line(&mut self, number: u32, line: &Line) -> Result<(), NoMemory>
         ensures { OnOk result ((h : List AnyLine) → number ≡ length h + 1 → AreNonces self.old h
             → AreNonces self.new (h ++ line.now ∷ [])) }

@@ -54,6 +54,9 @@ impl Taking {
     }
 
     /// Goes on by one line, whose node is `who`.
+    ///
+    /// # Errors
+    /// `NoMemory`.
     pub fn line(&mut self, number: u32, line: &Line, who: Who) -> Result<(), NoMemory>
         ensures { OnOk result ((names : List Bytes) (h : List AnyLine) → number ≡ length h + 1
             → IsSpeaker who names (declared_in h) line.now → AreTaken names self.old h

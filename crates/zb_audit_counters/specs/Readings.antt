@@ -86,8 +86,8 @@ unfoldable pub limit : List (List Line) → Bytes → Layer → ℕ
 limit before n Nwk = limit_under before n (active (flat before) n)
 limit before n Aps = unwrap_or (last (reserve_in n Aps) (flat before)) (declared (flat before) n Aps)
 
--- The next counter of a layer: that after the node's last seal at the layer, at NWK under the active key, after the
--- last boot; without such a seal the stored limit.
+-- The next counter of a layer: that after the node's last seal at the layer since its last boot, at NWK under the
+-- active key. Without such a seal it is the stored limit.
 
 abbrev pub boots : Bytes → Line → Bool
 boots n (line.Boot e m) = bytes_eq m.bytes n

@@ -1,5 +1,5 @@
--- Which lines a recount represents: what it keeps of each node are the readings of the lines before the group and of
--- all lines so far, and the lines that it noted are those of the group that don't add up, or wait for its end.
+-- Which lines a recount represents. What it keeps of each node are the readings of the lines before the group and of
+-- all lines so far. The lines that it noted are those of the group that don't add up, or wait for its end.
 use Rattle.std.specs.Prelude.{◌≡◌, ℕ, ◌+◌, ◌≤◌, Bool, true, false, if◌then◌else◌, ◌&&◌, ◌||◌, List, [], ◌∷◌, ◌++◌, cond, length, get_or, nat_eq, Option, Some, None, IfSome}
 use Rattle.std.specs.BTreeMap.{BTreeMap, get}
 use Rattle.std.specs.List.{list_any, list_all, AllByRecursion}

@@ -116,7 +116,7 @@ impl Counters {
         }
     }
 
-    /// A counter is declared for the start.
+    /// Notes that a counter is declared for the start.
     pub fn declare(&mut self, group: u32, layer: Layer, value: u32)
         ensures { (number : ℕ) (m : ArrayString)
             → Hears group number m.bytes (line.Counter m layer value) self.old self.new }
@@ -127,14 +127,14 @@ impl Counters {
         }
     }
 
-    /// A node boots, at the line of this number.
+    /// Notes that the node boots, at the line of this number.
     pub fn boot(&mut self, group: u32, number: u32)
         ensures { (e : ℕ) (m : ArrayString) → Hears group number m.bytes (line.Boot e m) self.old self.new }
     {
         self.booted.set(group, number);
     }
 
-    /// Returns a network key is given at the start.
+    /// Notes that the node is given a network key at the start.
     pub fn give(&mut self, group: u32, key: Key) -> Result<(), AllocError>
         ensures { OnOk result ((number sequence : ℕ) (m : ArrayString)
             → Hears group number m.bytes (line.GivenNet m key sequence) self.old self.new) }
@@ -148,7 +148,7 @@ impl Counters {
         Ok(())
     }
 
-    /// Returns a network key becomes active.
+    /// Notes that a network key becomes active, and judges the line.
     pub fn activate(&mut self, group: u32, key: Key) -> Result<Judgement, AllocError>
         ensures judged { IfOk result (λ judgement. judgement ≡ active_judged group self.old key) }
         ensures heard { OnOk result ((number e : ℕ) (m : ArrayString)
@@ -163,7 +163,7 @@ impl Counters {
         Ok(waits_unless(Need::Start(key), stands))
     }
 
-    /// Returns a network key starts. `declared` tells whether a line declares the node.
+    /// Notes that a network key starts, and judges the line. `declared` tells whether a line declares the node.
     pub fn start(
         &mut self,
         group: u32,
@@ -186,7 +186,8 @@ impl Counters {
         Ok(waits_if(Need::Active(key), stands))
     }
 
-    /// Returns a limit is reserved. `block` is the node's outgoing block, where a line declares the node.
+    /// Notes that a limit is reserved, and judges the line. `block` is the node's outgoing block, where a line
+    /// declares the node.
     pub fn reserve(
         &mut self,
         group: u32,
@@ -265,7 +266,7 @@ impl Counters {
         self.aps.reserved = group;
     }
 
-    /// Returns a term is sealed. `declared` tells whether a line declares the node.
+    /// Notes that a term is sealed, and judges the line. `declared` tells whether a line declares the node.
     pub fn seal(&mut self, group: u32, term: &Term, declared: bool) -> Result<Judgement, AllocError>
         ensures judged { IfOk result (λ judgement.
             judgement ≡ seal_judged group self.old term.now.layer term.now.base term.now.counter declared) }
@@ -321,7 +322,7 @@ impl Counters {
         stands_if(stands)
     }
 
-    /// Returns a frame is accepted.
+    /// Notes that a frame is accepted, and judges the line.
     pub fn accept(
         &mut self,
         group: u32,
@@ -339,7 +340,8 @@ impl Counters {
         Ok(waits_unless(Need::Floor(sender), stands))
     }
 
-    /// Returns a floor is stored. `block` is the node's incoming block, where a line declares the node.
+    /// Notes that a floor is stored, and judges the line. `block` is the node's incoming block, where a line declares
+    /// the node.
     pub fn store_floor(
         &mut self,
         group: u32,
@@ -357,7 +359,7 @@ impl Counters {
         Ok(judged_floor(sender, value, block))
     }
 
-    /// Goes on by a line of this node, which has this number; `node` is what lines before it declare.
+    /// Goes on by a line of this node, which has this number, and judges it. `node` is what lines before it declare.
     pub fn hear(
         &mut self,
         group: u32,
@@ -408,8 +410,8 @@ impl Counters {
         }
     }
 
-    /// Tells, at the end of a group, whether what a line of it needs stands there. `cut` tells whether the event was
-    /// cut short.
+    /// Returns whether what a line of a group needs is in it, at the end of the group. `cut` tells whether the event
+    /// was cut short.
     pub fn meets(&self, group: u32, cut: bool, need: &Need) -> bool
         ensures { result ≡ is_met group cut self.now need.now }
     {

@@ -10,7 +10,7 @@ use zb_base::{Eui, Key, Layer};
 /// The sender of frames at a layer under a key. The key stands last, since two senders mostly differ in their address.
 #[derive(Clone, Copy, PartialEq, Eq, PartialOrd, Ord)]
 pub struct Sender {
-    /// The IEEE address of the sender.
+    /// The EUI of the sender.
     pub eui: Eui,
     /// The layer.
     pub layer: Layer,
@@ -69,7 +69,8 @@ impl Floor {
                 && fits_one(floor, value, block, self.greatest))
     }
 
-    /// Returns whether a floor line is called for: a frame is accepted, or the floor rises in an event that was cut.
+    /// Returns whether a floor line is called for. In an event that was cut it is where the floor rises, else where
+    /// the group accepts a frame.
     pub fn is_called_for(&self, group: u32, cut: bool, value: u32) -> bool
         ensures { result ≡ calls cut group (before_of group self.now.stored) value self.now }
     {

@@ -65,7 +65,7 @@ impl<O: Ord + Drop, E: Drop> Bags<O, E> {
         Ok(())
     }
 
-    /// Keeps the first items of an owner, so many.
+    /// Keeps the first `count` items of an owner, and drops its others.
     pub fn keep(&mut self, owner: &O, count: usize) -> Result<(), AllocError>
         ensures kept { OnOk result ((test : E → Bool) (o : O) → is_eq (O.cmp owner.now o) ≡ true
             → list_any test (items_at O.cmp self.new o)

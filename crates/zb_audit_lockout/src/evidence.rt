@@ -112,8 +112,10 @@ impl Evidence {
         self.sealed.add(alloc, term.clone()?, seal)
     }
 
-    /// Returns whether a term is foul: a removed device sealed it since its removal, or a device is removed and the
-    /// term was forged. It forgets some seals of devices that were admitted since.
+    /// Returns whether a term is foul.
+    ///
+    /// It is where a removed device sealed it since its removal. It also is where it was forged and some device is
+    /// removed. The call forgets some seals of devices that were admitted since.
     pub fn is_foul(&mut self, windows: &Windows, term: &Term) -> Result<bool, AllocError>
         ensures foul { IfOk result (λ foul. foul ≡ is_foul windows.now self.old term.now) }
         ensures forgets { OnOk result (Forgets windows.now self.old self.new) }

@@ -7,9 +7,9 @@ use zb_base::Key;
 use zb_trace_watch::holdings::Holdings;
 use zb_trace_watch::keys::Keys;
 
-/// Returns a level to which to raise a key that is to become so early, and what comes out under it.
+/// Returns a level to which to raise a key, and what comes out under it. The level is at least `early`.
 ///
-/// A level above that saves work: the keys needn't be raised again for each removal that is a little earlier. No
+/// A level above `early` saves work: the keys needn't be raised again for each removal that is a little earlier. No
 /// contract says how far it is above. It is half way to the level at which one of the keys would be late, or at which
 /// further ones would have to be raised.
 pub fn level_above(

@@ -45,9 +45,9 @@ use zb_trace_watch::carried_key;
 /// - Which live network keys outsiders may know is noted for each node as they learn keys, each key once. So a node
 ///   that accepts foul terms has such a key at hand, and its keys are gone through at most once: then lockout fails.
 ///
-/// Over honest transcripts, and over most others, the time grows with the length. Known to take longer: thousands of
-/// times a device is removed and admitted and a key that had come out for it is drawn, while thousands of keys come
-/// out for it or lead to that key. Memory grows with the length.
+/// Over honest transcripts, and over most others, the time grows with the length. One case is known to take longer. A
+/// device is removed and admitted thousands of times, and each time a key that had come out for it is drawn. Thousands
+/// of keys come out for it meanwhile, or lead to that key. Memory grows with the length.
 #[derive(Drop)]
 pub struct Lockout {
     /// The number of the first line with which lockout fails.
@@ -110,7 +110,7 @@ impl Lockout {
         Ok(())
     }
 
-    // Takes a line in, whose past stands already, and answers whether lockout still holds.
+    // Takes a line in, whose past stands already, and returns whether lockout still holds.
     fn judge(&mut self, alloc: Global, number: u32, line: &Line, who: Who) -> Result<bool, NoMemory>
         ensures judges { IfOk result (λ stays. Judges self.old self.new number line.now who stays) }
         ensures first { OnOk result (self.new.first ≡ self.old.first) }

@@ -35,7 +35,7 @@ impl Numbers {
         }
     }
 
-    /// Gives a key a number, whatever it had.
+    /// Sets the number of a key, whatever it had.
     pub fn set(&mut self, key: Key, number: u64) -> Result<(), AllocError>
         ensures { OnOk result ((k : List ℕ) → number_of self.new k
             ≡ (if bytes_eq k key.0 then number else number_of self.old k)) }
@@ -59,7 +59,7 @@ impl Numbers {
         }
     }
 
-    /// Raises keys to a number, and all keys that terms carry under raised ones; answers the keys that were raised.
+    /// Raises keys to a number, and all keys that terms carry under raised ones. Returns the keys that were raised.
     pub fn raise(
         &mut self,
         alloc: Global,
@@ -90,7 +90,7 @@ impl Numbers {
         had
     }
 
-    /// Takes the numbers of keys away, and those of all keys that lead to them; answers the keys that had one.
+    /// Takes the numbers of keys away, and those of all keys that lead to them. Returns the keys that had one.
     pub fn clear(
         &mut self,
         alloc: Global,

@@ -80,7 +80,7 @@ impl Reach {
         self.follow(alloc, key, early)
     }
 
-    /// Notes that a device, if there is one, came to hold a key, and returns whether drawn keys stay out of reach.
+    /// Notes that a device came to hold a key, if there is a device. Returns whether drawn keys stay out of reach.
     pub fn hold(&mut self, alloc: Global, device: Option<Eui>, key: Key) -> Result<bool, AllocError>
         ensures holds { OnOk result (CameToHold self.old self.new (λ d k. is_node device d && bytes_eq k key.0)) }
         ensures tells { IfOk result (λ stays. Tells self.old self.new stays) }
@@ -101,7 +101,7 @@ impl Reach {
         self.follow(alloc, key, early)
     }
 
-    /// Notes that two devices, where there are two, came to hold a key, and returns whether drawn keys stay out of
+    /// Notes that two devices came to hold a key, as far as there are two. Returns whether drawn keys stay out of
     /// reach.
     pub fn hold_both(
         &mut self,
@@ -129,7 +129,7 @@ impl Reach {
         Ok(())
     }
 
-    // Raises a key, and what comes out under it, and tells whether that was drawn after the removal.
+    // Raises a key, and what comes out under it, and returns whether none of that was drawn after the removal.
     fn follow(&mut self, alloc: Global, key: Key, early: u64) -> Result<bool, AllocError>
         ensures settles { OnOk result (Settles self.old self.new) }
         ensures judged { IfOk result (λ stays. Judged self.old self.new key early stays) }
@@ -140,7 +140,8 @@ impl Reach {
         Ok(stays)
     }
 
-    // Returns how far to raise a key that is to become so early: so far that it needn't be raised again soon.
+    // Returns how far to raise a key that is to become as early as `early`: so far that it needn't be raised again
+    // soon.
     fn level(&self, alloc: Global, key: Key, early: u64) -> Result<u64, AllocError>
         ensures { IfOk result (λ level. early ≤ level) }
     {
@@ -159,7 +160,7 @@ impl Reach {
         }
     }
 
-    // Checks keys, and tells whether none was drawn after the removal of a device for which it comes out.
+    // Checks keys, and returns whether none was drawn after the removal of a device for which it comes out.
     fn check(&mut self, alloc: Global, keys: &[Key]) -> Result<bool, AllocError>
         ensures settles { OnOk result (Settles self.old self.new) }
         ensures checked { IfOk result (λ stays. Checked self.old self.new keys.now stays) }
@@ -201,7 +202,7 @@ impl Reach {
         }
     }
 
-    // Finds anew for which removed devices keys come out, and tells whether these were drawn before.
+    // Finds anew for which removed devices keys come out, and returns whether these were drawn before.
     fn find_anew(&mut self, alloc: Global, keys: Vec<Key>) -> Result<bool, AllocError>
         ensures settles { OnOk result (Settles self.old self.new) }
         ensures checked { IfOk result (λ stays. Checked self.old self.new keys.items stays) }
@@ -211,7 +212,7 @@ impl Reach {
         Ok(stays)
     }
 
-    // Takes back that keys come out, with all that leads to them; answers the devices among that which are removed.
+    // Takes back that keys come out, with all that leads to them. Returns the devices among that which are removed.
     fn take_back(&mut self, alloc: Global, keys: Vec<Key>) -> Result<Vec<Opening>, AllocError>
         ensures settles { OnOk result (Settles self.old self.new) }
         ensures taken { IfOk result (λ openings. TakenBack self.old self.new keys.items openings.items) }
@@ -260,7 +261,7 @@ impl Reach {
         false
     }
 
-    // Whether the key was drawn after a removal that is so early.
+    // Whether the key was drawn after a removal that is as early as `early`.
     fn is_late(&self, key: &Key, early: u64) -> bool
         ensures { result ≡ is_late self.now.drawn early key.now.0 }
     {

@@ -66,8 +66,9 @@ impl Spread {
         Ok(())
     }
 
-    /// Notes how early a device was removed, unless it is noted as earlier already; answers the keys that come out for
-    /// it, and came out for no device that was removed as early.
+    /// Notes how early a device was removed, unless it is noted as early already.
+    ///
+    /// Returns the keys that come out for it now, and came out for no device that was removed as early.
     pub fn enter(
         &mut self,
         alloc: Global,
@@ -106,7 +107,7 @@ impl Spread {
         Ok(raised)
     }
 
-    /// Raises a key, and what comes out under it; answers the keys that were raised.
+    /// Raises a key, and what comes out under it. Returns the keys that were raised.
     pub fn follow(
         &mut self,
         alloc: Global,
@@ -124,8 +125,8 @@ impl Spread {
         Ok(raised)
     }
 
-    /// Forgets that devices were removed that hold one of these keys, which no longer come out; answers those of them
-    /// that are still removed, the one that was removed first before the others.
+    /// Forgets the removals of all devices that hold one of these keys, which no longer come out. Returns those that
+    /// are still removed, the earliest removal first.
     pub fn forget(
         &mut self,
         alloc: Global,
@@ -169,7 +170,7 @@ impl Spread {
         Ok(openings)
     }
 
-    // Forgets the holders of keys; puts those that are still removed into a set.
+    // Forgets the holders of keys, and puts those that are still removed into a set.
     fn forget_all(
         &mut self,
         back: &Back,

@@ -1,5 +1,5 @@
 -- Who is who in the lines of a transcript. Names tell nodes apart: a name's address, role and blocks are those of the
--- first `0 node` line of that name, the centre is the first node that is declared as one. What a line says of its node
+-- first `0 node` line of that name. The centre is the first node that is declared as one. What a line says of its node
 -- is read by the lines before it.
 use Rattle.std.specs.Prelude.{ℕ, ◌+◌, Bool, false, if◌then◌else◌, List, [], ◌∷◌, ◌++◌, fold, find, bytes_eq, nat_eq, Option, Some, None}
 use Rattle.std.specs.Option.{option_map}

@@ -1,5 +1,5 @@
--- Which keys the lines of a transcript show, who came to know them, and the two words of its end line, read by names:
--- whose address a name has, and who the centre is, say the lines before the line.
+-- Which keys the lines of a transcript show, who came to know them, and the two words of its end line. They are read
+-- by names: the lines before a line say whose address a name has, and who the centre is.
 use Rattle.std.specs.Prelude.{ℕ, Bool, true, false, not, if◌then◌else◌, ◌&&◌, ◌||◌, List, [], ◌∷◌, ◌++◌, length, nat_eq, bytes_eq, flat_map, Option, Some, None}
 use Rattle.std.specs.List.{list_any}
 use Rattle.zb_base.specs.declared.state.Attribute.TheVariants as attribute
@@ -105,7 +105,7 @@ is_joiner (Some s) = is_member s.role
 unfoldable pub joins : List Station → Bytes → Bool
 joins known n = is_joiner (station_named known n)
 
--- Ideal: an accepted term was sealed or forged before; a key that a router or device took in is its code's, or came in
+-- Ideal: an accepted term was sealed or forged before. A key that a router or device took in is its code's, or came in
 -- an earlier term under one of its keys. The second matters where a stop cut the acceptance off.
 unfoldable pub ideal_line : Tools → List Line → Line → Bool
 ideal_line tools h (line.Accept event node t) = list_any (same_term (model_term t)) (terms_of h)

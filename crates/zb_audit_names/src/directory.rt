@@ -60,8 +60,8 @@ impl Directory {
         }
     }
 
-    /// Goes on by one line, and answers who its node is by the lines before it. For a line that speaks of no node the
-    /// answer says nothing.
+    /// Goes on by one line, and returns who its node is by the lines before it. For a line that speaks of no node the
+    /// value says nothing.
     pub fn line(&mut self, line: &Line) -> Result<Who, NoMemory>
         ensures stands { OnOk result ((h : List AnyLine) → Stands self.old (names_in h) (declared_in h)
             → Stands self.new (names_in (h ++ line.now ∷ [])) (declared_in (h ++ line.now ∷ []))) }
@@ -143,7 +143,7 @@ impl Directory {
         Ok(who)
     }
 
-    /// Takes in what a line declares, if anything; `who` is its node by the lines before it.
+    /// Takes in what a line declares, if anything. `who` is its node by the lines before it.
     fn declare(&mut self, line: &Line, who: Who) -> Result<(), NoMemory>
         ensures { OnOk result ((names : List Bytes) (known : List Station) → IsSpeaker who names known line.now
             → Stands self.old names known → Stands self.new names (declares known line.now)) }

@@ -4,7 +4,7 @@ use zb_base::{Eui, Role};
 /// What the first `0 node` line of a name declares.
 #[derive(Clone, Copy)]
 pub struct Node {
-    /// The IEEE address.
+    /// The EUI.
     pub eui: Eui,
     /// The part in the network.
     pub role: Role,

@@ -43,8 +43,9 @@ net_object r = object
     (member (codes "sequence") (whole r.sequence)
     (member (codes "started") (boolean r.started) no_members))))))
 
--- A link key: its attribute (0 provisional, 1 unverified, 2 verified), whether it is from an install code, the floor
--- under it, whether it is live, its partner, and whether that was told of the newest network key.
+-- A link key: its attribute, whether it is from an install code, the floor under it, and whether it is live. Then its
+-- partner, and whether that was told of the newest network key. Attributes are 0 provisional, 1 unverified, 2
+-- verified.
 unfoldable pub link_object : LinkKey → Data
 link_object r = object
     (member (codes "attribute") (whole (attribute_byte r.attribute))

@@ -46,7 +46,7 @@ has_widths s = is_counter s.declared
     && (list_all net_fits s.nets && (list_all link_fits s.links && list_all pair_fits s.pairs)))
 
 -- The tables of a centre as a boot makes them: they keep the rules for records, no floors of dropped network keys, and
--- values within their widths; counters go on from their limits.
+-- values within their widths. Counters go on from their limits.
 pub record IsOfCentre (s : NodeState) : Type 0 where
   pub role : s.role ≡ Centre
   pub rules : keeps_rules s ≡ true
@@ -118,7 +118,7 @@ tables_in d = unless_other d (option_map after_boot (state_told d))
 unfoldable pub backup_in : List ℕ → Option NodeState
 backup_in text = if is_utf8 text then option_and_then (λ d. tables_in (raised d)) (read text) else None
 
--- what a call answers that reads a backup
+-- what a call returns that reads a backup
 abbrev pub ReadsBackup : Result NodeState BackupError → Option NodeState → Type 0
 ReadsBackup (Ok s) expected = expected ≡ Some s
 ReadsBackup (Err Form) expected = expected ≡ None

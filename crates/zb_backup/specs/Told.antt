@@ -38,7 +38,7 @@ key_at name d = text_at name d >>= key_of
 unfoldable pub eui_at : List ℕ → Data → Option ℕ
 eui_at name d = text_at name d >>= eui_of
 
--- the rows of a list, after those done: at most so many
+-- the rows of a list, after those done: at most `limit` in all
 abbrev pub told_rows : {X : Type 0} → ℕ → (Data → Option X) → List X → Items → Option (List X)
 told_rows limit told done no_items = Some done
 told_rows limit told done (item d more) = if nat_lt (length done) limit

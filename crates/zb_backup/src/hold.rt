@@ -22,7 +22,7 @@ fn hold_eui(eui: Eui)
     ensures { is_eui eui.0 ≡ true }
 {}
 
-// Says of bytes what their type does: they are below 256.
+// States that bytes are below 256, as their type says.
 #[tactic(auto, using(crate::proofs::Widths::bytes_pass))]
 fn hold_bytes(bytes: &[u8])
     ensures { list_all is_byte bytes.now ≡ true }

@@ -1,8 +1,8 @@
 //! Backups of a centre's tables: a JSON object that a person can read and a script can keep, and the tables that it
 //! gives again.
 //!
-//! `write_backup` writes it in one compact line. `read_backup` takes exactly the texts that are backups; the order of
-//! members, white space and the case of hexadecimal digits are free there, and of a member that stands twice the last
+//! `write_backup` writes it in one compact line. `read_backup` takes exactly the texts that are backups. The order of
+//! members, white space and the case of hexadecimal digits are free there. Of a member that is there twice the last
 //! one counts.
 #![tactic(auto)]
 

@@ -3,7 +3,7 @@ use Rattle.std.specs.Prelude.{ℕ, ◌+◌, ◌-◌, ◌^◌, ◌≡◌, ◌≤�
 use Rattle.std.specs.List.{list_any}
 use Rattle.std.specs.Io.KnownBytes.{Appends}
 
--- a count after so many more, which stops at 2^64 - 1, where the u64 of an adapter ends
+-- a count that rose by `more`. It stops at 2^64 - 1, where the u64 of an adapter ends
 abbrev pub risen : ℕ → ℕ → ℕ
 risen count more = min (count + more) (2 ^ 64 - 1)
 

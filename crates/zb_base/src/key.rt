@@ -7,7 +7,7 @@ ghost use Rattle.std.specs.Ordering.{nat_cmp};
 
 use std::cmp::Ordering;
 
-/// An AES-128 key in the order of its bytes: a network key, a link key or a key derived from one.
+/// An AES-128 key in the order of its bytes. It is a network key, a link key or a key derived from one.
 ///
 /// Keys are compared as two numbers of 64 bits, which is the order of their bytes.
 #[derive(Clone, Copy, Debug, Hash)]

@@ -1,5 +1,5 @@
-//! What every crate of the security plane speaks of: addresses, keys, frames, the roles and states of nodes, a
-//! node's configuration, and the two traits by which the program reads and writes.
+//! What every crate of the security plane speaks of: addresses, keys, frames, the roles and states of nodes, and a
+//! node's configuration. Here are also the two traits by which the program reads and writes.
 #![tactic(auto)]
 
 mod address;

@@ -19,9 +19,9 @@ pub enum Role {
 pub struct Peer {
     /// The node's name in schedules and transcripts.
     pub name: Name,
-    /// Its IEEE address.
+    /// Its EUI.
     pub eui: Eui,
-    /// Its network address.
+    /// Its short address.
     pub short: Short,
     /// Its part in the network.
     pub role: Role,
@@ -30,8 +30,8 @@ pub struct Peer {
 /// What one node is configured with.
 ///
 /// The names and both addresses of the peers differ, exactly one peer is the centre, `me` is a place among them, and
-/// the blocks are in their ranges: this is `IsConfig` of `specs/Config.antt`, and each call that takes a `Config`
-/// requires it.
+/// the blocks are in their ranges. This is `IsConfig` of `specs/Config.antt`. Each call that takes a `Config` requires
+/// it.
 #[derive(Debug, Drop)]
 pub struct Config {
     /// The place of this node in `peers`.

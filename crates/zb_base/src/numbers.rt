@@ -9,7 +9,7 @@ pub(crate) fn has_number(numbers: &[u32], number: u64) -> bool
     numbers.iter().any(|&listed| u64::from(listed) == number)
 }
 
-/// Copies as much of `rest` into the prefix of `buf` as there is room for, and returns how many bytes.
+/// Copies as much of `rest` to the beginning of `buf` as there is room for, and returns how many bytes.
 pub(crate) fn fill(buf: &mut [u8], rest: &[u8]) -> usize
     ensures count { result ≡ min (length buf.old) (length rest.now) }
     ensures front { take result buf.new ≡ take result rest.now }

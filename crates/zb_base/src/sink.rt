@@ -58,9 +58,12 @@ impl Model for MemSink {
 }
 
 impl MemSink {
-    /// Makes a sink with room for so many bytes, taken now, some of whose calls are to fail.
+    /// Makes a sink with room for `room` bytes, taken now, some of whose calls are to fail.
     ///
     /// Those are the calls of the numbers in `fails`, counted from 1.
+    ///
+    /// # Errors
+    /// `NoMemory`.
     pub fn new(alloc: Global, room: u32, fails: &[u32]) -> Result<MemSink, NoMemory>
         ensures { IfOk result (λ s. s ≡ record { taken = []; room = room; fails = fails.now; calls = 0; faults = 0 }) }
     {

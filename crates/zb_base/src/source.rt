@@ -20,7 +20,7 @@ pub trait Source {
     // How many of its calls failed. The count of an adapter stops at 2^64 - 1.
     ghost faults: { Self → ℕ };
 
-    /// Puts the next bytes into the prefix of `buf` and answers how many.
+    /// Puts the next bytes at the beginning of `buf`, and returns how many it put there.
     ///
     /// 0 into a buffer that isn't empty is the end of the input.
     ///
@@ -62,6 +62,9 @@ impl MemSource {
     /// Makes a source of these bytes, some of whose calls are to fail.
     ///
     /// Those are the calls of the numbers in `fails`, counted from 1.
+    ///
+    /// # Errors
+    /// `NoMemory`.
     pub fn new(alloc: Global, bytes: &[u8], fails: &[u32]) -> Result<MemSource, NoMemory>
         ensures { IfOk result (λ s. s ≡ record { rest = bytes.now; fails = fails.now; calls = 0; faults = 0 }) }
     {

@@ -43,7 +43,7 @@ joined [] = Ok []
 joined (Ok xs ∷ more) = behind xs (joined more)
 joined (Err e ∷ more) = Err e
 
--- The last lines of so many runs from number `first` on, or the clash of the first run that has one.
+-- The last lines of `count` runs from number `first` on, or the clash of the first run that has one.
 unfoldable pub endings : ℕ → ℕ → ℕ → Result (List Line) SchedError
 endings start first count = all_of (map (λ i. ending_of_run start i) (range_with_len first count))
 
@@ -89,7 +89,7 @@ abbrev pub told : Result (List Line) SchedError → Result Bytes SchedError
 told (Ok lasts) = Ok (campaign_text lasts)
 told (Err e) = Err e
 
--- What a campaign of so many runs writes, or the clash of the first run that has one. No jobs and no gates stand in
+-- What a campaign of `count` runs writes, or the clash of the first run that has one. No jobs and no gates stand in
 -- it.
 unfoldable pub campaigned : ℕ → ℕ → Result Bytes SchedError
 campaigned count start = told (endings start 0 count)

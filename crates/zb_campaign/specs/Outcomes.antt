@@ -17,8 +17,7 @@ abbrev pub IsBegun : Result Bytes SchedError → Option Bytes → Option Bytes �
 IsBegun (Ok text) before after = AppendsFront before after text
 IsBegun (Err e) before after = ⊥
 
--- At Ok the campaign was written; where the sink failed, a prefix of it; at a clash, and where memory was wanting,
--- nothing.
+-- At Ok the campaign was written; where the sink failed, a prefix of it; at a clash, and out of memory, nothing.
 abbrev pub Campaigns : Result Bytes SchedError → Option Bytes → Option Bytes → ℕ → ℕ → Result (Unit {0}) CampaignFault
     → Type 0
 Campaigns wanted before after old new (Ok done) = IsWritten wanted before after

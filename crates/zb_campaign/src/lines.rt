@@ -49,7 +49,7 @@ fn put_run(out: &mut Vec<u8>, number: u32, end: &Summary) -> Result<(), AllocErr
     Ok(())
 }
 
-// Prints the line of the total of so many runs.
+// Prints the line of the total of `count` runs.
 #[tactic(auto, using(std::proofs::Common::append_assoc))]
 fn put_total(out: &mut Vec<u8>, count: u32, total: &Total) -> Result<(), AllocError>
     ensures { OnOk result (out.new.items ≡ out.old.items ++ total_text count total.now) }

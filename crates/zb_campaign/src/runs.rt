@@ -16,7 +16,11 @@ use zb_sched::Schedule;
 
 /// Plays the runs of a share one after the other, and returns what they come to.
 ///
-/// Each uses the disks of the one before it. Errors: `Clash` at the first run whose schedule clashes; `NoMemory`.
+/// Each uses the disks of the one before it.
+///
+/// # Errors
+///
+/// `Clash` at the first run whose schedule clashes; `NoMemory`.
 pub(crate) fn play_share(
     alloc: Global,
     start: u32,
@@ -33,8 +37,8 @@ pub(crate) fn play_share(
     Ok(ends)
 }
 
-/// Plays the run of that number, from 0, on spare disks, which are then those that it left and those that it didn't
-/// use.
+/// Plays the run of that number, from 0, on spare disks. The spare disks are then those that it left and those that it
+/// didn't use.
 fn play_run(
     alloc: Global,
     start: u32,

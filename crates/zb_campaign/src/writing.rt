@@ -19,7 +19,7 @@ use zb_base::Sink;
 use zb_parallel::{Gate, IdleThread, Share, shares};
 use zb_player::Summary;
 
-/// Plays `count` made schedules by so many jobs, and writes a line for each run and the total.
+/// Plays `count` made schedules by `jobs` jobs, and writes a line for each run and the total.
 ///
 /// Run `i`, from 0, plays `make(start + i, 1 + i % 8)`, and its line is `i` and the words of the last line of its
 /// transcript. The lines are the same for every number of jobs and every gate. All runs are played before the first

@@ -1,4 +1,4 @@
--- What the reader has so far, and what it answers.
+-- What the reader has so far, and what it returns.
 use Rattle.std.specs.Prelude.{◌≡◌, ℕ, Result, Ok, Err}
 use Rattle.zb_base.specs.declared.fault.OrMemory.{OrMemory}
 use Rattle.zb_base.specs.declared.fault.OrMemory.TheVariants as error

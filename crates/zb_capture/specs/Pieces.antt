@@ -30,11 +30,11 @@ IsFound found = IsReadAlone found.read found.text.now
 abbrev pub both : Capture → Capture → Capture
 both c d = record { keys = c.keys ++ d.keys; addrs = c.addrs ++ d.addrs; frames = c.frames ++ d.frames }
 
--- no address of a list has the network address of this one
+-- no address of a list has the short address of this one
 abbrev pub is_new : List (Short × Eui) → Short × Eui → Bool
 is_new addrs addr = not (list_any (has_short addr.0) addrs)
 
--- both together keep the limits, and have no network address in common
+-- both together keep the limits, and have no short address in common
 pub record Fit (c d : Capture) : Type 0 where
   pub limits : IsCapture (both c d)
   pub apart : list_all (is_new c.addrs) d.addrs ≡ true

@@ -6,13 +6,13 @@ use std::collections::BTreeSet;
 use std::marker::Model;
 use zb_base::{Eui, List, NoMemory, Short};
 
-/// Keeps addresses, of which each network address is looked up without a walk through all of them.
+/// Keeps addresses, and looks each short one up without a walk through all of them.
 ///
 /// A contract sees them as their list.
 #[derive(Drop)]
 pub(crate) struct Addresses {
     pairs: Vec<(Short, Eui)>,
-    /// The network addresses of all pairs.
+    /// The short addresses of all pairs.
     shorts: BTreeSet<Short>,
 }
 
@@ -45,7 +45,11 @@ impl Addresses {
         }
     }
 
-    /// Adds an address if its network address is new, and returns whether it is.
+    /// Adds an address if its short address is new, and returns whether it is.
+    ///
+    /// # Errors
+    ///
+    /// `NoMemory`.
     pub fn add(&mut self, addr: (Short, Eui)) -> Result<bool, NoMemory>
         ensures new { IfOk result (λ new. new ≡ not (list_any (has_short addr.0) self.old)) }
         ensures adds { IfOk result (λ new. self.new ≡ (if new then self.old ++ addr ∷ [] else self.old)) }
@@ -58,7 +62,7 @@ impl Addresses {
         Ok(new)
     }
 
-    /// Returns whether no network address of others is one of these.
+    /// Returns whether no short address of others is one of these.
     pub fn are_apart(&self, others: &Addresses) -> bool
         ensures { result ≡ list_all (is_new self.now) others.now }
     {
@@ -72,6 +76,10 @@ impl Addresses {
     }
 
     /// Adds others after these.
+    ///
+    /// # Errors
+    ///
+    /// `NoMemory`.
     pub fn add_all(&mut self, others: Addresses) -> Result<(), NoMemory>
         ensures { OnOk result (self.new ≡ self.old ++ others) }
     {
@@ -81,7 +89,7 @@ impl Addresses {
         Ok(())
     }
 
-    /// Adds an address, whether or not its network address is new.
+    /// Adds an address, whether or not its short address is new.
     fn put(&mut self, addr: (Short, Eui)) -> Result<(), NoMemory>
         ensures { OnOk result (self.new ≡ self.old ++ addr ∷ []) }
     {

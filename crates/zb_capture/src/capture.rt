@@ -14,7 +14,7 @@ use zb_base::{Eui, Key, List, NoMemory, Short};
 pub struct Capture {
     /// The given keys, link keys of install codes among them, in order; some may stand there twice.
     pub keys: List<Key>,
-    /// The IEEE addresses of network addresses.
+    /// The EUIs of short addresses.
     pub addrs: List<(Short, Eui)>,
     /// The frames, in the order in which they were caught.
     pub frames: Frames,
@@ -27,6 +27,10 @@ impl Capture {
     /// Makes the capture of some frames under some keys, which knows no addresses.
     ///
     /// Requires at most 256 keys and 100,000 frames.
+    ///
+    /// # Errors
+    ///
+    /// `NoMemory`.
     pub fn of(alloc: Global, keys: &[Key], frames: Frames) -> Result<Capture, NoMemory>
         requires keys { length keys.now ≤ most_keys }
         requires frames { length frames ≤ most_frames }

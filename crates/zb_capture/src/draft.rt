@@ -16,7 +16,7 @@ use zb_text::words::Words;
 pub(crate) struct Draft {
     /// The keys, those of install codes among them.
     pub keys: Vec<Key>,
-    /// The addresses, of which no two have one network address.
+    /// The addresses, of which no two have one short address.
     pub addrs: Addresses,
     /// The frames, in their order.
     pub frames: Frames,
@@ -41,7 +41,11 @@ impl Draft {
         }
     }
 
-    /// Makes a draft of no lines, with room for the frames in a text of so many bytes.
+    /// Makes a draft of no lines, with room for the frames in a text of `text` bytes.
+    ///
+    /// # Errors
+    ///
+    /// `NoMemory`.
     pub fn with_room(alloc: Global, text: usize) -> Result<Draft, NoMemory>
         ensures { IfOk result (λ draft. capture_of draft ≡ empty) }
     {
@@ -88,6 +92,10 @@ impl Draft {
     }
 
     /// Puts what other lines give after this.
+    ///
+    /// # Errors
+    ///
+    /// `NoMemory`.
     pub fn with(self, more: Draft) -> Result<Draft, NoMemory>
         requires { Fit (capture_of self) (capture_of more) }
         ensures { IfOk result (λ draft. capture_of draft ≡ both (capture_of self) (capture_of more)) }
@@ -105,6 +113,10 @@ impl Draft {
     }
 
     /// Takes one line.
+    ///
+    /// # Errors
+    ///
+    /// The first cause for which it is no line of a capture here; or out of memory.
     #[tactic(auto, unfolding(crate::specs::Grammar::with_line))]
     pub fn take_line(&mut self, line: &[u8]) -> Result<(), OrMemory<CaptureCause>>
         requires { IsCapture (capture_of self.old) }

@@ -11,7 +11,7 @@ pub enum CaptureCause {
     BadCode,
     /// It is the 257th `key` or `code` line, or the 100,001st `frame` line.
     TooMany,
-    /// An `addr` line before it has the same network address.
+    /// An `addr` line before it has the same short address.
     AddressTaken,
 }
 

@@ -20,7 +20,8 @@ pub(crate) fn key(words: &mut Words<'_>) -> Option<Key>
     Some(key)
 }
 
-/// Reads a string of bytes in hexadecimal digits: the link key of an install code, or None inside where it is no code.
+/// Reads a string of bytes in hexadecimal digits. It returns the link key of an install code, or None inside where it
+/// is no code.
 #[tactic(auto, unfolding(crate::specs::Grammar::code_in))]
 pub(crate) fn code(words: &mut Words<'_>) -> Option<Option<Key>>
     ensures { result ≡ code_in (left words.old) }
@@ -55,7 +56,7 @@ fn link_key(word: &[u8]) -> Option<Key>
     }
 }
 
-/// Reads a network address and the IEEE address of the node that has it.
+/// Reads a short address and the EUI of the node that has it.
 #[tactic(auto, unfolding(crate::specs::Grammar::addr_in))]
 pub(crate) fn addr(words: &mut Words<'_>) -> Option<(Short, Eui)>
     ensures { result ≡ addr_in (left words.old) }

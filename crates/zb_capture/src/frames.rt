@@ -48,7 +48,7 @@ impl Frames {
         }
     }
 
-    /// Makes a list of no frames, with room for those of a text of so many bytes.
+    /// Makes a list of no frames, with room for those of a text of `text` bytes.
     pub(crate) fn with_room(alloc: Global, text: usize) -> Result<Frames, NoMemory>
         ensures { IfOk result (λ f. f ≡ []) }
     {
@@ -70,7 +70,7 @@ impl Frames {
         self.count + self.last.len()
     }
 
-    /// Returns the frames from a place on, counted from 0, to the end of the run in which that place is.
+    /// Returns the frames from a place on, to the end of the run in which that place is. Places are counted from 0.
     ///
     /// Requires a place of one of the frames.
     pub fn from(&self, place: usize) -> FrameRun<'_>
@@ -81,9 +81,13 @@ impl Frames {
         run_from(self.runs.as_slice(), &self.last, place)
     }
 
-    /// Puts a frame after these; changes nothing where there is no memory.
+    /// Puts a frame after these. It changes nothing where there is no memory.
     ///
     /// Requires fewer than 100,000 frames.
+    ///
+    /// # Errors
+    ///
+    /// `NoMemory`.
     pub fn push(&mut self, frame: &Frame) -> Result<(), NoMemory>
         requires { length self.old < most_frames }
         ensures added { OnOk result (self.new ≡ self.old ++ frame.now ∷ []) }
@@ -96,6 +100,10 @@ impl Frames {
     /// Puts further frames after these.
     ///
     /// Requires at most 100,000 frames in all.
+    ///
+    /// # Errors
+    ///
+    /// `NoMemory`.
     pub fn append(&mut self, more: Frames) -> Result<(), NoMemory>
         requires { length self.old + length more ≤ most_frames }
         ensures { OnOk result (self.new ≡ self.old ++ more) }
@@ -115,8 +123,7 @@ impl Frames {
     }
 }
 
-/// Returns the frames of runs, and of a last one after them, from a place on to the end of the run in which that place
-/// is.
+/// Returns the frames from a place on, to the end of the run in which that place is. `last` comes after `runs`.
 fn run_from<'a>(runs: &'a [Run], last: &'a Run, place: usize) -> FrameRun<'a>
     requires { place < length (all_runs runs.now ++ last.now) }
     ensures some { 0 < length result }

@@ -68,7 +68,7 @@ impl CaptureReader {
         Ok(reader)
     }
 
-    /// Reads the lines of a text by so many jobs, after those before.
+    /// Reads the lines of a text by `jobs` jobs, after those before.
     ///
     /// Requires a job, and that all lines have their numbers in 32 bits.
     ///
@@ -179,7 +179,7 @@ impl CaptureReader {
     }
 }
 
-/// Returns a fault of a line its number.
+/// Gives the fault of a line its number.
 fn at_line(line: u32, fault: OrMemory<CaptureCause>) -> OrMemory<CaptureError>
     ensures { result ≡ numbered line fault }
 {

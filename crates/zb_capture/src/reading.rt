@@ -28,7 +28,7 @@ pub fn read_capture(alloc: Global, bytes: &[u8]) -> Result<Capture, OrMemory<Cap
     Ok(reader.into_capture())
 }
 
-/// Reads a capture as `read_capture` does, by so many jobs, each over consecutive lines.
+/// Reads a capture as `read_capture` does, by `jobs` jobs, each over consecutive lines.
 ///
 /// Requires a job, and fewer than 2^32 - 1 bytes.
 ///

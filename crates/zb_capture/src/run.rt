@@ -43,7 +43,11 @@ impl Run {
         }
     }
 
-    /// Makes a list of no frames, with room for so many bytes in so many frames.
+    /// Makes a list of no frames, with room for `frames` frames of `bytes` bytes in all.
+    ///
+    /// # Errors
+    ///
+    /// `NoMemory`.
     pub fn with_room(alloc: Global, bytes: usize, frames: usize) -> Result<Run, NoMemory>
         ensures { IfOk result (λ run. run ≡ []) }
     {
@@ -62,6 +66,10 @@ impl Run {
     }
 
     /// Puts a frame after these.
+    ///
+    /// # Errors
+    ///
+    /// `NoMemory`.
     pub fn push(&mut self, frame: &Frame) -> Result<(), NoMemory>
         requires { length self.old < most_frames }
         ensures added { OnOk result (self.new ≡ self.old ++ frame.now ∷ []) }

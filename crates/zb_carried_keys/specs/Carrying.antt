@@ -40,6 +40,7 @@ carried_at Aps header content = if is_command_header header then key_in (command
 carried_at Nwk header content = clear_key (frame_of content)
 
 -- The key that a term carries. An APS term carries one where its header is that of a command and its content is a
--- Transport-Key; an NWK term where its content is a whole APS command without APS security that is a Transport-Key.
+-- Transport-Key. An NWK term does where its content is a whole APS command without APS security that is a
+-- Transport-Key.
 unfoldable pub carried : Term → Option Key
 carried term = carried_at term.layer term.header.items term.content.items

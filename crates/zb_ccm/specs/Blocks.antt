@@ -9,7 +9,7 @@ use Rattle.zb_aes.specs.Bytes.{xored}
 abbrev pub block_at : List ℕ → ℕ → List ℕ
 block_at bytes i = take 16 (drop (16 * i) bytes ++ replicate 16 0)
 
--- How many blocks so many bytes fill, the last of them perhaps in part.
+-- How many blocks `n` bytes fill, the last of them perhaps in part.
 abbrev pub block_count : ℕ → ℕ
 block_count n = div_ceil n 16
 

@@ -44,7 +44,7 @@ fn chained_associated(cipher: &Cipher, value: State, associated: &[u8]) -> State
     chained_bytes(cipher, first, &associated[associated.len().min(14)..])
 }
 
-// Answers the flags of the first block.
+// Returns the flags of the first block.
 fn flags_of(associated: &[u8], size: u8) -> u8
     requires low { 2 ≤ size }
     requires high { size ≤ 16 }

@@ -107,6 +107,9 @@ pub fn seal8_with(
 }
 
 /// Opens as `open` does, with a key that was expanded before.
+///
+/// # Errors
+/// `BadMic` where `mic` isn't the MIC of that message; `text` then stays as it was.
 pub fn open_with(
     cipher: &Cipher,
     nonce: &[u8; 13],

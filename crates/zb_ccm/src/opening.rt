@@ -9,10 +9,10 @@ use crate::chaining::compute_mic;
 use crate::keystream::crypt;
 use zb_aes::Cipher;
 
-/// The greatest length of a text that is opened in a copy, so that one that doesn't open is deciphered once.
+/// The greatest length of a text that is opened in a copy. So one that doesn't open is deciphered only once.
 pub const COPIED: usize = 128;
 
-// Answers whether `mic` is the MIC of the message.
+// Returns whether `mic` is the MIC of the message.
 fn is_mic(
     cipher: &Cipher,
     nonce: &[u8; 13],
@@ -52,6 +52,9 @@ fn open_through(
 }
 
 /// Opens a text that fits a copy.
+///
+/// # Errors
+/// `BadMic` where `mic` isn't the MIC of the message; `text` then stays as it was.
 pub fn open_copy(
     cipher: &Cipher,
     nonce: &[u8; 13],
@@ -68,7 +71,10 @@ pub fn open_copy(
     open_through(cipher, nonce, associated, text, mic, &mut copy[..len])
 }
 
-/// Opens a text of any length in its place; one that doesn't open is enciphered again.
+/// Opens a text of any length in its place. One that doesn't open is enciphered again.
+///
+/// # Errors
+/// `BadMic` where `mic` isn't the MIC of the message; `text` then stays as it was.
 pub fn open_in_place(
     cipher: &Cipher,
     nonce: &[u8; 13],

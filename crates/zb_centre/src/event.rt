@@ -47,7 +47,7 @@ pub enum CentreEvent {
     },
     /// The next device is due to be sent the new network key.
     Timer,
-    /// It sends application data to a network address.
+    /// It sends application data to a short address.
     Say {
         /// The address.
         to: Short,

@@ -13,8 +13,8 @@ use zb_rules::Effect;
 use zb_send::Body;
 use zb_setting::Network;
 
-/// Hands the active network key to a device that joins or rejoins under the centre: sealed for transport under its
-/// current row, in an unsecured NWK frame.
+/// Hands the active network key to a device that joins or rejoins under the centre. The key is sealed for transport
+/// under the device's current row, in an unsecured NWK frame.
 ///
 /// # Errors
 /// No key without an active network key; not a member where the device isn't live; the APS counter is spent.

@@ -112,8 +112,8 @@ fn answer_request(
     }
 }
 
-/// Takes a Request-Key of a link key with the centre: the offered key is sent again, or a new one is drawn and
-/// offered, sealed for load under the current row.
+/// Takes a Request-Key of a link key with the centre. The offered key is sent again, or a new one is drawn and
+/// offered. Either is sealed for load under the current row.
 ///
 /// # Errors
 /// Policy unless this is the centre, and the command is sealed for data under the sender's current row; rows full; no

@@ -191,8 +191,8 @@ fn switched(new: &NetRow) -> Changes
     changes
 }
 
-/// Switches to the newest network key once every live device was told, and tells all: Switch-Key, sealed under the key
-/// that was active before. Outside a rollover it tells all again.
+/// Switches to the newest network key once every live device was told of it, and tells all of the switch. A Switch-Key
+/// goes out, sealed under the key that was active before. Outside a rollover it tells all again.
 ///
 /// # Errors
 /// No key without an active network key; wrong state while a live device isn't told; the NWK counter is spent.

@@ -22,8 +22,8 @@ fn is_update(network: &Network, heard: &Heard, status: u8) -> bool
     network.is_centre() && heard.is_clear_or_data() && heard.is_from_router(network) && status <= 3
 }
 
-/// Takes an Update-Device of a child that joins (1) or rejoins (3): the network key goes to it through a Tunnel to the
-/// reporter. The statuses 0 and 2 ask for nothing.
+/// Takes an Update-Device of a child that joins (1) or rejoins (3). The network key goes to the child through a Tunnel
+/// to the reporter. The statuses 0 and 2 ask for nothing.
 ///
 /// # Errors
 /// Policy in any other form; no key; not a member where the device isn't live; a counter is spent.

@@ -67,7 +67,7 @@ IsJudgeFault tells old new Worn = ⊥
 IsJudgeFault tells old new Write = ⊥
 IsJudgeFault tells old new NoMemory = Unrisen old.faults new.faults
 
--- while a store is judged, an image is empty, or represents what one stood for before
+-- while a store is judged, an image is empty, or represents the same as some image before
 abbrev pub WasThereOrEmpty : View → List ℕ → Type 0
 WasThereOrEmpty old image = (image ≡ []) ⊎ WasThere old image
 

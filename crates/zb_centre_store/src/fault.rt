@@ -73,7 +73,7 @@ impl<T: Drop> From<AllocFailed<T>> for AdminFault {
     }
 }
 
-// Answers why the centre's host failed.
+// Returns why the centre's host failed.
 pub(crate) fn of_host(fault: HostFault) -> AdminFault
     ensures { result ≡ fault_of fault }
 {

@@ -13,14 +13,14 @@ use zb_keys::{LinkRow, NetRow, Tables};
 use zb_text::choices::attribute_text;
 use zb_text::page::{add_eui, add_key, add_number, add_word, end_line, put};
 
-// Answers the word for whether a row is used.
+// Returns the word for whether a row is used.
 fn live_word(live: bool) -> &'static [u8]
     ensures { result.now ≡ live_word live }
 {
     if live { b"live" } else { b"dropped" }
 }
 
-// Answers whether a key is the active one.
+// Returns whether a key is the active one.
 fn is_active(active: &Option<Key>, key: &Key) -> bool
     ensures { result ≡ is_active_key (option_map (λ k. k.0) active.now) key.now.0 }
 {
@@ -30,7 +30,7 @@ fn is_active(active: &Option<Key>, key: &Key) -> bool
     }
 }
 
-// Answers the word for whether a network key is used.
+// Returns the word for whether a network key is used.
 fn net_word(active: &Option<Key>, row: &NetRow) -> &'static [u8]
     ensures { result.now ≡ net_word (option_map (λ k. k.0) active.now) (net_key row.now) }
 {
@@ -41,7 +41,7 @@ fn net_word(active: &Option<Key>, row: &NetRow) -> &'static [u8]
     }
 }
 
-// Answers the word for what is known of a link key.
+// Returns the word for what is known of a link key.
 fn attribute_word(attribute: Attribute) -> &'static [u8]
     ensures { result.now ≡ attribute_word (model_attribute attribute) }
 {

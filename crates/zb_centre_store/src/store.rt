@@ -46,7 +46,7 @@ fn boot<D: Disk>(alloc: Global, config: &Config, disk: &mut D) -> Result<Host<Ce
     }
 }
 
-/// Judges the store, and boots the centre from it. It answers None where the disk is empty.
+/// Judges the store, and boots the centre from it. It returns None where the disk is empty.
 ///
 /// Requires a configuration of the centre.
 ///
@@ -145,7 +145,7 @@ fn lay_out<D: Disk>(
     }
 }
 
-// Answers what a centre is declared with that has a network key of sequence 0.
+// Returns what a centre is declared with that has a network key of sequence 0.
 fn first_declaration(key: Key) -> Declaration
     requires { length key.0 ≡ 16 }
     ensures is { declared_state result ≡ first_tables key.0 }
@@ -186,7 +186,7 @@ pub fn init<D: Disk>(
     }
 }
 
-// Reads the tables of a backup from their record, and skips so many of their counters.
+// Reads the tables of a backup from their record, and skips `by` of their counters.
 fn skipped(alloc: Global, by: u32, kept: &[u8]) -> Result<Tables, NoMemory>
     requires { (s : NodeState) × IsOfCentre s × (kept.now ≡ record_of s) }
     ensures is { IfOk result (λ t. t ≡ skipped by (tables_of (record_read kept.now))) }
@@ -204,7 +204,8 @@ fn skipped(alloc: Global, by: u32, kept: &[u8]) -> Result<Tables, NoMemory>
     Ok(tables)
 }
 
-/// Makes the store of a centre that goes on from a backup and skips so many counters, and boots the centre.
+/// Makes the store of a centre that goes on from a backup, and boots the centre. It skips `by` counters of each layer
+/// and each network key.
 ///
 /// Requires a configuration of the centre, and the record of a centre's tables.
 ///
@@ -239,7 +240,7 @@ pub fn centre_tables(host: &Host<Centre>) -> &Tables
     host.core().node().tables()
 }
 
-// Says what holds of the tables of a centre that is up; does nothing.
+// States what holds of the tables of a centre that is up, and does nothing.
 fn keep_rules(host: &Host<Centre>)
     requires { IsTrue (is_some host.now.store) }
     ensures { shown host.now.core.tables ≡ host.now.core.tables }
@@ -249,7 +250,10 @@ fn keep_rules(host: &Host<Centre>)
 
 /// Lets the centre handle an event, and returns what goes out once its changes are stored.
 ///
-/// A refused one of its own changes nothing. Requires a centre that is up. Errors: `Disk`, `Worn`.
+/// A refused one of its own changes nothing. Requires a centre that is up.
+///
+/// # Errors
+/// `Disk` where a call of the disk failed; `Worn` where the whole record has to be written, and no generation is left.
 pub fn handle<D: Disk>(
     host: &mut Host<Centre>,
     disk: &mut D,

@@ -57,7 +57,7 @@ pub enum Command {
     Update {
         /// The device whose state changed.
         device: Eui,
-        /// The network address of the device.
+        /// The short address of the device.
         short: Short,
         /// What it did: a secured rejoin (00), an unsecured join (01), a leave (02), a trust centre rejoin (03).
         status: u8,
@@ -300,7 +300,7 @@ fn put_command(out: &mut Frame, value: &Command) -> Result<(), TooLong>
     Ok(())
 }
 
-// That a command but a Tunnel has at most 35 bytes, for what is said of it.
+// States that a command but a Tunnel has at most 35 bytes, for what is said of it.
 fn known_length(value: &Command)
     ensures { is_tunnel value.now ≡ false → length (command value.now) ≤ most_bytes }
 {
@@ -319,14 +319,14 @@ fn known_length(value: &Command)
     }
 }
 
-// That a key has 16 bytes, for what is said of it.
+// States that a key has 16 bytes, for what is said of it.
 fn known_key(key: &Key)
     ensures { length key.now.0 ≡ 16 }
 {
     let _bytes = key.0;
 }
 
-// That a hash has 16 bytes, for what is said of it.
+// States that a hash has 16 bytes, for what is said of it.
 fn known_hash(hash: &[u8; 16])
     ensures { length hash.now ≡ 16 }
 {

@@ -9,7 +9,7 @@ ghost use Rattle.zb_cmd.specs.Shape.{InRange, IsCommand, Spells, SpellsLeave};
 ghost use Rattle.zb_cmd.specs.Reading.{command_of, leave_of};
 ghost use Rattle.zb_base.specs.Limits.{longest_frame};
 
-/// Returns what `read_command` and `write_command` are to each other, and likewise for a Leave.
+/// States that `read_command` and `write_command` undo each other, and likewise for a Leave.
 pub fn round_trips()
     ensures one_value { (bytes : List ℕ) (c d : Command) → Spells bytes c → Spells bytes d → c ≡ d }
     ensures one_spelling { (bytes other : List ℕ) (c : Command) → Spells bytes c → Spells other c

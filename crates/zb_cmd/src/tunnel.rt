@@ -16,8 +16,8 @@ use zb_cursor::{Reader, TooLong, frame_from, has_bit, put, put_byte, put_eui};
 
 /// Returns whether a frame may stand in a Tunnel.
 ///
-/// It has an APS header of 2 bytes, an auxiliary header of 13 with the extended nonce, and a code of 4 after the
-/// cipher text. No other place of it is judged.
+/// It has an APS header of 2 bytes, an auxiliary header of 13 with the extended nonce, and a MIC of 4 after the cipher
+/// text. No other place of it is judged.
 pub fn inner_ok(inner: &Frame) -> bool
     ensures { result ≡ is_inner inner.now.items }
 {

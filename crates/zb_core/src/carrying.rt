@@ -55,8 +55,8 @@ pub(crate) fn carry_out(tables: &mut StoredTables, plan: &Plan<Outcome<Term, Ref
     count(tables, &plan.out.sealed_nwk);
 }
 
-// Keeps the key that seals a term for the frames to come, but none of those that carry keys: they rarely come again,
-// and to derive one anew takes as long as to open a frame.
+// Keeps the key that seals a term for the frames to come, but none of those that carry keys. They rarely come again,
+// and deriving one anew takes only as long as opening a frame.
 pub(crate) fn remember(memo: &mut KeyMemo, term: &Option<Term>) {
     if let Some(term) = term {
         match term.label {

@@ -24,7 +24,7 @@ use zb_seal::{KeyMemo, Term};
 use zb_setting::Network;
 use zb_stored_tables::{StoredTables, hold_ranges};
 
-/// What a node of any role has: what it knows of its network, its tables, and the base keys that it used last.
+/// What a node of any role has: its network, its tables, and the base keys that it used last.
 ///
 /// A contract sees it as its setting and its tables. The base keys change no answer.
 #[derive(Drop)]

@@ -13,7 +13,7 @@ last_counter = 4294967295
 abbrev pub block_beyond : ℕ → ℕ → ℕ
 block_beyond from block = min (from + block) last_counter
 
--- what a draw answers
+-- what a draw returns
 abbrev pub draw_of : Outgoing → Draw
 draw_of o = if o.next == last_counter then Spent
     else (if o.next == o.limit then Reserve (block_beyond o.next o.block) else Ready o.next)

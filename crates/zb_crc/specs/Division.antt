@@ -1,6 +1,6 @@
--- The division of polynomials over the bits 0 and 1 by x^16 + x^12 + x^5 + 1, as the CRC of install codes (Base Device
--- Behavior, install codes) and the check sequence of packets (IEEE 802.15.4, 5.2.1.9 of the edition of 2011) have it.
--- A polynomial is the list of its bits, the highest power first.
+-- The division of polynomials over the bits 0 and 1 by x^16 + x^12 + x^5 + 1. The CRC of install codes has it (Base
+-- Device Behavior, install codes), and so has the check sequence of packets (IEEE 802.15.4, 5.2.1.9 of the edition of
+-- 2011). A polynomial is the list of its bits, the highest power first.
 use Rattle.std.specs.Prelude.{ℕ, zero, suc, ◌+◌, ◌*◌, ◌==◌, List, [], ◌∷◌, ◌++◌, bit_xor, if◌then◌else◌, length, map, replicate}
 use Rattle.std.specs.Int.{bit_at}
 use Rattle.std.specs.List.{flat_map, range_with_len}

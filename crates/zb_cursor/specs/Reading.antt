@@ -40,7 +40,7 @@ byte_at cut (b ∷ rest) = Ok (b, rest)
 abbrev pub all_at : {E : Type 0} → Reading E (List ℕ)
 all_at cut bytes = Ok (bytes, [])
 
--- all bytes that are left: a body, and after it a message integrity code of 4 bytes
+-- all bytes that are left: a body, and after it a MIC of 4 bytes
 unfoldable pub body_and_mic_at : {E : Type 0} → Reading E (List ℕ × List ℕ)
 body_and_mic_at cut bytes = if nat_lt (length bytes) 4 then Err cut
     else Ok ((take (length bytes - 4) bytes, drop (length bytes - 4) bytes), [])
@@ -67,7 +67,7 @@ abbrev pub optional_at : {E A : Type 0} → Bool → Reading E A → Reading E (
 optional_at false read cut bytes = Ok (None, bytes)
 optional_at true read cut bytes = follow (read cut bytes) (λ x rest. Ok (Some x, rest))
 
--- so many fields one after the other
+-- a number of fields one after the other
 unfoldable pub times_at : {E A : Type 0} → Reading E A → ℕ → Reading E (List A)
 times_at read zero cut bytes = Ok ([], bytes)
 times_at read (suc n) cut bytes =

@@ -13,7 +13,7 @@ use zb_base::{Eui, Frame, Key, Short};
 
 /// A place in bytes that are read field by field from the start.
 ///
-/// Each method answers the next field and moves after it.
+/// Each method returns the next field and moves after it.
 ///
 /// # Errors
 /// `cut` where the bytes run out; the place then stays as it was, but for `shorts`.
@@ -27,6 +27,9 @@ pub struct Reader<'a, E> {
 
 impl<'a, E: Copy + Drop> Reader<'a, E> {
     /// Reads one byte.
+    ///
+    /// # Errors
+    /// `cut` where the bytes run out.
     pub fn byte(&mut self) -> Result<u8, E>
         ensures exact { Gives result self.new.rest.now (byte_at self.old.cut self.old.rest.now) }
         ensures spelled { IfOk result (λ x. self.old.rest.now ≡ byte x ++ self.new.rest.now) }
@@ -45,6 +48,9 @@ impl<'a, E: Copy + Drop> Reader<'a, E> {
     }
 
     /// Reads the next `count` bytes, as they stand.
+    ///
+    /// # Errors
+    /// `cut` where the bytes run out.
     #[tactic(auto, unfolding(crate::specs::Reading::bytes_at))]
     pub fn bytes(&mut self, count: usize) -> Result<&'a [u8], E>
         ensures exact { GivesBy (λ xs. xs.now) result self.new.rest.now
@@ -88,9 +94,12 @@ impl<'a, E: Copy + Drop> Reader<'a, E> {
         Ok(())
     }
 
-    /// Reads all bytes that are left into the places of a body and of the message integrity code of 4 bytes after it.
+    /// Reads all bytes that are left: a body, and after it a MIC of 4 bytes.
     ///
     /// Requires at most 127 bytes to be left.
+    ///
+    /// # Errors
+    /// `cut` where fewer than 4 bytes are left.
     #[tactic(auto, unfolding(crate::specs::Reading::body_and_mic_at))]
     pub fn body_and_mic_into(&mut self, body: &mut Frame, mic: &mut [u8; 4]) -> Result<(), E>
         requires { length self.old.rest.now ≤ longest_frame }
@@ -111,6 +120,9 @@ impl<'a, E: Copy + Drop> Reader<'a, E> {
     }
 
     /// Reads a number of 2 bytes.
+    ///
+    /// # Errors
+    /// `cut` where the bytes run out.
     #[tactic(auto, unfolding(crate::specs::Reading::number_at))]
     pub fn number16(&mut self) -> Result<u16, E>
         ensures exact { Gives result self.new.rest.now (number_at w16 self.old.cut self.old.rest.now) }
@@ -129,6 +141,9 @@ impl<'a, E: Copy + Drop> Reader<'a, E> {
     }
 
     /// Reads a number of 4 bytes.
+    ///
+    /// # Errors
+    /// `cut` where the bytes run out.
     #[tactic(auto, unfolding(crate::specs::Reading::number_at))]
     pub fn number32(&mut self) -> Result<u32, E>
         ensures exact { Gives result self.new.rest.now (number_at w32 self.old.cut self.old.rest.now) }
@@ -147,6 +162,9 @@ impl<'a, E: Copy + Drop> Reader<'a, E> {
     }
 
     /// Reads a number of 8 bytes.
+    ///
+    /// # Errors
+    /// `cut` where the bytes run out.
     #[tactic(auto, unfolding(crate::specs::Reading::number_at))]
     pub fn number64(&mut self) -> Result<u64, E>
         ensures exact { Gives result self.new.rest.now (number_at w64 self.old.cut self.old.rest.now) }
@@ -167,6 +185,9 @@ impl<'a, E: Copy + Drop> Reader<'a, E> {
     }
 
     /// Reads a short address.
+    ///
+    /// # Errors
+    /// `cut` where the bytes run out.
     #[tactic(auto, unfolding(crate::specs::Reading::short_at))]
     pub fn short(&mut self) -> Result<Short, E>
         ensures exact { Gives result self.new.rest.now (short_at self.old.cut self.old.rest.now) }
@@ -180,7 +201,10 @@ impl<'a, E: Copy + Drop> Reader<'a, E> {
         Ok(Short(number))
     }
 
-    /// Reads an IEEE address.
+    /// Reads an EUI.
+    ///
+    /// # Errors
+    /// `cut` where the bytes run out.
     #[tactic(auto, unfolding(crate::specs::Reading::eui_at))]
     pub fn eui(&mut self) -> Result<Eui, E>
         ensures exact { Gives result self.new.rest.now (eui_at self.old.cut self.old.rest.now) }
@@ -195,6 +219,9 @@ impl<'a, E: Copy + Drop> Reader<'a, E> {
     }
 
     /// Reads a key, in the order of its bytes.
+    ///
+    /// # Errors
+    /// `cut` where the bytes run out.
     #[tactic(auto, unfolding(crate::specs::Reading::key_at))]
     pub fn key(&mut self) -> Result<Key, E>
         ensures exact { Gives result self.new.rest.now (key_at self.old.cut self.old.rest.now) }
@@ -211,6 +238,9 @@ impl<'a, E: Copy + Drop> Reader<'a, E> {
     }
 
     /// Reads one byte, where it is present.
+    ///
+    /// # Errors
+    /// `cut` where the bytes run out.
     pub fn optional_byte(&mut self, present: bool) -> Result<Option<u8>, E>
         ensures exact { Gives result self.new.rest.now (optional_at present byte_at self.old.cut self.old.rest.now) }
         ensures spelled { IfOk result (λ o. self.old.rest.now ≡ optional byte o ++ self.new.rest.now) }
@@ -228,6 +258,9 @@ impl<'a, E: Copy + Drop> Reader<'a, E> {
     }
 
     /// Reads a number of 2 bytes, where it is present.
+    ///
+    /// # Errors
+    /// `cut` where the bytes run out.
     pub fn optional_number16(&mut self, present: bool) -> Result<Option<u16>, E>
         ensures exact { Gives result self.new.rest.now
             (optional_at present (number_at w16) self.old.cut self.old.rest.now) }
@@ -245,7 +278,10 @@ impl<'a, E: Copy + Drop> Reader<'a, E> {
         Ok(Some(field))
     }
 
-    /// Reads an IEEE address, where it is present.
+    /// Reads an EUI, where it is present.
+    ///
+    /// # Errors
+    /// `cut` where the bytes run out.
     pub fn optional_eui(&mut self, present: bool) -> Result<Option<Eui>, E>
         ensures exact { Gives result self.new.rest.now (optional_at present eui_at self.old.cut self.old.rest.now) }
         ensures spelled { IfOk result (λ o. self.old.rest.now ≡ optional eui o ++ self.new.rest.now) }

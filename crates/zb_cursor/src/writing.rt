@@ -109,7 +109,7 @@ pub fn put_short(out: &mut Frame, value: Short) -> Result<(), TooLong>
     Ok(())
 }
 
-/// Puts an IEEE address at the end of the frame.
+/// Puts an EUI at the end of the frame.
 ///
 /// # Errors
 /// `TooLong` where it doesn't fit.
@@ -159,7 +159,7 @@ pub fn put_optional_number16(out: &mut Frame, value: Option<u16>) -> Result<(), 
     Ok(())
 }
 
-/// Puts an IEEE address at the end of the frame, where there is one.
+/// Puts an EUI at the end of the frame, where there is one.
 ///
 /// # Errors
 /// `TooLong` where it doesn't fit.

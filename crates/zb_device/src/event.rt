@@ -16,7 +16,7 @@ pub enum DeviceEvent {
     },
     /// Its timer goes off.
     Timer,
-    /// It says application data to a network address.
+    /// It sends application data to a short address.
     Say {
         /// To whom.
         to: Short,

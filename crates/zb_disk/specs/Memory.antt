@@ -46,7 +46,7 @@ will_refuse (Stop calls) = true
 will_refuse (Fail call) = nat_lt 0 call
 will_refuse Stopped = true
 
--- whether it refuses to read once so many more writes and syncs were asked for: a stop has fallen on one of them
+-- whether it refuses to read once `k` more writes and syncs were asked for: a stop has fallen on one of them
 abbrev pub off_after : Arming → ℕ → Bool
 off_after Unarmed k = false
 off_after (Stop calls) k = nat_lt calls k

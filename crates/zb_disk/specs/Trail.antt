@@ -65,7 +65,7 @@ total [] = 0
 total (Wrote at len ∷ log) = len + total log
 total (Synced ∷ log) = total log
 
--- whether there is room for one more call, which writes so many bytes
+-- whether there is room for one more call, which writes `len` bytes
 abbrev pub has_room : Trail → ℕ → Bool
 has_room t len = nat_lt (length t.steps) t.calls_room && nat_le (t.taken + len) t.bytes_room
 

@@ -22,7 +22,7 @@ pub record View : Type 1 where
   pub calls : ℕ
   -- how many calls failed
   pub faults : ℕ
-  -- whether it refuses to read once so many more writes and syncs were asked for
+  -- whether it refuses to read once this number of further writes and syncs were asked for
   pub off : ℕ → Bool
   -- whether it refuses the write or sync of that number from now on, the next one being 0
   pub refuses : ℕ → Bool

@@ -15,7 +15,7 @@ pub const DISK_ROOM: usize = 131_072;
 /// bytes stand.
 ///
 /// # Errors
-/// Each method answers `Failed` only where the count of faults rose.
+/// Each method returns `Failed` only where the count of faults rose.
 pub trait Disk {
     /// What this kind of disk tells of itself.
     ghost tells: { Telling };

@@ -77,7 +77,7 @@ fn widen(written: &mut Vec<bool>, more: usize)
     written.rotate_right(more);
 }
 
-// Moves the window of flags so that it doesn't begin after a place, and answers where it begins.
+// Moves the window of flags so that it doesn't begin after a place, and returns where it begins.
 fn open(written: &mut Vec<bool>, base: usize, start: usize) -> usize
     requires { base + length written.old.items ≤ vec_capacity written.old }
     ensures begins { result ≤ start }

@@ -26,7 +26,7 @@ const MIDDLE: usize = 65_536;
 pub enum Arming {
     /// Refuses none.
     Unarmed,
-    /// Refuses the next write or sync after so many, and every call after it.
+    /// Refuses the next write or sync after some that go through, and every call after it.
     Stop {
         /// Counts the writes and syncs that go through first.
         calls: u8,
@@ -40,7 +40,7 @@ pub enum Arming {
     Stopped,
 }
 
-// Counts one write or sync, and answers whether it is refused.
+// Counts one write or sync, and returns whether it is refused.
 fn is_refused(arming: &mut Arming) -> bool
     ensures refused { result ≡ refuses arming.old 0 }
     ensures after { arming.new ≡ after_call arming.old }
@@ -198,7 +198,8 @@ impl MemDisk {
         }
     }
 
-    /// Returns whether the disk will refuse a write or a sync: what was armed hasn't fallen, or the disk is off.
+    /// Returns whether the disk will refuse a write or a sync. It will where what was armed hasn't fallen, and where
+    /// it is off.
     pub fn will_refuse(&self) -> bool
         ensures { result ≡ will_refuse self.now.arming }
     {
@@ -209,9 +210,9 @@ impl MemDisk {
         }
     }
 
-    /// Arms a stop of the write or sync that comes after so many. It is refused, and so is every call after it until
-    /// `power_on`. The runs of bytes that were written and not synced then become `torn`, repeated. An earlier arming
-    /// is replaced. A stopped disk stays as it is.
+    /// Arms a stop of the write or sync that comes after `calls` others. It is refused, and so is every call after it
+    /// until `power_on`. The runs of bytes that were written and not synced then become `torn`, repeated. An earlier
+    /// arming is replaced. A stopped disk stays as it is.
     pub fn arm_stop(&mut self, calls: u8, torn: ArrayVec<u8, 32>)
         ensures { self.new ≡ record self.old {
           arming = armed self.old.arming (Arming.Stop calls);
@@ -269,7 +270,7 @@ impl MemDisk {
         self.settle();
     }
 
-    // Counts a write or a sync, and answers whether it is refused.
+    // Counts a write or a sync, and returns whether it is refused.
     #[tactic(auto, unfolding(crate::specs::Memory::counted))]
     fn refuses_call(&mut self) -> bool
         ensures refused { result ≡ refuses self.old.arming 0 }
@@ -284,7 +285,7 @@ impl MemDisk {
         refused
     }
 
-    // Counts a read, and answers whether it is refused.
+    // Counts a read, and returns whether it is refused.
     fn refuses_read(&mut self) -> bool
         ensures refused { result ≡ is_stopped self.old.arming }
         ensures after { self.new ≡ after_read self.old }

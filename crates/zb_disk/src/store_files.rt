@@ -14,18 +14,20 @@ const BLOCKS: usize = DISK_ROOM / 4096;
 
 /// Opens and makes the files of stores.
 pub trait StoreFiles: Files {
-    /// Opens the file of a store for this process alone, or returns None where nothing stands at that path: no file,
-    /// or an empty one.
+    /// Opens the file of a store for this process alone. It returns None where nothing is at that path: no file, or an
+    /// empty one.
     ///
     /// It stays locked until it is dropped or the process ends, however it ends.
     ///
     /// # Errors
-    /// `WouldBlock` where another process has it open, `InvalidInput` where it is no regular file or the path is
-    /// empty, `NotFound` where the path names another file by the time it is locked, and those of the system's calls.
+    /// - `WouldBlock` where another process has it open.
+    /// - `InvalidInput` where it is no regular file or the path is empty.
+    /// - `NotFound` where the path names another file by the time it is locked.
+    /// - Those of the system's calls.
     fn open_store(&self, path: &str) -> io::Result<Option<Self::File>>;
 
-    /// Makes the file of a new store for its owner alone, or takes an empty one, locks it, and gives it room for the
-    /// whole disk.
+    /// Makes the file of a new store for its owner alone, or takes an empty one. It locks the file, and gives it room
+    /// for the whole disk.
     ///
     /// Of two processes that make one store at once, the one that locks the file first has it.
     ///
@@ -168,7 +170,7 @@ fn fill(file: &mut File) -> io::Result<()> {
     Ok(())
 }
 
-/// Says on standard error that others may read or write the store. It holds keys.
+/// Warns on standard error where others may read or write the store, which holds keys.
 fn warn_of_readers(rt: &HostRuntime, path: &str, file: &File) -> io::Result<()> {
     if file.metadata()?.mode() & 0o077 != 0 {
         // who has closed standard error misses a warning, and nothing else

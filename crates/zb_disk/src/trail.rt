@@ -16,7 +16,7 @@ use zb_base::{Failed, NoMemory};
 /// A call that went through.
 #[derive(Clone, Copy, Debug, PartialEq, Eq)]
 pub(crate) enum Logged {
-    /// A write at a place, of so many bytes.
+    /// A write at a place, of `len` bytes.
     Wrote { at: usize, len: usize },
     /// A sync.
     Synced,
@@ -51,7 +51,7 @@ impl Model for TrailDisk {
 }
 
 impl TrailDisk {
-    /// Makes a disk of these bytes, with room for so many calls and so many written bytes. Requires at most 131,072
+    /// Makes a disk of these bytes, with room for `calls` calls and `room` written bytes. Requires at most 131,072
     /// bytes.
     ///
     /// # Errors
@@ -91,7 +91,7 @@ impl TrailDisk {
         self.faults = self.faults.saturating_add(1);
     }
 
-    // Whether there is room for one more call, which writes so many bytes.
+    // Whether there is room for one more call, which writes `len` bytes.
     fn has_room(&self, len: usize) -> bool
         requires { len ≤ disk_size }
         ensures { result ≡ has_room self.now len }

@@ -5,7 +5,7 @@ use Rattle.zb_base.specs.declared.key.Key.{Key}
 use Rattle.zb_install.specs.Crc.{crc}
 use Rattle.zb_gen.specs.Words.{key_at}
 
--- The install codes of so many nodes of a start value.
+-- The install codes of the first `count` nodes of a start value.
 pub record CodesOf : Type 0 where
   pub start : ℕ
   pub count : ℕ

@@ -1,6 +1,6 @@
 -- The lines of a made schedule for n routers and devices, as a function of the words of the generator. The words are
--- taken in order: a key of four words for each install code, one for the network key, n + 1 for the supply, then four
--- words for each of 20n steps and two for each of 10n more.
+-- taken in order. A key has four: one key for each install code, one for the network key, n + 1 for the supply. Then
+-- come four words for each of 20n steps, and two for each of 10n more.
 use Rattle.std.specs.Prelude.{ℕ, ◌+◌, ◌*◌, ◌-◌, ◌%◌, ◌==◌, nat_lt, List, [], ◌∷◌, ◌++◌, map, codes, decimal, if◌then◌else◌, Result}
 use Rattle.std.specs.Int.{w16, to_le_bytes}
 use Rattle.std.specs.List.{flat_map, range_with_len}

@@ -34,7 +34,10 @@ impl Model for Codes {
 }
 
 impl Codes {
-    /// Takes the codes of so many nodes from the words of a generator.
+    /// Takes the codes of `n` nodes from the words of a generator.
+    ///
+    /// # Errors
+    /// Out of memory.
     pub fn take(alloc: Global, words: &mut Words, n: u32) -> Result<Codes, AllocError>
         requires { (n ≤ most_made) × (words.old.place ≡ 0) }
         ensures codes { IfOk result (λ codes. codes ≡ record { start = words.old.start; count = n }) }

@@ -1,5 +1,5 @@
-//! Made schedules: for a start value and a number of nodes, a schedule in which all of them join, then random steps
-//! are made, and the network key is rolled over, all from the words of a generator.
+//! Made schedules, one for each start value and number of nodes. In it all nodes join, then random steps are made, and
+//! the network key is rolled over. All comes from the words of a generator.
 #![tactic(auto)]
 
 mod codes;

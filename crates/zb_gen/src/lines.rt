@@ -76,6 +76,9 @@ fn take_node(maker: &mut Maker, peer: Peer) -> Result<(), GenFault>
 }
 
 /// Takes the line of the centre.
+///
+/// # Errors
+/// Those of `Maker::take`.
 pub fn take_centre_line(maker: &mut Maker) -> Result<(), GenFault>
     requires { maker.old.line ≤ before_line }
     ensures lines { Comes result maker.new (after_texts maker.old (centre_line ∷ [])) }
@@ -139,6 +142,9 @@ fn take_draw_line(maker: &mut Maker, words: &mut Words, n: u32, j: u32) -> Resul
 }
 
 /// Takes the line of an event.
+///
+/// # Errors
+/// Those of `Maker::take`.
 pub fn take_event(maker: &mut Maker, event: Event) -> Result<(), GenFault>
     requires { maker.old.line ≤ before_line }
     ensures line { Comes result maker.new (after_sentence maker.old (Happens (event_of event))) }
@@ -148,6 +154,9 @@ pub fn take_event(maker: &mut Maker, event: Event) -> Result<(), GenFault>
 }
 
 /// Takes the line of a node's timer.
+///
+/// # Errors
+/// Those of `Maker::take`.
 pub fn take_timer_line(maker: &mut Maker, i: u32) -> Result<(), GenFault>
     requires { (i ≤ most_made) × (maker.old.line ≤ before_line) }
     ensures lines { Comes result maker.new (after_texts maker.old (own_line (codes "timer") i ∷ [])) }
@@ -157,6 +166,9 @@ pub fn take_timer_line(maker: &mut Maker, i: u32) -> Result<(), GenFault>
 }
 
 /// Takes the line of a delivery.
+///
+/// # Errors
+/// Those of `Maker::take`.
 pub fn take_deliver_line(maker: &mut Maker, frame: u32, i: u32) -> Result<(), GenFault>
     requires { (1 ≤ frame) × (i ≤ most_made) × (maker.old.line ≤ before_line) }
     ensures lines { Comes result maker.new (after_texts maker.old (deliver_line frame i ∷ [])) }
@@ -239,6 +251,9 @@ fn take_rest_of_join(maker: &mut Maker, sent: u32, i: u32) -> Result<(), GenFaul
 }
 
 /// Takes the lines of all nodes but the centre.
+///
+/// # Errors
+/// Those of `Maker::take`.
 pub fn take_nodes(maker: &mut Maker, n: u32) -> Result<(), GenFault>
     requires { (n ≤ most_made) × (maker.old.line ≤ before_part) }
     ensures lines { Comes result maker.new (after_texts maker.old (map node_line (range_with_len 1 n))) }
@@ -251,6 +266,9 @@ pub fn take_nodes(maker: &mut Maker, n: u32) -> Result<(), GenFault>
 }
 
 /// Takes the lines of all install codes.
+///
+/// # Errors
+/// Those of `Maker::take`.
 pub fn take_codes(maker: &mut Maker, install_codes: &Codes, n: u32) -> Result<(), GenFault>
     requires { (n ≤ install_codes.now.count) × (n ≤ most_made) × (maker.old.line ≤ before_part) }
     ensures lines { Comes result maker.new
@@ -264,6 +282,9 @@ pub fn take_codes(maker: &mut Maker, install_codes: &Codes, n: u32) -> Result<()
 }
 
 /// Takes the line of the network key and those of the supply.
+///
+/// # Errors
+/// Those of `Maker::take`.
 pub fn take_supply(maker: &mut Maker, words: &mut Words, n: u32) -> Result<(), GenFault>
     requires { (n ≤ most_made) × (words.old.place ≡ 4 * n) × (maker.old.line ≤ before_part) }
     ensures lines { Comes result maker.new (after_texts maker.old
@@ -289,6 +310,9 @@ fn take_draws(maker: &mut Maker, words: &mut Words, n: u32) -> Result<(), GenFau
 }
 
 /// Takes the joins of all nodes.
+///
+/// # Errors
+/// Those of `Maker::take`.
 pub fn take_joins(maker: &mut Maker, install_codes: &Codes, n: u32) -> Result<(), GenFault>
     requires { (n ≤ install_codes.now.count) × (n ≤ most_made) × (maker.old.line ≤ before_part) }
     ensures lines { Comes result maker.new

@@ -21,6 +21,10 @@ use zb_sched::Schedule;
 
 /// Makes the schedule of a start value for `n` routers and devices. Printed, it reads as itself. Requires 1 to 60 of
 /// them.
+///
+/// # Errors
+/// `Clash` where two of the keys are equal, or one is the well-known key: the first line that is no schedule's, and
+/// why. Or out of memory.
 pub fn make(alloc: Global, start: u32, n: u32) -> Result<Schedule, GenFault>
     requires { (1 ≤ n) × (n ≤ most_made) }
     ensures exact { Makes result (made_schedule start n) }

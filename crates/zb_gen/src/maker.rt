@@ -17,7 +17,8 @@ use zb_sched_line::Line;
 /// Why there is no made schedule.
 #[derive(Clone, Copy, Debug, PartialEq, Eq)]
 pub enum GenFault {
-    /// Two of the keys are equal, or one is the well-known key: the first line that is no schedule's, and why.
+    /// Two of the keys are equal, or one is the well-known key. It names the first line that is no schedule's, and
+    /// why.
     Clash { line: u32, cause: SchedCause },
     /// There was no memory left.
     NoMemory,
@@ -57,7 +58,10 @@ impl Maker {
         }
     }
 
-    /// Makes room for so many events.
+    /// Makes room for `events` events.
+    ///
+    /// # Errors
+    /// Out of memory.
     pub fn reserve(&mut self, events: u32) -> Result<(), AllocError>
         ensures { self.new ≡ self.old }
     {

@@ -129,6 +129,9 @@ fn next_step(words: &mut Words, n: u32) -> Step
 }
 
 /// Takes the lines of all random steps.
+///
+/// # Errors
+/// Those of `Maker::take`.
 pub fn take_steps(maker: &mut Maker, words: &mut Words, n: u32) -> Result<(), GenFault>
     requires { (1 ≤ n) × (n ≤ most_made) × (words.old.place ≡ 8 * n + 8) × (maker.old.line ≤ before_part) }
     ensures lines { Comes result maker.new (after_texts maker.old
@@ -144,6 +147,9 @@ pub fn take_steps(maker: &mut Maker, words: &mut Words, n: u32) -> Result<(), Ge
 }
 
 /// Takes the removal of the first node and the rollover.
+///
+/// # Errors
+/// Those of `Maker::take`.
 pub fn take_rollover(maker: &mut Maker, n: u32) -> Result<(), GenFault>
     requires { (1 ≤ n) × (n ≤ most_made) × (maker.old.line ≤ before_part) }
     ensures lines { Comes result maker.new (after_texts maker.old (rollover_lines n)) }
@@ -210,6 +216,9 @@ fn take_late_line(maker: &mut Maker, words: &mut Words, n: u32) -> Result<(), Ge
 }
 
 /// Takes the late deliveries.
+///
+/// # Errors
+/// Those of `Maker::take`.
 pub fn take_late(maker: &mut Maker, words: &mut Words, n: u32) -> Result<(), GenFault>
     requires { (1 ≤ n) × (n ≤ most_made) × (words.old.place ≡ 88 * n + 8) × (maker.old.line ≤ before_part) }
     ensures lines { Comes result maker.new (after_texts maker.old

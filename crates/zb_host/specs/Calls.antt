@@ -25,11 +25,11 @@ abbrev pub words_of : {C D : Type 0} → Telling → (D → View) → Restoring 
 words_of tells state restored recorded payload =
     record { tells = tells; state = state; restored = restored; recorded = recorded; payload = payload }
 
--- what `handle` answers: the changes and what goes out, or why not
+-- what `handle` returns: the changes and what goes out, or why not
 abbrev pub Handled : Type 0 → Type 0
 Handled O = Result (ArrayVec Change 16 (Unit {0}) × O) HostFault
 
--- the same of `handle_into`, from its answer and the plan that it writes
+-- the same of `handle_into`, from what it returns and the plan that it writes
 abbrev pub handled : {O : Type 0} → Result (Unit {0}) CommitFault → Plan O → Handled O
 handled (Ok u) p = Ok (p.changes, p.out)
 handled (Err fault) p = Err (told_fault fault p.changes)
@@ -67,7 +67,7 @@ pub record IsBooted {C D : Type 0} (words : Words C D) (old : D) (result : Resul
   pub ready : IfOk result (λ h. AllWhole (words.state old) → IsTrue words.tells.content → (s : Standing)
       → stands (words.state old).seen ≡ Some s
       → IsCurrent words.restored words.recorded s h (words.state new))
-  -- each image at each moment represents what one at entry stood for
+  -- each image at each moment represents the same as some image at entry
   pub moments : AllWhole (words.state old) → IsTrue words.tells.content
       → LeavesOnly (words.state old) (words.state new) (WasThere (words.state old))
   -- when each fault comes

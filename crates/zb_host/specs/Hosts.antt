@@ -24,7 +24,7 @@ Gives restored s w = restored s.content (concat s.payloads) ≡ gives w
 abbrev pub StandsFor : Restoring → List ℕ → List ℕ → Type 0
 StandsFor restored w c = (s : Standing) × IsWhole s c × Gives restored s w
 
--- what the bytes represent gives the core of this record, which a boot on them answers
+-- what the bytes represent gives the core of this record, which a boot on them returns
 abbrev pub AnswersOn : Restoring → List ℕ → List ℕ → Type 0
 AnswersOn restored bytes w = (s : Standing) × (stands bytes ≡ Some s) × Gives restored s w
 

@@ -26,8 +26,8 @@ IsCall words (Some host) old (handle result after disk) = IsTrue (is_some host.s
     × IsHandled words host old result after disk
 IsCall words None old (handle result after disk) = ⊥
 
--- A step: a call returns; or a crash cuts it short at a moment of it, and it never returns: then it is given as it
--- would have ended; or a crash comes between two calls. With a crash comes the disk that it leaves. The host is gone.
+-- A step. A call returns. Or a crash cuts it short at a moment of it, and it never returns: then it is given as it
+-- would have ended. Or a crash comes between two calls. With a crash comes the disk that it leaves. The host is gone.
 pub data Step (C D O : Type 0) : Type 0 where
   returns : Call C D O → Step C D O
   cut_short : Call C D O → D → Step C D O
@@ -68,7 +68,7 @@ pub record IsAfterFirst (before : List ℕ) (es : List Event) (booted : List ℕ
   pub record_is : booted ≡ record_after before first
   pub none_out : NoneOut others
 
--- a boot failed for the disk or for out of memory: the record isn't lost
+-- a boot failed by a fault of the disk or out of memory: the record isn't lost
 abbrev pub IsSpared : HostFault → Type 0
 IsSpared (Disk changes) = Unit {0}
 IsSpared NoMemory = Unit {0}
@@ -76,8 +76,8 @@ IsSpared NoRecord = ⊥
 IsSpared (BadRecord at) = ⊥
 IsSpared Worn = ⊥
 
--- After a boot whose core has this record, and these events since: each boot answers the core of the record after the
--- first of the events since the boot before it, and nothing was handed out from the others.
+-- After a boot whose core has this record, and these events since: each boot restores the record after some prefix of
+-- the events since the boot before it. Nothing was handed out from the other events.
 abbrev pub EachGoesOn : {C D O : Type 0} → (C → List ℕ) → List ℕ → List Event → List (Step C D O) → Type 0
 EachGoesOn recorded booted es [] = Unit {0}
 EachGoesOn recorded booted es (returns (boot (Ok host) disk) ∷ steps) = IsAfterFirst booted es (recorded host.core)
@@ -93,7 +93,7 @@ EachGoesOn recorded booted es (cut_short (handle result after disk) left ∷ ste
 EachGoesOn recorded booted es (cut_short (boot result disk) left ∷ steps) = EachGoesOn recorded booted es steps
 EachGoesOn recorded booted es (crash left ∷ steps) = EachGoesOn recorded booted es steps
 
--- from the first boot that answers
+-- from the first boot that goes through
 abbrev pub EachBootGoesOn : {C D O : Type 0} → (C → List ℕ) → List (Step C D O) → Type 0
 EachBootGoesOn recorded [] = Unit {0}
 EachBootGoesOn recorded (returns (boot (Ok host) disk) ∷ steps) = EachGoesOn recorded (recorded host.core) [] steps

@@ -209,7 +209,7 @@ impl<C: Core> Host<C> {
         requires role { C.is_of_role config.now }
 
         // Its core is that of the record and the entries that the disk as it reads represents, and then every image
-        // represents them. Each image at each moment represents what one at entry stood for.
+        // represents them. Each image at each moment represents the same as some image at entry.
         ensures step { IsBooted (words_of D.tells D.state C.restored C.recorded C.payload) disk.old result disk.new }
         ensures through { OnOk result (IsTrue D.tells.content
             → WentThrough D.tells (open_calls (D.state disk.old).seen) (D.state disk.old) (D.state disk.new)) }

@@ -15,9 +15,9 @@ use zb_store::{armed_runs, stopped_commits, stopped_runs};
 
 /// States that over any list of calls and crashes each boot goes on from the boot before it.
 ///
-/// Crashes come at any moment, inside calls and between them. Each boot answers the core of the record that the core
-/// of the boot before it had after the first of the events handled since, and these have every event whose output was
-/// handed out. Once a boot has answered, one that fails does so for the disk or for out of memory: no record is lost.
+/// Crashes come at any moment, inside calls and between them. Each boot restores the state after some prefix of the
+/// events since the boot before it. That prefix has every event whose output left the host. Once a boot went through,
+/// a later one fails only by a fault of the disk or out of memory: no record is lost.
 ///
 /// The premises are what `handle` and `boot` promise of each call, in their clause `step`. At the beginning the disk's
 /// images are whole, as a store that was formatted leaves them.
@@ -27,13 +27,13 @@ pub fn each_boot_goes_on<C: Core, D: Disk>()
         → EachBootGoesOn C.recorded steps }
 {}
 
-/// Returns whether an event stands whose commit an armed stop or failure ended, on a disk in memory.
+/// States whether an event is stored whose commit an armed stop or failure ended, on a disk in memory.
 ///
 /// Once the power is back, what stands is the record of the core after the event or of the one before it. It also says
 /// whether the next boot finds the gates of both slots open, and so makes three calls. The stop or failure counts from
 /// the beginning of the event.
 ///
-/// The premise is the clause `stopped` of `handle`; `before` and `after` are the records of the cores.
+/// The premise is the clause `stopped` of `handle`. `before` and `after` are the records of the cores.
 pub fn stopped_events()
     ensures stopped { (restored : Restoring) (before after booted : List ℕ) (whole : Bool) (s : Standing)
         (payload : List ℕ) (old new : Medium) (calls : ℕ)
@@ -59,10 +59,11 @@ pub fn stopped_events()
     stopped_commits();
 }
 
-/// Returns what stands after an event whose commit an armed stop or failure ended, and on which call it fell.
+/// States what is stored after an event whose commit an armed stop or failure ended.
 ///
-/// It also says how many calls were made, whether the disk is off since then, and that no commit ends so where nothing
-/// is armed. A commit that went through is after a stop or failure that didn't fall (`zb_store::armed_runs`).
+/// It also states on which call that fell, how many calls were made, whether the disk is off since then, and that no
+/// commit ends so where nothing is armed. A commit that went through is after a stop or failure that didn't fall
+/// (`zb_store::armed_runs`).
 ///
 /// The premise is the clause `stopped` of `handle`.
 pub fn fallen_events()

@@ -74,12 +74,12 @@ pub trait Core: Drop {
     /// The configurations of such a node: those in which it is of the core's role.
     ghost is_of_role: { configuration → Type 0 };
 
-    /// The core with which a node boots: that of a record and the payloads after it, one after the other, in a
-    /// configuration. It says what of the core a record doesn't have: the next counters, and what it was configured
+    /// The core with which a node boots in a configuration. It is that of a record and the payloads after it, one
+    /// after the other. It says what of the core a record doesn't have: the next counters, and what it was configured
     /// with.
     ghost is_booted: { configuration → List ℕ → List ℕ → Self → Type 0 };
 
-    /// Writes the plan of an event in place of the plan that stood there; changes nothing else.
+    /// Writes the plan of an event in place of the plan that stood there, and changes nothing else.
     fn plan(&self, event: &Self::Event, plan: &mut Plan<Self::Out>)
         ensures { is_plan self.now event.now plan.new };
 
@@ -88,15 +88,15 @@ pub trait Core: Drop {
         requires { (e : Self.Event) × is_plan self.old e plan.now }
         ensures { is_after self.old plan.now self.new };
 
-    /// Writes the record and answers its length. Requires room for `RECORD_ROOM` bytes.
+    /// Writes the record, and returns its length. Requires room for `RECORD_ROOM` bytes.
     fn record(&self, into: &mut [u8]) -> u32
         requires { record_room ≤ length into.old }
         ensures len { result ≡ length (recorded self.now) }
         ensures small { result ≤ record_room }
         ensures bytes { take result into.new ≡ recorded self.now };
 
-    /// Writes the payload of changes and answers its length. Requires that it has at most `PAYLOAD_ROOM` bytes, and
-    /// room for so many.
+    /// Writes the payload of changes, and returns its length. Requires that it has at most `PAYLOAD_ROOM` bytes, and
+    /// room for `PAYLOAD_ROOM` bytes.
     fn change_bytes(changes: &Changes, into: &mut [u8]) -> u32
         requires short { length (payload changes.now.items) ≤ payload_room }
         requires room { payload_room ≤ length into.old }

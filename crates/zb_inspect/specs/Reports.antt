@@ -7,7 +7,7 @@ use Rattle.zb_inspect.specs.Report.{report_of}
 use Rattle.zb_inspect.specs.declared.fault.InspectFault.{InspectFault}
 use Rattle.zb_inspect.specs.declared.fault.InspectFault.TheVariants.{Write, NoMemory}
 
--- At Ok the report was written; where the sink failed, a prefix of it; where memory was wanting, nothing.
+-- At Ok the report was written; where the sink failed, a prefix of it; out of memory, nothing.
 abbrev pub Reports : Capture → Option (List ℕ) → Option (List ℕ) → ℕ → ℕ → Result (Unit {0}) InspectFault → Type 0
 Reports c before after old new (Ok done) = Appends before after (report_of c)
 Reports c before after old new (Err Write) = Rose old new × AppendsFront before after (report_of c)

@@ -19,7 +19,7 @@ use zb_capture::Capture;
 use zb_inspect_ring::{Piece, Ring, open_all};
 use zb_parallel::{Gate, gather};
 
-/// Writes the report on a capture, worked out by so many jobs. Nothing is written before the report is known.
+/// Writes the report on a capture, worked out by `jobs` jobs. Nothing is written before the report is known.
 ///
 /// Requires a job.
 ///
@@ -60,7 +60,7 @@ fn print_tail(alloc: Global, frames: u32, ring: &Ring) -> Result<Vec<u8>, AllocE
     Ok(page)
 }
 
-/// Prints the lines of the frames of all pieces, a page for each piece, which is printed in a thread of its own.
+/// Prints the lines of the frames of all pieces, a page for each piece. Each page is printed in a thread of its own.
 fn print_all<T: Threads + Sync, G: Gate>(
     rt: &T,
     alloc: Global,

@@ -52,7 +52,7 @@ abbrev pub frames_text : ℕ → List Shown → List ℕ
 frames_text frame [] = []
 frames_text frame (shown ∷ more) = frame_text frame shown ++ frames_text (frame + 1) more
 
--- those of so many frames that no key opened
+-- those of frames that no key opened
 abbrev pub unopened_line : ℕ → List ℕ
 unopened_line frame = decimal frame ++ then (codes "nwk") ++ then (codes "no-key") ++ 10 ∷ []
 

@@ -23,7 +23,7 @@ use Rattle.zb_inspect_frame.specs.declared.shown.Shown.{Shown}
 use Rattle.zb_inspect_frame.specs.declared.shown.Below.{Below}
 use Rattle.zb_inspect_frame.specs.Layers.{found_nwk, found_aps, clear}
 
--- the first IEEE address that is known of a network address
+-- the first EUI that is known of a short address
 abbrev pub addr_of : Short → List (Short × Eui) → Option Eui
 addr_of short [] = None
 addr_of short (addr ∷ more) = if addr.0.0 == short.0 then Some addr.1 else addr_of short more
@@ -32,8 +32,7 @@ abbrev pub eui_or : Option Eui → Option Eui → Option Eui
 eui_or (Some eui) other = Some eui
 eui_or None other = other
 
--- the source of an APS frame that names none: the IEEE address of the NWK source, where the frame has it, else the
--- known one
+-- the source of an APS frame that names none: the EUI of the NWK source, where the frame has it, else the known one
 abbrev pub source_known : List (Short × Eui) → NwkHeader → Option Eui
 source_known addrs header = eui_or header.source_eui (addr_of header.source addrs)
 

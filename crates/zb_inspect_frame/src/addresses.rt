@@ -1,4 +1,4 @@
-//! The IEEE addresses that are known of network addresses.
+//! The EUIs that are known of short addresses.
 ghost use Rattle.std.specs.Prelude.{◌≡◌, ◌==◌, ℕ, Some, None, OnOk, if◌then◌else◌};
 ghost use Rattle.std.specs.Option.{option_or};
 ghost use Rattle.zb_inspect_frame.specs.Known.{known_of};
@@ -8,9 +8,9 @@ use std::collections::BTreeMap;
 use std::marker::Model;
 use zb_base::{Eui, Short};
 
-/// Finds the IEEE addresses that are known of network addresses.
+/// Finds the EUIs that are known of short addresses.
 ///
-/// A contract sees them as their list, of which the first address counts where a network address stands there twice.
+/// A contract sees them as their list. Where a short address is in it twice, the first EUI counts.
 #[derive(Drop)]
 pub struct Addresses<'a> {
     list: &'a [(Short, Eui)],
@@ -46,7 +46,7 @@ impl<'a> Addresses<'a> {
         Ok(Addresses { list, by_short })
     }
 
-    /// Finds the first IEEE address of a network address.
+    /// Finds the first EUI of a short address.
     pub fn of(&self, short: Short) -> Option<Eui>
         ensures { result ≡ addr_of short self.now }
     {
@@ -54,7 +54,7 @@ impl<'a> Addresses<'a> {
     }
 }
 
-/// Notes the address of a network address, unless one is there.
+/// Notes the EUI of a short address, unless one is there.
 fn note(by_short: &mut BTreeMap<Short, Eui>, addr: (Short, Eui)) -> Result<(), AllocError>
     ensures { OnOk result ((q : ℕ) → known_of by_short.new q ≡ option_or (known_of by_short.old q)
         (if addr.0.0 == q then Some addr.1 else None)) }

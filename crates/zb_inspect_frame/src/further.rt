@@ -18,7 +18,7 @@ use zb_seal::SealingKeys;
 
 /// Tries the keys after the first `known` on the NWK layer of a frame, and returns whether it stays closed.
 ///
-/// Such a frame shows nothing more, whatever its bytes are; of another one `show_below` shows the rest.
+/// Such a frame shows nothing more, whatever its bytes are. Of another one `show_below` shows the rest.
 pub fn stays_closed(keys: &[SealingKeys], known: u32, seen: &mut Shown) -> bool
     requires within { known ≤ length keys.now }
     requires fits { length keys.now < 2 ^ 32 }
@@ -29,7 +29,7 @@ pub fn stays_closed(keys: &[SealingKeys], known: u32, seen: &mut Shown) -> bool
     is_closed(&seen.nwk)
 }
 
-/// Shows what is below the NWK layer of a frame under all keys, where it is known under the first `known` of them.
+/// Shows what is below the NWK layer of a frame under all keys. That is known under the first `known` of them.
 ///
 /// Requires fewer than 2^32 keys, since each has its number in 32 bits.
 #[tactic(auto, using(crate::proofs::MoreKeys::frame_anew))]

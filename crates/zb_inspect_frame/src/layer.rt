@@ -117,8 +117,8 @@ fn open_as(finding: &mut Finding, place: u32, base: &Key)
     }
 }
 
-/// Returns the content of a layer, where it is known: `body` where the frame is not secured, else what it was opened
-/// to.
+/// Returns the content of a layer, where it is known. It is `body` where the frame is not secured, else what it was
+/// opened to.
 pub(crate) fn clear<'a>(finding: &'a Finding, body: &'a Frame) -> Option<&'a [u8]>
     ensures value { option_copied result ≡ clear_of finding.now body.now.items }
     ensures fits { IfSome result (λ content. length content.now ≤ longest_frame) }

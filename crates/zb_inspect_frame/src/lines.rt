@@ -27,7 +27,7 @@ pub fn put_frames(out: &mut Vec<u8>, first: u32, all_shown: &[Shown]) -> Result<
     Ok(())
 }
 
-/// Prints the lines of so many frames that no key opened, the first of which has the number `first`.
+/// Prints the lines of `count` frames that no key opened, the first of which has the number `first`.
 ///
 /// Requires that their numbers are below 2^32.
 pub fn put_unopened(out: &mut Vec<u8>, first: u32, count: u32) -> Result<(), AllocError>

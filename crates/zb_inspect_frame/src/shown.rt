@@ -36,7 +36,7 @@ pub struct Below {
     pub inner: Option<Finding>,
 }
 
-/// Shows a frame under the keys of a ring. `addrs` has the IEEE addresses that are known.
+/// Shows a frame under the keys of a ring. `addrs` has the EUIs that are known.
 ///
 /// Requires fewer than 2^32 keys, since each has its number in 32 bits.
 #[tactic(auto, using(crate::proofs::ReadOnce::frame_read, crate::proofs::ReadOnce::frame_bad))]
@@ -134,7 +134,7 @@ pub(crate) fn data_in<'a>(nwk: &'a Finding, frame: &'a NwkFrame) -> Option<&'a [
     }
 }
 
-/// Returns the source of an APS frame that names none: the IEEE address of the NWK source, where it is known.
+/// Returns the source of an APS frame that names none: the EUI of the NWK source, where it is known.
 pub(crate) fn source_known(addrs: &Addresses<'_>, header: &NwkHeader) -> Option<Eui>
     ensures { result ≡ source_known addrs.now header.now }
 {

@@ -48,13 +48,13 @@ AreSized size number left (piece ∷ more) =
     (piece.number ≡ number) × (0 < left) × (count_of piece.blocks.items ≡ min size left)
     × AreSized size (number + 1) (left - min size left) more
 
--- so many frames hold the block
+-- the first `frames` frames hold the block
 pub record IsWithin (frames : ℕ) (block : Block) : Type 0 where
   pub first : 1 ≤ block.first
   pub last : block.first + block.count ≤ frames + 1
 
--- What is kept of frames, the first of which has the number `first`, where `found` is what they show: nothing, where
--- no key opened the NWK layer of any of them; the lines of a report, where no layer of any of them is closed; or else
+-- What is kept of frames, the first of which has the number `first`. `found` is what they show. Nothing is kept where
+-- no key opened the NWK layer of any of them, the lines of a report where no layer of any of them is closed, and else
 -- all of it.
 abbrev pub StandsFor : ℕ → List Shown → Seen → Type 0
 StandsFor first found Nothing = ⊥
@@ -95,7 +95,7 @@ is_nothing (Whole kept) = false
 abbrev pub IsUnseen : Block → Type 0
 IsUnseen block = is_nothing block.seen ≡ true
 
--- the first item of a share is one of so many
+-- the first item of a share is one of `items`
 abbrev pub IsShareWithin : ℕ → Share → Type 0
 IsShareWithin items share = share.first < items
 
@@ -138,7 +138,7 @@ pub record IsNextPiece (frames : List (ArrayVec ℕ)) (addrs : List (Short × Eu
   pub shown : AreShown frames addrs keys new.blocks.items
   pub leads : new.leads.items ≡ all_fresh frames addrs keys old.blocks.items
 
--- so many frames of a capture, of which the first has the number `first`
+-- `count` frames of a capture, of which the first has the number `first`
 abbrev pub frames_from : List (ArrayVec ℕ) → ℕ → ℕ → List (ArrayVec ℕ)
 frames_from frames first count = take count (drop (first - 1) frames)
 
@@ -154,7 +154,7 @@ lines_of Unopened = []
 lines_of (Lines text) = text.items
 lines_of (Whole kept) = []
 
--- the lines in a report of what is kept of so many frames, the first of which has the number `first`
+-- the lines in a report of what is kept of `count` frames, the first of which has the number `first`
 abbrev pub seen_text : ℕ → ℕ → Seen → List ℕ
 seen_text first count Nothing = []
 seen_text first count Unopened = unopened_text first count

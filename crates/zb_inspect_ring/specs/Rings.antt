@@ -63,7 +63,7 @@ learnt round ring (lead ∷ more) = learnt round (with_key ring lead.key (Some (
 abbrev pub after_round : Capture → ℕ → List RingKey → List RingKey
 after_round c round ring = learnt round ring (leads 1 (frames_shown c.addrs (keys_of ring) c.frames))
 
--- the keys after so many rounds
+-- the keys after the given number of rounds
 unfoldable pub ring_after : Capture → ℕ → List RingKey
 ring_after c zero = given_from [] c.keys
 ring_after c (suc n) = after_round c (suc n) (ring_after c n)

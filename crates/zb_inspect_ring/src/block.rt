@@ -86,7 +86,7 @@ pub(crate) fn look_at(
     Ok(())
 }
 
-/// Shows so many frames, from a place on, counted from 0.
+/// Shows `count` frames, from a place on, counted from 0.
 fn show_all(
     alloc: Global,
     frames: &Frames,
@@ -136,7 +136,7 @@ fn show_at(addrs: &Addresses<'_>, keys: &[SealingKeys], run: &FrameRun<'_>, plac
     show(addrs, keys, &run.at(place))
 }
 
-/// Shows so many frames under all keys, from a place on, counted from 0, none of which the first `known` open.
+/// Shows `count` frames under all keys, from a place on, counted from 0. The first `known` keys open none of them.
 fn show_unopened(
     alloc: Global,
     frames: &Frames,
@@ -158,7 +158,7 @@ fn show_unopened(
     Ok(show_again(frames, addrs, keys, known, from, before))
 }
 
-/// Shows frames under all keys, from a place on, counted from 0, where it is known under the first `known`.
+/// Shows frames under all keys, from a place on, counted from 0. What they show is known under the first `known`.
 fn show_again(
     frames: &Frames,
     addrs: &Addresses<'_>,

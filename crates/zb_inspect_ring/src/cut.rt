@@ -11,7 +11,7 @@ use std::alloc::Global;
 use zb_base::NoMemory;
 use zb_parallel::{Share, shares};
 
-/// Cuts so many frames into consecutive pieces, at most one for each job, in which no frame was looked at yet.
+/// Cuts `frames` frames into consecutive pieces, at most one for each job. No frame of them was looked at yet.
 ///
 /// Each piece but the last has as many frames as there are for a job, rounded up.
 pub(crate) fn cut(alloc: Global, frames: u32, jobs: u32) -> Result<Vec<Piece>, NoMemory>

@@ -17,8 +17,8 @@ use zb_seal::SealingKeys;
 /// Where some of them were opened and a layer of one of them is closed, all that they show is kept.
 const FRAMES_TOGETHER: u32 = 8;
 
-/// Looks at so many frames of a capture under all keys, the first of which has the number `first`, and adds the keys
-/// that are found.
+/// Looks at `count` frames of a capture under all keys, and adds the keys that are found. The first frame has the
+/// number `first`.
 pub(crate) fn look_first(
     alloc: Global,
     frames: &Frames,

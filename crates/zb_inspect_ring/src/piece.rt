@@ -55,7 +55,7 @@ pub(crate) fn look(
     }
 }
 
-/// Looks for the first time at so many frames, the first of which has the number `first`.
+/// Looks for the first time at `count` frames, the first of which has the number `first`.
 fn look_new(
     alloc: Global,
     frames: &Frames,

@@ -27,7 +27,7 @@ pub struct Opened {
     pub pieces: Vec<Piece>,
 }
 
-/// Works out the ring of a capture, and what its frames show under it, by so many jobs.
+/// Works out the ring of a capture, and what its frames show under it, by `jobs` jobs.
 ///
 /// In each round only the layers that are still closed are tried, and only under the keys that are new. Frames of
 /// which no layer is closed are kept as the lines that they have in a report. Requires a job.

@@ -1,6 +1,6 @@
--- The CRC of an install code (Base Device Behavior, install codes): CRC-16 with the polynomial x^16 + x^12 + x^5 + 1,
--- the bits of each byte from the lowest on, begun with ones and ended with ones. It is the remainder of a division of
--- polynomials.
+-- The CRC of an install code (Base Device Behavior, install codes). It is CRC-16 with the polynomial x^16 + x^12 + x^5
+-- + 1, the bits of each byte from the lowest on, begun with ones and ended with ones. So it is the remainder of a
+-- division of polynomials.
 use Rattle.std.specs.Prelude.{ℕ, List, replicate}
 use Rattle.zb_crc.specs.Division.{added, number_of, remainder}
 

@@ -3,7 +3,7 @@
 /// What is wrong with an install code, in the order in which it is tried.
 #[derive(Clone, Copy, Debug, PartialEq, Eq)]
 pub enum CodeError {
-    /// The number of characters is odd, and `at` is that number; or the character at the place `at` is the first that
+    /// The number of characters is odd, and `at` is that number. Or the character at the place `at` is the first that
     /// is no hexadecimal digit.
     NotHex {
         /// That number, or that place, from 0.

@@ -35,7 +35,7 @@ impl Model for InstallCode {
         × (length code.bytes.items ≤ longest_code) × (code.link.0 ≡ code_key code.bytes.items) };
 }
 
-// Answers whether a code and its CRC have this length together.
+// Returns whether a code and its CRC have this length together.
 fn is_code_length(len: usize) -> bool
     ensures value { result ≡ is_code_length len }
     ensures bounds { IsTrue result → (8 ≤ len) × (len ≤ longest_code) }

@@ -1,4 +1,4 @@
--- What judging a frame answers, as the model's verdict.
+-- What judging a frame returns, as the model's verdict.
 use Rattle.std.specs.Prelude.{Option, option_map, Result, Ok, Err}
 use Rattle.zb_model.specs.Judging as model
 use Rattle.zb_model.specs.Judging.{Verdict, Not, Good}

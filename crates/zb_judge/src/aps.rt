@@ -29,7 +29,7 @@ pub struct Unsealed {
     pub row: LinkRow,
 }
 
-/// Returns the source of a sealed APS part: its own, or the declared node of the frame's network address.
+/// Returns the source of a sealed APS part: its own, or the declared node of the frame's short address.
 fn source_of(network: &Network, frame: &NwkFrame, aux: &ApsAux) -> Option<Eui>
     ensures { option_map (λ e. e.0) result ≡ aps_source network.now (nwk_frame_shown frame.now) (auxiliary aux.now) }
 {
@@ -81,7 +81,7 @@ fn first_opening<'a>(
         && opens(memo, bytes, frame, row, source))
 }
 
-/// Returns the newest row of a partner that is in use and opens the frame, else the newest that is in use, and writes
+/// Returns the newest row of a partner that is in use and opens the frame, else the newest that is in use. It writes
 /// what its key opens the frame to into `opened`.
 ///
 /// The newest row is tried first, since mostly it opens the frame, which is then opened once. Requires the bytes that

@@ -72,8 +72,8 @@ fn waits_for_key(state: State) -> bool
     }
 }
 
-/// Returns whether an unsecured frame passes: it brings a router or device that waits for the network key a command
-/// under a key-transport key.
+/// Returns whether an unsecured frame passes. It does where it brings a router or device that waits for the network
+/// key a command under a key-transport key.
 fn may_pass_unsecured(network: &Network, tables: &Tables, frame: &NwkFrame) -> bool
     ensures { result ≡ may_pass_unsecured real network.now tables.now (nwk_frame_shown frame.now) }
 {
@@ -97,8 +97,14 @@ fn was_removed(network: &Network, tables: &Tables, source: Eui) -> bool
 ///
 /// # Errors
 ///
-/// No key of that sequence, the greatest counter, a counter below the sender's floor, a wrong MIC, a sender that
-/// isn't declared or was removed, and no room for the sender's floor, in this order.
+/// In this order:
+///
+/// - no key of that sequence;
+/// - the greatest counter;
+/// - a counter below the sender's floor;
+/// - a wrong MIC;
+/// - a sender that isn't declared or was removed;
+/// - no room for the sender's floor.
 #[tactic(auto, unfolding(crate::specs::Steps::judge_net, crate::specs::Steps::need, crate::specs::Steps::reject))]
 fn judge_net(
     network: &Network,

@@ -17,7 +17,7 @@ with_code None s = s
 with_code (Some given) s = with_given_link given.0 given.1 s
 
 -- A node of that role with a network key and its sequence, the link key of an install code and its partner, and the
--- stored limits of both layers, in the order of the start lines.
+-- stored limits of both layers. They come in the order of the start lines.
 unfoldable pub first_state : Role → Option (Bytes × ℕ) → Option (ℕ × Bytes) → ℕ → ℕ → NodeState
 first_state role network code nwk aps =
     with_declared Aps aps (with_declared Nwk nwk (with_code code (with_network network (new_node role))))

@@ -26,8 +26,8 @@ impl Contents {
         }
     }
 
-    /// Returns whether a change fits after a record of version 1: a NWK limit isn't below the one that all keys have,
-    /// and there is no start and no pair.
+    /// Returns whether a change fits after a record of version 1. A NWK limit must not be below the one that all keys
+    /// have, and a start and a pair don't fit.
     fn fits_first(&self, change: &Change) -> bool
         requires { IsSound self.now }
         ensures { result ≡ first_fits (edit change.now) (state_of self.now) }
@@ -70,7 +70,7 @@ impl Contents {
         }
     }
 
-    /// Makes one change after a record of version 1: a NWK limit becomes that of all keys, and a new key has it too.
+    /// Makes one change after a record of version 1. A NWK limit becomes that of all keys, and a new key has it too.
     fn change_first(&mut self, change: &Change)
         requires fits { first_fits (edit change.now) (state_of self.old) ≡ true }
         requires sound { IsSound self.old }
@@ -97,7 +97,7 @@ impl Contents {
         }
     }
 
-    /// Returns all network keys one limit, which is the declared start too.
+    /// Gives all network keys one limit. It is the declared start too.
     fn limit_all(&mut self, limit: u32)
         requires { Forgets (state_of self.old) }
         ensures { Becomes (shown (with_limit limit (state_of self.old))) self.old self.new }

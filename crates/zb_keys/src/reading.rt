@@ -57,7 +57,7 @@ impl Tables {
         self.contents.links.as_slice()
     }
 
-    /// Answers, at the centre, the keys of pairs of devices, in the order in which they came.
+    /// Returns the keys of pairs of devices, in the order in which they came. The centre alone has any.
     pub fn pairs(&self) -> &[Pair]
         ensures { map pair_key result.now ≡ self.now.pairs }
     {

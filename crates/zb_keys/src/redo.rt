@@ -30,7 +30,7 @@ impl Contents {
         Ok(())
     }
 
-    /// Makes so many changes again.
+    /// Makes `count` changes again.
     fn redo_changes(
         &mut self,
         version: Version,
@@ -78,8 +78,8 @@ impl Tables {
     /// Makes the changes of journal entries again, after a record of a version.
     ///
     /// `entries` is their payloads, one after the other, as `change_bytes` wrote them. After a record of version 1 all
-    /// network keys have one NWK limit, which is the declared start: a NWK reserve sets it, whether a key is active or
-    /// not, and a new key goes on from it, started.
+    /// network keys have one NWK limit, which is the declared start. A NWK reserve sets it, whether a key is active or
+    /// not. A new key goes on from it, and counts as started.
     ///
     /// # Errors
     /// `BadRecord` where a change isn't whole, is none or doesn't fit, at the place of its first byte, which is
@@ -99,7 +99,7 @@ impl Tables {
     }
 }
 
-/// Makes the fault that stands so many bytes before the end of so many.
+/// Makes the fault that is `left` bytes before the end of `total` bytes.
 pub(crate) fn bad_record(total: usize, left: usize) -> KeyError
     ensures { result ≡ BadRecord (place_of total left) }
 {

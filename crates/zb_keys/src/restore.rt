@@ -174,9 +174,9 @@ impl Tables {
     /// declared start.
     ///
     /// # Errors
-    /// `BadRecord` where the bytes are no record, at the place of the first byte of the first field that isn't
-    /// whole or breaks a rule, where a rule over several fields is broken by the last of them, or at the record's end
-    /// where bytes follow it. `NoMemory` where memory is short.
+    /// `BadRecord` where the bytes are no record. Its place is the first byte of the first field that isn't whole or
+    /// breaks a rule. A rule over several fields is broken by the last of them. Where bytes follow the record, the
+    /// place is its end. `NoMemory` where memory is short.
     pub fn from_record(alloc: Global, bytes: &[u8]) -> Result<Tables, OrMemory<KeyError>>
         ensures found { IfOk result (λ t. record_read bytes.now ≡ Ok t) }
         ensures fault { IfErr result (λ e. BadPlace e (length bytes.now) (record_read bytes.now)) }

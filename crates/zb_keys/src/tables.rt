@@ -61,7 +61,7 @@ impl Tables {
         Ok(Tables { contents })
     }
 
-    /// Returns what holds of all tables; does nothing.
+    /// States what holds of all tables, and does nothing.
     ///
     /// They keep the rules for records, and a dropped network key keeps no floors.
     pub fn keep_rules(&self)

@@ -1,4 +1,4 @@
--- The task of the centre that an event of a session stands for.
+-- The task of the centre that an event of a session is.
 use Rattle.std.specs.Prelude.{ℕ, ◌≡◌, bytes_eq, if◌then◌else◌, List, Option, Some, None, Result, Ok, Err}
 use Rattle.zb_base.specs.declared.address.Eui.{Eui}
 use Rattle.zb_centre_store.specs.Tasks.{task_of}
@@ -11,7 +11,7 @@ use Rattle.zb_model.specs.Data.{Bytes, Task, SayTo, DoTimer, HasChild, DoProvisi
 use Rattle.zb_script.specs.Judge.{device_named, parent_named}
 use Rattle.zb_script.specs.Scripts.{Station}
 
--- goes on with the IEEE address of a node, if it is declared and has the part that is asked for
+-- goes on with the EUI of a node, if it is declared and has the part that is asked for
 abbrev pub with_node : Option ℕ → (ℕ → Result Task Cause) → Result Task Cause
 with_node None go_on = Err UnknownNode
 with_node (Some eui) go_on = go_on eui
@@ -51,7 +51,7 @@ abbrev pub IsEventFor : Result CentreEvent Cause → Result Task Cause → Type 
 IsEventFor (Ok event) expected = expected ≡ Ok (task_of event)
 IsEventFor (Err cause) expected = expected ≡ Err cause
 
--- A call answered the IEEE address of a node, or that it isn't declared.
+-- A call returned the EUI of a node, or that it isn't declared.
 abbrev pub IsNode : Result Eui Cause → Option ℕ → Type 0
 IsNode (Ok eui) found = found ≡ Some eui.0
 IsNode (Err cause) found = (found ≡ None) × (cause ≡ UnknownNode)

@@ -67,8 +67,8 @@ cause_of NoCentre = cause.NoCentre
 
 -- ---- a session
 
--- How many lines came, which lines of events are written, the network as far as it is declared, the tables of the
--- centre once the session is open, and how many events the centre had and how many frames it sent.
+-- A session so far: how many lines came, which lines of events are written, the network as far as it is declared, and
+-- the tables of the centre once it is open. Then how many events the centre had, and how many frames it sent.
 pub record Living : Type 0 where
   pub lines : ℕ
   pub log : Log

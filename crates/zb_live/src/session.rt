@@ -155,7 +155,7 @@ fn tell(
     Ok(sends)
 }
 
-// Lets the centre handle an event, and prints its lines. It answers whether a frame goes out.
+// Lets the centre handle an event, and prints its lines. It returns whether a frame goes out.
 fn happen<D: Disk>(
     host: &mut Host<Centre>,
     disk: &mut D,
@@ -419,8 +419,10 @@ impl Session {
     /// What an event changes is stored once its lines stand on the page. After an error the session has ended.
     ///
     /// # Errors
-    /// `Disk`; `NoStore` and `BadStore`, where the session is opened and the store is no centre's; `Worn`, where the
-    /// whole record has to be written and there is no further generation; `NoMemory`.
+    /// - `Disk` where a call of the disk failed.
+    /// - `NoStore` and `BadStore` where the session is opened and the store is no centre's.
+    /// - `Worn` where the whole record has to be written, and no generation is left.
+    /// - `NoMemory`.
     pub fn take<D: Disk>(
         &mut self,
         alloc: Global,

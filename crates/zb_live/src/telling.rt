@@ -23,8 +23,8 @@ use zb_seal::Term;
 use zb_trace::{Line, put_line};
 use zb_trace_model::{accept_line, change_line, commit_line, refuse_line, seal_line};
 
-/// Where the lines of an event stand: its number, the number of the frame that it sends, the centre's name, and which
-/// lines are written.
+/// Where the lines of an event are. That is its number, the number of the frame that it sends, the centre's name, and
+/// which lines are written.
 #[derive(Clone, Copy, Debug)]
 pub(crate) struct Place {
     /// The number of the event.

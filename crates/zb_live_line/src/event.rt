@@ -33,7 +33,7 @@ pub enum Event {
     Timer,
     /// `say SHORT HEX`: the centre sends application bytes.
     Say {
-        /// The network address that they are for.
+        /// The short address that they are for.
         to: Short,
         /// The application bytes.
         bytes: ArrayVec<u8, 64>,

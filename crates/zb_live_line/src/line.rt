@@ -24,7 +24,7 @@ pub enum Line {
     Centre {
         /// The centre's name.
         name: Name,
-        /// Its IEEE address.
+        /// Its EUI.
         eui: Eui,
         /// How many outgoing frame counters are reserved at once.
         out_block: u32,
@@ -63,7 +63,7 @@ pub enum Log {
     NoKeys,
 }
 
-/// Reads a line, or answers None where it is no line of a session.
+/// Reads a line, or returns None where it is no line of a session.
 pub fn read_line(line: &[u8]) -> Option<Line>
     ensures value { Shows sentence_of result (meaning_of line.now) }
     ensures joins { IfSome result (λ line. Joins (sentence_of line)) }

@@ -10,8 +10,8 @@ use Rattle.zb_live_serve.specs.declared.fault.LiveFault.TheVariants.{TooLong, No
 abbrev pub IsInLine : List ℕ → Type 0
 IsInLine bytes = AllByRecursion (λ (byte : ℕ). (byte == 10) ≡ false) bytes
 
--- A line was taken off the front of what was held, with its line feed. Or nothing was taken, and none of what is held
--- is a line feed.
+-- A line was taken off the beginning of what was held, with its line feed. Or nothing was taken, and none of what is
+-- held is a line feed.
 abbrev pub IsNext : List ℕ → Option (Vec ℕ Global) → List ℕ → Type 0
 IsNext held (Some line) left = (held ≡ line.items ++ 10 ∷ left) × IsInLine line.items
 IsNext held None left = (left ≡ held) × IsInLine held
@@ -34,7 +34,7 @@ IsTakeFault held fault = ⊥
 abbrev pub most_read : ℕ
 most_read = 4096
 
--- A read took at most 4,096 bytes off the front of those that were to come.
+-- A read took at most 4,096 bytes off the beginning of those that were to come.
 pub record TakesFew (old : List ℕ) (rest : Option (List ℕ)) : Type 0 where
   pub read : List ℕ
   pub left : List ℕ

@@ -49,7 +49,7 @@ pub record AnsweredFirst {D W : Type 0} (x : Outside D W) (found : Found) (all :
   pub answered : Appends (x.taken before) (x.taken now.out) (served found (whole_lines came) fresh).text
 
 -- From one moment to a later one. The disk is called, and nothing is written or read. Or something is written, and the
--- disk and the input stay as they are; a crash at any moment in between leaves an image that covers what was written
+-- disk and the input stay as they are. A crash at any moment in between leaves an image that covers what was written
 -- by then. Or the input is read, once all whole lines that came were answered.
 pub data Stretch {D W : Type 0} (x : Outside D W) (found : Found) (first : View) (input : Input) (lines : List Bytes)
     (before : W) (now next : Moment D W) : Type 0 where

@@ -48,16 +48,16 @@ pub record Lives {D W : Type 0} (x : Outside D W) (input : Input) (old : D) (bef
       → Appends (x.taken before) (x.taken after) (served (found_on (x.state old).seen) lines fresh).text)
   pub front : OnErr result (IsTrue x.tells.content → CanBeServed (x.state old)
       → AppendsFront (x.taken before) (x.taken after) (served (found_on (x.state old).seen) lines fresh).text)
-  -- over any store: at Ok what was written is the text of these lines, going on from some tables or none where one
-  -- opens the session, and at a fault a prefix of such a text
+  -- Over any store: at Ok what was written is the text of these lines. Where one opens the session, it goes on from
+  -- some tables or none. At a fault a prefix of such a text was written.
   pub told : OnOk result (WritesAll lines (x.taken before) (x.taken after))
   pub told_front : OnErr result (WritesFront lines (x.taken before) (x.taken after))
   -- at Ok every image holds the session after them
   pub last : OnOk result
       (IsTrue x.tells.content → CanBeServed (x.state old) → (image : List ℕ) → (x.state new).images image
       → CrashLeaves (x.state old) (served (found_on (x.state old).seen) lines fresh).after.tables image)
-  -- at every moment an image holds the session after some first lines, and each line is among them of whose answer a
-  -- byte was written; and before each read all whole lines that came were answered
+  -- At every moment an image holds the session after some first lines. Each line is among them of whose answer a byte
+  -- was written. Before each read all whole lines that came were answered.
   pub moments : IsTrue x.tells.content → CanBeServed (x.state old)
       → (between : List (Moment D W)) × Goes x (found_on (x.state old).seen) (x.state old) input lines before
       (record { disk = old; out = before; input = input }) between (record { disk = new; out = after; input = rest })

@@ -1,4 +1,4 @@
--- The whole lines of a text: those that have their line feed. What stands behind the last one is no line yet.
+-- The whole lines of a text: those that have their line feed. What comes after the last one is no line yet.
 use Rattle.std.specs.Prelude.{ℕ, ◌==◌, ◌++◌, if◌then◌else◌, List, [], ◌∷◌}
 use Rattle.std.specs.Str.Lines.{strip_carriage_return}
 

@@ -48,7 +48,7 @@ impl Feed {
         Ok(mem::replace(&mut self.held, rest))
     }
 
-    /// Takes the next whole line off what came, without its line feed. It answers None where none is whole.
+    /// Takes the next whole line off what came, without its line feed. It returns None where none is whole.
     ///
     /// # Errors
     /// `TooLong`; `NoMemory`.
@@ -69,7 +69,7 @@ impl Feed {
         Ok(None)
     }
 
-    /// Reads once, and answers whether something came.
+    /// Reads once, and returns whether something came.
     ///
     /// # Errors
     /// `Read`; `NoMemory`.

@@ -1,4 +1,4 @@
-//! A session that is served: its lines are read from a source as they come, each is carried out over the store on a
+//! A session that is served. Its lines are read from a source as they come. Each is carried out over the store on a
 //! disk, and what it writes goes out into a sink before the next line is read.
 #![tactic(auto)]
 

@@ -85,12 +85,15 @@ fn serve_line<W: Sink, D: Disk>(
 /// Serves the lines of an input over the store on a disk, and writes what they answer.
 ///
 /// Each line is carried out and stored, and then what it writes goes out by one write. The input is read only once all
-/// whole lines that came were answered. What stands behind the last line feed isn't carried out.
+/// whole lines that came were answered. What comes after the last line feed isn't carried out.
 ///
 /// # Errors
-/// `Read`; `TooLong`; `Write`; `Disk`; `NoStore`, where the session is opened, the disk isn't empty and no slot stands
-/// open; `BadStore`, where what stands is no record of a centre, with the place of the fault; `Worn`, where the whole
-/// record has to be written and there is no further generation; `NoMemory`.
+/// - `Read`, `Write` or `Disk` where a call of the input, the output or the disk failed.
+/// - `TooLong` where a line has more than 1,048,576 bytes.
+/// - `NoStore` where the session is opened, the disk isn't empty and no slot is open.
+/// - `BadStore` where what is there is no record of a centre, with the place of the fault.
+/// - `Worn` where the whole record has to be written, and no generation is left.
+/// - `NoMemory`.
 pub fn live<R: Source, W: Sink, D: Disk>(
     alloc: Global,
     input: &mut R,
