@@ -1,4 +1,4 @@
--- All runs of `admin` on one store, one after the other, each cut at any moment or not: what a run finds in the store,
+-- All runs of `admin` on one store, one after the other, each cut at any moment or not. What a run finds in the store,
 -- which of its commands are stored, and what the centre seals in them.
 use Rattle.std.specs.Prelude.{ℕ, ◌≡◌, ◌≤◌, ◌++◌, List, [], ◌∷◌, take, Option, Some, None, Result, Ok, Err, ⊤}
 use Rattle.law_sessions.specs.Sessions.{NoneAgain, NoneTwice}

@@ -9,7 +9,9 @@ ghost use Rattle.zb_centre_store.specs.Standing.{found_on};
 ghost use Rattle.zb_model.specs.State.{NodeState};
 ghost use Rattle.zb_skip.specs.Freshness.{HasUsed};
 
-/// States that no two terms that the centre seals in any runs of `admin` on one store take one counter.
+/// States that no two terms take one counter, in any runs of `admin` on one store.
+///
+/// The terms are those that the centre seals.
 ///
 /// `image` is the store as the first run finds it, whatever it holds. Each run begins on the image that the one before
 /// left, at its end or at a crash at any moment of it.
@@ -18,7 +20,7 @@ pub fn no_counter_comes_twice_in_all_runs()
     ensures { (image : List ℕ) (runs : List Run) → AreRuns image runs → NoneTwice (sealed_on image runs) }
 {}
 
-/// States that runs on a store that was restored take no counter again that the runs on the lost store took.
+/// States that runs on a restored store take no counter again that the lost store's runs took.
 ///
 /// `bytes` is the backup that the second store was made of, and `lost` are the tables that the last run left on the
 /// first, whose limits are at most `by` above those of the backup. It holds at the application support layer, and

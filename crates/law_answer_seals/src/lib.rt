@@ -45,16 +45,18 @@ pub fn no_counter_passes_its_limit()
     ensures boot { (s : NodeState) → IsWithinLimits (after_boot s) }
 {}
 
-/// States that an answer seals at most one term of APS and then one of NWK, under the key that was active before.
+/// States that an answer seals at most one term of APS and then one of NWK.
 ///
-/// Both have the node itself as their source.
+/// The one of NWK is under the key that was active before. Both have the node itself as their source.
 #[tactic(auto, using(crate::proofs::SealLayers::answer_seals))]
 pub fn an_answer_seals_once_at_each_layer()
     ensures { (tools : Tools) (c : Setting) (s : NodeState) (task : Task)
         → AreSeals c s (answer tools c s task).seals }
 {}
 
-/// States that an answer accepts at most one term of NWK and then one of APS, with counters below the greatest.
+/// States that an answer accepts at most one term of NWK and then one of APS.
+///
+/// Their counters are below the greatest.
 #[tactic(auto, using(crate::proofs::Heard::answer_hears, crate::proofs::Heard::answer_below_last))]
 pub fn an_answer_accepts_once_at_each_layer()
     ensures layers { (tools : Tools) → OpensAsJudged tools → (c : Setting) (s : NodeState) (task : Task)
@@ -63,7 +65,9 @@ pub fn an_answer_accepts_once_at_each_layer()
         → AllByRecursion (λ (t : Term). t.counter < greatest_counter) (answer tools c s task).accepts }
 {}
 
-/// States that terms may be accepted and sealed in two parts, as those of one layer and then those of the other.
+/// States that terms may be accepted and sealed in two parts, one after the other.
+///
+/// So may the terms of one layer and then those of the other.
 #[tactic(auto, using(crate::proofs::InParts::parts))]
 pub fn terms_go_in_parts()
     ensures next { (first second : List Term) (s : NodeState) → SealsNext s (first ++ second)

@@ -12,9 +12,9 @@ abbrev pub source_or : ℕ → Option ℕ → ℕ
 source_or given None = given
 source_or given (Some source) = source
 
--- The term that comes out of a frame is of its layer, and has the base key under which the bytes opened and the source
--- and counter of the auxiliary header, by which the frame was judged. Without it the floor that is stored would be
--- another row's.
+-- The term that comes out of a frame is of its layer, and has the base key under which the bytes opened. Its source
+-- and counter are those of the auxiliary header, by which the frame was judged. Without it the floor that is stored
+-- would be another row's.
 pub record OpensAsJudged (tools : Tools) : Type 0 where
   pub nwk : (bytes key : Bytes) (f : NwkShown) (aux : NwkAuxiliary) (t : Term) → tools.read_nwk bytes ≡ Some f
       → f.auxiliary ≡ Some aux → tools.open_nwk bytes key ≡ Some t

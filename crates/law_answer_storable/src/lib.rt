@@ -48,7 +48,9 @@ pub fn an_answer_has_few_changes()
         → keeps_rules s ≡ true → s.role ≡ c.me.role → length (answer tools c s task).edits ≤ 14 }
 {}
 
-/// States that the payload of an answer's changes has room in an entry of the journal, where their keys have 16 bytes.
+/// States that the payload of an answer's changes has room in an entry of the journal.
+///
+/// The keys of the changes have 16 bytes.
 #[tactic(auto, using(crate::proofs::Answers::short_stored))]
 pub fn an_answer_has_room_in_an_entry()
     ensures { (tools : Tools) → OpensAsJudged tools → (c : Setting) (s : NodeState) (task : Task)

@@ -109,8 +109,8 @@ pub record FloorFits (block : ℕ) (s : NodeState) (accepts : List Term) (layer 
       × (value ≡ min (u.counter + block) greatest_counter)
   pub rises : nat_lt (stored_floor term s) value ≡ true
 
--- A reserve represents a sealed term of its layer, where the next counter has reached the limit; a start with the
--- change that makes its key active, which has a start unless the key has started.
+-- A reserve is for a sealed term of its layer, where the next counter has reached the limit. A start comes with the
+-- change that makes its key active, and that change has one unless the key has started.
 unfoldable pub EditFits : Schedule → List Line → ℕ → Answer → Edit → Type 0
 EditFits w h n a (Reserve layer value) =
     (nat_eq (next_counter layer (state_of h n)) (stored_limit layer (state_of h n)) ≡ true)

@@ -12,11 +12,10 @@ ghost use Rattle.law_tables_suffice.specs.Along.{euis_differ};
 ghost use Rattle.law_answer_storable.specs.Storing.{OpensAsJudged};
 ghost use Rattle.zb_trace_model.specs.Naming.{AreNamed};
 
-/// States that no line of a run breaks the sixth claim of the audit: the last line ends it well, and no other ends
-/// it.
+/// States that no line of a run breaks the sixth claim of the audit: it ends well.
 ///
-/// Its number of events is at least that of each event, its counts are right, and its two words are those that the
-/// audit reads by names.
+/// The last line ends it, and no other does. Its number of events is at least that of each event, its counts are
+/// right, and its two words are those that the audit reads by names.
 #[tactic(auto, using(crate::proofs::Endings::keeps_sixth))]
 pub fn runs_keep_the_sixth_claim()
     ensures { (tools : Tools) → OpensAsJudged tools → (w : Schedule) → IsSchedule w → euis_differ w ≡ true

@@ -1,4 +1,4 @@
--- What an audit answers of the lines of a run.
+-- What an audit returns for the lines of a run.
 use Rattle.std.specs.Prelude.{◌≡◌, ℕ, Bool, ◌&&◌, List, fold, None, Result, Ok, Err, ⊤}
 use Rattle.zb_audit.specs.Faults.{IsAnswer, first_fault}
 use Rattle.zb_audit.specs.declared.fault.AuditFault.{AuditFault}
@@ -24,13 +24,13 @@ verdict_of w =
     let run = run_lines real w in
     verdict (fold seal_count 0 run) (fold accept_count 0 run) (ideal real run && private real run)
 
--- an audit's answer is this verdict, unless memory is lacking
+-- an audit's answer is this verdict, unless it runs out of memory
 abbrev pub IsVerdict : Schedule → Result Verdict AuditFault → Type 0
 IsVerdict w (Ok v) = v ≡ verdict_of w
 IsVerdict w (Err (Broken line clause)) = ⊥
 IsVerdict w (Err NoMemory) = ⊤
 
--- No line of the run breaks a claim, so an audit of its lines answers the verdict on it.
+-- No line of the run breaks a claim, so an audit of its lines returns the verdict on it.
 pub record IsSound (w : Schedule) : Type 0 where
   pub whole : first_fault real (lines_of w) ≡ None
   pub answer : (result : Result Verdict AuditFault) → IsAnswer real (lines_of w) result → IsVerdict w result

@@ -1,4 +1,4 @@
-//! No line of the run of a schedule breaks a claim of the audit, which so answers the verdict on it. The laws stand as
+//! No line of the run of a schedule breaks a claim of the audit, which so returns the verdict on it. The laws stand as
 //! the contracts of functions that do nothing; docs/THEOREMS.md says them in words.
 #![tactic(auto)]
 
@@ -14,15 +14,17 @@ use law_schedules::texts_read_as_schedules;
 
 /// States that no line of the run of a schedule is bad, with real frames, whatever happens in it.
 ///
-/// So an audit of its printed lines answers just the verdict on it, unless memory is lacking: the seals and accepts
-/// that its end line counts, and lockout where both words of that line hold.
+/// So an audit of its printed lines returns just the verdict on it, unless it runs out of memory. That is the seals
+/// and accepts that its end line counts, and lockout where both words of that line hold.
 pub fn runs_are_sound()
     ensures { (p : Schedule) → IsSchedule p → IsSound (schedule_of p) }
 {
     frames_show_their_own_keys();
 }
 
-/// Where a text is a schedule, no line of its run is bad, and an audit answers the verdict on it.
+/// States that where a text is a schedule, no line of its run is bad.
+///
+/// So an audit returns the verdict on it.
 pub fn runs_of_texts_are_sound(text: &[u8])
     ensures { (p : Schedule) → schedule_in text.now ≡ Ok p → IsSound (schedule_of p) }
 {

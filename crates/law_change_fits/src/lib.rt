@@ -8,7 +8,7 @@ ghost use Rattle.zb_model.specs.Data.{Edit};
 ghost use Rattle.zb_model.specs.State.{NodeState};
 ghost use Rattle.zb_model.specs.Fits.{keeps_rules, may_change, fits};
 
-/// Reports when a change fits a state that keeps the rules for records.
+/// States when a change fits a state that keeps the rules for records.
 ///
 /// It does exactly where it may be made and its own questions are answered well.
 #[tactic(auto, using(crate::proofs::FitLaws::fits_is))]

@@ -1,5 +1,5 @@
--- What a node's state has of counters, as counters and floors that are drawn from and judge; and what a node does
--- where these answer so.
+-- What a node's state has of counters, as counters and floors that are drawn from and judge; and what a node does with
+-- what these return.
 use Rattle.std.specs.Prelude.{ℕ, ◌≡◌, Bool, true, false, Option, Some, None}
 use Rattle.zb_counter.specs.declared.receiving.Floor.{Floor}
 use Rattle.zb_counter.specs.declared.receiving.Judge as judged
@@ -24,9 +24,9 @@ floor_under row source = record { kept = (sender_floor source row).kept; stored 
 abbrev pub floor_with : LinkKey → Floor
 floor_with row = record { kept = row.kept; stored = row.stored }
 
--- What a node does with a frame that is sealed at a layer, where a draw from its counter answers so. A number that is
--- ready is the frame's counter, and nothing is reserved. Where a limit is to be stored it is reserved first. Where the
--- numbers are used up nothing may be sealed.
+-- What a node does with a frame that is sealed at a layer, where a draw from its counter returns this. A number that
+-- is ready is the frame's counter, and nothing is reserved. Where a limit is to be stored it is reserved first. Where
+-- the numbers are used up nothing may be sealed.
 abbrev pub IsSentBy : Setting → NodeState → Option Sending → Layer → drawn.Draw → Type 0
 IsSentBy c s send layer (draw.Ready number) = (next_counter layer s ≡ number) × (reserve_of c s send layer ≡ None)
 IsSentBy c s send layer (draw.Reserve limit) = may_seal s send ≡ true → reserve_of c s send layer ≡ Some limit

@@ -9,7 +9,7 @@ use Rattle.zb_disk.specs.View.{Telling, View, overwrite, window, Torn}
 abbrev pub content_told : Telling
 content_told = record { content = true; steady = false; past = false; refusals = false }
 
--- a file that reads so, of which this may be on the disk, after so many calls and faults
+-- a file that reads so, of which this may be on the disk, after these numbers of calls and faults
 abbrev pub file_told : List ℕ → (List ℕ → Type 0) → ℕ → ℕ → View
 file_told seen left calls faults = record {
   seen = seen;

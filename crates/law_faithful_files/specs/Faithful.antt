@@ -8,7 +8,7 @@ use Rattle.zb_disk.specs.View.{Torn, overwrite, window}
 pub data Deed : Type 0 where
   -- these bytes were written at a place
   wrote : ℕ → List ℕ → Deed
-  -- a write of so many bytes at a place failed, and left any part of them
+  -- a write of this number of bytes at a place failed, and left any part of them
   spoiled : ℕ → ℕ → Deed
   -- a sync went through
   synced : Deed
@@ -16,7 +16,7 @@ pub data Deed : Type 0 where
   unsynced : Deed
   -- these bytes were read at a place; those past the end are 00
   read : ℕ → List ℕ → Deed
-  -- the file has so many bytes
+  -- the file has this number of bytes
   sized : ℕ → Deed
   -- the power was lost, and came back: the file has these bytes
   lost : List ℕ → Deed
@@ -44,7 +44,7 @@ GoesFaithfully seen left (sized n ∷ deeds) = (n ≡ length seen) × GoesFaithf
 -- a loss of power leaves what may be on the disk, and nothing else
 GoesFaithfully seen left (lost found ∷ deeds) = left found × GoesFaithfully found (λ bytes. bytes ≡ found) deeds
 
--- A file that had these bytes when it was opened is faithful over these deeds, the oldest first: it reads back what
+-- A file that had these bytes when it was opened is faithful over these deeds, the oldest first. It reads back what
 -- was written, it keeps what was synced, and a loss of power tears only what wasn't.
 abbrev pub IsFaithful : List ℕ → List Deed → Type 0
 IsFaithful start deeds = GoesFaithfully start (λ bytes. bytes ≡ start) deeds

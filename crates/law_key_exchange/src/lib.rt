@@ -1,4 +1,4 @@
-//! A device that has the network key gets a link key of its own from its centre, event by event: it asks, the centre
+//! A device that has the network key gets a link key of its own from its centre, event by event. It asks, the centre
 //! offers a key, the device proves that it has it, and the centre confirms. Each law is the contract of a function
 //! with an empty body; docs/THEOREMS.md says it in words.
 #![tactic(auto)]
@@ -24,7 +24,7 @@ ghost use Rattle.zb_model.specs.Rules.{Setting};
 ghost use Rattle.zb_model.specs.State.{NodeState, has_link, has_net, next_counter};
 ghost use Rattle.zb_model.specs.Tools.{Tools};
 
-/// States that a device that knocked and takes a network key that is new to it has joined as the exchange asks.
+/// States that a device that knocked joins as the exchange asks, by a network key new to it.
 ///
 /// It finds the key by its sequence, has its centre's link key, and is offered no other.
 pub fn a_device_joins_for_the_exchange()
@@ -51,7 +51,9 @@ pub fn a_joined_device_asks_for_a_link_key()
         → IsJoined (after_task tools m t DoTimer) c.me.eui key sequence link }
 {}
 
-/// States that the centre draws a key and offers it to a device whose request is delivered, and when it doesn't.
+/// States that the centre offers a new link key to a device that asks, and when it doesn't.
+///
+/// The device's request is delivered to the centre, which draws the key.
 pub fn the_centre_offers_a_link_key()
     ensures refused { (tools : Tools) → DeliversCommands tools → (c m : Setting) (s : NodeState) (k : Seals)
         (draw : Option Bytes) → AreDeclared c m → StationsInRange c m → NwkInRange k → ApsInRange k
@@ -120,7 +122,9 @@ pub fn a_device_proves_its_key()
         → IsOffered (after_task tools m t DoTimer) c.me.eui key sequence link }
 {}
 
-/// States that the centre takes a proof of the key that it offered, and confirms it, and when it doesn't.
+/// States that the centre confirms a key that a device proves, and when it doesn't.
+///
+/// It is the key that the centre offered.
 pub fn the_centre_confirms_a_proved_key()
     ensures refused { (tools : Tools) → DeliversCommands tools → (c m : Setting) (s : NodeState) (k : Seals)
         (draw : Option Bytes) → AreDeclared c m → StationsInRange c m → NwkInRange k

@@ -1,4 +1,4 @@
--- A line whose name leaves no room unused: what stands behind the end of a name, in the room for one, is left out.
+-- A line whose name leaves no room unused: what is after the end of a name, in the room for one, is left out.
 use Rattle.std.specs.Prelude.{List, map}
 use Rattle.arrayvec.specs.ArrayString.{ArrayString}
 use Rattle.zb_trace.specs.declared.line.Line.{Line}

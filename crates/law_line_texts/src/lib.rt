@@ -9,7 +9,7 @@ ghost use Rattle.zb_trace.specs.declared.line.Line.{Line};
 
 /// States that lines with one text are the same lines, value by value.
 ///
-/// Their names are names. What stands behind the end of a name, in its room, is in no text (`plain`).
+/// Their names are names. What is after the end of a name, in its room, is in no text (`plain`).
 #[tactic(auto, using(crate::proofs::Fixed::one_line, crate::proofs::Fixed::same_lines))]
 pub fn a_text_fixes_its_lines()
     ensures line { (a b : Line) → IsProper a → IsProper b → text a ≡ text b → plain a ≡ plain b }

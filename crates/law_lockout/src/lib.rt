@@ -9,11 +9,11 @@ ghost use Rattle.zb_model.specs.Secrets.{ideal};
 ghost use Rattle.zb_model.specs.Tools.{Tools};
 ghost use Rattle.law_lockout.specs.LockedOut.{LockedOut};
 
-/// States that lines lock a removed device out of what it seals before an acceptance exactly where they lock it out of
-/// all that it seals.
+/// States that lockout of what is sealed before an acceptance is lockout of all that is sealed.
 ///
-/// The second follows where no two seals have one sealing key and nonce, and what is accepted was sealed or forged
-/// before. Then nothing is accepted that is sealed only later.
+/// `Locked` is of what a removed device sealed before an acceptance, and `LockedOut` of all that it seals after its
+/// removal. `LockedOut` gives `Locked`, of any lines. The reverse follows where no two seals have one sealing key and
+/// nonce, and what is accepted was sealed or forged before. Then nothing is accepted that is sealed only later.
 #[tactic(auto, using(crate::proofs::Words::locked_out, crate::proofs::Words::locked))]
 pub fn the_lockout_is_of_all_later_seals()
     ensures all { (tools : Tools) (lines : List Line) → Fresh tools lines → ideal tools lines ≡ true

@@ -9,8 +9,8 @@ use Rattle.law_key_exchange.specs.Obstacles.{why_no_offer, why_no_request, why_o
 use Rattle.law_recovery_runs.specs.Fronts.{Front}
 use Rattle.law_recovery_runs.specs.KeyExchange.{eui_of}
 
--- Nothing is in the way of the first three events, with what the two would seal now, and each has a counter left for
--- what it seals after that: the device one at NWK for its proof, the centre one at each layer for its confirmation.
+-- Nothing is in the way of the first three events, with what the two would seal now. Each has a counter left for what
+-- it seals after that: the device one at NWK for its proof, the centre one at each layer for its confirmation.
 pub record IsForeseen (w : Schedule) (x : Front) (c d : ℕ) (key : Bytes) (sequence : ℕ) (link drawn : Bytes) : Type 0
   where
     pub request : why_no_request (state_of x.lines d) ≡ None

@@ -15,13 +15,13 @@ use Rattle.law_recovery.specs.KeyFrames.{KeyFrameInRange}
 use Rattle.law_recovery.specs.Rejoining.{AreLinked, AreOfOneNetwork, answer_frame, may_rejoin, why_no_room, why_not_sent, why_old}
 use Rattle.law_recovery_runs.specs.Fronts.{Front, IsReady, after_events, rejoin_events}
 
--- the three events so many times, each time at the front that is reached then
+-- the three events, as often as the number says, each time at the front that is reached then
 abbrev pub after_rounds : Tools → Schedule → ℕ → ℕ → ℕ → Front → Front
 after_rounds tools w c d zero x = x
 after_rounds tools w c d (suc n) x = after_rounds tools w c d n (after_events tools w x (rejoin_events x c d))
 
--- A centre c and a member d that may rejoin, at a front at which no obstacle holds but the member's floor: that is so
--- many counters above the centre's next one. The counter doesn't reach its end on the way.
+-- A centre c and a member d that may rejoin, at a front at which no obstacle holds but the member's floor. That is `n`
+-- counters above the centre's next one. The counter doesn't reach its end on the way.
 pub record RejoinsLater (w : Schedule) (x : Front) (c d n : ℕ) : Type 0 where
   pub apart : nat_eq d c ≡ false
   pub mine : (setting_of w d).me.eui ≡ d

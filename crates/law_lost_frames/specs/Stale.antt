@@ -28,7 +28,7 @@ pub record IsStale (tools : Tools) (w : Schedule) (x : Front) (c d : ℕ) (k : K
       (Received (asked_bytes far tools w c d (device_seals far (state_of x.lines d) k))
       (supply w (timed tools w x d).lines))).refusal ≡ Some (Stale floor)
 
--- so many of them, one after the other
+-- that number of them, one after the other
 abbrev pub AreStale : Tools → Schedule → ℕ → ℕ → Keys → Far → ℕ → Front → Type 0
 AreStale tools w c d k far zero x = ⊤
 AreStale tools w c d k far (suc n) x = IsStale tools w x c d k far
@@ -65,7 +65,7 @@ pub record IsAnswerStale (tools : Tools) (w : Schedule) (x : Front) (c d : ℕ) 
       (Received (told_bytes far tools w c d k (centre_seals far (state_of (timed tools w x d).lines c) k))
       (supply w (heard tools w x c d).lines))).refusal ≡ Some (Stale floor)
 
--- So many of them, one after the other. After the first one the centre answers again.
+-- That number of them, one after the other. After the first one the centre answers again.
 abbrev pub AreAnswersStale : Tools → Schedule → ℕ → ℕ → Keys → Far → ℕ → Front → Type 0
 AreAnswersStale tools w c d k far zero x = ⊤
 AreAnswersStale tools w c d k far (suc n) x = IsAnswerStale tools w x c d k far

@@ -17,7 +17,7 @@ use Rattle.law_run_steps.specs.Steps.{falls_on, is_of}
 use Rattle.law_lost_frames.specs.Stages.{Keys, DeviceIs, CentreHas, Sends, CentreTakes, DeviceTakes, IsRefused, asked_bytes, centre_seals, device_seals, told_bytes}
 use Rattle.law_lost_frames.specs.Turns.{Far, Offering, Proving, Proved, Done, unanswered_from}
 
--- A centre c and a device d have come so far with these keys, whether they have power or not, and whatever is armed.
+-- A centre c and a device d have come this far with these keys, whether they have power or not, and whatever is armed.
 pub record HaveKept (w : Schedule) (x : Front) (c d : ℕ) (k : Keys) (far : Far) : Type 0 where
   pub apart : nat_eq d c ≡ false
   pub declared : AreDeclared (setting_of w c) (setting_of w d)
@@ -30,15 +30,17 @@ pub record HaveKept (w : Schedule) (x : Front) (c d : ℕ) (k : Keys) (far : Far
 
 -- ---- what happens
 
--- `Timer`: the device's timer comes. `Hearing`: the frame of this number, which the device sealed in this state, comes
--- to the centre. `Taking`: the frame of this number, which the centre sealed in this state, comes to the device.
--- `Repelling`: a frame comes to one of the two, which refuses it. `Idle`: an event of neither, or that no node
--- answers.
+-- What happens in such an exchange.
 pub data Happening : Type 0 where
+  -- the device's timer comes
   Timer : Happening
+  -- the frame of this number, which the device sealed in this state, comes to the centre
   Hearing : (frame : ℕ) (sealed : NodeState) → Happening
+  -- the frame of this number, which the centre sealed in this state, comes to the device
   Taking : (frame : ℕ) (sealed : NodeState) → Happening
+  -- a frame comes to one of the two, which refuses it
   Repelling : (frame : ℕ) (node : ℕ) → Happening
+  -- an event of neither, or one that no node answers
   Idle : (event : Event) → Happening
 
 abbrev pub happening_event : ℕ → ℕ → Happening → Event

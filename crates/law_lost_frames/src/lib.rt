@@ -39,7 +39,9 @@ ghost use Rattle.zb_model.specs.State.{LinkKey, NodeState, after_boot, applied_a
 ghost use Rattle.zb_model.specs.State.{is_live_of, next_counter, sender_floor};
 ghost use Rattle.zb_model.specs.Tools.{Tools};
 
-/// States that a lost frame of the exchange of link keys costs a repeat of the device's timer, and nothing else.
+/// States that a lost frame of the exchange of link keys costs a repeat of the device's timer.
+///
+/// It costs nothing else.
 ///
 /// A turn in which a frame is lost leaves the two at a stage from which the next turn goes on. What is refused between
 /// turns changes no stage, nor does any event of another node.
@@ -57,15 +59,18 @@ pub fn a_lost_frame_costs_a_repeat()
         → far_after_all Asking (before ++ Answered ∷ between ++ Answered ∷ []) ≡ Done }
 {}
 
-/// States that a device whose network key was lost may be sent it again, as often as the centre's APS counter lasts.
+/// States that a device whose network key was lost may be sent it again.
+///
+/// That is so as often as the centre's APS counter lasts.
 pub fn a_lost_network_key_is_sent_again()
     ensures { (tools : Tools) → OpensAsJudged tools → (w : Schedule) (x : Front) (c d : ℕ) (can : CanJoin w x c d)
         → IsNew w x c d can → next_counter Aps (state_of x.lines c) + 1 < greatest_counter
         → JoinsAgain w x (after_event tools w x (Own c (HasChild d false))) c d can }
 {}
 
-/// States that a stop at any device call and a boot leave a node as far in an exchange as before its event, or as
-/// after it.
+/// States that a stop and a boot take a node back in an exchange by one event at most.
+///
+/// The stop may be at any device call. Then the node is as far as before its event, or as after it.
 pub fn a_stop_leaves_an_exchange()
     ensures before { (s : NodeState) → IsSpared s (after_boot s) }
     ensures after { (tools : Tools) (c : Setting) (s : NodeState) (task : Task)
@@ -127,9 +132,10 @@ pub fn frames_of_the_exchange_are_on_the_air()
         → frame_at (after_event tools w x event).lines frame ≡ Some bytes }
 {}
 
-/// States that a member whose floor is above its centre's counter rejoins after as many stale rounds, and no more.
+/// States that a member whose floor is above its centre's counter rejoins after as many stale rounds.
 ///
-/// Where all that it accepted under its link key came from its centre, these are fewer than its incoming block.
+/// One more round is the last. Where all that it accepted under its link key came from its centre, the stale ones are
+/// fewer than its incoming block.
 pub fn stale_rounds_are_fewer_than_a_block()
     ensures rounds { (tools : Tools) → DeliversKeys tools → OpensAsJudged tools → (w : Schedule) (x : Front)
         (c d n : ℕ) → RejoinsLater w x c d n → EndsRejoined (after_rounds tools w c d (suc n) x) c d }

@@ -5,8 +5,10 @@ use Rattle.zb_model.specs.Data.{Bytes}
 use Rattle.zb_trace_read.specs.Faults.{IsFirstBad}
 use Rattle.zb_command.specs.Auditing.{IsBrokenText, IsSoundText}
 
--- A text is that of a sound transcript with one verdict, or it is broken at one line by one claim, or one line of it
--- is the first that is no line of a transcript; and no two of these.
+-- No two of these hold of one text, and none holds in two ways:
+-- - it is that of a sound transcript, with a verdict
+-- - it is broken at a line, by a claim
+-- - a line of it is the first that is no line of a transcript
 pub record HasOneAnswer (text : Bytes) : Type 0 where
   pub verdict : (v w : Verdict) → IsSoundText text v → IsSoundText text w → v ≡ w
   pub fault : (line clause other claim : ℕ) → IsBrokenText text line clause → IsBrokenText text other claim

@@ -11,10 +11,10 @@ use law_audit_text::lines_are_judged_by_their_words;
 use law_run_text::the_text_of_a_run_reads_back;
 use law_schedules::texts_read_as_schedules;
 
-/// States that the text which `play` is to write for an input is that of a sound transcript, as `audit` judges it.
+/// States that the text that `play` is to write for an input is sound, as `audit` judges it.
 ///
-/// So `audit` of it writes the verdict that the end line of the transcript says, unless the text is longer than the
-/// longest input, the source or the sink fails, or memory is lacking.
+/// So `audit` of it writes the verdict that the end line of the transcript says. It doesn't where the text is longer
+/// than the longest input, the source or the sink fails, or it runs out of memory.
 pub fn what_is_played_is_sound(input: &[u8])
     ensures { (output : Bytes) → IsPlayedText input.now output → IsPlayedSound input.now output }
 {
@@ -24,9 +24,14 @@ pub fn what_is_played_is_sound(input: &[u8])
     lines_are_judged_by_their_words();
 }
 
-/// States that any text is sound with one verdict, broken at one line by one claim, or has one first bad line.
+/// States that `audit` can say one thing alone of a text.
 ///
-/// No two of these hold of one text, so `audit` can answer one thing alone.
+/// That is one of these three:
+/// - The text is sound, with a verdict.
+/// - It is broken at a line, by a claim.
+/// - It has a first bad line.
+///
+/// No two of them hold of one text, and none holds in two ways.
 pub fn a_text_has_one_answer()
     ensures { (text : Bytes) → HasOneAnswer text }
 {

@@ -50,9 +50,9 @@ pub fn the_centre_enters_a_code()
         → IsEntered s (after_task tools c s (DoProvision device key)) device key }
 {}
 
-/// States that a device with the key of an install code knocks, whatever it was before, and what it has then.
+/// States that a device with the key of an install code knocks, whatever it was before.
 ///
-/// The row of its code is its current one of the centre, provisional, and no other is offered.
+/// Then the row of its code is its current one of the centre, provisional, and no other is offered.
 pub fn a_device_knocks_for_its_code()
     ensures refused { (tools : Tools) (m : Setting) (t : NodeState) → is_centre m.me.role ≡ false
         → (answer tools m t DoKnock).refusal ≡ why_no_knock t (centre_of m.stations) }
@@ -61,9 +61,9 @@ pub fn a_device_knocks_for_its_code()
         → HasKnocked t (after_task tools m t DoKnock) (centre_of m.stations) code }
 {}
 
-/// States that a device that knocked has joined as the exchange asks, also with a network key that it had before.
+/// States that a device that knocked joins as the exchange asks, also by a key that it had before.
 ///
-/// The key is new to it, or it knows the key with the centre's sequence.
+/// The network key is new to it, or it knows the key with the centre's sequence.
 pub fn a_device_joins_with_a_key_that_it_meets()
     ensures { (tools : Tools) → DeliversKeys tools → (c m : Setting) (s t : NodeState) → AreOfOneNetwork c m
         → (l : AreIntroduced c m s t) → KeyFrameInRange (answer_frame c m s l.net l.row) → keeps_rules t ≡ true
@@ -73,10 +73,11 @@ pub fn a_device_joins_with_a_key_that_it_meets()
         c.me.eui l.net.key l.net.sequence l.row.key }
 {}
 
-/// States that after any lines a device is let in anew by eleven events, unless one of the named obstacles holds.
+/// States that after any lines a device is let in anew by eleven events.
 ///
-/// The centre removes it where it is live, its code is entered, and it knocks; then it joins, and gets a link key of
-/// its own. Obstacles of the first five events are all asked of the first front.
+/// That is so unless one of the named obstacles holds. The centre removes it where it is live, its code is entered,
+/// and it knocks. Then it joins, and gets a link key of its own. Obstacles of the first five events are all asked of
+/// the first front.
 pub fn a_device_is_readmitted_in_a_run()
     ensures { (tools : Tools) → DeliversKeys tools → DeliversCommands tools → OpensAsJudged tools → (w : Schedule)
         (x : Front) (c d : ℕ) (network : Bytes) (sequence : ℕ) (key drawn : Bytes)

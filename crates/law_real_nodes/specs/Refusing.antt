@@ -1,5 +1,5 @@
--- For what a rule refuses. Where a rule looks for what is there in every run, it names a refusal for where it isn't,
--- and that refusal decides nothing: each reason comes only for what it is named for elsewhere in the rule.
+-- For what a rule refuses. Where a rule looks for what is there in every run, it names a refusal for where it isn't.
+-- That refusal decides nothing: each reason comes only for what it is named for elsewhere in the rule.
 use Rattle.std.specs.Prelude.{ℕ, ◌≡◌, ◌⊎◌, true, false, not, ◌&&◌, ◌||◌, List, Option, Some, None, nat_eq, ⊤}
 use Rattle.zb_model.specs.Data.{Bytes, Offered, NoKey, NotMember, WrongState, RowsFull, WrongHash, Policy, Place, AtNwk, Reason, Received}
 use Rattle.zb_model.specs.Lines.{Line}

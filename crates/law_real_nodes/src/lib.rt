@@ -29,22 +29,27 @@ pub fn nodes_have_different_euis()
     ensures { (p : Schedule) → IsSchedule p → euis_differ (schedule_of p) ≡ true }
 {}
 
-/// States that a real frame opens to a term with the key, source and counter by which it was judged.
+/// States that a real frame opens to a term with the values by which it was judged.
+///
+/// They are its layer, its base key, its source and its counter.
 pub fn real_frames_open_as_they_are_judged()
     ensures { OpensAsJudged real }
 {}
 
 /// States that in the run of each schedule its nodes start alone and by the rules, and stay sound.
 ///
-/// Before each event its node is as it was declared, keeps the rules for records and has a newest network key, if it
-/// has an active one; no rule of it refuses for want of what is always there; what any node would send may be sealed.
+/// Before each event:
+/// - Its node is as it was declared, keeps the rules for records, and has a newest network key if it has an active
+///   one.
+/// - No rule of it refuses for want of what is always there.
+/// - What any node would send may be sealed.
 pub fn nodes_are_sound_in_each_run()
     ensures { (p : Schedule) → IsSchedule p → NodesAreSound (schedule_of p) }
 {
     nodes_start_by_their_own_lines();
 }
 
-/// States that in the run of each schedule the last line about each thing says what the states of the nodes say.
+/// States that in each schedule's run the last line about a thing says what the nodes' states say.
 ///
 /// This holds after the start and after each whole group: of the active network key, of the stored limits and floors,
 /// and where a node has power of its next counters.
@@ -53,7 +58,7 @@ pub fn lines_of_each_run_agree()
     ensures { (p : Schedule) → IsSchedule p → RunAgrees real (schedule_of p) }
 {}
 
-/// Where a text is a schedule, its nodes are sound in its run.
+/// States that where a text is a schedule, its nodes are sound in its run.
 pub fn nodes_are_sound_in_each_text(text: &[u8])
     ensures { (p : Schedule) → schedule_in text.now ≡ Ok p → NodesAreSound (schedule_of p) }
 {

@@ -1,5 +1,5 @@
--- A device gets a link key of its own at the end of a schedule's run: what is asked of the two nodes before the last
--- events, six where it has joined, and eight where it knocked.
+-- A device gets a link key of its own at the end of a schedule's run. What is asked of the two nodes before the last
+-- events: six where it has joined, and eight where it knocked.
 use Rattle.std.specs.Prelude.{ℕ, ◌≡◌, true, false, None}
 use Rattle.zb_model.specs.Data.{Aps, Bytes}
 use Rattle.zb_model.specs.Play.{Schedule, setting_of}
@@ -12,7 +12,7 @@ use Rattle.law_recovery.specs.Rejoining.{why_not_sent, why_not_taken}
 use Rattle.law_recovery_runs.specs.Fronts.{Front, IsReady}
 use Rattle.law_recovery_runs.specs.KeyExchange.{HaveJoined}
 
--- The centre c of a schedule and a device d of it have power, nothing is armed on their disks, and the device has
+-- The centre c of a schedule and a device d of it have power, and nothing is armed on their disks. The device has
 -- joined with the centre's network key and a link key that both have.
 pub record MayExchange (w : Schedule) (x : Front) (c d : ℕ) (key : Bytes) (sequence : ℕ) (link : Bytes) : Type 0 where
   pub centre_named : Names w c

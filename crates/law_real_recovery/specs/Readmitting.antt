@@ -1,4 +1,4 @@
--- A device is let in anew at the end of a schedule's run: what is asked of the two nodes before the last events, which
+-- A device is let in anew at the end of a schedule's run. What is asked of the two nodes before the last events, which
 -- are eleven where the device is live at the centre, and ten where it isn't.
 use Rattle.std.specs.Prelude.{ℕ, ◌≡◌, true, false, Some, None}
 use Rattle.zb_model.specs.Data.{Aps, Bytes}

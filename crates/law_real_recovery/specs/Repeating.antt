@@ -26,14 +26,14 @@ turns_events tools w c d x (turn ∷ turns) = turn_events x c d turn
 abbrev pub happening_events : ℕ → ℕ → List Happening → List Event
 happening_events c d happenings = map (happening_event c d) happenings
 
--- those of so many rounds of rejoining
+-- the events of that number of rounds of rejoining
 abbrev pub round_events : Tools → Schedule → ℕ → ℕ → ℕ → Front → List Event
 round_events tools w c d zero x = []
 round_events tools w c d (suc n) x = rejoin_events x c d
     ++ round_events tools w c d n (after_events tools w x (rejoin_events x c d))
 
--- The centre c of a schedule and a member d of it have power, nothing is armed on their disks, the member may rejoin,
--- and both have the same verified link key. None of the obstacles holds but the member's floor, which is so many
+-- The centre c of a schedule and a member d of it have power, and nothing is armed on their disks. The member may
+-- rejoin, and both have the same verified link key. None of the obstacles holds but the member's floor, which is `n`
 -- counters above the centre's next one. That counter doesn't reach its end on the way.
 pub record MayRejoinLater (w : Schedule) (x : Front) (c d n : ℕ) : Type 0 where
   pub centre_named : Names w c
@@ -50,7 +50,7 @@ pub record MayRejoinLater (w : Schedule) (x : Front) (c d n : ℕ) : Type 0 wher
   pub stale : linked.own.kept - next_counter Aps (state_of x.lines c) ≡ n
   pub counters : next_counter Aps (state_of x.lines c) + n < greatest_counter
 
--- The centre c of a schedule and a device d of it have power, nothing is armed on their disks, and they have come so
+-- The centre c of a schedule and a device d of it have power, and nothing is armed on their disks. They have come this
 -- far in an exchange with these keys, which have 16 bytes.
 pub record MayGoOn (w : Schedule) (x : Front) (c d : ℕ) (k : Keys) (far : Far) : Type 0 where
   pub centre_named : Names w c

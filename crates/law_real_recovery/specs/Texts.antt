@@ -12,8 +12,8 @@ use Rattle.law_recovery_runs.specs.Fronts.{Front, IsReady}
 abbrev pub first_front : Schedule → Front
 first_front w = record { lines = start w; disks = []; number = 1 }
 
--- The centre c of a schedule and a member d of it have power, nothing is armed on their disks, the member may rejoin,
--- both have the same verified link key, and none of the obstacles holds.
+-- The centre c of a schedule and a member d of it have power, and nothing is armed on their disks. The member may
+-- rejoin, both have the same verified link key, and none of the obstacles holds.
 pub record MayRejoin (w : Schedule) (x : Front) (c d : ℕ) : Type 0 where
   pub centre_named : Names w c
   pub member_named : Names w d

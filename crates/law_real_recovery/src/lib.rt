@@ -59,7 +59,9 @@ pub fn a_member_rejoins_in_each_schedule()
         → EndsRejoined (after_events real (schedule_of p) (first_front (schedule_of p)) (schedule_of p).events) c d }
 {}
 
-/// States that the real frames of the exchange of link keys are read, opened and understood as they were sealed.
+/// States that the real frames of the exchange of link keys are understood as they were sealed.
+///
+/// They are read, opened and understood so.
 pub fn real_frames_deliver_commands()
     ensures { DeliversCommands real }
 {}
@@ -97,10 +99,10 @@ pub fn a_device_joins_and_is_confirmed_in_each_schedule()
         may.introduced.net.key may.introduced.net.sequence drawn }
 {}
 
-/// States that a device is let in anew at the end of each schedule's run, unless one of the named obstacles holds.
+/// States that a device is let in anew at the end of each schedule's run.
 ///
-/// The schedule ends with the removal where the device is live, its code, its knock, and the eight events of joining,
-/// and may have any events before them.
+/// That is so unless one of the named obstacles holds. The schedule ends with the removal where the device is live,
+/// its code, its knock, and the eight events of joining, and may have any events before them.
 pub fn a_device_is_readmitted_in_each_schedule()
     ensures { (p : Schedule) → IsSchedule p → (before : List Event) (c d : ℕ) (network : Bytes) (sequence : ℕ)
         (key drawn : Bytes) → (schedule_of p).events
@@ -117,7 +119,9 @@ pub fn a_device_is_readmitted_in_each_schedule()
         network sequence drawn }
 {}
 
-/// States that the real frames of a router's report and of a Tunnel are read, opened and understood as they were sent.
+/// States that the real frames of a router's report and of a Tunnel are understood as they were sent.
+///
+/// They are read, opened and understood so.
 pub fn real_frames_deliver_relays()
     ensures { DeliversRelays real }
 {}

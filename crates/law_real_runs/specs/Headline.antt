@@ -1,5 +1,5 @@
--- What holds of the run of a schedule with real frames, as one record: the claims on transcripts, none of which asks
--- anything of the air, of the disks, or of the strength of the cipher, but for the two words of the end line.
+-- What holds of the run of a schedule with real frames, as one record: the claims on transcripts. But for the two
+-- words of the end line they ask nothing of the air, of the disks, or of the strength of the cipher.
 use Rattle.std.specs.Prelude.{ℕ, ◌≡◌, true, List, [], ◌∷◌}
 use Rattle.law_run_counters.specs.Counted.{Counted}
 use Rattle.law_run_counters.specs.Floors.{FloorsAreFor}
@@ -23,26 +23,30 @@ EndsYesYes (l ∷ []) = SaysYesYes l
 EndsYesYes (l ∷ m ∷ ls) = EndsYesYes (m ∷ ls)
 
 pub record Holds (w : Schedule) : Type 0 where
-  -- each group answers its event by the policy, with the counters that it must have; and no other lines do
+  -- each group of lines answers its event by the policy
   pub lawful : Lawful real w (transcript real w)
+  -- each counter is the next, and reserves, floors and starts are exactly where they must be
   pub counted : Counted real w (transcript real w)
+  -- no other lines are lawful and counted
   pub alone : (lines : List Line) → Lawful real w lines → Counted real w lines → lines ≡ transcript real w
-  -- so no counter is skipped without a boot, no floor is more than the incoming block above the counter for which it
-  -- was stored, and a node that answers counter-spent stands at 2^32 - 1
+  -- so no counter is skipped without a boot
   pub in_order : Each TakesAll [] (transcript real w)
+  -- no floor is more than one incoming block above the counter for which it was stored
   pub floors : FloorsAreFor w (transcript real w)
+  -- a node that answers counter-spent is at the greatest counter, 2^32 - 1, at one of the layers
   pub spent : Each SpentLine [] (transcript real w)
   -- before each event every node has what the rules take for granted, so none is refused for want of it
   pub granted : BeforeEach (λ (h : List Line) (event : Event). (n : ℕ) → Granted w h n) real w (start w) [] 1 w.events
-  -- so the centre answers no-draw only where the supply is empty; and no event of a node's own is refused as policy
+  -- so the centre answers no-draw only where the supply is empty
   pub draws : BeforeEach (λ (h : List Line) (event : Event). (n : ℕ) → DrawsAreThere real w h n) real w (start w) [] 1
       w.events
+  -- no event of a node's own is refused as policy
   pub suited : BeforeEach (IsSuited real w) real w (start w) [] 1 w.events
-  -- and there is room for the floor of each declared sender
+  -- there is room for the floor of each declared sender
   pub room : BeforeEach (λ (h : List Line) (event : Event). (n : ℕ) → HasRoom w h n) real w (start w) [] 1 w.events
-  -- no node seals twice under one key and nonce; no receiver accepts a sender's counter twice under one key, resets
-  -- included
+  -- no node seals twice under one key and nonce
   pub fresh : Fresh real (transcript real w)
+  -- no receiver accepts a sender's counter twice under one key, resets included
   pub once : Once (transcript real w)
   -- only stored keys are confirmed
   pub confirms : Confirms real (transcript real w)

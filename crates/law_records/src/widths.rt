@@ -14,7 +14,7 @@ fn hold_number(number: u32)
     ensures { number < 2 ^ 32 }
 {}
 
-/// States that an IEEE address is below 2^64.
+/// States that an EUI is below 2^64.
 fn hold_eui(eui: Eui)
     ensures { eui.0 < 2 ^ 64 }
 {}

@@ -20,15 +20,17 @@ why_not_sent s device =
     else (if is_none (current s device) then Some NotMember
     else (if spent Aps s then Some CounterSpent else None))
 
--- Why a member doesn't take a network key that comes under a link key with a counter: its floor for that link key is
--- above the counter; it dropped the network key; it doesn't have it, and its rows are full.
+-- the member doesn't have the network key, and its rows are full
 abbrev pub why_no_room : NodeState → Bytes → Option Reason
 why_no_room t key = if has_net key t.nets then None else (if nets_full t then Some KeysFull else None)
 
+-- it dropped the network key
 abbrev pub why_old : Option ℕ → Option Reason → Option Reason
 why_old None rest = rest
 why_old (Some place) rest = Some (KeyOld place)
 
+-- Why a member doesn't take a network key that comes under a link key with a counter: its floor for that link key is
+-- above the counter, or one of the two reasons above.
 unfoldable pub why_not_taken : NodeState → LinkKey → ℕ → Bytes → Option Reason
 why_not_taken t row counter key =
     if nat_lt counter row.kept then Some (Stale row.kept)

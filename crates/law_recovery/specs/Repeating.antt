@@ -7,12 +7,12 @@ use Rattle.zb_model.specs.State.{NetKey, NodeState, active_row, current, next_co
 use Rattle.zb_model.specs.Tools.{Tools}
 use Rattle.law_recovery.specs.Answering.{after_task, IsTaken}
 
--- the centre after it answered a child so many times
+-- the centre after it answered a child that number of times
 unfoldable pub repeated : Tools → Setting → ℕ → ℕ → NodeState → NodeState
 repeated tools c device zero s = s
 repeated tools c device (suc n) s = repeated tools c device n (after_task tools c s (HasChild device true))
 
--- none of so many answers is refused
+-- none of that number of answers is refused
 abbrev pub AreTaken : Tools → Setting → ℕ → ℕ → NodeState → Type 0
 AreTaken tools c device zero s = Unit {0}
 AreTaken tools c device (suc n) s = IsTaken tools c s (HasChild device true)

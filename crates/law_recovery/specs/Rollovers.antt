@@ -47,17 +47,18 @@ pub record Switches (tools : Tools) (c : Setting) (s : NodeState) : Type 0 where
   pub over : (after_task tools c s DoSwitch).sending ≡ false
   pub switched : (after_task tools c s DoSwitch).active ≡ option_map (λ (r : NetKey). r.key) (newest s)
 
--- after so many timers, each of which tells a device, the switch ends the rollover
+-- after that number of timers, each of which tells a device, the switch ends the rollover
 abbrev pub EndsAfter : Tools → Setting → ℕ → NodeState → Type 0
 EndsAfter tools c zero s = Switches tools c s
 EndsAfter tools c (suc timers) s = TellsNext tools c s × EndsAfter tools c timers (after_task tools c s DoTimer)
 
--- Too few counters are left for so many frames at both layers and one at NWK. No counter passes its end.
+-- Too few counters are left for `frames` frames at both layers and one at NWK. No counter passes its end.
 abbrev pub LacksCounters : NodeState → ℕ → Type 0
 LacksCounters s frames = (greatest_counter ≤ next_counter Nwk s + frames)
     ⊎ ((next_counter Aps s ≤ greatest_counter) × (greatest_counter < next_counter Aps s + frames))
 
--- one of so many timers, or the switch after them, is refused as counter-spent, and the timers before it tell devices
+-- one of that number of timers, or the switch after them, is refused as counter-spent, and the timers before it tell
+-- devices
 abbrev pub SpentWithin : Tools → Setting → ℕ → NodeState → Type 0
 SpentWithin tools c zero s = IsRefused tools c s DoSwitch CounterSpent
 SpentWithin tools c (suc timers) s =

@@ -93,7 +93,7 @@ pub fn a_member_rejoins()
         → Rejoins tools c m s t draw }
 {}
 
-/// States that a stale answer costs a repeat, and that one comes through once the counter has reached the floor.
+/// States that a stale answer costs a repeat, until the centre's counter has reached the member's floor.
 ///
 /// A frame below the member's floor leaves the member as it was. Each answer takes the centre's counter on by one.
 pub fn a_stale_answer_is_repeated()

@@ -18,7 +18,7 @@ exchange_events x c d =
     Own d DoTimer ∷ Deliver (length (air x.lines) + 1) c ∷ Deliver (length (air x.lines) + 2) d
     ∷ Own d DoTimer ∷ Deliver (length (air x.lines) + 3) c ∷ Deliver (length (air x.lines) + 4) d ∷ []
 
--- the front after so many of them
+-- the front after that number of them
 abbrev pub front_after : Tools → Schedule → Front → ℕ → ℕ → ℕ → Front
 front_after tools w x c d events = after_events tools w x (take events (exchange_events x c d))
 

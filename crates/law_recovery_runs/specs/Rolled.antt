@@ -5,7 +5,7 @@ use Rattle.zb_model.specs.Play.{Event, Own}
 use Rattle.zb_model.specs.Readings.{state_of}
 use Rattle.law_recovery_runs.specs.Fronts.{Front, IsReady}
 
--- the centre's timer so many times, and then its switch
+-- the centre's timer that number of times, and then its switch
 unfoldable pub rollover_events : ℕ → ℕ → List Event
 rollover_events c zero = Own c DoSwitch ∷ []
 rollover_events c (suc timers) = Own c DoTimer ∷ rollover_events c timers

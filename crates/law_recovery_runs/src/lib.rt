@@ -35,7 +35,7 @@ pub fn a_member_rejoins_in_a_run()
         → CanRejoin w x c d → EndsRejoined (after_events tools w x (rejoin_events x c d)) c d }
 {}
 
-/// States that after any lines a rollover ends by a timer for each device that isn't told, and a switch.
+/// States that after any lines a rollover ends by a timer for each untold device, and a switch.
 ///
 /// The centre has power with nothing armed. The one obstacle is a counter at its end.
 pub fn a_rollover_ends_in_a_run()
@@ -45,17 +45,19 @@ pub fn a_rollover_ends_in_a_run()
         → EndsRolled (after_events tools w x (rollover_events c (length (untold (state_of x.lines c))))) c }
 {}
 
-/// States that after any lines a device that knocked joins by two events, unless one of the named obstacles holds.
+/// States that after any lines a device that knocked joins by two events.
 ///
-/// It has the network key then. The exchange of link keys comes after.
+/// That is so unless one of the named obstacles holds. It has the network key then. The exchange of link keys comes
+/// after.
 pub fn a_device_joins_in_a_run()
     ensures { (tools : Tools) → DeliversKeys tools → OpensAsJudged tools → (w : Schedule) (x : Front) (c d : ℕ)
         → CanJoin w x c d → EndsJoined (after_events tools w x (join_events x c d)) c d }
 {}
 
-/// States that after any lines a joined device is confirmed by six events, unless one of the named obstacles holds.
+/// States that after any lines a joined device is confirmed by six events.
 ///
-/// It asks for a link key, keeps the one that it is offered, proves it, and is told that it is confirmed.
+/// That is so unless one of the named obstacles holds. It asks for a link key, keeps the one that it is offered,
+/// proves it, and is told that it is confirmed.
 pub fn a_device_is_confirmed_in_a_run()
     ensures { (tools : Tools) → DeliversCommands tools → OpensAsJudged tools → (w : Schedule) (x : Front) (c d : ℕ)
         (key : Bytes) (sequence : ℕ) (link drawn : Bytes) → AreMet w x c d → HaveJoined w x c d key sequence link

@@ -27,16 +27,18 @@ SpellsConfirm tools = (command : Command) (kind d : ℕ) → tools.read_command 
 abbrev pub IsClearControl : ℕ → Type 0
 IsClearControl control = (control ≡ clear_command) ⊎ (control ≡ clear_broadcast)
 
--- What a frame of a node's own shows of keys. A spelled command reads as one with its own key or with none; what
--- doesn't begin as a command isn't read as one; a command in clear is read after its control and its counter; a sealed
--- APS frame shows that it is sealed.
+-- What a frame of a node's own shows of keys.
 pub record ShowsKeys (tools : Tools) : Type 0 where
+  -- a spelled command reads as one with its own key, or with none
   pub spelled : (o : Command) (k : Bytes) → key_shown (tools.read_command (tools.spelled o)) ≡ Some k → key_in o
       ≡ Some k
+  -- what doesn't begin as a command isn't read as one
   pub plain : (bytes : Bytes) (a : ApsShown) → tools.read_aps bytes ≡ Some a → is_command_header bytes ≡ false
       → a.is_command ≡ false
+  -- a command in clear is read after its control and its counter
   pub clear : (control counter : ℕ) (bytes : Bytes) (a : ApsShown) → IsClearControl control
       → tools.read_aps (control ∷ counter ∷ bytes) ≡ Some a → a.body ≡ bytes
+  -- a sealed APS frame shows that it is sealed: one with a command, and one with data
   pub command : (label : Label) (key : Bytes) (source counter : ℕ) (content : Bytes) (a : ApsShown)
       → tools.read_aps (tools.wire (aps_term sealed_command label key source counter content)) ≡ Some a
       → is_some a.auxiliary ≡ true

@@ -10,8 +10,8 @@ RefusesAfter tools h (Changed e n (Moved (Removed d))) after =
     Refuses tools (h ++ Changed e n (Moved (Removed d)) ∷ []) after d
 RefusesAfter tools h _ after = ⊤
 
--- After each removal, and up to the device's next admission: a node none of whose live network keys is known outside
--- accepts at NWK neither a term that the device sealed since, nor one that was forged before.
+-- Outsiders are refused after each removal, up to the device's next admission. A node none of whose live network keys
+-- is known outside accepts at NWK neither a term that the device sealed since, nor one that was forged before.
 abbrev pub RefusesOutsiders : Tools → List Line → List Line → Type 0
 RefusesOutsiders tools h [] = ⊤
 RefusesOutsiders tools h (l ∷ ls) = RefusesAfter tools h l ls × RefusesOutsiders tools (h ++ l ∷ []) ls

@@ -27,62 +27,82 @@ ghost use Rattle.zb_model.specs.State.{NodeState, after_boot, is_centre, applied
 ghost use Rattle.zb_model.specs.Tools.{Tools};
 ghost use Rattle.zb_model.specs.Transcript.{run_lines, transcript};
 
-/// What lines say of a node's state is changed by the lines that follow, one after the other.
+/// States that later lines change what lines say of a node's state, one after the other.
 pub fn reading_goes_on()
     ensures { (h g : List Line) (n : ℕ) → state_of (h ++ g) n ≡ fold (heard_line n) (state_of h n) g }
 {}
 
-/// The stored lines of an answer, its changes and their commit, change the node's state by these changes.
+/// States that the stored lines of an answer change the node's state by its changes.
+///
+/// These lines are the changes and their commit.
 pub fn stored_changes_are_read_back()
     ensures { (h : List Line) (number n : ℕ) (a : Answer)
         → state_of (h ++ stored_lines number n a) n ≡ applied_all a.edits (state_of h n) }
 {}
 
-/// The lines of an answer's whole group change the node's state by the answer: its changes, its accepted terms, its
-/// seals.
+/// States that the whole group of an answer changes the node's state by that answer.
+///
+/// That is by its changes, its accepted terms and its seals.
 pub fn a_group_is_read_back()
     ensures { (h : List Line) (number n : ℕ) (a : Answer)
         → state_of (h ++ group_of h number n a) n ≡ answered a (state_of h n) }
 {}
 
-/// A transcript has the start lines, one answer for each event in order, and the end line.
+/// States that a transcript has the start lines, one answer for each event in order, and the end line.
+///
+/// A stop or failure of a disk may cut an answer short.
 pub fn transcripts_are_lawful()
     ensures { (tools : Tools) (w : Schedule) → Lawful tools w (transcript tools w) }
 {}
 
-/// No node ever seals two frames under one key with one nonce, whatever frames it is handed, however often it loses
-/// power, and whatever its disk leaves of a commit that was cut.
+/// States that no node seals twice under one key and nonce.
+///
+/// That holds whatever frames it is handed, however often it loses power, and whatever its disk leaves of a commit
+/// that was cut.
 pub fn no_nonce_comes_again()
     ensures { (tools : Tools) (w : Schedule) → IsSchedule w → Fresh tools (transcript tools w) }
 {}
 
-/// No node ever accepts the counter of a sender twice under one key, whatever comes again on the air, resets and cut
-/// commits included. `Opens` says that a frame which opens shows its base key, counter and source.
+/// States that no node accepts a sender's counter twice under one key.
+///
+/// That holds whatever comes again on the air, resets and cut commits included. `Opens` says that a frame which opens
+/// shows its base key, counter and source.
 pub fn no_counter_is_taken_twice()
     ensures { (tools : Tools) → Opens tools → (w : Schedule) → IsSchedule w → Once (transcript tools w) }
 {}
 
-/// Each Confirm-Key that a node seals for a device is the centre's, and is sealed under a key that the centre stored
-/// as the device's verified one before, by a commit, and that nothing has unsettled since. `OneCentre` is of the
-/// schedule: one declared centre. `SpellsConfirm` is of the spelling: no other command reads as a Confirm-Key.
+/// States that only stored keys are confirmed.
+///
+/// - Each Confirm-Key that a node seals for a device is the centre's.
+/// - It is sealed under a key that the centre stored before, by a commit, as the device's verified one.
+/// - Nothing has unsettled that key since.
+///
+/// `OneCentre` is of the schedule: one declared centre. `SpellsConfirm` is of the spelling: no other command reads as
+/// a Confirm-Key.
 pub fn only_stored_keys_are_confirmed()
     ensures { (tools : Tools) → Opens tools → SpellsConfirm tools → (w : Schedule) → IsSchedule w → OneCentre w
         → Confirms tools (transcript tools w) }
 {}
 
-/// Where the end line says that forgery was private: after a device was removed, and until it is admitted again, a
-/// node none of whose live network keys is known outside accepts at NWK neither a term that the device sealed since
-/// nor one that was forged.
+/// States that outsiders are refused, where the end line says that forgery was private.
+///
+/// After a device was removed, and until it is admitted again, a node accepts at NWK neither a term that the device
+/// sealed since nor one that was forged. That is so of each node none of whose live network keys is known outside.
 pub fn outsiders_are_refused()
     ensures { (tools : Tools) → Opens tools → (w : Schedule) → IsSchedule w → private tools (run_lines tools w) ≡ true
         → RefusesOutsiders tools [] (transcript tools w) }
 {}
 
-/// Where the end line says that the run was ideal and forgery private: after a device was removed, and until it is
-/// admitted again, no key that is drawn since is installed at it, nor comes out of what was sealed or forged for
-/// somebody who holds the well-known key and all keys that the device ever held. `KeysApart` is of the schedule: its
-/// keys are different keys. `ShowsKeys` is of the frames: what a node's own frame shows of a key is the key of the
-/// command that is in it.
+/// States that a removed device obtains no later key, where the end line says `yes yes`.
+///
+/// The two words say that the run was ideal and forgery private. Until the device is admitted again, it obtains no key
+/// that is drawn since its removal:
+/// - No such key is installed at it.
+/// - None comes out of what was sealed or forged, for somebody who holds the well-known key and all keys that the
+///   device ever held.
+///
+/// `KeysApart` is of the schedule: its keys are different keys. `ShowsKeys` is of the frames: what a node's own frame
+/// shows of a key is the key of the command that is in it.
 pub fn a_removed_device_obtains_no_later_key()
     ensures { (tools : Tools) → Opens tools → ShowsKeys tools → (w : Schedule) → IsSchedule w → OneCentre w
         → KeysApart w
@@ -90,7 +110,9 @@ pub fn a_removed_device_obtains_no_later_key()
         → KeepsRemovedOut tools [] (transcript tools w) }
 {}
 
-/// Where the end line says `yes yes`, lockout holds: both halves, after each removal and up to the next admission.
+/// States that removed devices are locked out, where the end line says `yes yes`.
+///
+/// Both halves of lockout hold, after each removal and up to the next admission.
 pub fn removed_devices_are_locked_out()
     ensures { (tools : Tools) → Opens tools → ShowsKeys tools → (w : Schedule) → IsSchedule w → OneCentre w
         → KeysApart w
@@ -98,25 +120,35 @@ pub fn removed_devices_are_locked_out()
         → Locked tools (transcript tools w) }
 {}
 
-/// Each seal of a run has its node's EUI and the counter that comes next: under a network key that of the key's row,
-/// at APS the node's. The greatest counter is never used.
+/// States that each seal of a run takes the counter that comes next.
+///
+/// Its source is its node's EUI. Under a network key the counter is that of the key's row, and at APS the node's. The
+/// greatest counter is never used.
 pub fn each_seal_takes_the_next_counter()
     ensures { (tools : Tools) (w : Schedule) → IsSchedule w → Each TakesNext [] (transcript tools w) }
 {}
 
-/// No counter is skipped without a boot: of each node, and under each network key, a line moves the next counter by
-/// just the seal that it is, unless it is a boot, the first counter of a key, or a limit at the start.
+/// States that no counter is skipped without a boot.
+///
+/// Of each node, at APS and under each network key, a line moves the next counter by just the seal that it is, but for
+/// three:
+/// - a boot
+/// - the first counter of a key
+/// - a limit at the start
 pub fn no_counter_is_skipped_without_a_boot()
     ensures { (tools : Tools) (w : Schedule) → IsSchedule w → Each TakesAll [] (transcript tools w) }
 {}
 
-/// Who answers that a counter is spent stands at the greatest counter, 2^32 - 1, at one of the layers.
+/// States that a node that answers counter-spent is at the greatest counter at one of the layers.
+///
+/// That counter is 2^32 - 1.
 pub fn who_has_spent_its_counters_stands_at_the_end()
     ensures { (tools : Tools) (w : Schedule) → IsSchedule w → Each SpentLine [] (transcript tools w) }
 {}
 
-/// A limit is reserved only where the counter has reached it, and is then one outgoing block ahead, or the greatest
-/// counter.
+/// States that a reserved limit is one outgoing block ahead of the counter, or the greatest counter.
+///
+/// It is reserved only where the next counter has reached the stored limit.
 pub fn a_reserve_is_one_block()
     ensures { (c : Setting) (s : NodeState) (send : Option Sending) (layer : Layer) (v : ℕ)
         → reserve_of c s send layer ≡ Some v
@@ -124,44 +156,52 @@ pub fn a_reserve_is_one_block()
         × (v ≡ min (next_counter layer s + c.me.out_block) greatest_counter) }
 {}
 
-/// A floor is stored only where the accepted counter isn't below the stored one, and is then one incoming block above
-/// the counter, or the greatest counter.
+/// States that a stored floor is one incoming block above the accepted counter, or the greatest counter.
+///
+/// It is stored only where the accepted counter isn't below the floor that was stored before.
 pub fn a_floor_is_one_block()
     ensures { (c : Setting) (s : NodeState) (t : Term) (v : ℕ) → floor_for c s t ≡ Some v
         → (stored_floor t s ≤ t.counter) × (v ≡ min (t.counter + c.me.in_block) greatest_counter) }
 {}
 
-/// Only the centre draws keys, gives pairs, begins or ends a rollover, and says of a device that it is live, removed,
-/// told or not: the answer of any other node has no such change. So lines of these that name no node are the centre's.
+/// States that the centre alone makes the changes whose lines name no node.
+///
+/// It alone draws keys, gives pairs, begins or ends a rollover, and notes that a device is live, removed, told or not.
+/// The answer of any other node has no such change, so lines of these are the centre's.
 pub fn the_centre_alone_draws_and_admits()
     ensures { (tools : Tools) → Opens tools → (c : Setting) (s : NodeState) (task : Task)
         → is_centre c.me.role ≡ false
         → AllByRecursion OfEachNode (answer tools c s task).edits }
 {}
 
-/// The record of a state is read back as that state after a boot: counters go on from their limits, floors are the
-/// stored ones, and a dropped network key has none. The state's keys have 16 bytes, its numbers fit their fields, and
-/// its active key has a row.
+/// States that the record of a state is read back as that state after a boot.
+///
+/// Counters go on from their limits, floors are the stored ones, and a dropped network key has none. The state's keys
+/// have 16 bytes, its numbers fit their fields, and its active key has a row.
 pub fn a_record_is_read_back()
     ensures { (s : NodeState) → FitsRecord s → state_in (record_of s) ≡ Some (shown (after_boot s)) }
 {}
 
-/// What a node is after a boot is what its record says, of the state before.
+/// States that a boot gives a node the state that its record says.
+///
+/// The record is that of its state before, which fits the fields of a record (`FitsRecord`).
 pub fn a_boot_reads_the_record()
     ensures { (h : List Line) (e n : ℕ) → FitsRecord (state_of h n)
         → state_in (record_of (state_of h n)) ≡ Some (shown (state_of (h ++ Boot e n ∷ []) n)) }
 {}
 
-/// What changes make of what is stored depends on what is stored alone, and not on the counters and floors in memory.
-/// So does whether a change fits.
+/// States that what changes make of the stored state depends on the stored state alone.
+///
+/// Counters and floors in memory decide nothing of it, nor whether a change fits.
 pub fn changes_keep_to_what_is_stored()
     ensures made { (es : List Edit) (s : NodeState)
         → after_boot (applied_all es (after_boot s)) ≡ after_boot (applied_all es s) }
     ensures fit { (e : Edit) (s : NodeState) → fits e (after_boot s) ≡ fits e s }
 {}
 
-/// Bytes that are read as a state whose keys differ are the record of that state, and a boot leaves that state as it
-/// is.
+/// States that bytes which are read as a state are the record of that state.
+///
+/// That is so where the keys of the state differ. A boot leaves the state as it is.
 pub fn what_is_read_has_these_bytes_as_its_record()
     ensures { (bytes : List ℕ) (s : NodeState) → AllByRecursion (λ b. b < 256) bytes → state_in bytes ≡ Some s
         → keys_differ s ≡ true

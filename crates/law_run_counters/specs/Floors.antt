@@ -5,9 +5,9 @@ use Rattle.zb_model.specs.Data.{Bytes, Layer, Term, Edit, Floor}
 use Rattle.zb_model.specs.Lines.{Line, Changed, Accept, Stopped, DownDisk}
 use Rattle.zb_model.specs.Play.{Schedule, setting_of}
 
--- What a floor line of an event and a node is stored for: a term that the node accepts in this event, of the floor's
--- layer, base key and source, and the floor is at most the node's incoming block above its counter. Or the event was
--- cut short by a stop or failure, and nothing of it is accepted.
+-- What a floor line of an event and a node is stored for: a term that the node accepts in this event. It has the
+-- floor's layer, base key and source, and the floor is at most the node's incoming block above its counter. Or the
+-- event was cut short by a stop or failure, and nothing of it is accepted.
 abbrev pub IsFor : Schedule → ℕ → ℕ → Layer → Bytes → ℕ → ℕ → Line → Type 0
 IsFor w e n layer base source value (Accept d m t) =
     (d ≡ e) × (m ≡ n) × (t.layer ≡ layer) × (t.base ≡ base) × (t.source ≡ source)

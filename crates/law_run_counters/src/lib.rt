@@ -18,30 +18,35 @@ ghost use Rattle.zb_model.specs.Rules.{Setting};
 ghost use Rattle.zb_model.specs.Tools.{Tools};
 ghost use Rattle.zb_model.specs.Transcript.{transcript};
 
-/// In the transcript of each schedule every counter is the next, and reserves, floors and starts stand exactly where
-/// they must, with the values that they must have; where a stop or failure cuts a group short, in the group that it
-/// cuts.
+/// States that in the transcript of each schedule every counter is the next.
+///
+/// Reserves, floors and starts are exactly where they must be, with the values that they must have. Where a stop or
+/// failure cuts a group short, that holds of the whole group.
 pub fn transcripts_are_counted()
     ensures { (tools : Tools) → Opens tools → (w : Schedule) → Counted tools w (transcript tools w) }
 {}
 
-/// Lines that are lawful and counted for a schedule are its transcript: the policy and the counters together leave
-/// nothing open, to the last byte.
+/// States that lines that are lawful and counted for a schedule are its transcript.
+///
+/// The policy and the counters together leave nothing open, to the last byte.
 pub fn lawful_and_counted_lines_are_the_transcript()
     ensures { (tools : Tools) → Opens tools → (w : Schedule) (lines : List Line) → Lawful tools w lines
         → Counted tools w lines
         → lines ≡ transcript tools w }
 {}
 
-/// No floor is more than the node's incoming block above the counter for which it was stored: after each floor line,
-/// in its event, stands the accept line of that counter, or the stop or failure that cut the event short.
+/// States that no floor is more than one incoming block above the counter for which it was stored.
+///
+/// The block is that of the node. After each floor line, in its event, comes the accept line of that counter, or the
+/// stop or failure that cut the event short.
 pub fn a_floor_is_at_most_one_block_above_its_counter()
     ensures { (tools : Tools) → Opens tools → (w : Schedule) → FloorsAreFor w (transcript tools w) }
 {}
 
-/// Each floor that an answer stores is for a term that the answer accepts, of the floor's layer, base key and source,
-/// and is at most the node's incoming block above its counter. That holds where a stop or failure cuts the event too:
-/// the floor lines that stand then are those of the whole answer.
+/// States that each floor that an answer stores is for a term that the answer accepts.
+///
+/// The term has the floor's layer, base key and source. The floor is at most the node's incoming block above its
+/// counter. Where a stop or failure cuts the event, the floor lines that are left are those of the whole answer.
 pub fn floors_of_an_answer_are_for_what_it_accepts()
     ensures { (tools : Tools) → Opens tools → (c : Setting) (h : List Line) (n : ℕ) (task : Task)
         → AllByRecursion (FloorOf c.me.in_block (answer tools c (state_of h n) task).accepts)

@@ -11,15 +11,20 @@ ghost use Rattle.law_run_lines.specs.Alone.{AreWide, StandAlone};
 ghost use Rattle.law_run_lines.specs.OfNodes.{AreOfNodes};
 ghost use Rattle.zb_trace_model.specs.Naming.{AreNamed};
 
-/// States that each line of a transcript is of a declared node or of none, and that a change whose line names no node
-/// is one of the centre's.
+/// States that each line of a transcript is of a declared node, or of none.
+///
+/// A change whose line names no node is one of the centre's.
 #[tactic(auto, using(crate::proofs::Lines::are_of_nodes))]
 pub fn lines_of_a_run_are_of_its_nodes()
     ensures { (tools : Tools) → (w : Schedule) → IsSchedule w → OneCentre w → AreOfNodes tools w }
 {}
 
-/// States that the lines of a run whose nodes have names of their own are proper, if their numbers are in the ranges
-/// of their fields and their keys have 16 bytes; and that their text is then the text of no other proper lines.
+/// States that the lines of a run are proper, and that no other proper lines have their text.
+///
+/// That asks three things of the run:
+/// - Its nodes have names of their own.
+/// - Its numbers are in the ranges of their fields.
+/// - Its keys have 16 bytes.
 #[tactic(auto, using(crate::proofs::Words::stand_alone))]
 pub fn the_text_of_a_run_is_of_no_other_lines()
     ensures { (tools : Tools) → (w : Schedule) → IsSchedule w → OneCentre w → AreNamed (stations w) → AreWide tools w

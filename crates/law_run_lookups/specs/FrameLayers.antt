@@ -1,6 +1,6 @@
--- At which layers the frame of a rule is sealed, so which counters it takes: data and the requests of routers and
--- devices at NWK, and at APS where they go under a link key; a network key goes to a child of the centre without NWK
--- security.
+-- At which layers the frame of a rule is sealed, so which counters it takes. Data and the requests of routers and
+-- devices are sealed at NWK, and at APS where they go under a link key. A network key goes to a child of the centre
+-- without NWK security.
 use Rattle.std.specs.Prelude.{◌≡◌, ◌≤◌, ◌⊎◌, if◌then◌else◌, Bool, List, [], ◌∷◌, Option, Some, None, nat_eq, ⊤}
 use Rattle.std.specs.List.{list_any}
 use Rattle.zb_model.specs.Data.{Layer, Nwk, Aps, State, Offered, Command, UpdateDevice, RemoveDevice, RequestApp, RequestLink, VerifyKey, Task, SayTo, TellTo, DoTimer, AskFor, HasChild, DoRemove, DoSwitch, DoShare}

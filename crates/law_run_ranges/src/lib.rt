@@ -10,7 +10,9 @@ ghost use Rattle.law_run_ranges.specs.Asking.{AreInRange, KeepsRanges, ScheduleI
 ghost use Rattle.law_tables_suffice.specs.Along.{euis_differ};
 ghost use Rattle.law_answer_storable.specs.Storing.{OpensAsJudged};
 
-/// States that in each line of a run the values are in the ranges of their fields, where the schedule's are.
+/// States that in each line of a run the values are in the ranges of their fields.
+///
+/// That is so where the schedule's values are.
 ///
 /// Counters, limits, floors, numbers and addresses fit; keys have 16 bytes; frames, headers and contents are of bytes,
 /// at most 127 each.

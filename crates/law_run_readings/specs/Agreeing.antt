@@ -30,8 +30,8 @@ memory_at Nwk key sender s = net_memory sender (net_of key s)
 memory_at Aps key sender s = link_memory (find (is_link sender key) s.links)
 
 -- What the lines of these groups say of a node is what its state says. Of the next counters and the floors in memory
--- that is claimed of a node with power: where a stop or failure cut a group after its reserves and floors, a node
--- without power has a memory that its boot leaves out.
+-- that is claimed of a node with power alone. Where a stop or failure cut a group after its reserves and floors, a
+-- node without power has a memory that its boot leaves out.
 pub record Agrees (before : List (List Line)) (n : ℕ) : Type 0 where
   pub active_is : active (flat before) n ≡ (state_of (flat before) n).active
   pub limits : (layer : Layer) → limit before n layer ≡ stored_limit layer (state_of (flat before) n)

@@ -34,7 +34,7 @@ unfoldable pub declared : List Line → ℕ → Layer → ℕ
 declared h n layer = unwrap_or (last_said n (counter_in layer) h) 0
 
 -- The stored outgoing limit: at APS that of the last `reserve` line there. At NWK the limit of a network key is that
--- of its `start` line, or of the last `reserve` line that is for it: such a line is for the key that is active before
+-- of its `start` line, or of the last `reserve` line that is for it. Such a line is for the key that is active before
 -- its group.
 abbrev pub reserve_in : Layer → Line → Option ℕ
 reserve_in layer (Changed e n (Reserve l limit)) = if same_layer l layer then Some limit else None

@@ -1,4 +1,4 @@
--- What lines say of a node's rows, of its state of joining and of a rollover, with no tables and no counters: of each
+-- What lines say of a node's rows, of its state of joining and of a rollover, with no tables and no counters. Of each
 -- thing the last line of the node that speaks of it decides.
 use Rattle.std.specs.Prelude.{ℕ, Bool, true, false, if◌then◌else◌, ◌&&◌, List, [], ◌∷◌, ◌++◌, fold, find, map, Option, Some, None, nat_eq, option_map, unwrap_or}
 use Rattle.std.specs.List.{list_any}

@@ -17,7 +17,9 @@ ghost use Rattle.law_run_readings.specs.RowLines.{keys_of, link_of_state, link_s
 ghost use Rattle.law_tables_suffice.specs.Along.{euis_differ};
 ghost use Rattle.law_answer_storable.specs.Storing.{OpensAsJudged};
 
-/// States that the lines of a run, after its start and after each whole group, say what the states of its nodes say.
+/// States that the lines of a run say what the states of its nodes say.
+///
+/// That is so after its start and after each whole group.
 ///
 /// The last line that speaks of a thing decides: of the active network key, of the stored limits and floors, of the
 /// network and link rows, and of whom the centre told of a rollover. Where the node has power it decides the next
@@ -28,11 +30,14 @@ pub fn lines_of_a_run_say_what_its_states_say()
         → euis_differ w ≡ true → RunAgrees tools w }
 {}
 
-/// States that of the rows of a node, and of its rollover, the last line that speaks of each decides.
+/// States that of a node's rows and its rollover the last line that speaks of each decides.
 ///
-/// It holds of any lines and any node: which network keys have rows, in which order, and whether each is live; which
-/// link rows there are, in which order, the attribute of each, and whether it is live; so also whether a device is
-/// live; the node's role; whether a rollover goes on.
+/// It holds of any lines and any node, and of these:
+/// - which network keys have rows, in which order, and whether each is live
+/// - which link rows there are, in which order, the attribute of each, and whether it is live
+/// - whether a device is live
+/// - the node's role
+/// - whether a rollover goes on
 #[tactic(auto, using(crate::proofs::OwnLines::rows_decide))]
 pub fn the_last_line_about_a_row_decides()
     ensures rolling { (h : List Line) (n : ℕ) → (state_of h n).sending ≡ said_own rolls false h n }

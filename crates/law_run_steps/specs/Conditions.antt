@@ -1,5 +1,5 @@
 -- The condition of a node after the lines so far: its setting, its state, how many commits it made, whether it has
--- power, and what is armed on its disk; and what becomes of it at an event.
+-- power, and what is armed on its disk. Then what becomes of it at an event.
 use Rattle.std.specs.Prelude.{ℕ, ◌+◌, Bool, true, false, if◌then◌else◌, List, [], ◌∷◌}
 use Rattle.zb_model.specs.Answer.{Answer, answered}
 use Rattle.zb_model.specs.Data.{Edit}
@@ -27,7 +27,7 @@ condition_of w h ds n =
       disk = disk_of ds n;
     }
 
--- the device calls of an event with these changes, after so many commits
+-- the device calls of an event with these changes, after that number of commits
 abbrev pub calls_by : ℕ → List Edit → Calls
 calls_by commits [] = NoCalls
 calls_by commits (e ∷ es) = commit_calls commits

@@ -25,7 +25,7 @@ ghost use Rattle.zb_model.specs.State.{NodeState, is_centre};
 ghost use Rattle.zb_model.specs.Tools.{Tools};
 ghost use Rattle.zb_model.specs.Transcript.{end_line, run_lines, transcript};
 
-/// Returns what an event comes to that a node answers.
+/// States what an event that a node answers comes to.
 ///
 /// Where nothing that is armed falls on its commit, its lines are the whole group, and the disks stay; else they are
 /// those that were stored, and the fall.
@@ -37,7 +37,7 @@ pub fn an_answer_leads_on()
         → falls_on a (condition_of w h ds n) ≡ false → (answer_step h ds number n a).disks ≡ ds }
 {}
 
-/// Returns what a refusal, a boot, a reset, a dump and the arming of a disk come to.
+/// States what a refusal, a boot, a reset, a dump and the arming of a disk come to.
 pub fn other_steps_lead_on()
     ensures refusal { (w : Schedule) (h : List Line) (ds : List Disk) (number n : ℕ) (reason : Reason) (g : Step)
         → g ≡ refused_step ds number n reason
@@ -60,7 +60,9 @@ pub fn other_steps_lead_on()
         (after_arming (FailAt call) (condition_of w h ds n)) }
 {}
 
-/// Returns which step an event of a node with power is: it answers its own tasks, rollovers and frames.
+/// States which step an event of a node with power is.
+///
+/// The node answers its own tasks, rollovers and frames.
 pub fn a_node_with_power_answers()
     ensures own { (tools : Tools) (w : Schedule) (h : List Line) (ds : List Disk) (number n : ℕ) (task : Task)
         → is_up h n ≡ true
@@ -82,7 +84,9 @@ pub fn a_node_with_power_answers()
         → is_up h n ≡ true → step tools w h ds number (PowerOn n) ≡ refused_step ds number n WrongState }
 {}
 
-/// Returns which step an event of a node without power is: it refuses all but a boot.
+/// States which step an event of a node without power is.
+///
+/// The node refuses all but a boot.
 pub fn a_node_without_power_refuses()
     ensures own { (tools : Tools) (w : Schedule) (h : List Line) (ds : List Disk) (number n : ℕ) (task : Task)
         → is_up h n ≡ false → step tools w h ds number (Own n task) ≡ refused_step ds number n Down }
@@ -96,9 +100,10 @@ pub fn a_node_without_power_refuses()
         → is_up h n ≡ false → step tools w h ds number (PowerOn n) ≡ boot_step ds number n }
 {}
 
-/// Returns which lines an event of the outside gives: those of the frame that goes on the air.
+/// States which lines an event of the outside gives.
 ///
-/// A forged frame is named by the terms that are sealed in it, `t` at NWK and `inner` at APS.
+/// They are those of the frame that goes on the air. A forged frame is named by the terms that are sealed in it, `t`
+/// at NWK and `inner` at APS.
 pub fn the_outside_sends()
     ensures bytes { (tools : Tools) (w : Schedule) (h : List Line) (ds : List Disk) (number : ℕ) (bytes : Bytes)
         → step tools w h ds number (InjectBytes bytes)
@@ -122,7 +127,9 @@ pub fn the_outside_sends()
         ≡ outside_step ds (forging h number (inner ∷ []) (nwk_header plain_frame to from 0 ++ tools.wire inner)) }
 {}
 
-/// States that an event leaves the condition of every node of which it isn't; one of the outside leaves all.
+/// States that an event leaves the condition of every node but its own.
+///
+/// An event of the outside leaves that of all.
 pub fn other_nodes_are_spared()
     ensures { (tools : Tools) (w : Schedule) (h : List Line) (ds : List Disk) (number : ℕ) (act : Event) (m : ℕ)
         → is_of m act ≡ false → let g = step tools w h ds number act in
@@ -149,7 +156,7 @@ pub fn others_make_no_change_of_the_centre()
         → is_centre c.me.role ≡ false → list_any is_of_the_centre (answer tools c s task).edits ≡ false }
 {}
 
-/// Returns how the lines of a run go on, event by event.
+/// States how the lines of a run go on, event by event.
 ///
 /// So a loop over the events carries that the lines so far and the groups to come are the lines of the run.
 pub fn a_run_goes_on()

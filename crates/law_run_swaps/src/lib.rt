@@ -31,7 +31,7 @@ pub fn without_swaps_a_run_is_the_models()
         → swapped_transcript tools w gifts ≡ transcript tools w }
 {}
 
-/// States that a node that is down boots with the state that stands on the disk that it was given.
+/// States that a node that is down boots with the state on the disk that it was given.
 ///
 /// What was armed on its disk stays armed, and the next commit is counted from the entries that stand there.
 pub fn a_boot_reads_the_new_disk()

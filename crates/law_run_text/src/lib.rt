@@ -33,14 +33,15 @@ pub fn schedules_are_in_their_ranges()
     ensures { (p : Schedule) → IsSchedule p → ScheduleInRange (schedule_of p) }
 {}
 
-/// States that the lines of the run of each schedule are proper, and that their text is the text of no other such
-/// lines.
+/// States that the lines of each schedule's run are proper, and that no other such lines have their text.
 #[tactic(auto, using(crate::proofs::Wide::are_their_own))]
 pub fn the_lines_of_each_run_are_proper()
     ensures { (p : Schedule) → IsSchedule p → AreTheirOwn (schedule_of p) }
 {}
 
-/// Where a text is a schedule, the lines of its run are proper, and their text is the text of no other such lines.
+/// States that where a text is a schedule, the lines of its run are proper.
+///
+/// No other such lines have their text.
 pub fn the_lines_of_each_text_are_proper(text: &[u8])
     ensures { (p : Schedule) → schedule_in text.now ≡ Ok p → AreTheirOwn (schedule_of p) }
 {
@@ -48,7 +49,7 @@ pub fn the_lines_of_each_text_are_proper(text: &[u8])
     the_lines_of_each_run_are_proper();
 }
 
-/// States that the text of the run of each schedule is the text of its printed lines, and of no other lines.
+/// States that the text of each schedule's run is that of its printed lines, and of no others.
 ///
 /// These lines are proper, so a reader finds them, whatever the length of the text.
 #[tactic(auto, using(crate::proofs::Back::reads_back))]

@@ -31,7 +31,7 @@ abbrev pub task_in : Result Task Cause → List Task
 task_in (Ok task) = task ∷ []
 task_in (Err cause) = []
 
--- of all lines those of events stand for tasks
+-- of all lines those of events represent tasks
 abbrev pub sentence_tasks : Script → Sentence → List Task
 sentence_tasks network (Happens event) = task_in (task_for network.stations event)
 sentence_tasks network _ = []
@@ -42,7 +42,7 @@ meaning_tasks network None said = []
 meaning_tasks network (Some s) None = []
 meaning_tasks network (Some s) (Some sentence) = sentence_tasks network sentence
 
--- the task that the next line stands for, if it does
+-- the task that the next line represents, if it does
 unfoldable pub line_tasks : Bytes → Living → List Task
 line_tasks line v = meaning_tasks v.network v.tables (meaning_of line)
 
@@ -113,8 +113,8 @@ AllHaveSetting c found [] = ⊤
 AllHaveSetting c found (lines ∷ more) =
     HasSetting c (served found lines fresh).after × AllHaveSetting c (left_by found lines) more
 
--- The hub is the node of this EUI in a schedule: its events are those of the hub, its store held at first what the
--- node has at the start, and the header of each session that was opened is that of the schedule's nodes.
+-- The hub is the node of this EUI in a schedule. Its events are those of the hub, and its store held at first what the
+-- node has at the start. The header of each session that was opened is that of the schedule's nodes.
 pub record IsHubOf (w : Schedule) (n : ℕ) (found : Found) (sessions : List (List Bytes)) : Type 0 where
   pub named : Names w n
   pub events : w.events ≡ hub_events n (hub_tasks found sessions)

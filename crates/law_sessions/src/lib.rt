@@ -45,9 +45,10 @@ pub fn no_counter_comes_twice_in_all_sessions()
     ensures { (image : List ℕ) (sessions : List (List Bytes)) → NoneTwice (sessions_seal (found_on image) sessions) }
 {}
 
-/// States that no two terms that the centre seals in any sessions on one store have one sealing key and one nonce.
+/// States that no two terms of any sessions on one store have one sealing key and one nonce.
 ///
-/// This is the claim `Fresh` on the seal lines of a run, for the seals of all sessions.
+/// The terms are those that the centre seals. This is the claim `Fresh` on the seal lines of a run, for the seals of
+/// all sessions.
 #[tactic(auto, using(crate::proofs::Stamps::nonces_apart))]
 pub fn no_nonce_comes_twice_in_all_sessions()
     ensures { (image : List ℕ) (sessions : List (List Bytes))
@@ -68,11 +69,12 @@ pub fn no_counter_comes_again_after_a_restore()
         → NoneTwice (sessions_seal (Ok (Some (skipped by backup))) since) }
 {}
 
-/// States that the log of a hub is the part of its centre in a run of the model, but for numbers.
+/// States that the log of a hub is its centre's part of a run of the model.
 ///
-/// The hub is the node `n` of a schedule `w` (`IsHubOf`): a reset and a boot begin each session, and each task is an
-/// event. A frame is put on the air from outside, and comes with the key of its own line. The log has each line that
-/// stands for a task, also the last one of a session that was killed, which may not have been answered any more.
+/// Left out are the numbers of events and frames, and what comes from outside (`without_numbers`). The hub is the node
+/// `n` of a schedule `w` (`IsHubOf`): a reset and a boot begin each session, and each task is an event. A frame is put
+/// on the air from outside, and comes with the key of its own line. The log has each line that represents a task, also
+/// the last one of a session that was killed, which may not have been answered any more.
 #[tactic(auto, using(crate::proofs::LogRuns::log_runs))]
 pub fn the_log_of_a_hub_is_a_run()
     ensures { (w : Schedule) (n : ℕ) (found : Found) (sessions : List (List Bytes)) → IsHubOf w n found sessions
@@ -175,9 +177,10 @@ pub fn the_tables_of_a_session_are_kept()
     ensures { (image : List ℕ) (lines : List Bytes) → AreKept (served (found_on image) lines fresh).after.tables }
 {}
 
-/// States that on one disk no two terms of any sessions take one counter, or have one sealing key and one nonce.
+/// States that on one disk no two terms of any sessions take one counter.
 ///
-/// Each session begins on the image that the one before left, at its end or at a crash at any moment of it.
+/// Nor have two of them one sealing key and one nonce. Each session begins on the image that the one before left, at
+/// its end or at a crash at any moment of it.
 #[tactic(auto, using(crate::proofs::OnDisk::disk_apart, crate::proofs::OnDisk::disk_nonces_apart))]
 pub fn no_counter_comes_twice_on_one_disk()
     ensures counters { (image : List ℕ) (sessions : List Session) → AreSessions image sessions

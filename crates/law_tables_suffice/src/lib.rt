@@ -26,7 +26,9 @@ pub fn what_is_shown_gives_the_plan()
         → plan_of tools c (shown s) task ≡ plan_of tools c s task }
 {}
 
-/// States that every event has the same answer, counters and all, at a state and at what is shown of it.
+/// States that every event has the same answer at a state and at what is shown of it.
+///
+/// The counters are the same too.
 ///
 /// A floor is stored where the accepted counter has reached the one that is stored; so the base keys of accepted NWK
 /// terms must be live, since the floors of a dropped key aren't shown.
@@ -64,9 +66,9 @@ pub fn what_is_shown_goes_on()
     ensures again { (s : NodeState) → shown (shown s) ≡ shown s }
 {}
 
-/// States that before each event of a run its node is as it was declared, with its EUI and its role.
+/// States that before each event of a run its node is as it was declared.
 ///
-/// Its blocks aren't empty. No two nodes of the schedule may have one EUI.
+/// It has its EUI and its role, and its blocks aren't empty. No two nodes of the schedule may have one EUI.
 pub fn nodes_are_as_declared_all_along()
     ensures { (tools : Tools) (w : Schedule) → IsSchedule w → euis_differ w ≡ true
         → NodesAllAlong IsAsDeclared tools w }

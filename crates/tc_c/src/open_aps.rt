@@ -20,11 +20,16 @@ fn source_from(source: u64) -> Option<Eui>
 
 /// Opens a secured APS frame under a link key of 16 bytes. `content` has 127 bytes at least.
 ///
-/// `source` is the IEEE address of the node that sealed it, where the frame names none, or 0. By its key identifier
-/// the frame is sealed by the link key or by a key that is derived from it.
+/// `source` is the EUI of the node that sealed it, where the frame names none, or 0. By its key identifier the frame
+/// is sealed by the link key or by a key that is derived from it.
 ///
-/// Returns 0, or 1 where the bytes are no frame, 2 where it isn't secured, 3 where its source isn't known, 4 where its
-/// MIC isn't that of a content under this key, 5 where `content` is too short, 6 where `key` hasn't 16 bytes.
+/// Returns 0, or why the frame wasn't opened:
+/// - 1: the bytes are no frame
+/// - 2: it isn't secured
+/// - 3: its source isn't known
+/// - 4: its MIC isn't that of a content under this key
+/// - 5: `content` is too short
+/// - 6: `key` hasn't 16 bytes
 #[unsafe(no_mangle)]
 pub extern "C" fn tc_open_aps(
     frame: &[u8],

@@ -12,8 +12,12 @@ use crate::opened::{TcOpened, hand_out};
 
 /// Opens a secured NWK frame under a network key of 16 bytes. `content` has 127 bytes at least.
 ///
-/// Returns 0, or 1 where the bytes are no frame, 2 where it isn't secured, 4 where its MIC isn't that of a content
-/// under this key, 5 where `content` is too short, 6 where `key` hasn't 16 bytes.
+/// Returns 0, or why the frame wasn't opened:
+/// - 1: the bytes are no frame
+/// - 2: it isn't secured
+/// - 4: its MIC isn't that of a content under this key
+/// - 5: `content` is too short
+/// - 6: `key` hasn't 16 bytes
 #[unsafe(no_mangle)]
 pub extern "C" fn tc_open_nwk(
     frame: &[u8],

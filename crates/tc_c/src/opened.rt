@@ -11,7 +11,7 @@ use zb_seal::{OpenError, Term};
 #[repr(C)]
 #[derive(Drop)]
 pub struct TcOpened {
-    /// The IEEE address of the node that sealed it.
+    /// The EUI of the node that sealed it.
     pub source: u64,
     /// Its frame counter.
     pub counter: u32,

@@ -56,14 +56,20 @@ fn write_sealed(term: &Term, frame: &mut [u8], len: &mut usize) -> u32
     }
 }
 
-/// Seals a NWK frame that stands in clear under a network key of 16 bytes, into `frame`, which has 127 bytes at least.
+/// Seals a NWK frame that is in clear, under a network key of 16 bytes.
+///
+/// The sealed frame is written into `frame`, which has 127 bytes at least.
 ///
 /// `clear` is the whole frame but its MIC: the header with the bit for security, the auxiliary header with the frame
 /// counter and the source, and the content. The sealed frame has `len` bytes, 4 more. The caller gives each counter
 /// once.
 ///
-/// Returns 0, or 1 where the bytes are no frame, 2 where it isn't to be secured, 5 where `frame` is too short, 6 where
-/// `key` hasn't 16 bytes, 7 where the sealed frame would be longer than 127 bytes.
+/// Returns 0, or why nothing was written:
+/// - 1: the bytes are no frame
+/// - 2: it isn't to be secured
+/// - 5: `frame` is too short
+/// - 6: `key` hasn't 16 bytes
+/// - 7: the sealed frame would be longer than 127 bytes
 #[unsafe(no_mangle)]
 pub extern "C" fn tc_seal_nwk(clear: &[u8], key: &[u8], frame: &mut [u8], len: &mut usize) -> u32
     ensures number { result

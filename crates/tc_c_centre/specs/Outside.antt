@@ -2,7 +2,7 @@
 use Rattle.std.specs.Prelude.{ℕ, ◌≤◌, List, length}
 use Rattle.zb_base.specs.Sizes.{disk_size}
 
--- a disk has room for so many bytes
+-- a disk has room for this number of bytes
 abbrev pub HasRoom : List ℕ → Type 0
 HasRoom bytes = length bytes ≤ disk_size
 

@@ -19,7 +19,7 @@ use Rattle.zb_script.specs.declared.error.ScriptError.{ScriptError}
 use Rattle.zb_script.specs.declared.script.Script.{Script}
 use Rattle.zb_setting.specs.Settings.{setting_for}
 
--- a script has at most so many bytes, as for `tc admin`
+-- a script has at most this number of bytes, as for `tc admin`
 abbrev pub longest_script : ℕ
 longest_script = 16777216
 

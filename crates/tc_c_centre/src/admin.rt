@@ -93,12 +93,15 @@ fn serve_script(alloc: Global, text: &[u8], old: &[u8]) -> Result<Served, CallFa
 ///
 /// The caller stores the new bytes, and then does what the answer says.
 ///
-/// Returns 0, or why nothing was written: 2 where the buffer of the store has too little room or `used.store` is too
-/// large; 4 where the answer has more bytes than its room, with `used.answer` as their number; 5 where the text is no
-/// script, with `used.at` as its first bad line and `used.cause` as the number of the cause; 6 where there was no
-/// memory left; 8 where the store isn't empty and no record stands in it; 9 where the script has more than 16,777,216
-/// bytes; 11 where what stands in the store is no record of a centre, with `used.at` as the place of the fault; 12
-/// where the store can't be written any more.
+/// Returns 0, or why nothing was written:
+/// - 2: the buffer of the store has too little room, or `used.store` is too large
+/// - 4: the answer has more bytes than its room; `used.answer` is their number
+/// - 5: the text is no script; `used.at` is its first bad line, and `used.cause` the number of the cause
+/// - 6: there was no memory left
+/// - 8: the store isn't empty, and no record is in it
+/// - 9: the script has more than 16,777,216 bytes
+/// - 11: what is in the store is no record of a centre; `used.at` is the place of the fault
+/// - 12: the store can't be written any more
 #[tactic(auto, using(crate::proofs::CallLemmas::called, crate::proofs::CallLemmas::misused))]
 #[unsafe(no_mangle)]
 pub extern "C" fn tc_admin(

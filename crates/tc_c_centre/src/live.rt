@@ -56,13 +56,16 @@ fn serve_lines(alloc: Global, text: &[u8], old: &[u8]) -> Result<Served, CallFau
 /// and sets `used.store` and `used.answer`.
 ///
 /// Each call is a session of its own, with its header and `open`. The caller stores the new bytes, and only then sends
-/// what the answer says. What stands behind the last line feed isn't carried out.
+/// what the answer says. What comes after the last line feed isn't carried out.
 ///
-/// Returns 0, or why nothing was written: 2 where the buffer of the store has too little room or `used.store` is too
-/// large; 4 where the answer has more bytes than its room, with `used.answer` as their number; 6 where there was no
-/// memory left; 8 where the store isn't empty and no record stands in it; 9 where a line has more than 1,048,576
-/// bytes; 11 where what stands in the store is no record of a centre, with `used.at` as the place of the fault; 12
-/// where the store can't be written any more.
+/// Returns 0, or why nothing was written:
+/// - 2: the buffer of the store has too little room, or `used.store` is too large
+/// - 4: the answer has more bytes than its room; `used.answer` is their number
+/// - 6: there was no memory left
+/// - 8: the store isn't empty, and no record is in it
+/// - 9: a line has more than 1,048,576 bytes
+/// - 11: what is in the store is no record of a centre; `used.at` is the place of the fault
+/// - 12: the store can't be written any more
 #[tactic(auto, using(crate::proofs::CallLemmas::called, crate::proofs::CallLemmas::misused))]
 #[unsafe(no_mangle)]
 pub extern "C" fn tc_live(

@@ -63,7 +63,9 @@ impl Served {
     }
 }
 
-/// Returns whether the buffer of the store has its room, and no more bytes are in use than a store has.
+/// Returns whether the buffer of the store may be used.
+///
+/// It has its room, and no more bytes are in use than a store has.
 pub(crate) fn is_ready(store: &[u8], used: &TcUsed) -> bool
     ensures exact { result ≡ are_ready store.now used.now }
     ensures room { result ≡ true → disk_size ≤ length store.now }
@@ -72,7 +74,10 @@ pub(crate) fn is_ready(store: &[u8], used: &TcUsed) -> bool
     STORE_ROOM <= store.len() && used.store <= STORE_ROOM
 }
 
-/// Returns what was made, or that its answer has more bytes than so many.
+/// Returns what was made, or that its answer has more than `room` bytes.
+///
+/// # Errors
+/// `Short` where the answer is longer, or what was wrong before.
 pub(crate) fn fit(made: Result<Served, CallFault>, room: usize) -> Result<Served, CallFault>
     ensures exact { result ≡ fitted room made }
     ensures fits { IfOk result (λ m. length m.answer ≤ room) }
@@ -83,7 +88,7 @@ pub(crate) fn fit(made: Result<Served, CallFault>, room: usize) -> Result<Served
     }
 }
 
-// Returns what was made, or that its answer has more bytes than so many.
+// Returns what was made, or that its answer has more than `room` bytes.
 fn fit_answer(made: Served, room: usize) -> Result<Served, CallFault>
     ensures exact { result ≡ fitted room (Ok made) }
     ensures fits { IfOk result (λ m. length m.answer ≤ room) }
@@ -104,7 +109,7 @@ fn put(buffer: &mut [u8], bytes: &[u8])
     buffer[..bytes.len()].copy_from_slice(bytes);
 }
 
-// Says what was wrong, where there is more to say than its number.
+// Notes what was wrong, where there is more to say than its number.
 fn note(fault: &CallFault, used: &mut TcUsed)
     ensures { used.new ≡ told fault.now used.old }
 {
@@ -123,7 +128,7 @@ fn note(fault: &CallFault, used: &mut TcUsed)
     }
 }
 
-/// Says what was wrong, and returns its number.
+/// Notes what was wrong, and returns its number.
 pub(crate) fn tell(fault: &CallFault, used: &mut TcUsed) -> u32
     ensures number { result ≡ number_of fault.now }
     ensures told { used.new ≡ told fault.now used.old }
@@ -144,7 +149,9 @@ fn write(made: &Served, store: &mut [u8], answer: &mut [u8], used: &mut TcUsed)
     used.answer = made.answer().len();
 }
 
-/// Writes what was made into the buffers and returns 0, or says why nothing was made and returns its number.
+/// Writes what was made into the buffers and returns 0, or returns the number of a fault.
+///
+/// It notes what was wrong then.
 pub(crate) fn hand_out(
     made: Result<Served, CallFault>,
     store: &mut [u8],

@@ -8,7 +8,7 @@ usage: tc_centre PATH < LINES > ANSWERS
   a living trust centre over its store in the file PATH, which `tc admin PATH` makes
   first `centre NAME EUI OUT IN`, `peer NAME ROLE EUI SHORT` .., `open`, then an event a line: docs/FORMATS.md";
 
-/// Says on standard error how a session ended that didn't end well. Who has closed standard error misses it.
+/// Prints on standard error how a session ended that didn't end well. Who has closed standard error misses it.
 pub fn advise(rt: &HostRuntime, status: &Status) {
     let _ = match status {
         Status::Ok => Ok(()),

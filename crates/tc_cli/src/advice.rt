@@ -13,7 +13,7 @@ usage: tc COMMAND [WORD ..] < INPUT > OUTPUT
   inspect JOBS                writes what the frames of a capture show, by 1 to 64 jobs
   sniff JOBS KEY ..           does so for a capture file (pcap), under these keys and install codes";
 
-/// Says on standard error how a run ended that didn't end well. Who has closed standard error misses it.
+/// Prints on standard error how a run ended that didn't end well. Who has closed standard error misses it.
 pub fn advise(rt: &HostRuntime, status: &Status) {
     let _ = match status {
         Status::Ok => Ok(()),
@@ -50,7 +50,7 @@ pub fn advise(rt: &HostRuntime, status: &Status) {
     };
 }
 
-/// Says why an input is refused, and where its format is described.
+/// Prints why an input is refused, and where its format is described.
 fn refused(rt: &HostRuntime, line: u32, cause: &Cause) -> std::io::Result<()> {
     match cause {
         Cause::NotHex { .. } | Cause::Length { .. } | Cause::Crc { .. } => {

@@ -29,7 +29,9 @@ fn main(rt: HostRuntime) -> io::Result<()> {
     }
 }
 
-/// Boots a centre on a disk in memory, admits a device by the install code that the word is, and lets it join.
+/// Boots a centre on a disk in memory, admits a device, and lets it join.
+///
+/// The word is the install code of the device.
 fn admit(rt: &(impl Print + AllocGlobal), word: &str) -> io::Result<()> {
     let Some(key) = link_key(word) else {
         return println!(rt; "the word isn't an install code");

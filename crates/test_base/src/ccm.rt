@@ -1,4 +1,4 @@
-//! The published packets, and a text with a shorter code.
+//! The published packets, and a text with a shorter MIC.
 ghost use Rattle.std.specs.Prelude.{◌≤◌, ◌+◌};
 
 use crate::counting::COUNTING;
@@ -14,13 +14,13 @@ const NONCE: [u8; 13] = [
     0xa0, 0xa1, 0xa2, 0xa3, 0xa4, 0xa5, 0xa6, 0xa7, 0x03, 0x02, 0x01, 0x00, 0x06,
 ];
 
-// A published packet with a code of 8 bytes. Authenticated data and message count up from 0.
+// A published packet with a MIC of 8 bytes. Authenticated data and message count up from 0.
 struct Packet {
     nonce: [u8; 13],
     // How many bytes are authenticated only, and where the message after them ends.
     associated: usize,
     end: usize,
-    // The cipher text, filled up with zeros, and the code.
+    // The cipher text, filled up with zeros, and the MIC.
     sealed: [u8; 24],
     mic: [u8; 8],
 }
@@ -75,7 +75,7 @@ const PACKETS: [Packet; 4] = [
     },
 ];
 
-// The packet under seal, filled up with zeros, and its code.
+// The packet under seal, filled up with zeros, and its MIC.
 fn sealed_packet(packet: &Packet) -> ([u8; 24], [u8; 8])
     requires order { packet.now.associated ≤ packet.now.end }
     requires fits { packet.now.end ≤ packet.now.associated + 24 }
@@ -97,7 +97,7 @@ fn published_packets(rt: HostRuntime) {
     }
 }
 
-// Expected values by another program, with a code of 4 bytes.
+// Expected values by another program, with a MIC of 4 bytes.
 #[test]
 fn short_text(rt: HostRuntime) {
     let sealed = [

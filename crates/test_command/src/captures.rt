@@ -94,8 +94,9 @@ key 3 A0A1A2A3A4A5A6A7A8A9AAABACADAEAF found 6 2
 end 12 3 3
 ";
 
-/// APS security: with the source of an addr line, which that of the NWK header goes before, and under the network
-/// key.
+/// APS security, with the source of an addr line, and under the network key.
+///
+/// The source of the NWK header goes before that of the line.
 pub(crate) const SOURCES: &[u8] =
     b"key 000102030405060708090A0B0C0D0E0F\naddr 0001 00124B0000000001\n\
       frame 0800FFFF01001E002001000004010100000500000085E919C48D7D\n\
@@ -111,8 +112,10 @@ pub(crate) const SOURCES_SHOWN: &[u8] =
       4 aps no-source\n5 nwk not-secured\n5 aps key 1 data 00124B0000000001 9 06\n6 nwk not-secured\n\
       6 aps malformed\nkey 1 000102030405060708090A0B0C0D0E0F given\nend 6 1 1\n";
 
-/// A Tunnel in clear, whose inner frame opens, has another code, is too short, is malformed in two ways, is not
-/// secured, or is without a source.
+/// Tunnels in clear, with inner frames of seven kinds.
+///
+/// The inner frame opens, has another MIC, is too short, is malformed in two ways, isn't secured, or is without a
+/// source.
 pub(crate) const TUNNELS: &[u8] = b"key 000102030405060708090A0B0C0D0E0F\n\
       frame 0800FFFF00001E0001000E02000000004B12002100200B00000001000000004B12009A87362A9AC4\n\
       frame 0800FFFF00001E0001000E02000000004B12002100200B00000001000000004B12009A87362A9AC5\n\

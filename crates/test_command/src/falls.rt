@@ -37,7 +37,7 @@ const ARMINGS: [([&[u8]; 3], &[u8], bool); 12] = [
     (FAIL, b" 4\n", true),
 ];
 
-/// Returns the schedule in which something is armed before an event, and a boot and a dump come after it.
+/// Returns the schedule in which something is armed before an event, with a boot and a dump after it.
 fn schedule_of(rt: &(impl AllocGlobal + Abort), step: &Step, arming: &Arming) -> Vec<u8> {
     let node = step.node;
     let [armed, _, _] = arming.words;

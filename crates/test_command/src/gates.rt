@@ -39,7 +39,7 @@ impl Held {
         }
     }
 
-    /// Waits until there were more than so many passes, or gives up after very long.
+    /// Waits until there were more passes than `passes`, or gives up after very long.
     fn hold(&self, passes: u32) {
         for _turn in 0..1_000_000_000u32 {
             if self.passed.load(Ordering::SeqCst) > passes {
@@ -49,7 +49,7 @@ impl Held {
         self.wrong.store(1, Ordering::SeqCst);
     }
 
-    /// Returns whether nothing went wrong, and each piece passed so many times.
+    /// Returns whether nothing went wrong, and each piece passed `times` times.
     fn each_passed(&self, times: u32) -> bool {
         self.wrong.load(Ordering::SeqCst) == 0
             && self.of_piece_0.load(Ordering::SeqCst) == times

@@ -35,7 +35,7 @@ pub(crate) fn add(rt: &impl Abort, text: &mut Vec<u8>, parts: &[&[u8]]) {
     }
 }
 
-/// Runs words over an input whose calls of some numbers fail, and a sink whose calls of some numbers fail.
+/// Runs words over an input and a sink whose calls of some numbers fail.
 pub(crate) fn over<H: AllocGlobal + Threads + Sync + Abort>(
     rt: &H,
     words: &[&str],
@@ -146,8 +146,10 @@ fn what_outsiders_send_is_played(rt: HostRuntime) {
     }
 }
 
-/// Words, the input, the calls of the source and of the sink that fail, how that ends, and what the sink has a prefix
-/// of. The text of a schedule comes at the first call of the source, and its end at the second one.
+/// Words, the input, calls that fail, how that ends, and what the sink has a prefix of.
+///
+/// The calls that fail are first those of the source, then those of the sink. The text of a schedule comes at the
+/// first call of the source, and its end at the second one.
 const FAILED: [(&[&str], &[u8], &[u32], &[u32], Status, &[u8]); 13] = [
     (&["help"], b"", &[], &[], Status::Usage, b""),
     (
@@ -265,8 +267,9 @@ fn long_capture(rt: &(impl AllocGlobal + Abort), byte: u8) -> Vec<u8> {
     text
 }
 
-/// What fills a long capture, the jobs, a call of the source that fails, how that ends, and what is shown. The filling
-/// is a line of many bytes, or many lines.
+/// What fills a long capture, the jobs, calls that fail, how that ends, and what is shown.
+///
+/// The calls are those of the source. The filling is a line of many bytes, or many lines.
 const LONG: [(u8, &str, &[u32], Status, &[u8]); 3] = [
     (b'.', "64", &[], Status::Ok, LONG_SHOWN),
     (b'\n', "2", &[], Status::Ok, LONG_SHOWN),

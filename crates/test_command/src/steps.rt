@@ -52,7 +52,7 @@ pub(crate) struct Step {
     pub number: &'static [u8],
     /// The lines of its changes and of their commit, with that number.
     pub stored: &'static [u8],
-    /// The end of the transcript where a boot and a dump of the node follow, and the changes are lost.
+    /// The end of the transcript where the changes are lost, with a boot and a dump of the node.
     pub lost: &'static [u8],
     /// The same where the changes are stored.
     pub kept: &'static [u8],

@@ -35,7 +35,9 @@ const BEFORE_PLAYED: &[u8] = b"\
 3 down c reset
 ";
 
-/// A disk whose first slot stands open, with the record of the centre at the start, but for its NWK limit of 40.
+/// A disk whose first slot is open, with the record of the centre at the start.
+///
+/// But its NWK limit is 40.
 const FURTHER: [u8; 56] = [
     0xA5, 1, 0, 0, 0, 0, 0, 0, 0, 43, 0, 0, 0, 3, 0, 0, 0, 0, 0, 0, 0, 0, 0, 0, 0, 1, 0, 0, 0, 0,
     1, 2, 3, 4, 5, 6, 7, 8, 9, 10, 11, 12, 13, 14, 15, 0, 3, 40, 0, 0, 0, 0, 0, 0, 0, 0,
@@ -83,9 +85,11 @@ const BOOT_AND_SAY: &[u8] = b"boot c\nsay c 1A2B -\n";
 
 const BOOT_AND_DUMP: &[u8] = b"boot c\nsay c 1A2B -\ndump c\n";
 
-/// The first case is a worked example. In the others a boot that finds no record of a centre, or a call of the disk
-/// that fails, ends as the disk's fault; a stop ends as a stop; a dump shows no bytes where no record of a centre
-/// stands. On a disk that was off already nothing falls that was armed: it is still to come, and nothing is stored.
+/// The first case is a worked example. Of the others:
+/// - A boot that finds no record of a centre, or a call of the disk that fails, ends as the disk's fault.
+/// - A stop ends as a stop.
+/// - A dump shows no bytes where there is no record of a centre.
+/// - On a disk that was off already nothing falls that was armed: it is still to come, and nothing is stored.
 const CASES: [Case; 11] = [
     Case {
         event: 4,

@@ -258,8 +258,10 @@ forge 1A2B 0000 00124B0000000001 open aps transport 5A6967426565416C6C69616E6365
               0501F0F1F2F3F4F5F6F7F8F9FAFBFCFDFEFF0102000000004B120001000000004B1200
 ";
 
-/// Frames of the join, brought on the air where they are of no use: to a device that has no network key and waits for
-/// none, and to the centre, which hasn't admitted the device.
+/// Frames of the join, brought on the air where they are of no use.
+///
+/// They come to a device that has no network key and waits for none, and to the centre, which hasn't admitted the
+/// device.
 pub(crate) const HOSTILE: &[u8] = b"\
 node c centre 00124B0000000001 0000 16 4
 node d device 00124B0000000002 1A2B 16 4

@@ -4,7 +4,7 @@ use std::process::Abort;
 use std::test::Fail;
 use zb_disk::{Disk, FileDisk, TrailDisk};
 
-// What is done with a disk, and what it answers.
+// What is done with a disk, and what comes of it.
 enum Step {
     // A write at a place, and whether it is done.
     Write(u64, &'static [u8], bool),
@@ -29,7 +29,7 @@ fn writes<D: Disk>(disk: &mut D, at: u64, bytes: &[u8]) -> bool {
     at < 1_000 && bytes.len() < 1_000 && disk.write(at, bytes).is_ok()
 }
 
-// Whether a disk answers as it should.
+// Whether a disk does a step as it should.
 fn answers<D: Disk>(disk: &mut D, step: &Step) -> bool {
     match step {
         Step::Write(at, bytes, done) => writes(disk, *at, bytes) == *done,

@@ -4,8 +4,8 @@ use std::test::Fail;
 use zb_disk::{Disk, FileDisk};
 use zb_store::Store;
 
-// The first slot of a store whose record is the byte 1, and which has the entry 04 05: an open gate, the generation,
-// the record after its length, an open gate, the entry after its length, and a closed gate.
+// The first slot of a store whose record is the byte 1, and which has the entry 04 05. It is an open gate, the
+// generation, the record after its length, an open gate, the entry after its length, and a closed gate.
 const SLOT: [u8; 20] = [
     0xA5, 1, 0, 0, 0, 0, 0, 0, 0, 1, 0, 0, 0, 1, 0xA5, 2, 0, 4, 5, 0,
 ];

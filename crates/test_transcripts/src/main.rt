@@ -1,9 +1,11 @@
 //! Reads transcripts of worked runs back, prints their lines again and compares, and runs a watch over the lines. For
 //! each file it writes how many lines there are, whether the printed text is the same, and the two words of the watch.
 //!
-//! Files behind the word `audit` are audited: worked runs, which are sound, and transcripts that were changed in one
-//! place. Of these it writes how many terms were sealed and accepted and whether removed devices are locked out, the
-//! first bad line and the claim that it breaks, or the first line that is no text of a line.
+//! Files after the word `audit` are audited: worked runs, which are sound, and transcripts that were changed in one
+//! place. Of each it writes one of these:
+//! - how many terms were sealed and accepted, and whether removed devices are locked out
+//! - the first bad line, and the claim that it breaks
+//! - the first line that is no text of a line
 #![tactic(auto)]
 
 use std::alloc::{AllocError, Global};
@@ -50,7 +52,9 @@ fn read_whole(alloc: Global, bytes: &[u8]) -> Result<Vec<Line>, OrMemory<TraceEr
     }
 }
 
-/// Writes how many lines there are, whether their text is the same, and the two words of a watch over them.
+/// Writes how many lines there are, whether their text is the same, and two words.
+///
+/// These are the words of a watch over the lines.
 fn write_count(rt: &(impl Print + AllocGlobal), lines: &[Line], bytes: &[u8]) -> io::Result<()> {
     let same = prints_as(rt.alloc(), lines, bytes)?;
     let word = if same { "the same" } else { "another text" };
@@ -79,7 +83,7 @@ fn yes_or_no(answer: bool) -> &'static str {
     if answer { "yes" } else { "no" }
 }
 
-/// Writes what the audit answers.
+/// Writes what the audit returns.
 fn write_verdict(rt: &(impl Print + AllocGlobal), lines: &[Line]) -> io::Result<()> {
     match audit(rt.alloc(), lines) {
         Ok(verdict) => {

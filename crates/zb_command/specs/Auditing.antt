@@ -25,7 +25,7 @@ pub record IsTranscript (bytes : Bytes) (lines : List Line) : Type 0 where
   pub proper : AllProper lines
   pub text : bytes ≡ texts lines
 
--- So many lines were taken off the bytes, this rest is left, and the auditor represents these lines.
+-- This number of lines was taken off the bytes, this rest is left, and the auditor is as it is after these lines.
 pub record IsAudited (bytes rest : Bytes) (count : ℕ) (a : Auditor) : Type 0 where
   pub lines : List Line
   pub proper : AllProper lines
@@ -33,9 +33,9 @@ pub record IsAudited (bytes rest : Bytes) (count : ℕ) (a : Auditor) : Type 0 w
   pub count_is : count ≡ length lines
   pub stands : Stands real a lines
 
--- They are that of lines on which this is the verdict, and of which the claims hold: no seal under one key and nonce
--- twice, no counter accepted twice, only stored keys confirmed, and removed devices locked out where the verdict says
--- so.
+-- They are that of lines on which this is the verdict, and of which the claims hold. No seal comes twice under one key
+-- and nonce, no counter is accepted twice, only stored keys are confirmed, and removed devices are locked out where
+-- the verdict says so.
 pub record IsSoundText (bytes : Bytes) (v : Verdict) : Type 0 where
   pub lines : List Line
   pub transcript : IsTranscript bytes lines

@@ -6,20 +6,24 @@ use Rattle.zb_text.specs.Numbers.{number_of}
 use Rattle.zb_command.specs.KeyWords.{all_keys, keys_in}
 use Rattle.zb_base.specs.Limits.{most_runs, last_start, greatest_count, most_jobs, most_made, most_keys}
 
--- `play` plays the schedule on its input; `install CODE` writes the link key of an install code; `make N` writes the
--- made schedule for N routers and devices; `inspect JOBS` writes the report on the capture on its input, worked out by
--- so many jobs; `sniff JOBS KEY ..` does that for the frames of the capture file on its input, under at most 256 keys;
--- `campaign COUNT START JOBS` plays that many made schedules from the start value START on, by so many jobs, and
--- writes what they come to; `audit` judges the transcript on its input; `admin PATH` carries out the script on its
--- input on the store in the file of that path
+-- What the program does, each with the words that ask for it.
 pub data Invocation : Type 0 where
+  -- `play`: plays the schedule on its input
   Playing : Invocation
+  -- `install CODE`: writes the link key of an install code
   Installing : (code : Bytes) → Invocation
+  -- `make N`: writes the made schedule for N routers and devices
   Making : (count : ℕ) → Invocation
+  -- `inspect JOBS`: writes the report on the capture on its input, worked out by that many jobs
   Inspecting : (jobs : ℕ) → Invocation
+  -- `sniff JOBS KEY ..`: does that for the frames of the capture file on its input, under at most 256 keys
   Sniffing : (jobs : ℕ) (keys : List Key) → Invocation
+  -- `campaign COUNT START JOBS`: plays COUNT made schedules from the start value START on, by that many jobs, and
+  -- writes what they come to
   Campaigning : (count start jobs : ℕ) → Invocation
+  -- `audit`: judges the transcript on its input
   Auditing : Invocation
+  -- `admin PATH`: carries out the script on its input on the store in the file of that path
   Serving : Invocation
 
 -- a number from 1 on

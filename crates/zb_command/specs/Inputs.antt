@@ -21,7 +21,7 @@ use Rattle.zb_base.specs.Limits.{longest_input, first_too_long}
 abbrev pub Grows : Option (List ℕ) → Option (List ℕ) → List ℕ → List ℕ → Type 0
 Grows old new before after = (taken : List ℕ) × Consumes old new taken × (after ≡ before ++ taken)
 
--- at most so many bytes were taken from a source
+-- at most `limit` bytes were taken from a source
 abbrev pub TakesAtMost : Option (List ℕ) → Option (List ℕ) → ℕ → Type 0
 TakesAtMost old new limit = (taken : List ℕ) × Consumes old new taken × (length taken ≤ limit)
 

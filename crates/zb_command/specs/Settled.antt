@@ -41,8 +41,9 @@ abbrev pub IsWornScriptIn : {D W : Type 0} → Outside D W → Bytes → D → T
 IsWornScriptIn x input old = (length input ≤ longest_input)
     × ((script : Script) × (script_in input ≡ Ok (script_of script)) × IsWornIn x script old)
 
--- Of `admin`: the input is too long, or no script; or the store is no centre's; or the script is served, unless a
--- command has something to store, for which the whole record has to be written, and there is no further generation.
+-- Of `admin`: the input is too long, or no script; or the store is no centre's; or the script is served. It isn't
+-- served to its end where a command has something to store, for which the whole record has to be written, and there is
+-- no further generation.
 abbrev pub AdminGives : {D W : Type 0} → Outside D W → Bytes → D → D → Status → Type 0
 AdminGives x input old new status.Ok = IsScriptIn input × IsFound x old
 AdminGives x input old new status.Usage = ⊥

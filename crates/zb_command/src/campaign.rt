@@ -13,7 +13,9 @@ use zb_base::Sink;
 use zb_campaign::{CampaignFault, campaign};
 use zb_parallel::NoGate;
 
-/// Plays `count` made schedules from the start value `start` on, by so many jobs, and writes what they come to.
+/// Plays `count` made schedules from the start value `start` on, by `jobs` jobs.
+///
+/// It writes what they come to.
 pub(crate) fn write_campaign<T: Threads + Sync, W: Sink>(
     rt: &T,
     alloc: Global,

@@ -70,7 +70,10 @@ impl From<OrMemory<CaptureError>> for CaptureFault {
     }
 }
 
-/// Reads the capture that the input is, by so many jobs.
+/// Reads the capture that the input is, by `jobs` jobs.
+///
+/// # Errors
+/// `CaptureFault::Input` where the input isn't known whole, and `CaptureFault::Text` where its text is no capture.
 pub(crate) fn read_capture_on<T: Threads + Sync, R: Source>(
     rt: &T,
     alloc: Global,
@@ -162,8 +165,9 @@ fn read_round<T: Threads + Sync, R: Source>(
     Ok(read)
 }
 
-/// Reads the lines of a text by so many jobs, and meanwhile takes in what comes after it, and reads its whole lines by
-/// themselves.
+/// Reads the lines of a text by `jobs` jobs, and meanwhile takes in what comes after it.
+///
+/// The whole lines of what comes are read by themselves.
 fn read_both<T: Threads + Sync, R: Source>(
     rt: &T,
     alloc: Global,
@@ -199,7 +203,7 @@ fn read_both<T: Threads + Sync, R: Source>(
     (first, taken)
 }
 
-/// Reads the lines of a text by themselves, by so many jobs.
+/// Reads the lines of a text by themselves, by `jobs` jobs.
 fn read_first<T: Threads + Sync>(
     rt: &T,
     alloc: Global,

@@ -18,12 +18,12 @@ pub(crate) enum Command<'a> {
         /// The digits of the code.
         code: &'a str,
     },
-    /// Writes the made schedule for so many routers and devices.
+    /// Writes the made schedule for `count` routers and devices.
     Make {
         /// How many routers and devices there are.
         count: u32,
     },
-    /// Writes the report on the capture on the input, worked out by so many jobs.
+    /// Writes the report on the capture on the input, worked out by `jobs` jobs.
     Inspect {
         /// How many jobs there are.
         jobs: u32,
@@ -35,7 +35,7 @@ pub(crate) enum Command<'a> {
         /// The words that represent keys.
         words: &'a [String],
     },
-    /// Writes what so many made schedules come to, played by so many jobs.
+    /// Writes what `count` made schedules come to, played by `jobs` jobs.
     Campaign {
         /// How many runs there are.
         count: u32,

@@ -42,7 +42,12 @@ impl Incoming {
         }
     }
 
-    /// Reads on until so many bytes more have come, and returns whether they have: if not, the input is at its end.
+    /// Reads on until `size` bytes more have come, and returns whether they have.
+    ///
+    /// If not, the input is at its end.
+    ///
+    /// # Errors
+    /// `Read` where the source fails, `TooLong` where more bytes came than the longest input has, or `NoMemory`.
     pub fn fill<R: Source>(&mut self, input: &mut R, size: usize) -> Result<bool, InputFault>
         requires count { self.old.count ≤ longest_input }
         requires size { 1 ≤ size }
@@ -61,7 +66,10 @@ impl Incoming {
         Ok(after == limit)
     }
 
-    /// Reads the whole lines of what came. What stands after them stays, since it may go on.
+    /// Reads the whole lines of what came. What comes after them stays, since it may go on.
+    ///
+    /// # Errors
+    /// The first fault of these lines, or out of memory.
     pub fn read_whole_lines(
         &mut self,
         alloc: Global,
@@ -96,7 +104,9 @@ impl Incoming {
         })
     }
 
-    /// Takes what is left of others in place of what came here, so that the memory for it is used again.
+    /// Takes what is left of others in place of what came here.
+    ///
+    /// So the memory for it is used again.
     pub fn go_on_from(&mut self, rest: &Incoming) -> Result<(), AllocError>
         ensures count { OnOk result (self.new.count ≡ rest.now.count) }
         ensures part { OnOk result (self.new.part.items ≡ rest.now.part.items) }
@@ -107,7 +117,10 @@ impl Incoming {
         Ok(())
     }
 
-    /// Reads on as `fill` does, splits off what stands after the whole lines, and reads these by themselves.
+    /// Reads on as `fill` does, splits off what comes after the whole lines, and reads these by themselves.
+    ///
+    /// # Errors
+    /// Those of `fill`.
     pub fn take<R: Source>(
         &mut self,
         alloc: Global,

@@ -49,7 +49,10 @@ macro_rules! whole_input {
 
 pub(crate) use whole_input;
 
-/// Reads on after bytes that came before, to the end of the input or until there are so many.
+/// Reads on after bytes that came before, to the end of the input or until there are `limit`.
+///
+/// # Errors
+/// `Read` where the source fails, or `NoMemory`.
 pub(crate) fn read_on<R: Source>(
     input: &mut R,
     bytes: &mut Vec<u8>,
@@ -73,6 +76,9 @@ pub(crate) fn read_on<R: Source>(
 }
 
 /// Reads the input to its end, or one byte past the longest.
+///
+/// # Errors
+/// `Read` where the source fails, `TooLong` where it has more than `LONGEST` bytes, or `NoMemory`.
 pub(crate) fn read_input<R: Source>(alloc: Global, input: &mut R) -> Result<Vec<u8>, InputFault>
     ensures whole { IfOk result (λ bytes. IfSome (R.rest input.old) (λ rest. bytes.items ≡ rest)) }
     ensures end { OnOk result (IsAtEnd (R.rest input.new)) }

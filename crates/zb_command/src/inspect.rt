@@ -20,7 +20,7 @@ use zb_capture::Capture;
 use zb_inspect::{InspectFault, report};
 use zb_parallel::NoGate;
 
-/// Writes the report on the capture on the input, read and worked out by so many jobs.
+/// Writes the report on the capture on the input, read and worked out by `jobs` jobs.
 pub(crate) fn inspect_input<T: Threads + Sync, R: Source, W: Sink>(
     rt: &T,
     alloc: Global,

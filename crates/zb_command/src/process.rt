@@ -37,7 +37,9 @@ pub fn run_process<H: Env + Input + Print + StoreFiles + AllocGlobal + Threads +
     ended(status, &mut output)
 }
 
-/// Returns the status of the process: that of the command, unless telling it failed, or handing on what is held back.
+/// Returns the status of the process.
+///
+/// It is that of the command, unless telling it failed, or handing on what is held back.
 fn ended<W: Write>(status: Status, output: &mut StdSink<W>) -> Status
     ensures { ((result ≡ status) × Unrisen output.old output.new)
         ⊎ ((result ≡ Status.WriteFault) × Rose output.old output.new) }
@@ -48,7 +50,7 @@ fn ended<W: Write>(status: Status, output: &mut StdSink<W>) -> Status
     }
 }
 
-/// Tells how a run ended, and hands on what is held back.
+/// Writes how a run ended, and hands on what is held back.
 fn finish<W: Write>(status: &Status, output: &mut StdSink<W>) -> Result<(), Failed>
     ensures unrisen { OnOk result (Unrisen output.old output.new) }
     ensures failed { OnErr result (Rose output.old output.new) }
@@ -59,7 +61,9 @@ fn finish<W: Write>(status: &Status, output: &mut StdSink<W>) -> Result<(), Fail
     }
 }
 
-/// Returns how many bytes of output are held back: none of `admin`, whose lines go out as their commands are stored.
+/// Returns how many bytes of output are held back.
+///
+/// Of `admin` there are none: its lines go out as their commands are stored.
 fn room_for(words: &[String]) -> usize
     ensures { result ≡ held_back (map string_bytes words.now) }
 {

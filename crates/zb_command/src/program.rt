@@ -60,7 +60,7 @@ pub fn run<T: Threads + Sync, R: Source, W: Sink, D: Disk>(
     // What `make` wrote is the made schedule, and reads as that.
     ensures made { (count : ℕ) → invocation_of (map string_bytes words.now) ≡ Some (Making count) → result ≡ Status.Ok
         → Made count (W.taken output.old) (W.taken output.new) }
-    // What `audit` wrote is the verdict on the lines that its input is the text of, no line of which is bad; else the
+    // What `audit` wrote is the verdict on the lines that its input is the text of, and none of them is bad. Else the
     // status has the first bad line, or the first that is no text of a line.
     ensures audited { invocation_of (map string_bytes words.now) ≡ Some Auditing → Audits result (R.rest input.old)
         (W.taken output.old) (W.taken output.new) (W.faults output.old) (W.faults output.new) }

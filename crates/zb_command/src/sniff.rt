@@ -23,8 +23,9 @@ use zb_parallel::NoGate;
 use zb_pcap::{Counts, Extraction, extract};
 use zb_text::page::{add_number, end_line, hand_out, put};
 
-/// Writes the report on the capture file on the input, under the keys that the words represent, and the counts of its
-/// packets.
+/// Writes the report on the capture file on the input, and the counts of its packets.
+///
+/// The keys are those that the words represent.
 pub(crate) fn sniff_input<T: Threads + Sync, R: Source, W: Sink>(
     rt: &T,
     alloc: Global,

@@ -38,7 +38,7 @@ pub enum Status {
     DiskFault,
     /// The store isn't empty, and no record stands in it.
     NoStore,
-    /// The input has more than so many bytes.
+    /// The input has more bytes than an input may have.
     TooLong {
         /// How many bytes an input may have.
         limit: u32,
@@ -78,8 +78,10 @@ pub enum Cause {
     BadCode,
     /// A block of counters is out of its range.
     Block,
-    /// The 65th node or the 100,001st event of a schedule; the 257th key or the 100,001st frame of a capture; the
-    /// 100,001st record of a file.
+    /// There are more of a kind than there may be:
+    /// - the 65th node or the 100,001st event of a schedule
+    /// - the 257th key or the 100,001st frame of a capture
+    /// - the 100,001st record of a file
     TooMany,
     /// The file doesn't begin as a capture file does.
     Magic,
@@ -89,7 +91,7 @@ pub enum Cause {
     Link,
     /// A record of the file isn't whole.
     Cut,
-    /// The network address of the line stands in one before it.
+    /// The short address of the line is in one before it.
     AddressTaken,
     /// The text of a restore is no backup.
     Backup,

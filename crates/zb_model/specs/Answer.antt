@@ -95,12 +95,15 @@ unfoldable pub plan_of : Tools → Setting → NodeState → Task → Plan
 plan_of tools c s (Received bytes draw) = received_as tools c s draw (judge_nwk tools c s bytes)
 plan_of tools c s task = comes_to [] AtEvent (own tools c s task)
 
--- Which counters an answer takes: those of its frames; a limit that is reserved, at a layer; the floor stored for the
--- term accepted at a layer; the first counter of the key that becomes active.
+-- Which counters an answer takes.
 pub record Counting : Type 0 where
+  -- the counters of its frames
   pub counter : Layer → ℕ
+  -- a limit that is reserved, at a layer
   pub reserve : Layer → Option ℕ
+  -- the floor stored for the term accepted at a layer
   pub floor : Layer → Option ℕ
+  -- the first counter of the key that becomes active
   pub start : Option ℕ
 
 -- What goes out

@@ -198,7 +198,7 @@ abbrev pub LockedFrom : Tools → List Line → List Line → Type 0
 LockedFrom tools h [] = ⊤
 LockedFrom tools h (l ∷ ls) = LockedLine tools h l ls × LockedFrom tools (h ++ l ∷ []) ls
 
--- A removed device that isn't admitted again obtains no key that is drawn later; and a node none of whose network keys
--- is known outside accepts at NWK neither what it seals later nor what is forged.
+-- A removed device that isn't admitted again obtains no key that is drawn later. A node none of whose network keys is
+-- known outside accepts at NWK neither what the device seals later nor what is forged.
 abbrev pub Locked : Tools → List Line → Type 0
 Locked tools lines = LockedFrom tools [] lines

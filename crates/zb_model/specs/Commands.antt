@@ -159,12 +159,12 @@ take_tunnel c s m destination inner =
 
 -- Taken by the centre
 
--- Update-Device: a router reports a child that joins (1) or rejoins (3); the network key goes to it through a Tunnel
 -- the number in place of no source decides nothing: the centre takes no frame without NWK security
 abbrev pub eui_of : Option ℕ → ℕ
 eui_of None = nobody
 eui_of (Some eui) = eui
 
+-- Update-Device: a router reports a child that joins (1) or rejoins (3). The network key goes to it through a Tunnel.
 unfoldable pub take_update : Setting → NodeState → Heard → ℕ → ℕ → Outcome
 take_update c s m device status =
     unless (not (is_centre c.me.role && (clear_or_data m && (acts_as_router c m.sender && nat_le status 3)))) Policy (
@@ -236,7 +236,7 @@ take_app_request c s m draw partner =
     found_or (current s m.sender) Policy (λ row.
     answer_pair c s m.sender partner draw row (pair_of s m.sender partner)))))
 
--- Verify-Key: where the proof is of the offered key, that key takes the place of the current one; then, or where it is
+-- Verify-Key: where the proof is of the offered key, that key takes the place of the current one. Then, or where it is
 -- of the verified current key, the device is told (Confirm-Key) under that key.
 abbrev pub send_confirm : Setting → ℕ → Bytes → List Move → Outcome
 send_confirm c device key moves =

@@ -55,8 +55,8 @@ pub record Station : Type 0 where
   pub out_block : ℕ
   pub in_block : ℕ
 
--- What is sealed, and what a frame opens to: the base key and the label tell the sealing key; source, counter and
--- control make the nonce; the header is authenticated and the content is encrypted too.
+-- What is sealed, and what a frame opens to. The base key and the label give the sealing key. Source, counter and
+-- control make the nonce. The header is authenticated, and the content is encrypted too.
 pub record Term : Type 0 where
   pub layer : Layer
   pub base : Bytes

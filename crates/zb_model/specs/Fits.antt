@@ -125,31 +125,47 @@ abbrev pub net_limit : Option NetKey → ℕ
 net_limit None = 0
 net_limit (Some r) = r.limit
 
+-- Whether a change that a rule makes may be made of a state.
 abbrev pub may_move : Move → NodeState → Bool
+-- a draw asks for nothing
 may_move (Draw key) s = true
+-- a drop asks for a live row
 may_move (DropNet key) s = live_net key s
 may_move (DropLink partner key) s = live_link partner key s
+-- an install asks that the key has no row yet
 may_move (Install key sequence) s = not (has_net key s.nets)
+-- a switch of the active key asks for a live row
 may_move (Active key) s = live_net key s
+-- a link key asks for nothing
 may_move (Row partner key attribute) s = true
+-- a pair asks that the two have none yet
 may_move (Pair first second key) s = is_none (pair_of s first second)
+-- a state asks for nothing
 may_move (Became state) s = true
+-- a live device asks for a live row of it, at the centre alone
 may_move (Live device) s = is_centre s.role && is_live s device
+-- a removed device asks that it has no live row, at the centre alone
 may_move (Removed device) s = is_centre s.role && not (is_live s device)
+-- a rollover asks for nothing
 may_move (Roll sending) s = true
+-- a told or untold device asks for a live row of it, at the centre alone
 may_move (Told device) s = is_centre s.role && is_live s device
 may_move (Untold device) s = is_centre s.role && is_live s device
 
--- A row that a drop, active or floor names is there and live; a limit or floor isn't below the one that it replaces;
--- the device of a live, told or untold has a live row and that of a removed none, and these stand in the centre alone;
--- a start names a row that is there; a NWK reserve needs an active row.
+-- Whether a change may be made of a state.
 abbrev pub may_change : Edit → NodeState → Bool
+-- a reserve at NWK asks for an active row, and isn't below the one that it replaces
 may_change (Reserve Nwk limit) s = is_some (active_row s) && nat_le (stored_limit Nwk s) limit
+-- a reserve at APS isn't below the one that it replaces
 may_change (Reserve Aps limit) s = nat_le s.aps_limit limit
+-- a floor at NWK asks for a live network key, and isn't below the one that it replaces
 may_change (Floor Nwk key sender value) s = live_net key s && nat_le (net_stored sender (net_of key s)) value
+-- a floor at APS asks for a live link key, and isn't below the one that it replaces
 may_change (Floor Aps key sender value) s = live_link sender key s
     && nat_le (link_stored (find (is_link sender key) s.links)) value
+-- a start asks for a row of its key, and isn't below its limit
 may_change (Start key value) s = has_net key s.nets && nat_le (net_limit (net_of key s)) value
+-- what a rule changes asks for what is said above
 may_change (Moved move) s = may_move move s
 
 -- A change fits where it may be made and the state after it keeps the rules; changes fit where each fits the state

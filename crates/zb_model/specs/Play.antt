@@ -22,22 +22,27 @@ pub record Node : Type 0 where
   pub start_nwk : ℕ
   pub start_aps : ℕ
 
--- An event. Those of one node: what it does itself, and what happens to it; `Deliver` names the frame by its number.
--- The others are the outside's: bytes that are put on the air, and frames that are forged under known keys: a NWK
--- frame, one with an APS command sealed in it, and an unsecured NWK frame with such a command.
+-- An event. The first ones are of one node, the others of the outside.
 pub data Event : Type 0 where
+  -- what the node does itself
   Own : (node : ℕ) (task : Task) → Event
   RollOver : (node : ℕ) → Event
+  -- the frame of this number comes to the node
   Deliver : (frame : ℕ) (node : ℕ) → Event
+  -- what happens to the power and the disk of the node
   Reset : (node : ℕ) → Event
   PowerOn : (node : ℕ) → Event
   ShowRecord : (node : ℕ) → Event
   ArmStop : (node : ℕ) (calls : ℕ) (torn : Bytes) → Event
   ArmFail : (node : ℕ) (call : ℕ) → Event
+  -- bytes are put on the air
   InjectBytes : (bytes : Bytes) → Event
+  -- a NWK frame is forged under known keys
   ForgeNet : (to : ℕ) (from : ℕ) (source : ℕ) (key : Bytes) (sequence : ℕ) (counter : ℕ) (content : Bytes) → Event
+  -- a NWK frame with an APS command sealed in it is forged so
   ForgeNetAps : (to : ℕ) (from : ℕ) (source : ℕ) (key : Bytes) (sequence : ℕ) (counter : ℕ) (label : Label)
       (base : Bytes) (aps_counter : ℕ) (command : Bytes) → Event
+  -- an unsecured NWK frame with an APS command sealed in it is forged so
   ForgeOpen : (to : ℕ) (from : ℕ) (source : ℕ) (label : Label) (base : Bytes) (aps_counter : ℕ) (command : Bytes)
       → Event
 
@@ -113,7 +118,7 @@ count_of EntryCalls = 4
 count_of RecordCalls = 6
 count_of (BootCalls both) = if both then 3 else 1
 
--- After so many commits a node writes its whole record anew: 32 entries, and the record.
+-- After this number of commits a node writes its whole record anew: 32 entries, and the record.
 abbrev pub commits_of_record : ℕ
 commits_of_record = 33
 

@@ -41,7 +41,7 @@ layer_byte Aps = 1
 abbrev pub worth : ℕ → Bool → ℕ
 worth n b = if b then n else 0
 
--- what stands for the place of the active row where there is none: FFFF
+-- what is written as the place of the active row where there is none: FFFF
 abbrev pub no_place : ℕ
 no_place = 65535
 
@@ -78,9 +78,12 @@ link_bytes r = eight_bytes r.partner
 abbrev pub pair_bytes : PairKey → Bytes
 pair_bytes p = eight_bytes p.first ++ (eight_bytes p.second ++ (p.key ++ 1 ∷ []))
 
--- The record: version 3, role, state; the declared NWK start, the APS limit, the rollover; the network rows with their
--- number, the place of the active one, and the floors of the live ones; the link rows and the pairs with their
--- numbers.
+-- The record of a state, in this order:
+-- - version 3, role, state
+-- - the declared NWK start, the APS limit, the rollover
+-- - the number of network rows, the place of the active one, the rows, and the floors of the live ones
+-- - the number of link rows, and the rows
+-- - the number of pairs, and the pairs
 unfoldable pub record_of : NodeState → Bytes
 record_of s =
     3 ∷ role_byte s.role ∷ state_byte s.state ∷ []

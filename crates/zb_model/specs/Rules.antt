@@ -6,15 +6,21 @@ use Rattle.zb_model.specs.Data.{Bytes, Role, Router, Layer, Nwk, Aps, State, Kno
 use Rattle.zb_model.specs.State.{greatest_counter, NetKey, LinkKey, NodeState, same_key, is_centre, is_live_of, has_net, next_counter, live_nets, is_active_key}
 use Rattle.zb_model.specs.Fits.{most_nets, most_links, most_pairs}
 
--- What a node sends: application data, not sealed at APS; an APS command that isn't sealed, sealed under a link key,
--- or sealed inside a Tunnel to a device; application data under a key of two devices; a Leave; the frame of a Tunnel.
+-- What a node sends.
 pub data Body : Type 0 where
+  -- application data, not sealed at APS
   Saying : (bytes : Bytes) → Body
+  -- an APS command that isn't sealed
   Clear : (control : ℕ) (command : Command) → Body
+  -- an APS command that is sealed under a link key
   Secret : (label : Label) (key : Bytes) (command : Command) → Body
+  -- an APS command that is sealed inside a Tunnel to a device
   Tunnelled : (device : ℕ) (key : Bytes) (command : Command) → Body
+  -- application data under a key of two devices
   Telling : (key : Bytes) (bytes : Bytes) → Body
+  -- a Leave
   Leaving : Body
+  -- the frame of a Tunnel
   Relayed : (bytes : Bytes) → Body
 
 pub record Sending : Type 0 where

@@ -34,18 +34,20 @@ abbrev pub CountsCalls : Event → Type 0
 CountsCalls (ArmFail n call) = 1 ≤ call
 CountsCalls _ = ⊤
 
--- Whether an event of a node's own is for its role: the centre's are `provision`, `remove`, `roll`, `switch`, `again`
--- and `share`, those of routers and devices `knock`, `rejoin`, `ask` and `tell`; `say`, `timer` and `child` are of
--- both.
+-- Whether an event of a node's own is for its role.
 abbrev pub is_for_role : Bool → Task → Bool
+-- `say`, `timer` and `child` are of all roles
 is_for_role centre (SayTo to bytes) = true
 is_for_role centre DoTimer = true
 is_for_role centre (HasChild child rejoin) = true
+-- `knock`, `rejoin`, `ask` and `tell` are of routers and devices
 is_for_role centre DoKnock = not centre
 is_for_role centre DoRejoin = not centre
 is_for_role centre (AskFor partner) = not centre
 is_for_role centre (TellTo partner bytes) = not centre
+-- a delivered frame is no event of a node's own
 is_for_role centre (Received bytes draw) = false
+-- `provision`, `remove`, `roll`, `switch`, `again` and `share` are of the centre
 is_for_role centre _ = centre
 
 abbrev pub SuitsRole : Schedule → Event → Type 0

@@ -15,9 +15,9 @@ pub record SenderFloor : Type 0 where
   pub kept : ℕ
   pub stored : ℕ
 
--- A network key: whether it is live, whether it was ever active (started), its outgoing NWK counter, which goes on
--- from `next` and is stored up to `limit`, and the floors of those heard under it, by ascending EUI. A dropped row
--- keeps its floors here; nothing asks for them.
+-- A network key. It is started where it was ever active. Its outgoing NWK counter goes on from `next`, and is stored
+-- up to `limit`. Its floors are of those heard under it, by ascending EUI. A dropped row keeps its floors here;
+-- nothing asks for them.
 pub record NetKey : Type 0 where
   pub key : Bytes
   pub sequence : ℕ

@@ -3,13 +3,14 @@
 use Rattle.std.specs.Prelude.{ℕ, Bool, Option}
 use Rattle.zb_model.specs.Data.{Bytes, Label, ForData, ForNetwork, ForTransport, ForLoad, Term, Command}
 
--- What a NWK frame shows before it is opened: whether it is a command, its short addresses, its auxiliary header where
--- it is secured (frame counter, source EUI, key sequence), and its payload where it isn't.
+-- The auxiliary header of a secured NWK frame: its frame counter, its source's EUI and its key's sequence.
 pub record NwkAuxiliary : Type 0 where
   pub counter : ℕ
   pub source : ℕ
   pub sequence : ℕ
 
+-- What a NWK frame shows before it is opened: whether it is a command, its short addresses, its auxiliary header where
+-- it is secured, and its payload where it isn't.
 pub record NwkShown : Type 0 where
   pub is_command : Bool
   pub destination : ℕ
@@ -17,13 +18,14 @@ pub record NwkShown : Type 0 where
   pub auxiliary : Option NwkAuxiliary
   pub body : Bytes
 
--- What an APS frame shows: whether it is a command (else data or an acknowledgement), its auxiliary header where it is
--- secured (label, frame counter, source EUI if it stands there), and its payload where it isn't.
+-- The auxiliary header of a secured APS frame: its label, its frame counter, and its source's EUI if that is there.
 pub record ApsAuxiliary : Type 0 where
   pub label : Label
   pub counter : ℕ
   pub source : Option ℕ
 
+-- What an APS frame shows: whether it is a command (else data or an acknowledgement), its auxiliary header where it is
+-- secured, and its payload where it isn't.
 pub record ApsShown : Type 0 where
   pub is_command : Bool
   pub auxiliary : Option ApsAuxiliary

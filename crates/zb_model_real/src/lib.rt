@@ -16,15 +16,17 @@ ghost use Rattle.zb_model_real.specs.Readers.{model_command};
 ghost use Rattle.zb_model_real.specs.Real.{real};
 ghost use Rattle.zb_model_real.specs.Terms.{model_label, model_term};
 
-/// The model's words for what is sealed are the program's: a term goes on the air in the bytes of zb_seal, under the
-/// key that zb_seal derives from its base key, and a command in those of zb_cmd.
+/// States that the model's words for what is sealed are the program's.
+///
+/// A term goes on the air in the bytes of zb_seal, under the key that zb_seal derives from its base key. A command is
+/// in the bytes of zb_cmd.
 pub fn terms_go_out_as_they_are_sealed()
     ensures wire { (t : Term) → real.wire (model_term t) ≡ wire t }
     ensures keys { (label : Label) (base : List ℕ) → model_key real (model_label label) base ≡ sealing_key label base }
     ensures commands { (c : Command) → real.spelled (model_command c) ≡ command c }
 {}
 
-/// States that what a real frame opens to is of its layer, and has the base key under which it was opened.
+/// States that what a real frame opens to has its layer and the base key that opened it.
 ///
 /// It has the source and counter that the frame shows.
 pub fn frames_open_as_they_show()
