@@ -23,12 +23,16 @@ fn is_app_key(network: &Network, heard: &Heard, partner: Eui) -> bool
         && !(partner == network.eui() || network.from_centre(partner))
 }
 
-/// Takes a Transport-Key of a link key with a partner: nothing where it is the partner's live key; else it takes the
-/// place of the partner's live rows, verified.
+/// Takes a Transport-Key of a link key with a partner.
+///
+/// Nothing changes where it is the partner's live key. Otherwise it takes the place of the partner's live rows, and is
+/// verified.
 ///
 /// # Errors
-/// Policy in any other form; not a member where the partner isn't declared; wrong state in rejoining; rows full; key
-/// in use.
+/// - Policy in any other form.
+/// - Not a member where the partner isn't declared.
+/// - Wrong state in rejoining.
+/// - Rows full where a new row has no room, and key in use where another partner's row has the key.
 #[tactic(auto, unfolding(zb_model::specs::Commands::take_app_key, zb_rules::specs::Chains::steps))]
 pub fn take_app_key(
     network: &Network,

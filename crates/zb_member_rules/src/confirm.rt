@@ -59,7 +59,8 @@ fn confirmed(tables: &Tables, centre: Eui, row: &LinkRow) -> Changes
 /// Takes a Confirm-Key: the offered row, which opened it, is verified, and the current one is dropped.
 ///
 /// # Errors
-/// Policy in any other form; wrong state in rejoining, and where the row that opened it isn't the offered one.
+/// - Policy in any other form.
+/// - Wrong state in rejoining, and where the row that opened it isn't the offered one.
 #[tactic(auto, unfolding(zb_model::specs::Commands::take_confirm, zb_rules::specs::Chains::steps))]
 pub fn take_confirm(
     network: &Network,

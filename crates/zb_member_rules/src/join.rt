@@ -24,7 +24,7 @@ fn has_joined(state: State) -> bool
     matches!(state, State::Joined | State::Offered | State::Confirmed)
 }
 
-/// Lists what a knock changes: the code's row is provisional, and the only live one of the centre.
+/// Lists what a knock changes. The row of the install code's key is provisional, and the only live one of the centre.
 fn knocked(tables: &Tables, row: &LinkRow) -> Changes
     ensures made { edits result.items ≡ map Moved
         (drop_others tables.now (link_key row.now).partner (link_key row.now).key
@@ -50,7 +50,9 @@ fn knocked(tables: &Tables, row: &LinkRow) -> Changes
     changes
 }
 
-/// Asks to be let in: the code's row is provisional, and the only live one of the centre. Network keys and the keys of
+/// Asks to be let in.
+///
+/// The row of the install code's key is provisional, and the only live one of the centre. Network keys and the keys of
 /// partners stay.
 ///
 /// # Errors

@@ -47,11 +47,15 @@ fn offered(tables: &Tables, centre: Eui, key: &Key) -> Changes
     changes
 }
 
-/// Takes a Transport-Key of a link key with the centre: nothing where it is the current or offered key; else it is the
-/// offered key, in place of another.
+/// Takes a Transport-Key of a link key with the centre.
+///
+/// Nothing changes where it is the current or the offered key. Otherwise it becomes the offered key, in place of
+/// another.
 ///
 /// # Errors
-/// Policy in any other form; wrong state in rejoining; rows full; key in use.
+/// - Policy in any other form.
+/// - Wrong state in rejoining.
+/// - Rows full where a new row has no room, and key in use where another partner's row has the key.
 #[tactic(auto, unfolding(zb_model::specs::Commands::take_link_key, zb_rules::specs::Chains::steps))]
 pub fn take_link_key(
     network: &Network,

@@ -113,7 +113,9 @@ fn installed(network: &Network, tables: &Tables, key: &Key, sequence: u8) -> Cha
 /// row, else to confirmed where the current one is verified, else to joined.
 ///
 /// # Errors
-/// Policy in any other form; key old where a dropped row has the key; keys full where there are 256.
+/// - Policy in any other form.
+/// - Key old where a dropped row has the key.
+/// - Keys full where there are 256.
 #[tactic(auto, unfolding(zb_model::specs::Commands::take_net_key, zb_rules::specs::Chains::steps))]
 pub fn take_net_key(
     network: &Network,
@@ -149,8 +151,8 @@ pub fn take_net_key(
 /// Takes a Switch-Key: the newest live network key of that sequence becomes active.
 ///
 /// # Errors
-/// Policy unless this is a router or device, and the command is sealed for data or in clear, from the centre; wrong
-/// state where no live row has the sequence.
+/// - Policy unless this is a router or device, and the command is sealed for data or in clear, from the centre.
+/// - Wrong state where no live row has the sequence.
 #[tactic(auto, unfolding(zb_model::specs::Commands::take_switch, zb_rules::specs::Chains::steps))]
 pub fn take_switch(
     network: &Network,

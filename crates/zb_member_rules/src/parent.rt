@@ -28,7 +28,7 @@ fn child_status(rejoin: bool) -> u8
     if rejoin { 3 } else { 1 }
 }
 
-/// Reports a child under that row, or in clear at APS where there is none.
+/// Reports a child to the centre, sealed under that row, or in clear at APS where there is none.
 #[tactic(auto, unfolding(zb_rules::specs::Chains::steps))]
 fn report_child(
     network: &Network,
@@ -82,11 +82,14 @@ fn report_child(
     }
 }
 
-/// Reports the centre of a child that joins or rejoins: Update-Device, sealed under the current row of the centre, or
-/// without APS security where there is none.
+/// Reports a child that joins or rejoins to the centre, by an Update-Device.
+///
+/// It is sealed under the current row of the centre, or goes without APS security where there is none.
 ///
 /// # Errors
-/// No key without a usable active network key; wrong state in rejoining; a counter that the frame needs is spent.
+/// - No key without a usable active network key.
+/// - Wrong state in rejoining.
+/// - Counter spent where a counter is that the frame needs.
 #[tactic(auto, unfolding(zb_model::specs::OwnEvents::child_of_router, zb_rules::specs::Chains::steps))]
 pub fn child_of_router(
     network: &Network,
@@ -129,8 +132,9 @@ fn is_remove(network: &Network, heard: &Heard, target: Eui) -> bool
 /// Takes a Remove-Device: the target is asked to leave.
 ///
 /// # Errors
-/// Policy unless this is a router, and the command is sealed for data, from the centre, about neither of the two; not
-/// a member where the target isn't declared; the NWK counter is spent.
+/// - Policy unless this is a router, and the command is sealed for data, from the centre, about neither of the two.
+/// - Not a member where the target isn't declared.
+/// - Counter spent where the NWK counter is.
 #[tactic(auto, unfolding(zb_model::specs::Commands::take_remove, zb_rules::specs::Chains::steps))]
 pub fn take_remove(
     network: &Network,
@@ -158,8 +162,8 @@ pub fn take_remove(
 /// Requires an inner frame that fits one.
 ///
 /// # Errors
-/// Policy unless this is a router, and the command is in clear at APS, from the centre; not a member where the
-/// destination isn't declared or is this node.
+/// - Policy unless this is a router, and the command is in clear at APS, from the centre.
+/// - Not a member where the destination isn't declared or is this node.
 #[tactic(auto, unfolding(zb_model::specs::Commands::take_tunnel, zb_rules::specs::Chains::steps))]
 pub fn take_tunnel(
     network: &Network,

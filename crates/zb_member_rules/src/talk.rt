@@ -22,11 +22,14 @@ fn is_confirmed(state: State) -> bool
     matches!(state, State::Confirmed)
 }
 
-/// Asks the centre for a key with a partner: Request-Key of type 2, sealed under the current row of the centre.
+/// Asks the centre for a key with a partner.
+///
+/// It is a Request-Key of type 2, sealed under the current row of the centre.
 ///
 /// # Errors
-/// No key without a usable active network key or a current row of the centre; wrong state unless confirmed; a counter
-/// is spent.
+/// - No key without a usable active network key or a current row of the centre.
+/// - Wrong state unless confirmed.
+/// - Counter spent where one of the two counters is.
 #[tactic(auto, unfolding(zb_model::specs::OwnEvents::ask, zb_rules::specs::Chains::steps))]
 pub fn ask(network: &Network, tables: &Tables, partner: Eui) -> Result<Effect, Refusal>
     ensures rule { decided result ≡ told (ask network.now tables.now partner.0) }
@@ -65,11 +68,12 @@ pub fn ask(network: &Network, tables: &Tables, partner: Eui) -> Result<Effect, R
     }
 }
 
-/// Reports application data to a partner, sealed under the key shared with it.
+/// Sends application data to a partner, sealed under the key that is shared with it.
 ///
 /// # Errors
-/// No key without a usable active network key or a live row of the partner; wrong state in rejoining; a counter is
-/// spent.
+/// - No key without a usable active network key or a live row of the partner.
+/// - Wrong state in rejoining.
+/// - Counter spent where one of the two counters is.
 #[tactic(auto, unfolding(zb_model::specs::OwnEvents::tell, zb_rules::specs::Chains::steps))]
 pub fn tell(
     network: &Network,

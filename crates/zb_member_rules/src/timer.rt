@@ -80,8 +80,9 @@ fn verify_key(network: &Network, tables: &Tables) -> Result<Effect, Refusal>
 /// of the offered key.
 ///
 /// # Errors
-/// No key without a usable active network key, or in joined without a current row of the centre; wrong state in
-/// confirmed and rejoining; a counter that the frame needs is spent.
+/// - No key without a usable active network key, or in joined without a current row of the centre.
+/// - Wrong state in confirmed and rejoining.
+/// - Counter spent where a counter is that the frame needs.
 #[tactic(auto, unfolding(zb_model::specs::OwnEvents::member_timer, zb_rules::specs::Chains::steps))]
 pub fn member_timer(network: &Network, tables: &Tables) -> Result<Effect, Refusal>
     ensures rule { decided result ≡ told (member_timer real network.now tables.now) }

@@ -6,8 +6,8 @@ use Rattle.std.specs.List.{fold, range_with_len}
 use Rattle.zb_aes.specs.Block.{enciphered}
 use Rattle.zb_aes.specs.Bytes.{xored}
 
--- How many zeros stand after the byte that begins the padding of `n` bytes: as many as make the length, before the two
--- bytes that end it, 14 more than a multiple of 16.
+-- How many zeros stand after the byte that begins the padding of `n` bytes. With them the length, before the two bytes
+-- that end it, is 14 more than a multiple of 16.
 abbrev pub zeros : ℕ → ℕ
 zeros n = (13 + 16 - n % 16) % 16
 

@@ -1,5 +1,5 @@
--- The keyed hash of 05-3474-21, annex B.1.4: HMAC (FIPS 198) over the hash, whose block has 16 bytes as the key has;
--- and what is derived by it (05-3474-21, 4.5.3).
+-- The keyed hash of 05-3474-21, annex B.1.4, and what is derived by it (05-3474-21, 4.5.3). It is HMAC (FIPS 198) over
+-- the hash, whose block has 16 bytes as the key has.
 use Rattle.std.specs.Prelude.{ℕ, List, [], ◌∷◌, ◌++◌, bit_xor, map}
 use Rattle.zb_mmo.specs.Hash.{hash}
 

@@ -42,7 +42,7 @@ fn ended(block: &[u8; 16], bits: u16) -> [u8; 16]
     [a, b, c, d, e, f, g, h, i, j, k, l, m, n, high, low]
 }
 
-// Answers the value after the bytes that fill no block and the padding.
+// Returns the value after the bytes that fill no block and the padding.
 fn padded_end(value: &[u8; 16], bytes: &[u8], bits: u16) -> [u8; 16]
     requires { length bytes.now < 16 }
     ensures { result ≡ mixed_all value.now

@@ -2,7 +2,7 @@
 use arrayvec::ArrayVec;
 use zb_base::{Attribute, Eui, Key, Layer, Rollover, State};
 
-/// Says one change of what a node keeps over a reset.
+/// One change of what a node keeps over a reset.
 #[derive(Clone, Copy, Debug, PartialEq, Eq)]
 pub enum Change {
     /// The outgoing counter of a layer is reserved up to, but not with, `limit`.
@@ -56,7 +56,7 @@ pub enum Change {
         key: Key,
         attribute: Attribute,
     },
-    /// At the centre, two devices have a key for one another; `first` is the smaller address.
+    /// At the centre, two devices have a key for one another; `first` is the smaller EUI.
     Pair {
         first: Eui,
         second: Eui,

@@ -1,7 +1,7 @@
 //! What may change of a node's stable state, and why an event is refused: the words that tables, hosts, policies and
 //! transcripts share.
 //!
-//! A change represents one line of a transcript and for one entry in the payload of a commit.
+//! Each change is one line of a transcript and, unless it is a draw, one item in the payload of a commit.
 #![tactic(auto)]
 
 mod change;

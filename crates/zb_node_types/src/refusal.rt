@@ -20,7 +20,7 @@ pub enum Refusal {
     CounterMax { place: Place },
     /// The frame's counter is below the sender's floor, which is shown.
     Stale { place: Place, floor: u32 },
-    /// The integrity code doesn't match.
+    /// The MIC doesn't match.
     BadMic { place: Place },
     /// No node of this role takes such a command in that form.
     Policy { place: Place },

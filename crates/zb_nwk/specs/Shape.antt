@@ -21,7 +21,7 @@ pub record IsControl (control : ℕ) : Type 0 where
   pub known_kind : kind control < 2
   pub version_two : version control ≡ 2
 
--- bits 8, 10, 11 and 12: multicast control, source route, IEEE address of the destination and of the source
+-- bits 8, 10, 11 and 12: multicast control, source route, EUI of the destination and of the source
 pub record IsHeader (h : NwkHeader) : Type 0 where
   pub control : IsControl h.control
   pub destination_eui : is_some h.destination_eui ≡ bit h.control 11

@@ -24,8 +24,7 @@ header h =
 abbrev pub aux : NwkAux → List ℕ
 aux a = byte a.control ++ number w32 a.counter ++ eui a.source ++ byte a.key_sequence
 
--- what stands after the header: the body, and where it is secured an auxiliary header before it and the message
--- integrity code after it
+-- what stands after the header: the body, and where it is secured an auxiliary header before it and the MIC after it
 abbrev pub content : Option NwkAux → List ℕ → List ℕ → List ℕ
 content None body mic = body
 content (Some a) body mic = aux a ++ body ++ mic

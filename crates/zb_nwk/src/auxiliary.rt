@@ -18,7 +18,7 @@ pub struct NwkAux {
     pub control: u8,
     /// The frame counter of the node that sealed.
     pub counter: u32,
-    /// The IEEE address of the node that sealed.
+    /// The EUI of the node that sealed.
     pub source: Eui,
     /// The sequence number of the network key that seals.
     pub key_sequence: u8,
@@ -55,6 +55,10 @@ fn read_aux_control(reader: &mut Reader<NwkError>) -> Result<u8, NwkError>
 }
 
 /// Reads an auxiliary header.
+///
+/// # Errors
+///
+/// The first fault of the bytes: a field that isn't whole, another key identifier, or no source.
 #[tactic(auto, unfolding(crate::specs::Reading::aux_at))]
 pub(crate) fn read_aux(reader: &mut Reader<NwkError>) -> Result<NwkAux, NwkError>
     ensures exact { Gives result reader.new.rest.now (aux_at reader.old.cut reader.old.rest.now) }
@@ -77,6 +81,10 @@ pub(crate) fn read_aux(reader: &mut Reader<NwkError>) -> Result<NwkAux, NwkError
 }
 
 /// Writes an auxiliary header at the end.
+///
+/// # Errors
+///
+/// `TooLong` where the bytes have no room.
 pub(crate) fn put_aux(out: &mut Frame, value: &NwkAux) -> Result<(), TooLong>
     ensures { Appends out.old.items (aux value.now) out.new.items result }
 {

@@ -27,7 +27,7 @@ pub struct NwkFrame {
     pub aux: Option<NwkAux>,
     /// The payload, or its cipher text where the frame is secured.
     pub body: Frame,
-    /// The message integrity code, which is zero in a frame that is not secured.
+    /// The MIC, which is zero in a frame that is not secured.
     pub mic: [u8; 4],
 }
 
@@ -42,7 +42,7 @@ impl NwkFrame {
         }
     }
 
-    /// Returns whether this value is a frame that the reader can answer.
+    /// Returns whether this value is a frame that the reader can return.
     ///
     /// The reader takes the type, the version and the auxiliary control, the options agree with the control word, and
     /// the MIC is zero where there is no security.

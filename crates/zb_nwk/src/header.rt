@@ -22,28 +22,36 @@ use zb_cursor::{
 pub struct Route {
     /// The place of the next relay.
     pub index: u8,
-    /// The network addresses of the relays.
+    /// The short addresses of the relays.
     pub relays: ArrayVec<Short, 60>,
 }
 
 /// The header of a NWK frame (05-3474-21, 3.3.1). The control word says which of the last four fields are there.
 #[derive(Debug, Drop, PartialEq, Eq)]
 pub struct NwkHeader {
-    /// The control word. Bits 0 and 1: frame type; 2 to 5: version; 6 and 7: discover route; 8: multicast; 9:
-    /// security; 10: source route; 11: destination IEEE; 12: source IEEE; 13: end device initiator; the others are
-    /// free.
+    /// The control word. The bits that aren't in this list are free.
+    ///
+    /// - 0 and 1: frame type
+    /// - 2 to 5: version
+    /// - 6 and 7: discover route
+    /// - 8: multicast
+    /// - 9: security
+    /// - 10: source route
+    /// - 11: the EUI of the destination is there
+    /// - 12: the EUI of the source is there
+    /// - 13: end device initiator
     pub control: u16,
-    /// The network address that the frame goes to.
+    /// The short address that the frame goes to.
     pub destination: Short,
-    /// The network address that the frame comes from.
+    /// The short address that the frame comes from.
     pub source: Short,
     /// How many hops are left.
     pub radius: u8,
     /// The sequence number that the source gave the frame.
     pub sequence: u8,
-    /// The IEEE address of the destination.
+    /// The EUI of the destination.
     pub destination_eui: Option<Eui>,
-    /// The IEEE address of the source.
+    /// The EUI of the source.
     pub source_eui: Option<Eui>,
     /// The multicast control byte.
     pub multicast: Option<u8>,
@@ -197,6 +205,10 @@ fn read_fields(
 }
 
 /// Reads a header into its place.
+///
+/// # Errors
+///
+/// The first fault of the bytes. What stands in the place then means nothing.
 #[tactic(auto, unfolding(crate::specs::Reading::header_at))]
 pub(crate) fn read_header(
     reader: &mut Reader<NwkError>,
@@ -248,6 +260,10 @@ fn put_addresses(out: &mut Frame, value: &NwkHeader) -> Result<(), TooLong>
 }
 
 /// Writes a header at the end.
+///
+/// # Errors
+///
+/// `TooLong` where the bytes have no room.
 pub(crate) fn put_header(out: &mut Frame, value: &NwkHeader) -> Result<(), TooLong>
     ensures { Appends out.old.items (header_of value.now) out.new.items result }
 {

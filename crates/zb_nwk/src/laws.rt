@@ -8,7 +8,7 @@ ghost use Rattle.zb_nwk.specs.Shape.{InRange, IsShaped, Spells};
 ghost use Rattle.zb_nwk.specs.Reading.{frame_of};
 ghost use Rattle.zb_base.specs.Limits.{longest_frame};
 
-/// Returns what `read` and `write` are to each other.
+/// States that `read` and `write` undo each other, and that each frame has one spelling.
 pub fn round_trips()
     ensures one_value { (bytes : List ℕ) (f g : NwkFrame) → Spells bytes f → Spells bytes g → f ≡ g }
     ensures one_spelling { (bytes other : List ℕ) (f : NwkFrame) → Spells bytes f → Spells other f

@@ -1,6 +1,6 @@
 //! Gates, which shares of work pass.
 
-/// Stands before the shares of each phase of work, which pass it once.
+/// A gate before the shares of each phase of work, which pass it once.
 ///
 /// Nothing that is worked out depends on it. A test may hold a share there until another one has come.
 pub trait Gate: Sync {
@@ -8,7 +8,7 @@ pub trait Gate: Sync {
     fn pass(&self, share: u32);
 }
 
-/// Stands open: every share passes at once.
+/// A gate that is open: every share passes at once.
 #[derive(Clone, Copy, Debug, Default, PartialEq, Eq)]
 pub struct NoGate;
 

@@ -13,7 +13,7 @@ pub struct IdleThread {
 }
 
 impl IdleThread {
-    /// Starts it before so many jobs. Where one works alone, or no thread can be made, there is none.
+    /// Starts it before this number of jobs. Where one works alone, or no thread can be made, there is none.
     pub fn start<T: Threads>(rt: &T, jobs: usize) -> IdleThread {
         let handle = if jobs < 2 {
             None

@@ -6,7 +6,7 @@ ghost use Rattle.zb_parallel.specs.Shares.{AreShares};
 use std::alloc::Global;
 use zb_base::NoMemory;
 
-/// The work of one job: so many consecutive items.
+/// The work of one job: `count` consecutive items.
 #[derive(Clone, Copy, Debug, PartialEq, Eq)]
 pub struct Share {
     /// The number of the share, from 0.
@@ -17,9 +17,12 @@ pub struct Share {
     pub count: u32,
 }
 
-/// Cuts so many items into consecutive shares, at most one for each job.
+/// Cuts `total` items into consecutive shares, at most one for each job.
 ///
-/// Each share but the last has as many items as there are for a job, rounded up.
+/// Requires at least one job. Each share but the last has as many items as there are for a job, rounded up.
+///
+/// # Errors
+/// `NoMemory`.
 pub fn shares(alloc: Global, total: u32, jobs: u32) -> Result<Vec<Share>, NoMemory>
     requires { 1 ≤ jobs }
     ensures cut { IfOk result (λ v. AreShares (div_ceil total jobs) 0 0 total v.items) }

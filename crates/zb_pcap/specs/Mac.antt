@@ -9,8 +9,8 @@ use Rattle.zb_base.specs.Limits.{longest_frame}
 abbrev pub number16 : List ℕ → ℕ → ℕ
 number16 bytes at = slice_index bytes at + 256 * slice_index bytes (at + 1)
 
--- The control: bits 0 to 2 type, 3 security, 6 one network for both addresses, 10 and 11 the mode of the destination,
--- 12 and 13 version, 14 and 15 the mode of the source
+-- The control. Bits 0 to 2: type; 3: security; 6: one network for both addresses; 12 and 13: version. Bits 10 and 11,
+-- and 14 and 15: the modes of the destination and of the source
 abbrev pub destination_mode : ℕ → ℕ
 destination_mode control = control / 1024 % 4
 

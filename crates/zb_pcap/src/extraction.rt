@@ -14,7 +14,7 @@ use zb_base::{Frame, Key, NoMemory, OrMemory};
 use zb_capture::{Capture, Frames};
 use zb_cursor::frame_from;
 
-/// Counts the packets of a file.
+/// The numbers of packets of a file, of all and of some kinds.
 #[derive(Clone, Copy, Debug, PartialEq, Eq)]
 pub struct Counts {
     /// How many packets there are.

@@ -34,7 +34,7 @@ impl fmt::Display for PcapCause {
     }
 }
 
-/// Names the first bad part of a file, and what is wrong with it.
+/// The first bad part of a file, and what is wrong with it.
 #[derive(Clone, Copy, Debug, PartialEq, Eq)]
 pub struct PcapError {
     /// The number of the record, from 1, or 0 for the header.

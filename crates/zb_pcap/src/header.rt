@@ -4,7 +4,7 @@ ghost use Rattle.zb_pcap.specs.Files.{number16_at, number32_at, order_of as orde
 
 use crate::fault::PcapCause;
 
-/// Says in which order the bytes of a number stand.
+/// The order in which the bytes of a number stand.
 #[derive(Clone, Copy, Debug, PartialEq, Eq)]
 pub(crate) enum Order {
     /// The highest one first.
@@ -23,6 +23,10 @@ pub(crate) struct Form {
 }
 
 /// Reads the header: 24 bytes.
+///
+/// # Errors
+/// The first that is met: `Magic` in fewer than 24 bytes or after another magic number, `Version` unless it is 2.4,
+/// `Link` at an unknown link type.
 #[tactic(auto, unfolding(crate::specs::Files::header_of))]
 pub(crate) fn read_header(bytes: &[u8]) -> Result<Form, PcapCause>
     ensures value { result ≡ header_of bytes.now }

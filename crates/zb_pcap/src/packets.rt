@@ -19,6 +19,10 @@ pub(crate) struct Packet<'a> {
 }
 
 /// Reads records, at most 100,000.
+///
+/// # Errors
+/// The place of the first record that isn't whole (`Cut`) or is one too many (`TooMany`), counted from 1. Out of
+/// memory.
 pub(crate) fn read_packets<'a>(
     alloc: Global,
     order: Order,

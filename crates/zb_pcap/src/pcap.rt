@@ -24,7 +24,7 @@ pub struct Pcap {
 ///
 /// # Errors
 ///
-/// The first fault of the file; `NoMemory` where memory is short.
+/// The first fault of the file, or `NoMemory`.
 #[tactic(auto, unfolding(crate::specs::Packets::pcap_in))]
 pub fn read_pcap(alloc: Global, bytes: &[u8]) -> Result<Pcap, OrMemory<PcapError>>
     ensures { Answers (λ p. p) result (pcap_in bytes.now) }

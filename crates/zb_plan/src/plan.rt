@@ -216,7 +216,7 @@ fn plan_sending(
     );
 }
 
-/// Plans that a node says application data to a network address. What stood in `plan` is gone.
+/// Plans that a node says application data to a short address. What stood in `plan` is gone.
 pub fn plan_say(
     network: &Network,
     tables: &Tables,

@@ -38,7 +38,7 @@ Asks (Some old) (Some new') more = new' ≡ old ++ more
 Asks None None more = ⊤
 Asks _ _ more = ⊥
 
--- the same for each way to see at most so many nodes in these seats
+-- the same for each way to see at most `most_seats` nodes in these seats
 abbrev pub AsksFor : Seats → ℕ → List Event → Option (List Question) → Option (List Question) → Type 0
 AsksFor seats number events before after =
     (known : List Station) → AreSeats seats known → length known ≤ most_seats
@@ -79,7 +79,7 @@ abbrev pub GaveAt : Option (ℕ → Option Medium) → Option (ℕ → Option Me
 GaveAt old new' number gives None = new' ≡ old
 GaveAt old new' number gives (Some seat) = Gave old new' number (gives number seat.place)
 
--- the same for each way to see at most so many nodes in these seats
+-- the same for each way to see at most `most_seats` nodes in these seats
 abbrev pub GaveFor : Seats → ℕ → Event → (ℕ → ℕ → Option Medium) → Option (ℕ → Option Medium)
     → Option (ℕ → Option Medium) → Type 0
 GaveFor seats number e gives before after =

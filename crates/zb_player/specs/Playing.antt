@@ -57,7 +57,7 @@ pub record RunPasses (p : sched.Schedule) (g : Passed) (h : List Line) (latest :
   pub page : new.ledger.page ≡ append_known old.ledger.page (text_of (stations (schedule_of p)) g.lines)
   pub stands : RunIn p (h ++ g.lines) g.nodes (latest + 1) new disks
 
--- Each disk made so many device calls as is said for the EUI of its node.
+-- Each disk made the number of device calls that is said for the EUI of its node.
 abbrev pub AreCalled : (ℕ → ℕ) → List Station → List Medium → List Medium → Type 0
 AreCalled made [] [] [] = ⊤
 AreCalled made (q ∷ qs) (m ∷ ms) (m' ∷ ms') = Calls (made q.eui) m m' × AreCalled made qs ms ms'

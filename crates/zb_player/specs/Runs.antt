@@ -56,7 +56,7 @@ Answers old disks events n new disks' before after =
     (p : sched.Schedule) (h : List Line) (ds : List Disk) → IsPlayed p events → RunStands p h ds 1 old disks
     → Answered p h ds events n new disks' before after
 
--- The device calls of so many of these events were made.
+-- The device calls of the first n of these events were made.
 abbrev pub AreMade : List Medium → Run → List said.Event → ℕ → List Medium → Type 0
 AreMade disks old events n disks' =
     (p : sched.Schedule) (h : List Line) (ds : List Disk) → IsPlayed p events → RunStands p h ds 1 old disks
@@ -85,8 +85,8 @@ last_line s = log.End s.events s.seals s.accepts s.refusals s.ideal s.private
 abbrev pub Sums : sched.Schedule → Summary → Type 0
 Sums p s = last_line s ≡ end_line real (length p.events) (run_lines real (schedule_of p))
 
--- The device calls of a disk are the six of the start, five for its first record and one for its first boot, and so
--- many more as is said for the EUI of its node.
+-- The device calls of a disk are the six of the start, and those that are said for the EUI of its node. Of the six,
+-- five are for its first record and one is for its first boot.
 abbrev pub HaveMade : (ℕ → ℕ) → List Station → List Medium → Type 0
 HaveMade more [] [] = ⊤
 HaveMade more (q ∷ qs) (m ∷ ms) = (m.calls ≡ 6 + more q.eui) × HaveMade more qs ms

@@ -5,9 +5,9 @@ ghost use Rattle.zb_player.specs.Benches.{Asks, Gave, Question};
 
 use zb_disk::MemDisk;
 
-/// Puts other disks under the nodes of a run.
+/// What may put other disks under the nodes of a run.
 ///
-/// It is asked once before each event of a node, and before what is armed counts. A bench that is still answers none,
+/// It is asked once before each event of a node, and before what is armed counts. A bench that is still gives none,
 /// and stays still.
 pub trait Bench {
     /// Whether it leaves each node its disk, now and later.
@@ -16,7 +16,7 @@ pub trait Bench {
     /// The questions so far, where it tells them.
     ghost asked: { Self → Option (List Question) };
 
-    /// What it answers to the next question.
+    /// What it gives at the next question.
     ghost gives: { Self → ℕ → ℕ → Option Medium };
 
     /// What it gave before the event of each number, where it tells it.
@@ -33,7 +33,7 @@ pub trait Bench {
         ensures gave { Gave (gave self.old) (gave self.new) event (gives self.old event node) };
 }
 
-/// Leaves each node its disk.
+/// A bench that leaves each node its disk.
 #[derive(Clone, Copy, Debug, PartialEq, Eq)]
 pub struct Still;
 

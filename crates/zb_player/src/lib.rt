@@ -1,5 +1,5 @@
-//! Plays a schedule: each node is a host over a disk of its own, each event is answered by the node that it is of, and
-//! what happens is written as a transcript, line by line.
+//! Plays a schedule. Each node is a host over a disk of its own, and each event is answered by the node that it is of.
+//! What happens is written as a transcript, line by line.
 #![tactic(auto)]
 
 mod bench;

@@ -40,8 +40,8 @@ pub fn play<B: Bench, W: Sink>(
     requires schedule { IsSchedule (sched.schedule_of schedule.now) }
     requires none { disks.old.items ≡ [] }
 
-    // Over the disks of the run itself, what is written is the model's transcript of the schedule, or a prefix of it;
-    // the summary is its last line; and each disk represents the record that the transcript gives its node.
+    // Over the disks of the run itself, what is written is the model's transcript of the schedule, or a prefix of it.
+    // The summary is its last line. Each disk represents the record that the transcript gives its node.
     ensures whole { B.still bench.old ≡ true → OnOk result (IsWhole (sched.schedule_of schedule.now)
         (W.taken out.old) (W.taken out.new)) }
     ensures front { B.still bench.old ≡ true → OnErr result (IsFront (sched.schedule_of schedule.now)
@@ -50,9 +50,9 @@ pub fn play<B: Bench, W: Sink>(
     ensures disks { B.still bench.old ≡ true
         → OnOk result (WerePlayed (sched.schedule_of schedule.now) disks.new.items) }
 
-    // Where the bench tells what it gives, and gives disks under nodes that are down alone, from which they can boot,
-    // what is written is the transcript of a run whose nodes are given these disks, or a prefix of it; and the summary
-    // is its last line.
+    // This is of a bench that tells what it gives. It gives disks under nodes that are down alone, and they can boot
+    // from these. What is written is the transcript of a run whose nodes are given these disks, or a prefix of it. The
+    // summary is its last line.
     ensures swapped { OnOk result (IsSwapped (sched.schedule_of schedule.now) (B.gave bench.new)
         (W.taken out.old) (W.taken out.new)) }
     ensures swapped_front { OnErr result (IsSwappedFront (sched.schedule_of schedule.now) (B.gave bench.new)
@@ -143,7 +143,7 @@ fn play_onto<B: Bench, W: Sink>(
     Ok(summary)
 }
 
-// Answers all events, and hands the lines of each out as soon as they are known.
+// Lets the nodes answer all events, and hands the lines of each out as soon as they are known.
 fn answer_all<'a, B: Bench, W: Sink>(
     run: &mut Run<'a>,
     disks: &mut [MemDisk],

@@ -82,7 +82,9 @@ impl<'a> Run<'a> {
         })
     }
 
-    /// Returns an event. A bench may put another disk under its node first.
+    /// Lets the node of an event or the outside carry it out, and prints its lines.
+    ///
+    /// A bench may put another disk under the node first.
     ///
     /// # Errors
     /// `NoMemory`.
@@ -132,7 +134,7 @@ impl<'a> Run<'a> {
         }
     }
 
-    // Answers an event of the node at a place, over its disk.
+    // Lets the node at a place answer an event over its disk.
     fn answer_at(
         &mut self,
         disks: &mut [MemDisk],

@@ -30,7 +30,7 @@ pub struct Summary {
 }
 
 impl Summary {
-    /// Makes the summary of a run of so many events, of which a scribe told all lines.
+    /// Makes the summary of a run with this number of events, of which a scribe told all lines.
     pub(crate) fn of(scribe: &Scribe, events: u32) -> Summary
         ensures { (h : List log) → Kept h scribe.now → last_line result ≡ last real events h }
     {

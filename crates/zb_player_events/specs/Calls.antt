@@ -8,7 +8,7 @@ use Rattle.zb_model.specs.Tools.{Tools}
 use Rattle.law_run_steps.specs.Conditions.{Condition, condition_of, calls_by}
 use Rattle.law_run_steps.specs.Steps.{is_of}
 
--- the call on which what is armed falls: a stop after so many calls falls on the next one
+-- the call on which what is armed falls: a stop after a number of calls falls on the next one
 abbrev pub fallen_call : Armed → ℕ
 fallen_call NotArmed = 0
 fallen_call (StopAfter calls torn) = calls + 1
@@ -18,7 +18,8 @@ fallen_call (FailAt call) = call
 unfoldable pub made_of : Armed → Calls → ℕ
 made_of armed calls = if falls armed calls then fallen_call armed else count_of calls
 
--- The calls of an event that a node in this condition has to answer. A node without power answers none.
+-- The calls of an event that a node in this condition has to answer. A node without power answers no event, so there
+-- are none.
 abbrev pub task_calls : Tools → Condition → Task → ℕ
 task_calls tools x task = if x.up
     then made_of x.disk.armed (calls_by x.commits (answer tools x.setting x.state task).edits) else 0

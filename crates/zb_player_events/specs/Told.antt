@@ -79,12 +79,12 @@ pub record Before (w : Schedule) (h : List Line) (x : Condition) (latest n : ℕ
   pub seat : IsSeated w n node
   pub few : latest < late_generation
 
--- the count of a disk's calls after so many more; it stops at 2^64 - 1
+-- the count of a disk's calls after more of them; it stops at 2^64 - 1
 abbrev pub counted_on : ℕ → ℕ → ℕ
 counted_on count zero = count
 counted_on count (suc more) = risen count (suc more)
 
--- The disk made so many device calls.
+-- The disk made this number of device calls.
 abbrev pub Calls : ℕ → Medium → Medium → Type 0
 Calls made old new = new.calls ≡ counted_on old.calls made
 

@@ -48,7 +48,7 @@ pub enum Act {
     Outside,
 }
 
-// It says data to an address.
+// Returns the act of a node that says data to a short address.
 fn say(to: Short, bytes: &ArrayVec<u8, 64>) -> Act
     ensures { IsOwn result (SayTo to.0 bytes.now.items) }
 {
@@ -58,7 +58,7 @@ fn say(to: Short, bytes: &ArrayVec<u8, 64>) -> Act
     })
 }
 
-// A stop is armed on its disk.
+// Returns the act by which a stop is armed on the disk of a node.
 fn stop(calls: u8, torn: &ArrayVec<u8, 32>) -> Act
     ensures { (n : ℕ) → act_for n result ≡ Some (ArmStop n calls torn.now.items) }
 {

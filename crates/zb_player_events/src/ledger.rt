@@ -27,12 +27,12 @@ use zb_player_scribe::{Page, Scribe};
 use zb_trace::Line;
 use zb_trace_model::refuse_line;
 
-/// Keeps what was told, and the lines that aren't handed out yet.
+/// What was told of a run, and the lines that aren't handed out yet.
 #[derive(Drop)]
 pub struct Ledger {
     /// Where memory comes from.
     pub alloc: Global,
-    /// Tells lines, and keeps what the rest of the run needs of them.
+    /// What prints lines, and keeps of them what the rest of the run needs.
     pub scribe: Scribe,
     /// The text of the lines that aren't handed out yet, where it is read.
     pub page: Page,
@@ -50,7 +50,7 @@ impl Ledger {
         draws.get(self.scribe.used()).copied()
     }
 
-    /// Reports a line that declares no node.
+    /// Prints a line that declares no node, and keeps what it says.
     ///
     /// # Errors
     /// `NoMemory`.
@@ -63,7 +63,7 @@ impl Ledger {
         self.scribe.tell(self.alloc, &mut self.page, line)
     }
 
-    /// States that an event of a node is refused.
+    /// Prints the line of an event that a node refuses.
     ///
     /// # Errors
     /// `NoMemory`.
@@ -77,7 +77,7 @@ impl Ledger {
         self.tell(&refuse_line(event, node, refusal))
     }
 
-    /// Returns an event of a node, over its disk.
+    /// Lets a node answer an event over its disk, and prints its lines.
     ///
     /// # Errors
     /// `NoMemory`.

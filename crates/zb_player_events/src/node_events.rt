@@ -35,7 +35,7 @@ fn fallen_line(event: u32, node: Name, fall: Fall) -> Line
 }
 
 impl Ledger {
-    /// Returns an event of a node's own, over its disk.
+    /// Lets a node handle an event of its own over its disk, and prints its lines.
     ///
     /// # Errors
     /// `NoMemory`.
@@ -79,7 +79,7 @@ impl Ledger {
         }
     }
 
-    // Tells that a stop or a failure fell on a call of a node.
+    // Prints the line of a stop or a failure that fell on a call of a node.
     fn fallen(&mut self, event: u32, node: Name, fall: Fall) -> Result<(), NoMemory>
         requires room { lines_told self.old < most_lines }
         ensures few { OnOk result (lines_told self.new ≤ lines_told self.old + 1) }
@@ -89,7 +89,7 @@ impl Ledger {
         self.tell(&fallen_line(event, node, fall))
     }
 
-    /// Returns the arrival of a frame at a node. The frame is named by its number.
+    /// Lets a frame arrive at a node, and prints the lines of its answer. The frame is named by its number.
     ///
     /// # Errors
     /// `NoMemory`.
@@ -118,7 +118,7 @@ impl Ledger {
         }
     }
 
-    // The bytes of a frame reach a node.
+    // Lets the bytes of a frame reach a node, and prints the lines of its answer.
     fn receive(
         &mut self,
         node: &mut Node,
@@ -143,7 +143,7 @@ impl Ledger {
         self.handle(node, disk, event, Task::Deliver { bytes, draw })
     }
 
-    // No frame of that number went on the air.
+    // Prints the refusal of a frame whose number no frame on the air has.
     fn miss(&mut self, node: &mut Node, event: u32) -> Result<(), NoMemory>
         requires room { HasRoom self.old }
         ensures few { OnOk result (lines_told self.new ≤ lines_told self.old + most_event_lines) }
@@ -156,7 +156,7 @@ impl Ledger {
         self.refuse(event, node.name(), refusal)
     }
 
-    /// Returns the loss of a node's power.
+    /// Takes a node's power away, and prints the line.
     ///
     /// # Errors
     /// `NoMemory`.
@@ -177,7 +177,7 @@ impl Ledger {
         self.tell(&reset_line(event, name))
     }
 
-    /// Returns that a node gets power.
+    /// Gives a node power, lets it boot from its disk, and prints the line.
     ///
     /// # Errors
     /// `NoMemory`.
@@ -202,7 +202,7 @@ impl Ledger {
         }
     }
 
-    /// Shows the record that a node's disk represents.
+    /// Prints the record that a node's disk represents.
     ///
     /// # Errors
     /// `NoMemory`.

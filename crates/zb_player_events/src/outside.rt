@@ -23,7 +23,7 @@ use zb_seal::Term;
 use zb_send::SECURED;
 use zb_trace_model::{forge_line, inject_line, send_line};
 
-// The name that represents an outsider.
+// Returns the name that represents an outsider.
 fn nobody() -> Name
     ensures { result.bytes ≡ codes "-" }
 {
@@ -34,9 +34,12 @@ fn nobody() -> Name
 }
 
 impl Ledger {
-    /// Returns an event of the outside.
+    /// Puts what an event of the outside brings on the air, and prints its lines.
     ///
-    /// An event of a node is passed over. Errors: `NoMemory`.
+    /// An event of a node is passed over.
+    ///
+    /// # Errors
+    /// `NoMemory`.
     pub fn answer_outside(&mut self, event: u32, what: &Event) -> Result<(), NoMemory>
         requires room { HasRoom self.old }
         ensures few { OnOk result (lines_told self.new ≤ lines_told self.old + most_event_lines) }
@@ -68,7 +71,7 @@ impl Ledger {
         }
     }
 
-    // An APS command is forged under a link key. A frame that is sealed at NWK too carries it, or one that isn't.
+    // Forges an APS command under a link key. A frame that is sealed at NWK too carries it, or one that isn't.
     fn forge_command(&mut self, event: u32, what: &Event) -> Result<(), NoMemory>
         requires room { HasRoom self.old }
         ensures few { OnOk result (lines_told self.new ≤ lines_told self.old + most_event_lines) }
@@ -113,7 +116,7 @@ impl Ledger {
         }
     }
 
-    // Bytes go on the air.
+    // Puts bytes on the air.
     fn inject(&mut self, event: u32, bytes: &Frame) -> Result<(), NoMemory>
         requires room { HasRoom self.old }
         ensures few { OnOk result (lines_told self.new ≤ lines_told self.old + most_event_lines) }
@@ -124,7 +127,7 @@ impl Ledger {
         self.tell(&inject_line(event, frame, frame_from(bytes.as_slice())))
     }
 
-    // A frame is forged under a network key.
+    // Forges a frame under a network key.
     fn forge_net(&mut self, event: u32, term: Term) -> Result<(), NoMemory>
         requires room { HasRoom self.old }
         requires fits { wire_length term ≤ longest_frame }
@@ -137,7 +140,7 @@ impl Ledger {
         self.send(event, bytes)
     }
 
-    // And one with an APS command under a link key in it.
+    // Forges a frame under a network key, with an APS command under a link key in it.
     fn forge_both(&mut self, event: u32, inner: Term, term: Term) -> Result<(), NoMemory>
         requires room { HasRoom self.old }
         requires fits { wire_length term ≤ longest_frame }
@@ -151,7 +154,7 @@ impl Ledger {
         self.send(event, bytes)
     }
 
-    // An APS command under a link key goes in a frame that isn't sealed.
+    // Puts an APS command under a link key on the air, in a frame that isn't sealed.
     fn forge_open(
         &mut self,
         event: u32,
@@ -171,7 +174,7 @@ impl Ledger {
         self.send(event, bytes)
     }
 
-    // The frame goes on the air.
+    // Puts a frame on the air.
     fn send(&mut self, event: u32, bytes: Frame) -> Result<(), NoMemory>
         requires room { lines_told self.old < most_lines }
         ensures few { OnOk result (lines_told self.new ≤ lines_told self.old + 1) }

@@ -14,16 +14,16 @@ use std::collections::HashMap;
 use zb_base::{Eui, Name, Role};
 use zb_sched::Node as Declared;
 
-/// Where a node stands: its place in the order of the nodes, from 0, and its address.
+/// Where a node stands: its place in the order of the nodes, from 0, and its EUI.
 #[derive(Clone, Copy, PartialEq, Eq)]
 pub struct Seat {
     /// The place, from 0.
     pub place: usize,
-    /// The address.
+    /// Its EUI.
     pub eui: Eui,
 }
 
-/// Finds the node of each name, and the centre.
+/// The seat of the node of each name, and that of the centre.
 #[derive(Drop)]
 pub struct Seats {
     /// The seat of the first node of each name.
@@ -34,6 +34,9 @@ pub struct Seats {
 
 impl Seats {
     /// Finds the seats of nodes, in their order. Where two have one name, the first counts.
+    ///
+    /// # Errors
+    /// `AllocError`.
     pub fn new(alloc: Global, nodes: &[Declared]) -> Result<Seats, AllocError>
         ensures { IfOk result (λ seats. AreSeats seats (map station_for (map node_of nodes.now))) }
     {
@@ -70,7 +73,7 @@ impl Seats {
         self.by_name.get(name).copied()
     }
 
-    /// Returns the address of the first node of that name, which is declared.
+    /// Returns the EUI of the first node of that name, which is declared.
     pub fn eui(&self, name: &Name) -> Eui
         ensures { (known : List Station) → AreSeats self.now known
             → is_some (first_seat (has_name name.now.bytes) 0 known) ≡ true → result.0 ≡ named known name.now.bytes }
@@ -82,7 +85,7 @@ impl Seats {
     }
 }
 
-// The centre, where it came before, or is this node.
+// Returns the seat of the centre, where it came before, or is this node.
 fn first_centre(before: Option<Seat>, role: Role, seat: Seat) -> Option<Seat>
     ensures { result ≡ option_or before (if is_centre (model_role role) then Some seat else None) }
 {

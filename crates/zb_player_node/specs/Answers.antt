@@ -47,8 +47,8 @@ pub record CanHave (x : Condition) (number : ℕ) (task : model.Task) : Type 0 w
   pub early : number < late_generation
   pub suits : suits x.setting.me.role task ≡ true
 
--- An event was handled: nothing falls on it, it gave this answer, the node is in the condition after it, and so many
--- device calls were made.
+-- An event was handled: nothing falls on it, it gave this answer, and the node is in the condition after it. All
+-- device calls of its commit were made.
 pub record WasAnswered (a : Answer) (x : Condition) (number : ℕ) (p : CorePlan) (old : Medium) (node : NodeValue)
     (m : Medium) : Type 0 where
   pub missed : falls x.disk.armed (calls_by x.commits a.edits) ≡ false
@@ -56,8 +56,8 @@ pub record WasAnswered (a : Answer) (x : Condition) (number : ℕ) (p : CorePlan
   pub leaves : IsIn (after_whole a x) (number + 1) node m
   pub calls : m.calls ≡ calls_after old.calls (calls_by x.commits a.edits)
 
--- An event was cut: what was armed falls on its commit, its changes are stored where the model says that they stand,
--- and the device calls up to the refused one were made.
+-- An event was cut: what was armed falls on its commit. Its changes are stored where the model says that they stand.
+-- The device calls up to the refused one were made.
 pub record WasCut (a : Answer) (x : Condition) (number : ℕ) (stored : List Change) (fall : Fall) (old : Medium)
     (node : NodeValue) (m : Medium) : Type 0 where
   pub fell : falls x.disk.armed (calls_by x.commits a.edits) ≡ true
@@ -99,7 +99,7 @@ HasBooted old m (Some fall) new m' = (x : Condition) (number : ℕ) → IsIn x n
 
 -- ---- of a node over any disk
 
--- How an event was cut. What was armed stays where it didn't fall, and then no change is told as stored.
+-- How an event was cut. What was armed stays where it didn't fall, and then no change is reported as stored.
 pub record WasCutOn (old : NodeValue) (m : Medium) (fall : Fall) (stored : List Change) (new : NodeValue)
     (m' : Medium) : Type 0 where
   pub fallen : Fallen
@@ -153,7 +153,7 @@ pub record CanStart (setting : Setting) (state : NodeState) (s : Standing) (conf
 
 -- ---- of a host
 
--- A plan of a host's core for a task: it is the policy's answer to the task, its changes can be stored, and the core
+-- A plan of a host's core for a task. It is the policy's answer to the task, its changes can be stored, and the core
 -- is the one after it.
 pub record IsPlanFor (role : Role) (task : model.Task) (before : CoreValue) (p : CorePlan) (after : CoreValue) : Type
     0 where

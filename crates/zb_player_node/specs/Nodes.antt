@@ -21,8 +21,8 @@ use Rattle.zb_store.specs.Store.{both_gates_open}
 use Rattle.zb_stored_tables.specs.Cores.{CoreValue}
 use Rattle.zb_stored_tables.specs.Stored.{restored, state_given}
 
--- What represents the state of a node of this role: a boot reads it as what is shown of that state, there is an entry
--- for each commit since the last whole record, and no generation is without an event before the one of this number.
+-- What represents the state of a node of this role. A boot reads it as what is shown of that state. There is an entry
+-- for each commit since the last whole record. The generation is at most one above `number`.
 pub record IsStored (role : Role) (t : NodeState) (commits number : ℕ) (s : Standing) : Type 0 where
   pub reads : state_given role s.content (concat s.payloads) ≡ Ok (after_boot (shown t))
   pub gives_it : Gives (restored role) s (record_of t)

@@ -158,6 +158,9 @@ impl Machine {
     }
 
     /// Handles an event of a node that is up, over its disk, with what is armed on that.
+    ///
+    /// # Errors
+    /// How the event was cut: where a stop or a failure that was armed fell on it, or the disk failed otherwise.
     pub(crate) fn handle(
         &mut self,
         disk: &mut MemDisk,
@@ -183,8 +186,8 @@ impl Machine {
 
     /// Writes the record that the disk of a node of that role represents, and returns its length.
     ///
-    /// It answers None where the disk is off, nothing stands on it, or what stands is no record of such a node.
-    /// Requires a configuration of a node of that role, and room for a record.
+    /// Returns None where the disk is off, nothing stands on it, or what stands is no record of such a node. Requires
+    /// a configuration of a node of that role, and room for a record.
     ///
     /// # Errors
     /// `NoMemory`.

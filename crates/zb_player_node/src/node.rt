@@ -95,7 +95,7 @@ fn spend(arms: &mut Arms, fired: bool)
     }
 }
 
-// Keeps what is shown: so many bytes, or none where nothing is.
+// Keeps what is shown: the first `len` bytes, or none where nothing is.
 fn keep_shown(room: &mut Vec<u8>, len: Option<u32>)
     ensures shown { (bytes : List ℕ) → IsShown len room.old.items bytes → room.new.items ≡ bytes }
     ensures exact { MatchOption len (room.new.items ≡ []) (λ n. room.new.items ≡ take n room.old.items) }
@@ -143,7 +143,7 @@ impl Node {
         self.peer.name
     }
 
-    /// Returns the node's IEEE address.
+    /// Returns the node's EUI.
     pub fn eui(&self) -> Eui
         ensures { result ≡ self.now.peer.eui }
     {
@@ -177,8 +177,8 @@ impl Node {
 
     /// Handles an event, over the node's disk, and writes its changes and what goes out into `plan`.
     ///
-    /// It answers None where the node is down. Where a stop or a failure falls on the event, or the disk fails, the
-    /// node is down after it. What is armed and didn't fall stays, whatever the disk did.
+    /// Returns None where the node is down. Where a stop or a failure falls on the event, or the disk fails, the node
+    /// is down after it. What is armed and didn't fall stays, whatever the disk did.
     pub fn handle(&mut self, disk: &mut MemDisk, task: Task, plan: &mut NodePlan) -> Option<Handled>
         ensures event { HasHandled (model_task task) self.old disk.old result plan.new self.new disk.new }
         ensures any { HasHandledOn self.old disk.old result plan.new.changes.items self.new disk.new }
@@ -212,8 +212,10 @@ impl Node {
         reset(disk);
     }
 
-    /// Boots the node, which is down, from its disk. It answers how the boot ended, where it didn't end well. What is
-    /// armed and didn't fall stays, whatever the disk did.
+    /// Boots the node, which is down, from its disk.
+    ///
+    /// Returns how the boot ended, where it didn't end well. What is armed and didn't fall stays, whatever the disk
+    /// did.
     ///
     /// # Errors
     /// `NoMemory`.

@@ -5,7 +5,7 @@ use zb_send::Payload;
 /// What happens to a node of any role.
 #[derive(Drop)]
 pub enum Task {
-    /// It says application data to a network address.
+    /// It says application data to a short address.
     Say {
         /// To whom.
         to: Short,

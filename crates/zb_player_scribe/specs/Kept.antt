@@ -41,8 +41,8 @@ abbrev pub declares_node : log.Line → Bool
 declares_node (log.Declared p) = true
 declares_node _ = false
 
--- Lines of the model were told, none of which declares a node: where the page is read their text is after what stood
--- on it, and the scribe keeps what they say after the lines before them.
+-- Lines of the model were told, none of which declares a node. Where the page is read their text is after what stood
+-- on it. The scribe keeps what they say after the lines before them.
 pub record Tells (known : List Station) (lines : List log.Line) (old : Scribe) (before : Option (List ℕ))
     (new : Scribe) (after : Option (List ℕ)) : Type 0 where
   pub page : after ≡ append_known before (text_of known lines)

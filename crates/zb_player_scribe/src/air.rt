@@ -82,7 +82,7 @@ impl Air {
     }
 }
 
-// Answers the frame at a place, where there is one, of frames that stand one after the other.
+// Returns the frame at a place, where there is one, of frames that stand one after the other.
 #[tactic(auto, using(crate::proofs::FramesIn::frame_at_a_place))]
 fn frame_at(bytes: &[u8], ends: &[usize], place: usize) -> Option<Frame>
     requires { AreEnds (length bytes.now) 0 ends.now }
@@ -96,7 +96,7 @@ fn frame_at(bytes: &[u8], ends: &[usize], place: usize) -> Option<Frame>
     }
 }
 
-// Answers where the frame at a place begins.
+// Returns where the frame at a place begins.
 fn start_of(ends: &[usize], place: usize) -> usize
     requires { place < length ends.now }
     ensures { result ≡ get_or (0 ∷ ends.now) place 0 }
@@ -104,7 +104,7 @@ fn start_of(ends: &[usize], place: usize) -> usize
     if place == 0 { 0 } else { ends[place - 1] }
 }
 
-// Gives the bytes from one place to another.
+// Returns the bytes from one place to another.
 fn part(bytes: &[u8], start: usize, end: usize) -> &[u8]
     requires { (start ≤ end) × (end ≤ length bytes.now) }
     ensures { result.now ≡ take (end - start) (drop start bytes.now) }

@@ -23,10 +23,12 @@ use zb_seal::Term;
 use zb_trace_model::{accept_line, change_line, commit_line, refuse_line, seal_line, send_line};
 
 impl Scribe {
-    /// Reports the changes of a node, and that they are stored, where there are any.
+    /// Prints the changes of a node, and the line that they are stored, where there are any.
     ///
-    /// Requires that the count of lines has room for 17 more. Errors: `NoMemory`, after which the scribe isn't used
-    /// further.
+    /// Requires that the count of lines has room for 17 more.
+    ///
+    /// # Errors
+    /// `NoMemory`, after which the scribe isn't used further.
     pub fn stored(
         &mut self,
         alloc: Global,
@@ -49,7 +51,7 @@ impl Scribe {
         Ok(())
     }
 
-    // Tells that changes are stored. The line has its place here, so that none is cleared where there are none.
+    // Prints that changes are stored. The line has its place here, so that none is cleared where there are none.
     fn commit(
         &mut self,
         alloc: Global,
@@ -85,7 +87,7 @@ impl Scribe {
         Ok(())
     }
 
-    // Tells a change. The line has its place here, so that none is cleared where there are none.
+    // Prints a change. The line has its place here, so that none is cleared where there are none.
     fn change(
         &mut self,
         alloc: Global,
@@ -103,10 +105,12 @@ impl Scribe {
         self.tell(alloc, page, &change_line(event, node, *change))
     }
 
-    /// Returns what a node accepted, refused, sealed and sent, in this order.
+    /// Prints what a node accepted, refused, sealed and sent, in this order.
     ///
-    /// Requires that the count of lines has room for 6 more. Errors: `NoMemory`, after which the scribe isn't used
-    /// further.
+    /// Requires that the count of lines has room for 6 more.
+    ///
+    /// # Errors
+    /// `NoMemory`, after which the scribe isn't used further.
     pub fn answered(
         &mut self,
         alloc: Global,
@@ -153,7 +157,7 @@ impl Scribe {
         Ok(())
     }
 
-    // Tells an accepted term.
+    // Prints an accepted term.
     fn accept(
         &mut self,
         alloc: Global,
@@ -191,7 +195,7 @@ impl Scribe {
         Ok(())
     }
 
-    // Tells a refusal.
+    // Prints a refusal.
     fn refuse(
         &mut self,
         alloc: Global,
@@ -230,7 +234,7 @@ impl Scribe {
         Ok(())
     }
 
-    // Tells a sealed term.
+    // Prints a sealed term.
     fn seal(
         &mut self,
         alloc: Global,
@@ -271,7 +275,7 @@ impl Scribe {
         Ok(())
     }
 
-    // Tells the frame that goes on the air.
+    // Prints the frame that goes on the air.
     fn send(
         &mut self,
         alloc: Global,

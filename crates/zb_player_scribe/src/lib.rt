@@ -1,6 +1,6 @@
-//! The scribe of a run: it prints each line of a transcript as soon as it is known, and keeps of the lines what the
-//! rest of the run needs: the frames on the air, how many draws are used, the counts and the words of the end. It
-//! keeps no line, and where nobody reads the transcript it prints none.
+//! The scribe of a run. It prints each line of a transcript as soon as it is known, and keeps of the lines what the
+//! rest of the run needs. That is the frames on the air, how many draws are used, the counts and the words of the end.
+//! It keeps no line, and where nobody reads the transcript it prints none.
 #![tactic(auto)]
 
 mod air;

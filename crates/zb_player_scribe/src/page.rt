@@ -60,7 +60,10 @@ impl Page {
 
     /// Hands the text out into a sink, and empties the page.
     ///
-    /// A page that nobody reads hands nothing out. Errors: `Failed`, after which the page is as it was.
+    /// A page that nobody reads hands nothing out.
+    ///
+    /// # Errors
+    /// `Failed`, after which the page is as it was.
     pub fn hand_out<W: Sink>(&mut self, out: &mut W) -> Result<(), Failed>
         ensures whole { OnOk result (Takes self.old (W.taken out.old) (W.taken out.new)
             × (self.new ≡ cleared self.old)) }

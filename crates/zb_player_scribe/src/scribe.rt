@@ -8,7 +8,7 @@ use zb_base::{Frame, NoMemory};
 use zb_trace::Line;
 use zb_trace_watch::Watch;
 
-/// Prints the lines of a run, and keeps what is known of them.
+/// The scribe, which prints the lines of a run and keeps what is known of them.
 #[derive(Drop)]
 pub struct Scribe {
     // What decides the two words of the end.
@@ -54,8 +54,10 @@ impl Scribe {
 
     /// Prints a line after what stands on a page that is read, and keeps what it says.
     ///
-    /// Requires that the count of lines has room for one more. Errors: `NoMemory`, after which the scribe isn't used
-    /// further.
+    /// Requires that the count of lines has room for one more.
+    ///
+    /// # Errors
+    /// `NoMemory`, after which the scribe isn't used further.
     pub fn tell(&mut self, alloc: Global, page: &mut Page, line: &Line) -> Result<(), NoMemory>
         requires { told self.old < most_lines }
         ensures page { OnOk result (page.new ≡ append_known page.old (text line.now)) }

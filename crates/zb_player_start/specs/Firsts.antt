@@ -32,8 +32,8 @@ model_node node = node_for (node_of node)
 abbrev pub begins_with : ℕ → model.Node → NodeState
 begins_with centre m = first_state m.station.role m.network (code_with centre m.code) m.start_nwk m.start_aps
 
--- A disk in whose every image the record of these tables stands and nothing after it, and on which nothing is armed,
--- after the five device calls that write it. A node of this role boots from it with these tables.
+-- A disk after the five device calls that write the record of these tables. In its every image that record stands, and
+-- nothing after it. Nothing is armed on it. A node of this role boots from it with these tables.
 pub record IsFirstDisk (role : Role) (t : NodeState) (m : Medium) : Type 0 where
   pub held : IsHeld (formatted (record_of t)) (memory_view m)
   pub unarmed : IsUnarmed m

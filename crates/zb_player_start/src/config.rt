@@ -16,7 +16,7 @@ use arrayvec::ArrayVec;
 use zb_base::{Config, Eui, Peer, Role};
 use zb_sched::Node;
 
-// Answers the peers of a schedule. Requires at most 64 nodes.
+// Returns the peers of a schedule. Requires at most 64 nodes.
 fn peers_of(declared: &[Node]) -> ArrayVec<Peer, 64>
     requires { length declared.now ≤ most_nodes }
     ensures { result.items ≡ map (λ node. node.peer) declared.now }
@@ -45,21 +45,21 @@ pub fn config_at(declared: &[Node], me: usize) -> Config
     }
 }
 
-// Answers whether a node is the centre.
+// Returns whether a node is the centre.
 fn is_centre(node: &Node) -> bool
     ensures { result ≡ is_centre node.now.peer.role }
 {
     node.peer.role == Role::Centre
 }
 
-// Answers the first node that is the centre.
+// Returns the first node that is the centre.
 fn first_centre(declared: &[Node]) -> Option<&Node>
     ensures { option_copied result ≡ find (λ node. is_centre node.peer.role) declared.now }
 {
     declared.iter().find(|node| is_centre(node))
 }
 
-/// Returns the address of the centre. Requires the nodes of a schedule.
+/// Returns the EUI of the centre. Requires the nodes of a schedule.
 pub fn centre_of(declared: &[Node]) -> Eui
     requires { AreOfSchedule declared.now }
     ensures { (p : Schedule) → AreNodesOf p declared.now → result.0 ≡ rules.centre_of (stations (schedule_of p)) }

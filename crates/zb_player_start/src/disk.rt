@@ -26,7 +26,7 @@ fn held_network(key: Key, sequence: u8) -> HeldNetwork
     HeldNetwork { key, sequence }
 }
 
-// Answers the network key that a node holds.
+// Returns the network key that a node holds.
 fn network_of(node: &Node) -> Option<HeldNetwork>
     ensures held { network_of result ≡ option_map (λ held. (held.0.0, held.1)) node.now.network }
     ensures fits { IfSome result (λ held. length held.key.0 ≡ 16) }
@@ -37,7 +37,7 @@ fn network_of(node: &Node) -> Option<HeldNetwork>
     }
 }
 
-// Answers the link key of a node's install code, which it shares with the centre.
+// Returns the link key of a node's install code, which it shares with the centre.
 fn code_of(centre: Eui, node: &Node) -> Option<HeldCode>
     ensures held { code_of result ≡ code_with centre.0 (option_map code_key node.now.code) }
     ensures fits { IfSome result (λ held. (held.partner.0 < 2 ^ 64) × (length held.key.0 ≡ 16)) }
@@ -73,7 +73,7 @@ fn declared(
     }
 }
 
-// Answers what a node is declared with.
+// Returns what a node is declared with.
 fn declaration_of(centre: Eui, node: &Node) -> Declaration
     ensures state { declared_state result ≡ begins_with centre.0 (model_node node.now) }
     ensures fits { FitsBytes (declared_state result) }
@@ -87,7 +87,7 @@ fn declaration_of(centre: Eui, node: &Node) -> Declaration
     )
 }
 
-// Gives an empty disk: a used one, made new, where there is one.
+// Returns an empty disk: a used one, made new, where there is one.
 fn empty_disk(alloc: Global, used: Option<MemDisk>) -> Result<MemDisk, NoMemory>
     ensures { IfOk result (λ m. m ≡ fresh []) }
 {

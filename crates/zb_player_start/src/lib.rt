@@ -1,5 +1,5 @@
-//! The start of a run: what each node of a schedule begins with, the start lines, and the nodes, each booted from its
-//! first record on a disk of its own.
+//! The start of a run: what each node of a schedule begins with, the start lines, and the nodes. Each node is booted
+//! from its first record on a disk of its own.
 #![tactic(auto)]
 
 mod config;

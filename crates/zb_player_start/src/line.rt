@@ -17,7 +17,7 @@ use zb_player_scribe::{Page, Scribe, lines_are_told_in_turn, no_lines_are_told};
 use zb_sched::Node;
 use zb_trace_model::{counter_line, given_link_line, given_net_line, node_line};
 
-/// Reports the line of a node. Requires room for one more line.
+/// Prints the line of a node. Requires room for one more line.
 ///
 /// # Errors
 /// `NoMemory`.
@@ -46,7 +46,7 @@ pub(crate) fn tell_node(
     scribe.tell(alloc, page, &line)
 }
 
-/// Reports the network key of a node, if it has one. Requires room for one more line.
+/// Prints the network key of a node, if it has one. Requires room for one more line.
 ///
 /// # Errors
 /// `NoMemory`.
@@ -73,7 +73,7 @@ pub(crate) fn tell_network(
     }
 }
 
-/// Reports the link key of a node's install code, if it has one. Requires room for one more line.
+/// Prints the link key of a node's install code, if it has one. Requires room for one more line.
 ///
 /// # Errors
 /// `NoMemory`.
@@ -101,7 +101,7 @@ pub(crate) fn tell_code(
     }
 }
 
-// Tells a stored limit that isn't 0. Requires room for one more line.
+// Prints a stored limit that isn't 0. Requires room for one more line.
 fn tell_limit(
     alloc: Global,
     scribe: &mut Scribe,
@@ -122,7 +122,7 @@ fn tell_limit(
     scribe.tell(alloc, page, &counter_line(node, layer, limit))
 }
 
-/// Reports the stored limits of a node, those that aren't 0. Requires room for two more lines.
+/// Prints the stored limits of a node, those that aren't 0. Requires room for two more lines.
 ///
 /// # Errors
 /// `NoMemory`.

@@ -19,7 +19,7 @@ use zb_base::{Eui, NoMemory};
 use zb_player_scribe::{Page, Scribe};
 use zb_sched::Node;
 
-/// Reports the start lines of a schedule. Requires its nodes, and room for 400 more lines.
+/// Prints the start lines of a schedule, and keeps what they say. Requires its nodes, and room for 400 more lines.
 ///
 /// # Errors
 /// `NoMemory`.

@@ -45,10 +45,10 @@ fn start_node(
     Ok((started, disk))
 }
 
-/// Makes the nodes of a schedule, in their order, each booted from its first record on a disk of its own.
+/// Makes the nodes of a schedule, each booted from its first record on a disk of its own.
 ///
-/// The disks are added to those given, which are none. They are made of spare ones, as long as there are any. Requires
-/// the nodes of a schedule.
+/// The nodes are in the order of the schedule. The disks are added to those given, which are none. They are made of
+/// spare ones, as long as there are any. Requires the nodes of a schedule.
 ///
 /// # Errors
 /// `NoMemory`.

@@ -26,6 +26,9 @@ impl Spare {
 }
 
 /// Makes room for a record, unless it is there.
+///
+/// # Errors
+/// `AllocError`.
 pub(crate) fn make_room(room: &mut Vec<u8>) -> Result<(), AllocError>
     ensures { OnOk result (record_room ≤ vec_len room.new) }
 {

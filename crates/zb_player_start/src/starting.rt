@@ -11,8 +11,9 @@ ghost use Rattle.zb_sched.specs.Valid.{IsSchedule};
 
 use zb_keys::start_lines_give_the_first_state;
 
-/// States that the start lines give each node the state in which it begins, that all have power, and that none
-/// committed.
+/// States that the start lines give each node the state in which it begins.
+///
+/// They say that all nodes have power, and that none committed.
 pub fn start_lines_say_what_is_declared()
     ensures states { (p : Schedule) (me : ℕ) (m : model.Node) → IsSchedule p
         → slice_get (schedule_of p).nodes me ≡ Some m

@@ -11,12 +11,12 @@ spread n = n * 11400714819323198485 % 2 ^ 64
 unfoldable pub key_number : Bytes → ℕ
 key_number key = spread ((from_le_bytes w64 (take 8 key) + from_le_bytes w64 (drop 8 key)) % 2 ^ 64)
 
--- the number of an address and of two answers about its row
+-- the number of an EUI and of two bits about its row
 unfoldable pub link_number : ℕ → Bool → Bool → ℕ
 link_number partner unverified told = spread ((partner * 4 % 2 ^ 64
     + ((if unverified then 2 else 0) + (if told then 1 else 0))) % 2 ^ 64)
 
--- in which of so many bytes a number is marked, by its high half
+-- in which of `size` bytes a number is marked, by its high half
 unfoldable pub place_of : ℕ → ℕ → ℕ
 place_of size number = number / 2 ^ 32 * size % 2 ^ 64 / 2 ^ 32
 

@@ -33,7 +33,7 @@ field read fits bytes = judged (length bytes) fits (read (length bytes) bytes)
 abbrev pub whole : {A : Type 0} → Reading ℕ A → Placed A
 whole read bytes = read (length bytes) bytes
 
--- so many rows, each judged beside those before it
+-- that many rows, each judged beside those before it
 unfoldable pub rows_at : {A : Type 0} → (List A → Placed A) → ℕ → List A → Placed (List A)
 rows_at step zero done bytes = Ok (done, bytes)
 rows_at step (suc n) done bytes = onward (step done bytes) (λ row rest. rows_at step n (done ++ row ∷ []) rest)
@@ -43,13 +43,13 @@ abbrev pub Gives : {A B : Type 0} → (A → B) → Result A ℕ → List ℕ �
 Gives view (Ok x) rest read = read ≡ Ok (view x, rest)
 Gives view (Err left) rest read = read ≡ Err left
 
--- The same of a call that may lack memory.
+-- The same of a call that may run out of memory.
 abbrev pub Answers : {A B : Type 0} → (A → B) → Result A (OrMemory ℕ) → List ℕ → Result (B × List ℕ) ℕ → Type 0
 Answers view (Ok x) rest read = read ≡ Ok (view x, rest)
 Answers view (Err (Fault left)) rest read = read ≡ Err left
 Answers view (Err NoMemory) rest read = Unit {0}
 
--- an answer as one of a call that may lack memory
+-- a result as that of a call that may run out of memory
 abbrev pub without_memory : {A : Type 0} → Result A ℕ → Result A (OrMemory ℕ)
 without_memory (Ok x) = Ok x
 without_memory (Err left) = Err (Fault left)

@@ -109,13 +109,13 @@ abbrev pub record_seen : program.Record → NodeState
 record_seen r = state_from r.head (map net_seen r.nets.items) (map link_seen r.links.items)
     (map pair_seen r.pairs.items)
 
--- what a call answers that reads a record
+-- what a call returns that reads a record
 abbrev pub IsRecord : {A : Type 0} → (A → NodeState) → Result A (OrMemory ℕ) → Result NodeState ℕ → Type 0
 IsRecord view (Ok x) read = read ≡ Ok (view x)
 IsRecord view (Err (Fault left)) read = read ≡ Err left
 IsRecord view (Err NoMemory) read = Unit {0}
 
--- what a call answers that makes tables of a record of so many bytes: the place of the fault, or out of memory
+-- what a call returns that makes tables of a record of `total` bytes: the place of the fault, or out of memory
 abbrev pub BadPlace : OrMemory KeyError → ℕ → Result NodeState ℕ → Type 0
 BadPlace (Fault (KeyOld place)) total read = ⊥
 BadPlace (Fault KeysFull) total read = ⊥

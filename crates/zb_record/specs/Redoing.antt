@@ -15,7 +15,7 @@ use Rattle.zb_record.specs.declared.version.Version.TheVariants.{First, Second, 
 use Rattle.zb_record.specs.Changes.{change_at}
 use Rattle.zb_base.specs.Limits.{greatest_count}
 
--- After a record of version 1 there is one NWK limit for all network rows: the declared start is that limit, too, and
+-- After a record of version 1 there is one NWK limit for all network rows. The declared start is that limit, too, and
 -- each row counts as started with it.
 
 -- a row goes on from the limit; like all limits it never falls
@@ -76,12 +76,12 @@ change_made v s left (Err e) = (s, Err e)
 unfoldable pub change_redone : Version → List ℕ → NodeState → Redone
 change_redone v bytes s = change_made v s (length bytes) (change_at (length bytes) bytes)
 
--- so many changes
+-- that many changes
 unfoldable pub changes_redone : Version → ℕ → List ℕ → NodeState → Redone
 changes_redone v zero bytes s = (s, Ok bytes)
 changes_redone v (suc n) bytes s = onward (change_redone v bytes s).0 (change_redone v bytes s).1 (changes_redone v n)
 
--- payloads, of which there are at most so many: each is a count of changes, and the changes
+-- at most that many payloads: each is a count of changes, and the changes
 unfoldable pub payloads_redone : Version → ℕ → List ℕ → NodeState → Redone
 payloads_redone v zero bytes s = (s, Ok bytes)
 payloads_redone v (suc n) [] s = (s, Ok [])
@@ -109,7 +109,7 @@ HasOneLimit s = AllByRecursion (GoesOn s.declared) s.nets
 abbrev pub place_of : ℕ → ℕ → ℕ
 place_of total left = min (total - left) greatest_count
 
--- what a call answers that makes the entries again, of so many bytes
+-- what a call returns that makes the entries again, of `total` bytes
 abbrev pub redo_answer : ℕ → Result (List ℕ) ℕ → Result (Unit {0}) KeyError
 redo_answer total (Ok rest) = Ok tt
 redo_answer total (Err left) = Err (BadRecord (place_of total left))

@@ -138,7 +138,7 @@ all_floors_at done (r ∷ rs) bytes = (live_floors_at r >>= (λ row. all_floors_
 abbrev pub is_new_link : List LinkKey → Key → Bool
 is_new_link done k = not (list_any (λ (r : LinkKey). same_key r.key k.0) done)
 
--- the flags of a link row: bit 0 live, bit 1 from a code, bit 2 told
+-- the flags of a link row: bit 0 live, bit 1 from an install code, bit 2 told
 abbrev pub link_row : ℕ → Bytes → Attribute → ℕ → LinkKey
 link_row partner key t flags = record {
   partner = partner;
@@ -157,7 +157,7 @@ kinds_alike a b = like_rows a b && same_bool (is_unverified a.attribute) (is_unv
 abbrev pub told_apart : LinkKey → LinkKey → Bool
 told_apart a b = like_rows a b && not (same_bool a.told b.told)
 
--- a told row is a live one of the centre, and a provisional one is from a code
+-- a told row is a live one of the centre, and a provisional one is from an install code
 abbrev pub is_marked : Role → LinkKey → Bool
 is_marked d r = (not r.told || (r.live && is_centre d)) && (not (is_provisional r.attribute) || r.code)
 

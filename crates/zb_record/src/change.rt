@@ -10,7 +10,7 @@ use crate::field::{read_attribute, read_layer, read_rollover, read_state};
 use zb_cursor::Reader;
 use zb_node_types::Change;
 
-/// Returns a layer, and the limit up to which its counter is reserved.
+/// Reads a layer, and the limit up to which its counter is reserved.
 #[tactic(auto, unfolding(crate::specs::Changes::reserve_at, zb_model::specs::Record::edit_bytes))]
 fn read_reserve(reader: &mut Reader<usize>) -> Result<Change, usize>
     ensures exact { Gives result reader.new.rest.now (reserve_at reader.old.cut reader.old.rest.now) }
@@ -22,7 +22,7 @@ fn read_reserve(reader: &mut Reader<usize>) -> Result<Change, usize>
     Ok(Change::Reserve { layer, limit })
 }
 
-/// Returns a layer, a key, and the floor of a sender.
+/// Reads a layer, a key, and the floor of a sender.
 #[tactic(auto, unfolding(crate::specs::Changes::floor_at, zb_model::specs::Record::edit_bytes))]
 fn read_floor(reader: &mut Reader<usize>) -> Result<Change, usize>
     ensures exact { Gives result reader.new.rest.now (floor_at reader.old.cut reader.old.rest.now) }
@@ -41,7 +41,7 @@ fn read_floor(reader: &mut Reader<usize>) -> Result<Change, usize>
     })
 }
 
-/// Returns a network key that is dropped.
+/// Reads a network key that is dropped.
 #[tactic(auto, unfolding(crate::specs::Changes::drop_net_at, zb_model::specs::Record::edit_bytes))]
 fn read_drop_net(reader: &mut Reader<usize>) -> Result<Change, usize>
     ensures exact { Gives result reader.new.rest.now (drop_net_at reader.old.cut reader.old.rest.now) }
@@ -52,7 +52,7 @@ fn read_drop_net(reader: &mut Reader<usize>) -> Result<Change, usize>
     Ok(Change::DropNet { key })
 }
 
-/// Returns a partner and its link key that is dropped.
+/// Reads a partner and its link key that is dropped.
 #[tactic(auto, unfolding(crate::specs::Changes::drop_link_at, zb_model::specs::Record::edit_bytes))]
 fn read_drop_link(reader: &mut Reader<usize>) -> Result<Change, usize>
     ensures exact { Gives result reader.new.rest.now (drop_link_at reader.old.cut reader.old.rest.now) }
@@ -64,7 +64,7 @@ fn read_drop_link(reader: &mut Reader<usize>) -> Result<Change, usize>
     Ok(Change::DropLink { partner, key })
 }
 
-/// Returns a new network key and its sequence.
+/// Reads a new network key and its sequence.
 #[tactic(auto, unfolding(crate::specs::Changes::install_at, zb_model::specs::Record::edit_bytes))]
 fn read_install(reader: &mut Reader<usize>) -> Result<Change, usize>
     ensures exact { Gives result reader.new.rest.now (install_at reader.old.cut reader.old.rest.now) }
@@ -76,7 +76,7 @@ fn read_install(reader: &mut Reader<usize>) -> Result<Change, usize>
     Ok(Change::Install { key, sequence })
 }
 
-/// Returns the network key that becomes active.
+/// Reads the network key that becomes active.
 #[tactic(auto, unfolding(crate::specs::Changes::active_at, zb_model::specs::Record::edit_bytes))]
 fn read_active(reader: &mut Reader<usize>) -> Result<Change, usize>
     ensures exact { Gives result reader.new.rest.now (active_at reader.old.cut reader.old.rest.now) }
@@ -87,7 +87,7 @@ fn read_active(reader: &mut Reader<usize>) -> Result<Change, usize>
     Ok(Change::Active { key })
 }
 
-/// Returns a partner, its link key and the key's attribute.
+/// Reads a partner, its link key and the key's attribute.
 #[tactic(auto, unfolding(crate::specs::Changes::row_at, zb_model::specs::Record::edit_bytes))]
 fn read_row(reader: &mut Reader<usize>) -> Result<Change, usize>
     ensures exact { Gives result reader.new.rest.now (row_at reader.old.cut reader.old.rest.now) }
@@ -104,7 +104,7 @@ fn read_row(reader: &mut Reader<usize>) -> Result<Change, usize>
     })
 }
 
-/// Returns a state.
+/// Reads a state.
 #[tactic(auto, unfolding(crate::specs::Changes::became_at, zb_model::specs::Record::edit_bytes))]
 fn read_became(reader: &mut Reader<usize>) -> Result<Change, usize>
     ensures exact { Gives result reader.new.rest.now (became_at reader.old.cut reader.old.rest.now) }
@@ -115,7 +115,7 @@ fn read_became(reader: &mut Reader<usize>) -> Result<Change, usize>
     Ok(Change::State { state })
 }
 
-/// Returns a rollover.
+/// Reads a rollover.
 #[tactic(auto, unfolding(crate::specs::Changes::roll_at, zb_model::specs::Record::edit_bytes))]
 fn read_roll(reader: &mut Reader<usize>) -> Result<Change, usize>
     ensures exact { Gives result reader.new.rest.now (roll_at reader.old.cut reader.old.rest.now) }
@@ -126,7 +126,7 @@ fn read_roll(reader: &mut Reader<usize>) -> Result<Change, usize>
     Ok(Change::Roll { rollover })
 }
 
-/// Returns a device that was told.
+/// Reads a device that was told.
 #[tactic(auto, unfolding(crate::specs::Changes::told_at, zb_model::specs::Record::edit_bytes))]
 fn read_told(reader: &mut Reader<usize>) -> Result<Change, usize>
     ensures exact { Gives result reader.new.rest.now (told_at reader.old.cut reader.old.rest.now) }
@@ -137,7 +137,7 @@ fn read_told(reader: &mut Reader<usize>) -> Result<Change, usize>
     Ok(Change::Told { device })
 }
 
-/// Returns a device that is to be told again.
+/// Reads a device that is to be told again.
 #[tactic(auto, unfolding(crate::specs::Changes::untold_at, zb_model::specs::Record::edit_bytes))]
 fn read_untold(reader: &mut Reader<usize>) -> Result<Change, usize>
     ensures exact { Gives result reader.new.rest.now (untold_at reader.old.cut reader.old.rest.now) }
@@ -148,7 +148,7 @@ fn read_untold(reader: &mut Reader<usize>) -> Result<Change, usize>
     Ok(Change::Untold { device })
 }
 
-/// Returns a device that was admitted.
+/// Reads a device that was admitted.
 #[tactic(auto, unfolding(crate::specs::Changes::live_at, zb_model::specs::Record::edit_bytes))]
 fn read_live(reader: &mut Reader<usize>) -> Result<Change, usize>
     ensures exact { Gives result reader.new.rest.now (live_at reader.old.cut reader.old.rest.now) }
@@ -159,7 +159,7 @@ fn read_live(reader: &mut Reader<usize>) -> Result<Change, usize>
     Ok(Change::Live { device })
 }
 
-/// Returns a device that was removed.
+/// Reads a device that was removed.
 #[tactic(auto, unfolding(crate::specs::Changes::removed_at, zb_model::specs::Record::edit_bytes))]
 fn read_removed(reader: &mut Reader<usize>) -> Result<Change, usize>
     ensures exact { Gives result reader.new.rest.now (removed_at reader.old.cut reader.old.rest.now) }
@@ -170,7 +170,7 @@ fn read_removed(reader: &mut Reader<usize>) -> Result<Change, usize>
     Ok(Change::Removed { device })
 }
 
-/// Returns a network key and its first counter.
+/// Reads a network key and its first counter.
 #[tactic(auto, unfolding(crate::specs::Changes::start_at, zb_model::specs::Record::edit_bytes))]
 fn read_start(reader: &mut Reader<usize>) -> Result<Change, usize>
     ensures exact { Gives result reader.new.rest.now (start_at reader.old.cut reader.old.rest.now) }
@@ -182,7 +182,7 @@ fn read_start(reader: &mut Reader<usize>) -> Result<Change, usize>
     Ok(Change::Start { key, value })
 }
 
-/// Two devices and their key.
+/// Reads two devices and their key.
 #[tactic(auto, unfolding(crate::specs::Changes::pair_at, zb_model::specs::Record::edit_bytes))]
 fn read_pair(reader: &mut Reader<usize>) -> Result<Change, usize>
     ensures exact { Gives result reader.new.rest.now (pair_at reader.old.cut reader.old.rest.now) }
@@ -195,7 +195,7 @@ fn read_pair(reader: &mut Reader<usize>) -> Result<Change, usize>
     Ok(Change::Pair { first, second, key })
 }
 
-/// Returns the fields of the kinds 08 to 0F.
+/// Reads the fields of the kinds 08 to 0F.
 #[tactic(auto, unfolding(crate::specs::Changes::later_of))]
 fn read_later_of(reader: &mut Reader<usize>, kind: u8) -> Result<Change, usize>
     ensures exact { Gives result reader.new.rest.now (later_of kind reader.old.cut reader.old.rest.now) }
@@ -215,7 +215,7 @@ fn read_later_of(reader: &mut Reader<usize>, kind: u8) -> Result<Change, usize>
     }
 }
 
-/// Returns the fields of a kind.
+/// Reads the fields of a kind.
 #[tactic(auto, unfolding(crate::specs::Changes::fields_of))]
 fn read_fields_of(reader: &mut Reader<usize>, kind: u8) -> Result<Change, usize>
     ensures exact { Gives result reader.new.rest.now (fields_of kind reader.old.cut reader.old.rest.now) }

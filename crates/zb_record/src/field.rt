@@ -10,6 +10,9 @@ use zb_base::{Attribute, Layer, Role, Rollover, State};
 use zb_cursor::Reader;
 
 /// Reads a layer: 00 network, 01 application support.
+///
+/// # Errors
+/// The reader's fault at any other byte, or where no byte is left.
 #[tactic(auto, unfolding(crate::specs::Fields::layer_at))]
 pub(crate) fn read_layer(reader: &mut Reader<usize>) -> Result<Layer, usize>
     ensures exact { Gives result reader.new.rest.now (layer_at reader.old.cut reader.old.rest.now) }
@@ -24,6 +27,9 @@ pub(crate) fn read_layer(reader: &mut Reader<usize>) -> Result<Layer, usize>
 }
 
 /// Reads an attribute: 00 provisional, 01 unverified, 02 verified.
+///
+/// # Errors
+/// The reader's fault at any other byte, or where no byte is left.
 #[tactic(auto, unfolding(crate::specs::Fields::attribute_at))]
 pub(crate) fn read_attribute(reader: &mut Reader<usize>) -> Result<Attribute, usize>
     ensures exact { Gives result reader.new.rest.now (attribute_at reader.old.cut reader.old.rest.now) }
@@ -40,6 +46,9 @@ pub(crate) fn read_attribute(reader: &mut Reader<usize>) -> Result<Attribute, us
 }
 
 /// Reads a state: 00 to 06, in the order of `State`.
+///
+/// # Errors
+/// The reader's fault at any other byte, or where no byte is left.
 #[tactic(auto, unfolding(crate::specs::Fields::state_at))]
 pub(crate) fn read_state(reader: &mut Reader<usize>) -> Result<State, usize>
     ensures exact { Gives result reader.new.rest.now (state_at reader.old.cut reader.old.rest.now) }
@@ -59,6 +68,9 @@ pub(crate) fn read_state(reader: &mut Reader<usize>) -> Result<State, usize>
 }
 
 /// Reads a rollover: 00 idle, 01 sending.
+///
+/// # Errors
+/// The reader's fault at any other byte, or where no byte is left.
 #[tactic(auto, unfolding(crate::specs::Fields::rollover_at))]
 pub(crate) fn read_rollover(reader: &mut Reader<usize>) -> Result<Rollover, usize>
     ensures exact { Gives result reader.new.rest.now (rollover_at reader.old.cut reader.old.rest.now) }
@@ -73,6 +85,9 @@ pub(crate) fn read_rollover(reader: &mut Reader<usize>) -> Result<Rollover, usiz
 }
 
 /// Reads a role: 00 centre, 01 router, 02 device.
+///
+/// # Errors
+/// The reader's fault at any other byte, or where no byte is left.
 #[tactic(auto, unfolding(crate::specs::Fields::role_at))]
 pub(crate) fn read_role(reader: &mut Reader<usize>) -> Result<Role, usize>
     ensures exact { Gives result reader.new.rest.now (role_at reader.old.cut reader.old.rest.now) }

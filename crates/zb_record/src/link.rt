@@ -20,7 +20,7 @@ use zb_cursor::{Reader, has_bit};
 
 /// A link key of a record.
 ///
-/// Partner 8, key 16, attribute 1, flags 1 (bit 0 live, bit 1 from a code, bit 2 told), floor 4.
+/// Partner 8, key 16, attribute 1, flags 1 (bit 0 live, bit 1 from an install code, bit 2 told), floor 4.
 #[derive(Clone, Copy, Debug, PartialEq, Eq)]
 pub struct LinkRecord {
     /// With whom the key is shared.
@@ -62,7 +62,7 @@ impl LinkRecord {
         matches!(self.attribute, Attribute::Unverified)
     }
 
-    /// Returns whether a told row is a live one of the centre, and a provisional one from a code.
+    /// Returns whether a told row is a live one of the centre, and a provisional one from an install code.
     fn is_marked(&self, role: Role) -> bool
         ensures { result ≡ is_marked (model_role role) (link_seen self.now) }
     {
@@ -77,7 +77,7 @@ impl LinkRecord {
         !self.told || (self.live && matches!(role, Role::Centre))
     }
 
-    /// Returns whether it isn't provisional, or is from a code.
+    /// Returns whether it isn't provisional, or is from an install code.
     fn may_be_provisional(&self) -> bool
         ensures { result ≡ (not (is_provisional (link_seen self.now).attribute) || (link_seen self.now).code) }
     {
@@ -95,7 +95,7 @@ fn key_of(bytes: &[u8]) -> Key
     Key(key)
 }
 
-/// Returns the bytes of a key that no row has.
+/// Reads the bytes of a key that no row has.
 #[tactic(auto, unfolding(zb_cursor::specs::Reading::key_at))]
 fn read_new_key<'a>(reader: &mut Reader<'a, usize>, rows: &LinksSoFar) -> Result<&'a [u8], usize>
     ensures exact { Gives (λ bytes. key_from bytes.now) result reader.new.rest.now
@@ -126,7 +126,7 @@ fn is_alone(rows: &LinksSoFar, row: &LinkRecord) -> bool
     !rows.has_like(row) && !rows.has_told_apart(row)
 }
 
-/// Returns the flags of a row, and so the row but for its floor.
+/// Reads the flags of a row, which complete it but for its floor.
 fn read_flags(
     reader: &mut Reader<usize>,
     role: Role,
@@ -160,7 +160,7 @@ fn flags_fit(role: Role, rows: &LinksSoFar, row: LinkRecord, flags: u8) -> bool
     flags < 8 && row_fits(role, rows, &row)
 }
 
-/// Returns a link key, after these rows.
+/// Reads a link key, after these rows.
 #[tactic(auto, unfolding(crate::specs::Rows::link_at))]
 fn read_link(reader: &mut Reader<usize>, role: Role, rows: &LinksSoFar) -> Result<LinkRecord, usize>
     ensures { Gives link_seen result reader.new.rest.now
@@ -185,7 +185,7 @@ fn read_link(reader: &mut Reader<usize>, role: Role, rows: &LinksSoFar) -> Resul
     })
 }
 
-/// Returns the number of link keys.
+/// Reads the number of link keys.
 fn read_count(reader: &mut Reader<usize>, role: Role) -> Result<u16, usize>
     ensures { Gives (λ n. n) result reader.new.rest.now
         (field (number_at w16) (has_link_room (model_role role)) reader.old.rest.now) }
@@ -199,7 +199,7 @@ fn read_count(reader: &mut Reader<usize>, role: Role) -> Result<u16, usize>
     }
 }
 
-/// So many link keys. The place stands in a reader of the call's own, so that it is in registers meanwhile.
+/// Reads `count` link keys. The place stands in a reader of the call's own, so that it is in registers meanwhile.
 fn read_rows(
     alloc: Global,
     reader: &mut Reader<usize>,
@@ -218,7 +218,7 @@ fn read_rows(
     Ok(rows)
 }
 
-/// So many link keys.
+/// Reads `count` link keys.
 fn read_rows_of(
     alloc: Global,
     reader: &mut Reader<usize>,
@@ -239,6 +239,10 @@ fn read_rows_of(
 }
 
 /// Reads the link keys, with their number.
+///
+/// # Errors
+/// The length from the first byte of the first bad field to the end. A field is bad where it isn't whole or breaks a
+/// rule. `NoMemory`.
 #[tactic(auto, unfolding(crate::specs::Rows::links_at))]
 pub(crate) fn read_links(
     alloc: Global,

@@ -1,4 +1,4 @@
-//! The link rows of a record that were read so far, with quick answers to what the next one is compared with.
+//! The link rows of a record that were read so far, with a quick look-up of what the next one is compared with.
 ghost use Rattle.std.specs.Prelude.{◌≡◌, ◌||◌, true, false, [], ◌∷◌, ◌++◌, map, IfOk, OnOk, List};
 ghost use Rattle.std.specs.List.{list_any};
 ghost use Rattle.zb_model.specs.State.{LinkKey, same_key};
@@ -14,7 +14,7 @@ use zb_base::{Eui, Key};
 /// How many bytes of marks there are for each row.
 const MARKS: usize = 16;
 
-/// Holds link rows in their order, and compares another row with all of them, mostly without a walk.
+/// Link rows in their order, with which another row is compared, mostly without a walk.
 ///
 /// A contract sees it as the list of its rows.
 #[derive(Drop)]
@@ -39,6 +39,9 @@ impl Model for LinksSoFar {
 
 impl LinksSoFar {
     /// Makes the value of no rows, with room for that many.
+    ///
+    /// # Errors
+    /// `AllocError`.
     pub fn with_room(alloc: Global, count: u16) -> Result<LinksSoFar, AllocError>
         ensures { IfOk result (λ rows. rows ≡ []) }
     {
@@ -104,6 +107,9 @@ impl LinksSoFar {
     }
 
     /// Puts a row after these.
+    ///
+    /// # Errors
+    /// `AllocError`.
     pub fn push(&mut self, row: LinkRecord) -> Result<(), AllocError>
         ensures { OnOk result (self.new ≡ self.old ++ link_seen row ∷ []) }
     {

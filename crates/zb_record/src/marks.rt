@@ -6,14 +6,17 @@ ghost use Rattle.zb_record.specs.Marks.{is_mark_of, key_number, link_number, mar
 use std::alloc::{AllocError, Global};
 use zb_base::{Eui, Key};
 
-/// Makes a table of so many bytes without a mark.
+/// Makes a table of `size` bytes without a mark.
+///
+/// # Errors
+/// `AllocError`.
 pub(crate) fn no_marks(alloc: Global, size: usize) -> Result<Vec<u8>, AllocError> {
     let mut marks = Vec::with_capacity(alloc, size)?;
     marks.resize(size, 0)?;
     Ok(marks)
 }
 
-/// Returns whether a number may have been noted. It wasn't where the answer is no.
+/// Returns whether a number may have been noted. It wasn't where the result is false.
 #[tactic(auto, unfolding(crate::specs::Marks::may_have))]
 pub(crate) fn may_have(marks: &[u8], number: u64) -> bool
     ensures { result ≡ may_have marks.now number }
@@ -40,7 +43,7 @@ pub(crate) fn key_number(key: &Key) -> u64
     spread(half_number(&key.0[..8]).wrapping_add(half_number(&key.0[8..])))
 }
 
-/// Returns the number of a partner and of two answers about its row.
+/// Returns the number of a partner and of two bits about its row.
 #[tactic(auto, unfolding(crate::specs::Marks::link_number))]
 pub(crate) fn link_number(partner: Eui, unverified: bool, told: bool) -> u64
     ensures { result ≡ link_number partner.0 unverified told }
@@ -53,7 +56,7 @@ pub(crate) fn link_number(partner: Eui, unverified: bool, told: bool) -> u64
     )
 }
 
-/// Returns the number of two answers.
+/// Returns the number of two bits.
 fn answers(unverified: bool, told: bool) -> u64
     ensures { result ≡ (if unverified then 2 else 0) + (if told then 1 else 0) }
 {
@@ -80,7 +83,7 @@ fn spread(number: u64) -> u64
     number.wrapping_mul(11_400_714_819_323_198_485)
 }
 
-/// Returns the place among so many at which a number is marked.
+/// Returns the place among `size` at which a number is marked.
 #[tactic(auto, unfolding(crate::specs::Marks::place_of))]
 fn place_of(size: usize, number: u64) -> usize
     ensures { result ≡ place_of size number }

@@ -71,7 +71,7 @@ fn has_live_room(rows: &[NetRecord]) -> bool
     count_live(rows) < 2
 }
 
-/// Returns a key that no row has.
+/// Reads a key that no row has.
 fn read_new_key(reader: &mut Reader<usize>, rows: &[NetRecord]) -> Result<Key, usize>
     ensures { Gives (λ k. k) result reader.new.rest.now
         (field key_at (is_new_net (map net_seen rows.now)) reader.old.rest.now) }
@@ -108,7 +108,7 @@ fn may_live(rows: &[NetRecord], active: u16, flags: u8) -> bool
     }
 }
 
-/// Returns the flags of a row.
+/// Reads the flags of a row.
 fn read_flags(
     reader: &mut Reader<usize>,
     version: Version,
@@ -145,7 +145,7 @@ fn is_started(version: Version, flags: u8) -> bool
     }
 }
 
-/// Returns the limit of a row that stands there: 0 where the row isn't started.
+/// Reads the limit of a row. It is 0 where the row isn't started.
 fn read_own_limit(reader: &mut Reader<usize>, started: bool) -> Result<u32, usize>
     ensures { Gives (λ n. n) result reader.new.rest.now
         (field (number_at w32) (allows_limit started) reader.old.rest.now) }
@@ -159,7 +159,7 @@ fn read_own_limit(reader: &mut Reader<usize>, started: bool) -> Result<u32, usiz
     }
 }
 
-/// Returns the limit of a row.
+/// Reads the limit of a row.
 fn read_limit(
     reader: &mut Reader<usize>,
     version: Version,
@@ -175,7 +175,7 @@ fn read_limit(
     }
 }
 
-/// Returns a network key, after these rows. Its floors stand elsewhere.
+/// Reads a network key, after these rows. Its floors stand elsewhere.
 #[tactic(auto, unfolding(crate::specs::Rows::net_at))]
 fn read_net(
     reader: &mut Reader<usize>,
@@ -203,7 +203,11 @@ fn read_net(
     })
 }
 
-/// Reads so many network keys.
+/// Reads `count` network keys.
+///
+/// # Errors
+/// The length from the first byte of the first bad field to the end. A field is bad where it isn't whole or breaks a
+/// rule. `NoMemory`.
 pub(crate) fn read_nets(
     alloc: Global,
     reader: &mut Reader<usize>,

@@ -269,7 +269,7 @@ pub fn reserve_net(rows: &mut [NetRow], key: &Key, limit: u32)
     }
 }
 
-/// Returns all keys one limit.
+/// Gives all network keys this limit, unless theirs is higher. Each is started, and counts on from it.
 pub fn limit_nets(rows: &mut [NetRow], limit: u32)
     ensures { map net_key rows.new ≡ map (limited limit) (map net_key rows.old) }
 {

@@ -18,7 +18,7 @@ use zb_cursor::Reader;
 /// First 8, second 8, key 16, live 1, which is 01.
 #[derive(Clone, Copy, Debug, PartialEq, Eq)]
 pub struct PairRecord {
-    /// The device with the smaller address.
+    /// The device with the smaller EUI.
     pub first: Eui,
     /// The other device.
     pub second: Eui,
@@ -42,7 +42,7 @@ fn is_new(rows: &[PairRecord], first: Eui, second: Eui) -> bool
     first.0 < second.0 && !has_pair(rows, first, second)
 }
 
-/// Returns the second device of a pair.
+/// Reads the second device of a pair.
 fn read_second(reader: &mut Reader<usize>, rows: &[PairRecord], first: Eui) -> Result<Eui, usize>
     ensures { Gives (λ e. e) result reader.new.rest.now
         (field eui_at (is_new_pair (map pair_seen rows.now) first) reader.old.rest.now) }
@@ -56,7 +56,7 @@ fn read_second(reader: &mut Reader<usize>, rows: &[PairRecord], first: Eui) -> R
     }
 }
 
-/// Returns the byte 01.
+/// Reads the byte 01.
 fn read_live(reader: &mut Reader<usize>) -> Result<u8, usize>
     ensures { Gives (λ b. b) result reader.new.rest.now (field byte_at is_one reader.old.rest.now) }
 {
@@ -65,7 +65,7 @@ fn read_live(reader: &mut Reader<usize>) -> Result<u8, usize>
     if live == 1 { Ok(live) } else { Err(left) }
 }
 
-/// Returns a pair, after these.
+/// Reads a pair, after these.
 #[tactic(auto, unfolding(crate::specs::Rows::pair_at))]
 fn read_pair(reader: &mut Reader<usize>, rows: &[PairRecord]) -> Result<PairRecord, usize>
     ensures { Gives pair_seen result reader.new.rest.now (pair_at (map pair_seen rows.now) reader.old.rest.now) }
@@ -90,7 +90,7 @@ fn pair_room(role: Role) -> u16
     }
 }
 
-/// Returns the number of pairs.
+/// Reads the number of pairs.
 fn read_count(reader: &mut Reader<usize>, role: Role) -> Result<u16, usize>
     ensures { Gives (λ n. n) result reader.new.rest.now
         (field (number_at w16) (has_pair_room (model_role role)) reader.old.rest.now) }
@@ -104,7 +104,7 @@ fn read_count(reader: &mut Reader<usize>, role: Role) -> Result<u16, usize>
     }
 }
 
-/// So many pairs.
+/// Reads `count` pairs.
 fn read_rows(
     alloc: Global,
     reader: &mut Reader<usize>,
@@ -124,6 +124,10 @@ fn read_rows(
 }
 
 /// Reads the pairs with their number, which stand there in the third version alone.
+///
+/// # Errors
+/// The length from the first byte of the first bad field to the end. A field is bad where it isn't whole or breaks a
+/// rule. `NoMemory`.
 pub(crate) fn read_pairs(
     alloc: Global,
     reader: &mut Reader<usize>,
@@ -140,7 +144,7 @@ pub(crate) fn read_pairs(
     }
 }
 
-/// Returns the pairs with their number.
+/// Reads the pairs with their number.
 #[tactic(auto, unfolding(crate::specs::Rows::all_pairs_at))]
 fn read_all(
     alloc: Global,

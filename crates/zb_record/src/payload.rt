@@ -55,7 +55,7 @@ pub(crate) fn rollover_byte(rollover: Rollover) -> u8
     }
 }
 
-/// Returns a kind and a key.
+/// Writes a kind and a key.
 fn put_key(into: &mut [u8], at: usize, kind: u8, key: &Key) -> usize
     requires { at + length (kind ∷ key.now.0) ≤ length into.old }
     ensures { Writes into.old into.new at result (kind ∷ key.now.0) }
@@ -64,7 +64,7 @@ fn put_key(into: &mut [u8], at: usize, kind: u8, key: &Key) -> usize
     put(into, at, &key.0)
 }
 
-/// Returns a kind and an address.
+/// Writes a kind and an EUI.
 fn put_eui(into: &mut [u8], at: usize, kind: u8, eui: Eui) -> usize
     requires { at + length (kind ∷ eight_bytes eui.0) ≤ length into.old }
     ensures { Writes into.old into.new at result (kind ∷ eight_bytes eui.0) }
@@ -73,7 +73,7 @@ fn put_eui(into: &mut [u8], at: usize, kind: u8, eui: Eui) -> usize
     put(into, at, &eui.0.to_le_bytes())
 }
 
-/// Returns a kind, a key and a number.
+/// Writes a kind, a key and a number.
 fn put_key_number(into: &mut [u8], at: usize, kind: u8, key: &Key, value: u32) -> usize
     requires { at + length (kind ∷ key.now.0 ++ four_bytes value) ≤ length into.old }
     ensures { Writes into.old into.new at result (kind ∷ key.now.0 ++ four_bytes value) }
@@ -83,7 +83,7 @@ fn put_key_number(into: &mut [u8], at: usize, kind: u8, key: &Key, value: u32) -
     put(into, at, &value.to_le_bytes())
 }
 
-/// Returns a kind, a partner and a key.
+/// Writes a kind, a partner and a key.
 fn put_eui_key(into: &mut [u8], at: usize, kind: u8, partner: Eui, key: &Key) -> usize
     requires { at + length (kind ∷ eight_bytes partner.0 ++ key.now.0) ≤ length into.old }
     ensures { Writes into.old into.new at result (kind ∷ eight_bytes partner.0 ++ key.now.0) }
@@ -93,7 +93,7 @@ fn put_eui_key(into: &mut [u8], at: usize, kind: u8, partner: Eui, key: &Key) ->
     put(into, at, &key.0)
 }
 
-/// Returns a reservation.
+/// Writes a reservation.
 fn put_reserve(into: &mut [u8], at: usize, layer: Layer, limit: u32) -> usize
     requires { at + length (1 ∷ layer_byte (model_layer layer) ∷ four_bytes limit) ≤ length into.old }
     ensures { Writes into.old into.new at result (1 ∷ layer_byte (model_layer layer) ∷ four_bytes limit) }
@@ -102,7 +102,7 @@ fn put_reserve(into: &mut [u8], at: usize, layer: Layer, limit: u32) -> usize
     put(into, at, &limit.to_le_bytes())
 }
 
-/// Returns a floor.
+/// Writes a floor.
 fn put_floor(into: &mut [u8], at: usize, layer: Layer, key: &Key, sender: Eui, value: u32) -> usize
     requires { at + length (2 ∷ layer_byte (model_layer layer) ∷ key.now.0
         ++ (eight_bytes sender.0 ++ four_bytes value)) ≤ length into.old }
@@ -113,7 +113,7 @@ fn put_floor(into: &mut [u8], at: usize, layer: Layer, key: &Key, sender: Eui, v
     put_eui_number(into, at, sender, value)
 }
 
-/// Returns the beginning of a floor: its kind, layer and key.
+/// Writes the beginning of a floor: its kind, layer and key.
 fn put_layer_key(into: &mut [u8], at: usize, layer: Layer, key: &Key) -> usize
     requires { at + length (2 ∷ layer_byte (model_layer layer) ∷ key.now.0) ≤ length into.old }
     ensures { Writes into.old into.new at result (2 ∷ layer_byte (model_layer layer) ∷ key.now.0) }
@@ -122,7 +122,7 @@ fn put_layer_key(into: &mut [u8], at: usize, layer: Layer, key: &Key) -> usize
     put(into, at, &key.0)
 }
 
-/// Writes an address and a number.
+/// Writes an EUI and a number.
 pub(crate) fn put_eui_number(into: &mut [u8], at: usize, eui: Eui, value: u32) -> usize
     requires { at + 12 ≤ length into.old }
     ensures { Writes into.old into.new at result (eight_bytes eui.0 ++ four_bytes value) }
@@ -139,7 +139,7 @@ pub(crate) fn put_number64(into: &mut [u8], at: usize, number: u64) -> usize
     put(into, at, &number.to_le_bytes())
 }
 
-/// Returns a number of 4 bytes.
+/// Writes a number of 4 bytes.
 fn put_number32(into: &mut [u8], at: usize, number: u32) -> usize
     requires { at + 4 ≤ length into.old }
     ensures { Writes into.old into.new at result (four_bytes number) }
@@ -147,7 +147,7 @@ fn put_number32(into: &mut [u8], at: usize, number: u32) -> usize
     put(into, at, &number.to_le_bytes())
 }
 
-/// Returns a new network key.
+/// Writes a new network key.
 fn put_install(into: &mut [u8], at: usize, key: &Key, sequence: u8) -> usize
     requires { at + length (5 ∷ key.now.0 ++ sequence ∷ []) ≤ length into.old }
     ensures { Writes into.old into.new at result (5 ∷ key.now.0 ++ sequence ∷ []) }
@@ -156,7 +156,7 @@ fn put_install(into: &mut [u8], at: usize, key: &Key, sequence: u8) -> usize
     put(into, at, &[sequence])
 }
 
-/// Returns a link key.
+/// Writes a link key.
 fn put_row(into: &mut [u8], at: usize, partner: Eui, key: &Key, attribute: Attribute) -> usize
     requires { at + length (7 ∷ eight_bytes partner.0
         ++ (key.now.0 ++ attribute_byte (model_attribute attribute) ∷ [])) ≤ length into.old }
@@ -167,7 +167,7 @@ fn put_row(into: &mut [u8], at: usize, partner: Eui, key: &Key, attribute: Attri
     put(into, at, &[attribute_byte(attribute)])
 }
 
-/// Returns a key of two devices.
+/// Writes a key of two devices.
 fn put_pair(into: &mut [u8], at: usize, first: Eui, second: Eui, key: &Key) -> usize
     requires { at + length (0x0f ∷ eight_bytes first.0 ++ (eight_bytes second.0 ++ key.now.0)) ≤ length into.old }
     ensures { Writes into.old into.new at result (0x0f ∷ eight_bytes first.0 ++ (eight_bytes second.0 ++ key.now.0)) }
@@ -177,7 +177,7 @@ fn put_pair(into: &mut [u8], at: usize, first: Eui, second: Eui, key: &Key) -> u
     put(into, at, &key.0)
 }
 
-/// Returns a kind and a byte.
+/// Writes a kind and a byte.
 fn put_byte(into: &mut [u8], at: usize, kind: u8, byte: u8) -> usize
     requires { at + 2 ≤ length into.old }
     ensures { Writes into.old into.new at result (kind ∷ byte ∷ []) }
@@ -185,7 +185,7 @@ fn put_byte(into: &mut [u8], at: usize, kind: u8, byte: u8) -> usize
     put(into, at, &[kind, byte])
 }
 
-/// Returns a change; a draw is nothing.
+/// Writes a change. Of a draw nothing is written.
 #[tactic(auto, unfolding(zb_model::specs::Record::edit_bytes))]
 fn put_change(into: &mut [u8], at: usize, change: &Change) -> usize
     requires { at + length (edit_bytes (edit change.now)) ≤ length into.old }
@@ -241,7 +241,7 @@ fn is_stored(change: &Change) -> bool
     !matches!(*change, Change::Draw { key: _ })
 }
 
-/// Changes, one after the other.
+/// Writes changes, one after the other.
 fn put_changes(into: &mut [u8], at: usize, changes: &[Change]) -> usize
     requires { at + length (flat_map edit_bytes (edits changes.now)) ≤ length into.old }
     ensures { Writes into.old into.new at result (flat_map edit_bytes (edits changes.now)) }

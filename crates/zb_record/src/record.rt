@@ -75,7 +75,7 @@ fn may_roll(role: Role, rolling: Rollover) -> bool
     matches!(rolling, Rollover::Idle) || matches!(role, Role::Centre)
 }
 
-/// Returns the state of a node.
+/// Reads the state of a node.
 fn read_its_state(reader: &mut Reader<usize>, role: Role) -> Result<State, usize>
     ensures { Gives (λ s. s) result reader.new.rest.now (field state_at (may_enter role) reader.old.rest.now) }
 {
@@ -88,7 +88,7 @@ fn read_its_state(reader: &mut Reader<usize>, role: Role) -> Result<State, usize
     }
 }
 
-/// Returns the rollover of a node.
+/// Reads the rollover of a node.
 fn read_its_rollover(reader: &mut Reader<usize>, role: Role) -> Result<Rollover, usize>
     ensures { Gives (λ r. r) result reader.new.rest.now (field rollover_at (may_roll role) reader.old.rest.now) }
 {
@@ -101,7 +101,7 @@ fn read_its_rollover(reader: &mut Reader<usize>, role: Role) -> Result<Rollover,
     }
 }
 
-/// Returns the node.
+/// Reads the node.
 #[tactic(auto, unfolding(crate::specs::Records::node_at))]
 fn read_node(reader: &mut Reader<usize>) -> Result<Node, usize>
     ensures { Gives (λ n. n) result reader.new.rest.now (node_at reader.old.rest.now) }
@@ -118,7 +118,7 @@ fn read_node(reader: &mut Reader<usize>) -> Result<Node, usize>
     })
 }
 
-/// Returns the number of network keys: 256 at most.
+/// Reads the number of network keys: 256 at most.
 fn read_count(reader: &mut Reader<usize>) -> Result<u16, usize>
     ensures { Gives (λ n. n) result reader.new.rest.now (field (number_at w16) has_net_room reader.old.rest.now) }
 {
@@ -127,7 +127,7 @@ fn read_count(reader: &mut Reader<usize>) -> Result<u16, usize>
     if count <= 256 { Ok(count) } else { Err(left) }
 }
 
-/// Returns the place of the active one of so many network keys.
+/// Reads the place of the active one of `nets` network keys.
 fn read_place(reader: &mut Reader<usize>, nets: u16) -> Result<u16, usize>
     ensures { Gives (λ n. n) result reader.new.rest.now (field (number_at w16) (is_place nets) reader.old.rest.now) }
 {
@@ -140,7 +140,7 @@ fn read_place(reader: &mut Reader<usize>, nets: u16) -> Result<u16, usize>
     }
 }
 
-/// Returns what stands between the node and the rows.
+/// Reads what stands between the node and the rows.
 #[tactic(auto, unfolding(crate::specs::Records::head_at))]
 fn read_head(reader: &mut Reader<usize>, node: Node) -> Result<Head, usize>
     ensures { Gives (λ h. h) result reader.new.rest.now (head_at node reader.old.rest.now) }
@@ -162,7 +162,7 @@ fn read_head(reader: &mut Reader<usize>, node: Node) -> Result<Head, usize>
     })
 }
 
-/// Returns a call's answer as one that may lack memory.
+/// Returns the result of a call as that of one that may run out of memory.
 fn or_memory<T: Drop>(answer: Result<T, usize>) -> Result<T, OrMemory<usize>>
     ensures { result ≡ without_memory answer }
 {
@@ -172,7 +172,7 @@ fn or_memory<T: Drop>(answer: Result<T, usize>) -> Result<T, OrMemory<usize>>
     }
 }
 
-/// Returns the network keys with their floors.
+/// Reads the network keys with their floors.
 #[tactic(auto, unfolding(crate::specs::Records::nets_at))]
 fn read_net_part(
     alloc: Global,
@@ -195,7 +195,7 @@ fn read_net_part(
     }
 }
 
-/// Returns the record at the start.
+/// Reads the record at the start.
 #[tactic(auto, unfolding(crate::specs::Records::record_at))]
 fn read_front(alloc: Global, reader: &mut Reader<usize>) -> Result<Record, OrMemory<usize>>
     ensures { Answers record_seen result reader.new.rest.now (record_at reader.old.rest.now) }
@@ -216,8 +216,10 @@ fn read_front(alloc: Global, reader: &mut Reader<usize>) -> Result<Record, OrMem
 /// Reads a record of version 1, 2 or 3, which is all of the bytes.
 ///
 /// # Errors
-/// The number of bytes from the first one of the first field that isn't whole or breaks a rule to the end,
-/// where a rule over several fields is broken by the last of them. `NoMemory` where memory is short.
+/// - The length from the first byte of the first bad field to the end. A field is bad where it isn't whole or breaks a
+///   rule. A rule over several fields is broken by the last of them. Where bytes come after the record, it is their
+///   number.
+/// - `NoMemory` out of memory.
 #[tactic(auto, unfolding(crate::specs::Records::record_read))]
 pub fn read_record(alloc: Global, bytes: &[u8]) -> Result<Record, OrMemory<usize>>
     ensures { IsRecord record_seen result (record_read bytes.now) }

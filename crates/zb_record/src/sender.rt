@@ -12,7 +12,7 @@ use arrayvec::ArrayVec;
 use zb_base::Eui;
 use zb_cursor::Reader;
 
-/// The floor of a sender of a record: its address 8, its stored floor 4.
+/// The floor of a sender of a record: its EUI 8, its stored floor 4.
 #[derive(Clone, Copy, Debug, Default, PartialEq, Eq)]
 pub struct SenderRecord {
     /// Whose frames.
@@ -32,7 +32,7 @@ fn is_last(floors: &[SenderRecord], sender: Eui) -> bool
     }
 }
 
-/// Returns a sender after these.
+/// Reads a sender after these.
 fn read_address(reader: &mut Reader<usize>, floors: &[SenderRecord]) -> Result<Eui, usize>
     requires { senders_ascend (map sender_seen floors.now) ≡ true }
     ensures exact { Gives (λ e. e) result reader.new.rest.now
@@ -48,7 +48,7 @@ fn read_address(reader: &mut Reader<usize>, floors: &[SenderRecord]) -> Result<E
     }
 }
 
-/// Returns a floor, which isn't 0.
+/// Reads a floor, which isn't 0.
 fn read_stored(reader: &mut Reader<usize>) -> Result<u32, usize>
     ensures { Gives (λ n. n) result reader.new.rest.now (field (number_at w32) isnt_zero reader.old.rest.now) }
 {
@@ -57,7 +57,7 @@ fn read_stored(reader: &mut Reader<usize>) -> Result<u32, usize>
     if 0 < stored { Ok(stored) } else { Err(left) }
 }
 
-/// Returns the floor of a sender after these.
+/// Reads the floor of a sender after these.
 #[tactic(auto, unfolding(crate::specs::Rows::sender_at))]
 fn read_sender(reader: &mut Reader<usize>, floors: &[SenderRecord]) -> Result<SenderRecord, usize>
     requires { senders_ascend (map sender_seen floors.now) ≡ true }
@@ -70,7 +70,7 @@ fn read_sender(reader: &mut Reader<usize>, floors: &[SenderRecord]) -> Result<Se
     Ok(SenderRecord { sender, stored })
 }
 
-/// So many floors of senders, of which there are 64 at most.
+/// Reads `count` floors of senders, 64 at most.
 fn read_senders(reader: &mut Reader<usize>, count: u8) -> Result<ArrayVec<SenderRecord, 64>, usize>
     requires { count ≤ most_senders }
     ensures { Gives (λ v. map sender_seen v.items) result reader.new.rest.now
@@ -84,7 +84,7 @@ fn read_senders(reader: &mut Reader<usize>, count: u8) -> Result<ArrayVec<Sender
     Ok(floors)
 }
 
-/// Returns how many floors there are: 64 at most.
+/// Reads how many floors there are: 64 at most.
 fn read_count(reader: &mut Reader<usize>) -> Result<u8, usize>
     ensures exact { Gives (λ n. n) result reader.new.rest.now (field byte_at has_few reader.old.rest.now) }
     ensures few { IfOk result (λ n. n ≤ most_senders) }
@@ -94,7 +94,7 @@ fn read_count(reader: &mut Reader<usize>) -> Result<u8, usize>
     if count <= 64 { Ok(count) } else { Err(left) }
 }
 
-/// Returns the floors under a network key.
+/// Reads the floors under a network key.
 #[tactic(auto, unfolding(crate::specs::Rows::floors_at))]
 fn read_floors(reader: &mut Reader<usize>) -> Result<ArrayVec<SenderRecord, 64>, usize>
     ensures { Gives (λ v. map sender_seen v.items) result reader.new.rest.now (floors_at reader.old.rest.now) }
@@ -104,7 +104,7 @@ fn read_floors(reader: &mut Reader<usize>) -> Result<ArrayVec<SenderRecord, 64>,
     Ok(floors)
 }
 
-/// Returns the floors under a network key, if it is live.
+/// Reads the floors under a network key, if it is live.
 fn read_live_floors(reader: &mut Reader<usize>, row: &mut NetRecord) -> Result<(), usize>
     ensures { Gives (λ done. net_seen row.new) result reader.new.rest.now
         (live_floors_at (net_seen row.old) reader.old.rest.now) }
@@ -116,6 +116,10 @@ fn read_live_floors(reader: &mut Reader<usize>, row: &mut NetRecord) -> Result<(
 }
 
 /// Reads the floors under the live ones of network keys.
+///
+/// # Errors
+/// The length from the first byte of the first bad field to the end. A field is bad where it isn't whole or breaks a
+/// rule.
 pub(crate) fn read_all_floors(
     reader: &mut Reader<usize>,
     rows: &mut [NetRecord],

@@ -5,7 +5,7 @@ ghost use Rattle.zb_record.specs.Fields.{record_version, version_at};
 
 use zb_cursor::Reader;
 
-/// Names a version of records.
+/// The version of a record.
 ///
 /// From the second on each network key has its own limit, and from the third on there are pairs.
 #[derive(Clone, Copy, Debug, PartialEq, Eq)]
@@ -19,6 +19,9 @@ pub enum Version {
 }
 
 /// Reads a version: 01, 02 or 03.
+///
+/// # Errors
+/// The reader's fault at any other byte, or where no byte is left.
 #[tactic(auto, unfolding(crate::specs::Fields::version_at))]
 pub(crate) fn read_version(reader: &mut Reader<usize>) -> Result<Version, usize>
     ensures { Gives result reader.new.rest.now (version_at reader.old.cut reader.old.rest.now) }

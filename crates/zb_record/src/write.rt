@@ -70,7 +70,7 @@ fn put_nets(into: &mut [u8], at: usize, rows: &[NetRow]) -> usize
     end
 }
 
-/// Returns a sender's floor: its address 8, its stored floor 4.
+/// Writes a sender's floor: its EUI 8, its stored floor 4.
 fn put_sender(into: &mut [u8], at: usize, floor: &SenderFloor) -> usize
     requires { at + 12 ≤ length into.old }
     ensures writes { Writes into.old into.new at result (sender_bytes (heard_floor floor.now)) }
@@ -79,7 +79,7 @@ fn put_sender(into: &mut [u8], at: usize, floor: &SenderFloor) -> usize
     put_eui_number(into, at, floor.sender, floor.stored)
 }
 
-/// Senders' floors.
+/// Writes senders' floors.
 fn put_senders(into: &mut [u8], at: usize, floors: &[SenderFloor]) -> usize
     requires { at + 12 * length floors.now ≤ length into.old }
     ensures writes { Writes into.old into.new at result (flat_map sender_bytes (map heard_floor floors.now)) }
@@ -92,7 +92,7 @@ fn put_senders(into: &mut [u8], at: usize, floors: &[SenderFloor]) -> usize
     end
 }
 
-/// Returns the floors under a network key: their number 1, and each of them.
+/// Writes the floors under a network key: their number 1, and each of them.
 fn put_floors(into: &mut [u8], at: usize, floors: &Senders) -> usize
     requires { at + floors_room ≤ length into.old }
     ensures writes { Writes into.old into.new at result (length floors.now.items
@@ -103,7 +103,7 @@ fn put_floors(into: &mut [u8], at: usize, floors: &Senders) -> usize
     put_senders(into, at, floors.as_slice())
 }
 
-/// Returns the floors of a network key, if it is in use.
+/// Writes the floors of a network key, if it is in use.
 fn put_live_floors(into: &mut [u8], at: usize, row: &NetRow) -> usize
     requires { at + floors_room ≤ length into.old }
     ensures writes { Writes into.old into.new at result (if (net_key row.now).live
@@ -117,7 +117,7 @@ fn put_live_floors(into: &mut [u8], at: usize, row: &NetRow) -> usize
     }
 }
 
-/// Returns the floors of the network keys in use, of which there are two at most.
+/// Writes the floors of the network keys in use, of which there are two at most.
 fn put_all_floors(into: &mut [u8], at: usize, rows: &[NetRow]) -> usize
     requires few { length (filter (λ r. (net_key r).live) rows.now) ≤ 2 }
     requires room { at + 3 * floors_room ≤ length into.old }
@@ -132,7 +132,8 @@ fn put_all_floors(into: &mut [u8], at: usize, rows: &[NetRow]) -> usize
     end
 }
 
-/// Returns a link key: partner 8, key 16, attribute 1, flags 1 (bit 0 live, bit 1 from a code, bit 2 told), floor 4.
+/// Writes a link key: partner 8, key 16, attribute 1, flags 1 (bit 0 live, bit 1 from an install code, bit 2 told),
+/// floor 4.
 fn put_link(into: &mut [u8], at: usize, row: &LinkRow) -> usize
     requires { at + 30 ≤ length into.old }
     ensures writes { Writes into.old into.new at result (link_bytes (link_key row.now)) }
@@ -144,7 +145,7 @@ fn put_link(into: &mut [u8], at: usize, row: &LinkRow) -> usize
     put(into, at, &row.floor.stored.to_le_bytes())
 }
 
-/// Returns the partner and the key of a link key.
+/// Writes the partner and the key of a link key.
 fn put_partner_key(into: &mut [u8], at: usize, row: &LinkRow) -> usize
     requires { at + 24 ≤ length into.old }
     ensures writes { Writes into.old into.new at result (eight_bytes row.now.partner.0 ++ row.now.key.0) }
@@ -154,7 +155,7 @@ fn put_partner_key(into: &mut [u8], at: usize, row: &LinkRow) -> usize
     put(into, at, &row.key.0)
 }
 
-/// Returns the link keys.
+/// Writes the link keys.
 fn put_links(into: &mut [u8], at: usize, rows: &[LinkRow]) -> usize
     requires { at + 30 * length rows.now ≤ length into.old }
     ensures writes { Writes into.old into.new at result (flat_map link_bytes (map link_key rows.now)) }
@@ -167,7 +168,7 @@ fn put_links(into: &mut [u8], at: usize, rows: &[LinkRow]) -> usize
     end
 }
 
-/// Returns a key of two devices: first 8, second 8, key 16, live 1, which is 01.
+/// Writes a key of two devices: first 8, second 8, key 16, live 1, which is 01.
 fn put_pair(into: &mut [u8], at: usize, pair: &Pair) -> usize
     requires { at + 33 ≤ length into.old }
     ensures writes { Writes into.old into.new at result (pair_bytes (pair_key pair.now)) }
@@ -177,7 +178,7 @@ fn put_pair(into: &mut [u8], at: usize, pair: &Pair) -> usize
     put_second(into, at, pair)
 }
 
-/// Returns the second device and the key of a pair, which is in use.
+/// Writes the second device and the key of a pair, which is in use.
 fn put_second(into: &mut [u8], at: usize, pair: &Pair) -> usize
     requires { at + 25 ≤ length into.old }
     ensures writes { Writes into.old into.new at result (eight_bytes pair.now.second.0 ++ (pair.now.key.0 ++ 1 ∷ [])) }
@@ -187,7 +188,7 @@ fn put_second(into: &mut [u8], at: usize, pair: &Pair) -> usize
     put_key_live(into, at, &pair.key)
 }
 
-/// Returns a key that is in use.
+/// Writes a key that is in use.
 fn put_key_live(into: &mut [u8], at: usize, key: &Key) -> usize
     requires { at + 17 ≤ length into.old }
     ensures writes { Writes into.old into.new at result (key.now.0 ++ 1 ∷ []) }
@@ -197,7 +198,7 @@ fn put_key_live(into: &mut [u8], at: usize, key: &Key) -> usize
     put(into, at, &[1])
 }
 
-/// Returns the keys of pairs of devices.
+/// Writes the keys of pairs of devices.
 fn put_pairs(into: &mut [u8], at: usize, pairs: &[Pair]) -> usize
     requires { at + 33 * length pairs.now ≤ length into.old }
     ensures writes { Writes into.old into.new at result (flat_map pair_bytes (map pair_key pairs.now)) }

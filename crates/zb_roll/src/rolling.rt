@@ -49,7 +49,7 @@ fn started(tables: &Tables, net: &NetRow, key: &Key) -> Changes
     changes
 }
 
-/// Tells what the start of a rollover to a network key changes.
+/// Returns the changes of the start of a rollover to a network key.
 ///
 /// Of two network keys in use the one that isn't active is dropped. The new one has the next sequence number, and no
 /// device was told. Requires an active row. The changes fit outside a rollover, where no network row has the key.
@@ -73,7 +73,7 @@ pub fn start(tables: &Tables, key: &Key) -> Result<Changes, KeyError>
     }
 }
 
-/// Tells what the end of a rollover changes: the newest network key in use becomes active.
+/// Returns the changes of the end of a rollover: the newest network key in use becomes active.
 ///
 /// It is for a rollover that reached every live device, as `may_switch` says.
 #[tactic(auto, using(crate::proofs::Ends::settled_idle, crate::proofs::Ends::settled_end))]
@@ -95,7 +95,7 @@ pub fn finish(tables: &Tables) -> Changes
     changes
 }
 
-/// Tells what lets a device be sent the new network key once more.
+/// Returns the changes that let a device be sent the new network key once more.
 ///
 /// Requires a live device that was told.
 pub fn again(tables: &Tables, device: Eui) -> Changes

@@ -10,7 +10,7 @@ use zb_host::{Outcome, Plan};
 use zb_node_types::Refusal;
 use zb_seal::Term;
 
-/// Plans what a router does.
+/// The policy of a router, which plans what it does.
 pub struct RouterPolicy;
 
 impl Policy for RouterPolicy {
@@ -31,5 +31,5 @@ impl Policy for RouterPolicy {
     ghost some = { some_task };
 }
 
-/// Decides what a router does.
+/// The core of a router, which decides what it does.
 pub type Router = PolicyCore<RouterPolicy>;

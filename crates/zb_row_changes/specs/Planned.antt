@@ -28,7 +28,7 @@ abbrev pub told : Outcome → Result (List Edit × Option Sending) Reason
 told (Stop why) = Err why
 told (Does moves sending) = Ok (map Moved moves, sending)
 
--- what a call answers, in the same words: it sends nothing
+-- what a call returns, in the same words: it sends nothing
 abbrev pub answered : Result (ArrayVec Change) KeyError → Result (List Edit × Option Sending) Reason
 answered (Err e) = Err (reason_of e)
 answered (Ok list) = Ok (edits list.items, None)

@@ -1,6 +1,6 @@
 //! The changes of a node's rows: a key comes, is offered, proved or shared, becomes active, or goes.
 //!
-//! Each call tells the changes of its rows in order, or why there are none. None changes the tables or takes memory:
+//! Each call returns the changes of its rows in order, or why there are none. None changes the tables or takes memory:
 //! `Tables::apply` makes the changes.
 #![tactic(auto)]
 

@@ -16,7 +16,9 @@ use zb_base::{Attribute, Eui, Key};
 use zb_node_types::{Change, Changes, KeyError};
 use zb_rows::{LinkRow, Tables, add_drop_partner, has_link, links_full, live_link, other_user};
 
-/// Returns why a link key gets no row: there is no room for one, or another partner's row has the key.
+/// Returns why a link key gets no row, if it gets none.
+///
+/// There is no room for one, or another partner's row has the key.
 #[tactic(auto, unfolding(crate::specs::Chains::steps))]
 pub fn row_refusal(tables: &Tables, partner: Eui, key: &Key) -> Option<KeyError>
     ensures { (moves : List Move) → told (take_row tables.now partner.0 key.now.0 moves) ≡ refused_or result moves }
@@ -32,7 +34,8 @@ pub fn row_refusal(tables: &Tables, partner: Eui, key: &Key) -> Option<KeyError>
     }
 }
 
-/// Lists what an admission changes: the code's row is new or revived, provisional, and the device is live.
+/// Lists what an admission changes. The row of the install code's key is new or revived, and provisional. The device
+/// is live.
 fn admitted(device: Eui, key: &Key) -> Changes
     ensures made { edits result.items ≡ map Moved (Row device.0 key.now.0 Provisional ∷ Live device.0 ∷ []) }
     ensures few { length result.items ≤ 5 }
@@ -50,8 +53,9 @@ fn admitted(device: Eui, key: &Key) -> Changes
     changes
 }
 
-/// Tells what the link key of a device's install code changes at the centre: its row is new or revived, and it
-/// is live.
+/// Returns the changes of the centre where the link key of a device's install code is entered.
+///
+/// The key's row is new or revived, and the device is live.
 ///
 /// Requires a device that isn't live.
 ///
@@ -115,9 +119,11 @@ fn offered(tables: &Tables, partner: Eui, key: &Key) -> Changes
     changes
 }
 
-/// Tells what a link key changes that is offered: nothing where it is the current or the offered one.
+/// Returns the changes of a link key that is offered.
 ///
-/// Else it is the offered one, in place of another: its row is new or revived, unverified.
+/// There are none where it is the current or the offered one.
+///
+/// Otherwise it becomes the offered one, in place of another. Its row is new or revived, and unverified.
 ///
 /// # Errors
 /// `RowsFull` where a new row has no room; `KeyInUse` where another partner's row has the key.
@@ -154,9 +160,11 @@ fn shared(tables: &Tables, partner: Eui, key: &Key) -> Changes
     changes
 }
 
-/// Tells what a key with a partner changes: nothing where the partner's row in use has it.
+/// Returns the changes of a key that comes with a partner.
 ///
-/// Else it takes the place of the partner's rows in use: its row is new or revived, verified.
+/// There are none where the partner's row in use has it.
+///
+/// Otherwise it takes the place of the partner's rows in use. Its row is new or revived, and verified.
 ///
 /// # Errors
 /// `RowsFull` where a new row has no room; `KeyInUse` where another partner's row has the key.
@@ -174,7 +182,9 @@ pub fn partner(tables: &Tables, partner: Eui, key: &Key) -> Result<Changes, KeyE
     }
 }
 
-/// Tells what drops a partner: each of its rows in use goes, of which there are two at most.
+/// Returns the changes that drop a partner.
+///
+/// Each of its rows in use goes, of which there are two at most.
 pub fn drop_partner(tables: &Tables, partner: Eui) -> Changes
     ensures rule { edits result.items ≡ map Moved (drop_partner tables.now partner.0) }
     ensures few { length result.items ≤ 2 }

@@ -76,7 +76,7 @@ fn installed(tables: &Tables, key: &Key, sequence: u8) -> Changes
     changes
 }
 
-/// Tells what a network key changes that comes.
+/// Returns the changes of a network key that comes.
 ///
 /// A key in use gets no second row. A new one has a row, after one of two in use is dropped: the one that isn't
 /// active, or the first where none is. It becomes active in a node that knocks or rejoins, and where none is active.
@@ -110,7 +110,9 @@ fn activation(tables: &Tables, key: &Key) -> Changes
     changes
 }
 
-/// Tells what a switch to a sequence number changes: the newest network key in use that has it becomes active.
+/// Returns the changes of a switch to a sequence number.
+///
+/// The newest network key in use that has it becomes active.
 ///
 /// # Errors
 /// `NoRow` where no network key in use has the sequence.

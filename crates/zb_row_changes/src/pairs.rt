@@ -11,7 +11,7 @@ use zb_base::{Eui, Key};
 use zb_node_types::{Change, Changes, KeyError};
 use zb_rows::{Tables, pairs_full};
 
-/// Adds the pair of two devices, the smaller address first.
+/// Adds the pair of two devices, the smaller EUI first.
 ///
 /// Requires room for one more.
 pub fn add_pair(changes: &mut Changes, a: Eui, b: Eui, key: &Key)
@@ -41,7 +41,7 @@ fn paired(a: Eui, b: Eui, key: &Key) -> Changes
     changes
 }
 
-/// Tells what a key for two devices changes at the centre: they have a pair with it.
+/// Returns the changes of the centre by a key for two devices: they get a pair with it.
 ///
 /// The pair fits two different devices that have none.
 ///

@@ -57,9 +57,10 @@ pub fn verified(tables: &Tables, partner: Eui, key: &Key) -> Changes
     changes
 }
 
-/// Tells what the proof of a partner's key by its hash changes.
+/// Returns the changes of the proof of a partner's key by its hash.
 ///
-/// Of the offered key: it is verified, and the current one goes. Of the verified current key: nothing.
+/// A proof of the offered key verifies it, and the current one goes. A proof of the verified current key changes
+/// nothing.
 ///
 /// # Errors
 /// `NoRow` where the partner has neither an offered row nor a verified current one; `WrongHash` where it has, and the

@@ -39,14 +39,16 @@ pub fn live_link(tables: &Tables, partner: Eui) -> Option<&LinkRow>
     live_row(tables.links(), partner)
 }
 
-/// Returns the row of the node's own install code: the first one of the centre that comes from a code.
+/// Returns the row of the node's own install code.
+///
+/// It is the first row of the centre that comes from an install code.
 pub fn code_row(tables: &Tables, centre: Eui) -> Option<&LinkRow>
     ensures { option_map link_key (option_copied result) ≡ code_row tables.now centre.0 }
 {
     row_with_code(tables.links(), centre)
 }
 
-/// Returns the first of these rows that is of a partner and from a code.
+/// Returns the first of these rows that is of a partner and from an install code.
 fn row_with_code<'a>(rows: &'a [LinkRow], partner: Eui) -> Option<&'a LinkRow>
     ensures { option_copied result ≡ find (λ r. nat_eq (link_key r).partner partner.0 && (link_key r).code) rows.now }
 {

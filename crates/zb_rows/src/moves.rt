@@ -72,7 +72,9 @@ fn is_spared(spared: Option<Key>, key: &Key) -> bool
     }
 }
 
-/// Adds the drop that makes room for a third network key in use: that of the one that isn't active, or of the first.
+/// Adds the drop that makes room for a third network key in use, where there are two.
+///
+/// It drops the first one that isn't active.
 pub fn add_drop_old(tables: &Tables, changes: &mut Changes)
     requires { length changes.old.items ≤ 14 }
     ensures made { edits changes.new.items ≡ edits changes.old.items ++ map Moved (drop_old tables.now) }

@@ -1,5 +1,5 @@
--- What the proof of a rule unfolds beside the rule's own word: the steps of its chain of refusals, and the part of it
--- that is about the rows of a partner.
+-- What the proof of a rule unfolds beside the rule's own word. That is the steps of its chain of refusals, and the
+-- part of it that is about the rows of a partner.
 use Rattle.std.specs.Prelude.{⊤}
 use Rattle.zb_model.specs.Rules.{unless, found_or, choose}
 use Rattle.zb_row_changes.specs.Planned.{partner_rule}

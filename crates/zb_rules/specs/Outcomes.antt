@@ -1,4 +1,4 @@
--- What a rule of the program answers, as the model's outcome: a refusal, or an effect, which is changes and what is
+-- What a rule of the program returns, as the model's outcome: a refusal, or an effect, which is changes and what is
 -- sent.
 use Rattle.std.specs.Prelude.{◌≡◌, ◌≤◌, ℕ, List, length, Option, option_map, Result, Ok, Err}
 use Rattle.zb_base.specs.declared.place.Place.{Place}

@@ -3,7 +3,7 @@ use zb_base::{Eui, Label};
 use zb_row_changes::LinkRow;
 use zb_setting::Network;
 
-/// Says in which form a command came, and from whom.
+/// The form in which a command came, and from whom.
 #[derive(Debug, Drop)]
 pub enum Heard {
     /// Not secured at APS, in a secured NWK frame.

@@ -22,10 +22,12 @@ pub fn is_rejoining(state: State) -> bool
     matches!(state, State::Rejoining)
 }
 
-/// Returns whether a node may say something.
+/// Checks that a node may say something.
 ///
 /// # Errors
-/// No key without a usable active network key; wrong state in rejoining; the NWK counter is spent.
+/// - No key without a usable active network key.
+/// - Wrong state in rejoining.
+/// - Counter spent where the NWK counter is.
 #[tactic(auto, unfolding(zb_model::specs::OwnEvents::say, crate::specs::Chains::steps))]
 pub fn may_say(tables: &Tables) -> Result<(), Refusal>
     ensures rule { (to : ℕ) (bytes : Bytes) → said result to bytes ≡ told (say tables.now to bytes) }
@@ -56,7 +58,7 @@ pub fn sending_data(to: Short, bytes: Payload) -> Option<Sending>
     sending(to, true, Body::Saying { bytes })
 }
 
-/// Reports application data to a short address: a data frame, without APS security.
+/// Sends application data to a short address, as a data frame without APS security.
 ///
 /// # Errors
 /// Those of `may_say`.

@@ -1,4 +1,4 @@
--- The fault of a sink in the answer of a call that may also lack memory.
+-- The fault of a sink in the result of a call that may also run out of memory.
 use Rattle.std.specs.Prelude.{Result, Ok, Err}
 use Rattle.zb_base.specs.declared.fault.Failed.{Failed}
 use Rattle.zb_base.specs.declared.fault.OrMemory.{OrMemory}

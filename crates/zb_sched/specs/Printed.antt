@@ -1,5 +1,5 @@
--- The one printed text of a schedule: the nodes, then all install codes, all network keys and all counters that
--- aren't 0, each kind in the order of the nodes and `nwk` before `aps`, then the supply and the events.
+-- The one printed text of a schedule: the nodes, then all install codes, all network keys and all counters that aren't
+-- 0, then the supply and the events. Each kind is in the order of the nodes, and `nwk` is before `aps`.
 use Rattle.std.specs.Prelude.{ℕ, ◌==◌, List, [], ◌∷◌, ◌++◌, map, if◌then◌else◌, Option, Some, None}
 use Rattle.std.specs.List.{flat_map}
 use Rattle.zb_base.specs.declared.label.Layer.{Layer}

@@ -7,8 +7,8 @@ use Rattle.zb_sched_line.specs.Views.{event_of}
 use Rattle.zb_sched.specs.declared.schedule.Node.{Node as CodeNode}
 use Rattle.zb_sched.specs.declared.schedule.Schedule.{Schedule as CodeSchedule}
 
--- A node: its name, part and addresses; its blocks of outgoing and incoming counters; the install code printed on
--- it; the network key that it holds from the start, with its sequence number; its stored outgoing limits at the start.
+-- A node, as it is declared. `network` is the network key that it holds from the start, with its sequence number.
+-- `code` is the install code that is printed on it. The last two are its stored outgoing limits at the start.
 pub record Node : Type 0 where
   pub name : Bytes
   pub role : Role

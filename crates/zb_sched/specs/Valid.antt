@@ -57,8 +57,8 @@ seated node = record { node = node; nwk_declared = false; aps_declared = false }
 abbrev pub seen_of : Schedule → Seen
 seen_of p = record { seats = map seated p.nodes; draws = p.draws; events = [] }
 
--- An event is in its ranges and its nodes are declared with parts that it allows; an install code that it brings gives
--- no link key that is another node's or a network key, and none of the supply or the well-known one.
+-- An event is in its ranges, and its nodes are declared with parts that it allows. An install code that it brings
+-- gives a link key that isn't another node's, a network key, one of the supply or the well-known one.
 abbrev pub FitsSchedule : Schedule → Event → Type 0
 FitsSchedule p event = FitsEvent event × (has_its_nodes event (map seated p.nodes) ≡ true)
     × (provision_clashes event (seen_of p) ≡ false)

@@ -347,6 +347,9 @@ impl Draft {
     }
 
     /// Makes the schedule that was read.
+    ///
+    /// # Errors
+    /// `AllocError`.
     pub fn finish(self, alloc: Global) -> Result<Schedule, AllocError>
         ensures schedule { IfOk result (λ schedule. schedule_of schedule ≡ finished self) }
         ensures valid { IsSoFar (finished self) → IsTrue (has_centre self.seats)
@@ -367,14 +370,20 @@ impl Draft {
         })
     }
 
-    /// Makes room for so many more events.
+    /// Makes room for `events` more events.
+    ///
+    /// # Errors
+    /// `AllocError`.
     pub fn reserve(&mut self, events: usize) -> Result<(), AllocError>
         ensures { self.new ≡ self.old }
     {
         self.events.reserve(events)
     }
 
-    /// Takes what a line says. After an error the schedule so far is not to be used any more.
+    /// Takes what a line says.
+    ///
+    /// # Errors
+    /// The first rule that the line breaks, or out of memory. The schedule so far isn't used any more then.
     pub fn take_line(&mut self, line: Line) -> Result<(), OrMemory<SchedCause>>
         ensures exact { Steps result self.new (after_sentence self.old (sentence_of line)) }
         ensures kept { FitsSentence (sentence_of line) → IsSoFar (finished self.old)
@@ -400,7 +409,11 @@ impl Draft {
         }
     }
 
-    /// Takes a line. After an error the schedule so far is not to be used any more.
+    /// Takes a line.
+    ///
+    /// # Errors
+    /// `Syntax` where it is no line of a schedule, the first rule that it breaks, or out of memory. The schedule so
+    /// far isn't used any more then.
     pub fn take(&mut self, text: &[u8]) -> Result<(), OrMemory<SchedCause>>
         ensures exact { Steps result self.new (after_line self.old text.now) }
         ensures kept { IsSoFar (finished self.old) → OnOk result (IsSoFar (finished self.new)) }

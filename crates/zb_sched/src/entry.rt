@@ -158,6 +158,9 @@ pub fn set_counter(entries: &mut Vec<Entry>, name: &Name, layer: Layer, limit: u
 }
 
 /// Takes the nodes alone.
+///
+/// # Errors
+/// `AllocError`.
 pub fn nodes_of(alloc: Global, entries: Vec<Entry>) -> Result<Vec<Node>, AllocError>
     ensures { IfOk result (λ nodes. nodes.items ≡ map (λ entry. entry.node) entries.items) }
 {

@@ -23,7 +23,7 @@ pub enum SchedCause {
     TooMany,
 }
 
-/// Names the first bad line, from 1, and its first cause. That there is no centre is a fault after the last line.
+/// The first bad line, from 1, and its first cause. That there is no centre is a fault after the last line.
 #[derive(Clone, Copy, Debug, PartialEq, Eq)]
 pub struct SchedError {
     /// The number of the line.

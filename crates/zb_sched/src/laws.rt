@@ -1,5 +1,5 @@
-//! What every schedule keeps is kept by each line, and what is printed of a schedule is that schedule: laws of the
-//! definitions, each on a function that does nothing.
+//! Laws of schedules, each on a function that does nothing. Each line keeps what every schedule keeps, and what is
+//! printed of a schedule is that schedule.
 
 ghost use Rattle.std.specs.Prelude.{◌≡◌, Ok, true};
 ghost use Rattle.zb_sched_line.specs.Fits.{FitsSentence};

@@ -1,5 +1,5 @@
 //! Schedules: what a network is made of and what happens in it, as a text. `read` takes exactly the texts that are
-//! schedules, and tells of others the first bad line and why; `write` prints the one text of a schedule.
+//! schedules, and reports of others the first bad line and why; `write` prints the one text of a schedule.
 #![tactic(auto)]
 
 mod draft;

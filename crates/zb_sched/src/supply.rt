@@ -1,4 +1,4 @@
-//! The keys of the supply in their order, with a quick answer to whether a key is among them.
+//! The keys of the supply in their order, with a quick look-up of whether a key is among them.
 
 ghost use Rattle.std.specs.Prelude.{◌≡◌, ◌++◌, [], ◌∷◌, map, OnOk};
 ghost use Rattle.zb_sched.specs.Judge.{is_drawn};
@@ -9,7 +9,7 @@ use std::collections::BTreeSet;
 use std::marker::Model;
 use zb_base::Key;
 
-/// Holds distinct keys in their order.
+/// Distinct keys in their order.
 #[derive(Drop)]
 pub struct Supply {
     keys: Vec<Key>,
@@ -46,6 +46,9 @@ impl Supply {
     }
 
     /// Adds a key.
+    ///
+    /// # Errors
+    /// `AllocError`.
     pub fn push(&mut self, key: Key) -> Result<(), AllocError>
         ensures { OnOk result (self.new ≡ self.old ++ key.0 ∷ []) }
     {

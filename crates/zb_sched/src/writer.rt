@@ -119,7 +119,7 @@ fn put_events(out: &mut Vec<u8>, events: &[Event]) -> Result<(), AllocError>
 /// Prints the one text of a schedule into a sink.
 ///
 /// # Errors
-/// A sink that failed has a prefix of the text; where memory lacks, it has nothing.
+/// A sink that failed has a prefix of the text. Out of memory it has nothing.
 pub fn write<W: Sink>(
     alloc: Global,
     schedule: &Schedule,

@@ -35,7 +35,7 @@ greatest = 4294967295
 abbrev pub number_from : ℕ → ℕ → List ℕ → Option ℕ
 number_from low high word = kept (λ number. nat_le low number) (number_of high word)
 
--- An IEEE address that a node can have: not all 0, nor all F.
+-- An EUI that a node can have: not all 0, nor all F.
 abbrev pub is_real_eui : ℕ → Bool
 is_real_eui eui = not (eui == 0) && not (eui == broadcast_eui)
 

@@ -21,10 +21,10 @@ pub data Event : Type 0 where
   Rejoins : (name : Bytes) → Event
   -- a parent hears a child that joins or rejoins
   Adopts : (parent : Bytes) (name : Bytes) (rejoin : Bool) → Event
-  -- the centre: a device's install code is entered, it is sent the network key again, a new network key, the switch
-  -- to it, and a device is removed by way of a parent
+  -- the centre: a device's install code is entered, and the device is sent the network key again
   Provisions : (name : Bytes) (code : Bytes) → Event
   Repeats : (name : Bytes) → Event
+  -- the centre: a new network key, the switch to it, and a device is removed by way of a parent
   Rolls : Event
   Switches : Event
   Removes : (name : Bytes) (parent : Bytes) → Event
@@ -49,10 +49,10 @@ pub data Event : Type 0 where
 pub data Sentence : Type 0 where
   -- an empty line or a comment
   Quiet : Sentence
-  -- declarations: a node, its install code (None where the bytes are no install code), a network key that it holds,
-  -- its stored outgoing limit, and the next key of the supply
+  -- declarations: a node, and its install code (None where the bytes are no install code)
   Introduces : (name : Bytes) (role : Role) (eui short out_block in_block : ℕ) → Sentence
   Codes : (name : Bytes) (code : Option Bytes) → Sentence
+  -- declarations: a network key that a node holds, its stored outgoing limit, and the next key of the supply
   Holds : (name : Bytes) (key : Bytes) (sequence : ℕ) → Sentence
   Starts : (name : Bytes) (layer : Layer) (limit : ℕ) → Sentence
   Draws : (key : Bytes) → Sentence

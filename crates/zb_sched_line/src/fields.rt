@@ -30,7 +30,7 @@ pub fn byte(words: &mut Words, limit: u8) -> Option<u8>
     Some(number as u8)
 }
 
-/// Takes an IEEE address that a node can have: not all 0, nor all F.
+/// Takes an EUI that a node can have: not all 0, nor all F.
 pub fn real_eui(words: &mut Words) -> Option<Eui>
     ensures value { Takes (λ eui. eui.0) result (left words.new) (field real_eui_of (left words.old)) }
     ensures fits { IfSome result (λ eui. (eui.0 < 2 ^ 64) × IsTrue (is_real_eui eui.0)) }

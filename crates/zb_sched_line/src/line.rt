@@ -54,7 +54,7 @@ pub enum Line {
     Event(Event),
 }
 
-/// Reads a line, or answers None where it is no line of a schedule.
+/// Reads a line, or returns None where it is no line of a schedule.
 pub fn read_line(line: &[u8]) -> Option<Line>
     ensures value { Shows sentence_of result (meaning_of line.now) }
     ensures fits { IfSome result (λ line. FitsSentence (sentence_of line)) }
@@ -75,8 +75,9 @@ pub fn read_line(line: &[u8]) -> Option<Line>
     Some(Line::Event(event))
 }
 
-/// Reads an event of one node into a place, or answers None where the line is none. After None what stands there says
-/// nothing.
+/// Reads an event of one node into a place, or returns None where the line is none.
+///
+/// After None what stands in the place means nothing.
 pub fn read_own_event(line: &[u8], event: &mut Event) -> Option<()>
     ensures value { Shows event_of (read_into result event.new) (own_event_of line.now) }
     ensures fits { IfSome result (λ _. FitsEvent (event_of event.new)) }

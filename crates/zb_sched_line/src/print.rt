@@ -13,6 +13,9 @@ use zb_text::choices::{layer_text, role_text};
 use zb_text::page::{add_bytes, add_eui, add_key, add_number, add_short, add_word, end_line, put};
 
 /// Prints the line of a node.
+///
+/// # Errors
+/// `AllocError`.
 #[tactic(auto, using(std::proofs::Common::append_assoc))]
 pub fn put_node(
     out: &mut Vec<u8>,
@@ -35,6 +38,9 @@ pub fn put_node(
 }
 
 /// Prints the line of a network key that a node holds.
+///
+/// # Errors
+/// `AllocError`.
 #[tactic(auto, using(std::proofs::Common::append_assoc))]
 pub fn put_netkey(out: &mut Vec<u8>, name: &Name, key: &Key, sequence: u8) -> Result<(), AllocError>
     ensures { OnOk result (out.new.items ≡ out.old.items
@@ -48,6 +54,9 @@ pub fn put_netkey(out: &mut Vec<u8>, name: &Name, key: &Key, sequence: u8) -> Re
 }
 
 /// Prints the line of a node's stored limit.
+///
+/// # Errors
+/// `AllocError`.
 #[tactic(auto, using(std::proofs::Common::append_assoc))]
 pub fn put_counter(
     out: &mut Vec<u8>,
@@ -66,6 +75,9 @@ pub fn put_counter(
 }
 
 /// Prints the line of a key of the supply.
+///
+/// # Errors
+/// `AllocError`.
 #[tactic(auto, using(std::proofs::Common::append_assoc))]
 pub fn put_draw(out: &mut Vec<u8>, key: &Key) -> Result<(), AllocError>
     ensures { OnOk result (out.new.items ≡ out.old.items ++ text_of_words (draw_words key.now.0)) }
@@ -91,6 +103,7 @@ fn rejoin_word(rejoin: bool) -> &'static [u8]
     if rejoin { b"rejoin" } else { b"join" }
 }
 
+/// Prints the line of an event that names one node.
 #[tactic(auto, using(std::proofs::Common::append_assoc))]
 pub(crate) fn put_own(out: &mut Vec<u8>, keyword: &[u8], name: &Name) -> Result<(), AllocError>
     ensures { OnOk result (out.new.items ≡ out.old.items ++ text_of_words (keyword.now ∷ name.now.bytes ∷ [])) }
@@ -100,6 +113,7 @@ pub(crate) fn put_own(out: &mut Vec<u8>, keyword: &[u8], name: &Name) -> Result<
     Ok(())
 }
 
+/// Prints the line of an event that names two nodes.
 #[tactic(auto, using(std::proofs::Common::append_assoc))]
 pub(crate) fn put_pair(
     out: &mut Vec<u8>,
@@ -116,6 +130,7 @@ pub(crate) fn put_pair(
     Ok(())
 }
 
+/// Prints the line of application data that a node says to a short address.
 #[tactic(auto, using(std::proofs::Common::append_assoc))]
 pub(crate) fn put_say(
     out: &mut Vec<u8>,
@@ -133,6 +148,7 @@ pub(crate) fn put_say(
     Ok(())
 }
 
+/// Prints the line of a frame that is delivered to a node.
 #[tactic(auto, using(std::proofs::Common::append_assoc))]
 pub(crate) fn put_deliver(out: &mut Vec<u8>, frame: u32, name: &Name) -> Result<(), AllocError>
     ensures { OnOk result (out.new.items ≡ out.old.items
@@ -145,6 +161,7 @@ pub(crate) fn put_deliver(out: &mut Vec<u8>, frame: u32, name: &Name) -> Result<
     Ok(())
 }
 
+/// Prints the line of a child that joins or rejoins at a parent.
 #[tactic(auto, using(std::proofs::Common::append_assoc))]
 pub(crate) fn put_child(
     out: &mut Vec<u8>,
@@ -162,6 +179,7 @@ pub(crate) fn put_child(
     Ok(())
 }
 
+/// Prints the line of a device that is removed by way of a parent.
 #[tactic(auto, using(std::proofs::Common::append_assoc))]
 pub(crate) fn put_remove(out: &mut Vec<u8>, name: &Name, parent: &Name) -> Result<(), AllocError>
     ensures { OnOk result (out.new.items ≡ out.old.items
@@ -174,6 +192,7 @@ pub(crate) fn put_remove(out: &mut Vec<u8>, name: &Name, parent: &Name) -> Resul
     Ok(())
 }
 
+/// Prints the line of a stop that is armed on the disk of a node.
 #[tactic(auto, using(std::proofs::Common::append_assoc))]
 pub(crate) fn put_stop(
     out: &mut Vec<u8>,
@@ -191,6 +210,7 @@ pub(crate) fn put_stop(
     Ok(())
 }
 
+/// Prints the line of a failure that is armed on the disk of a node.
 #[tactic(auto, using(std::proofs::Common::append_assoc))]
 pub(crate) fn put_fail(out: &mut Vec<u8>, name: &Name, call: u8) -> Result<(), AllocError>
     ensures { OnOk result (out.new.items ≡ out.old.items
@@ -202,6 +222,7 @@ pub(crate) fn put_fail(out: &mut Vec<u8>, name: &Name, call: u8) -> Result<(), A
     Ok(())
 }
 
+/// Prints the line of bytes that the outside puts on the air.
 #[tactic(auto, using(std::proofs::Common::append_assoc))]
 pub(crate) fn put_inject(out: &mut Vec<u8>, bytes: &[u8]) -> Result<(), AllocError>
     ensures { OnOk result (out.new.items ≡ out.old.items
@@ -213,6 +234,7 @@ pub(crate) fn put_inject(out: &mut Vec<u8>, bytes: &[u8]) -> Result<(), AllocErr
     Ok(())
 }
 
+/// Prints the line of application data that a node tells a partner.
 #[tactic(auto, using(std::proofs::Common::append_assoc))]
 pub(crate) fn put_tell(
     out: &mut Vec<u8>,
@@ -230,6 +252,7 @@ pub(crate) fn put_tell(
     Ok(())
 }
 
+/// Prints a line of one word.
 #[tactic(auto, using(std::proofs::Common::append_assoc))]
 pub(crate) fn put_word_line(out: &mut Vec<u8>, word: &[u8]) -> Result<(), AllocError>
     ensures { OnOk result (out.new.items ≡ out.old.items ++ text_of_words (word.now ∷ [])) }
@@ -252,6 +275,9 @@ fn put_coded(out: &mut Vec<u8>, keyword: &[u8], name: &Name, code: &[u8]) -> Res
 }
 
 /// Prints the line of the install code that is printed on a node.
+///
+/// # Errors
+/// `AllocError`.
 pub fn put_code(out: &mut Vec<u8>, name: &Name, code: &[u8]) -> Result<(), AllocError>
     ensures { OnOk result (out.new.items ≡ out.old.items ++ text_of_words (code_words name.now.bytes code.now)) }
 {
@@ -259,6 +285,7 @@ pub fn put_code(out: &mut Vec<u8>, name: &Name, code: &[u8]) -> Result<(), Alloc
     Ok(())
 }
 
+/// Prints the line of an install code that is entered at the centre for a device.
 pub(crate) fn put_provision(out: &mut Vec<u8>, name: &Name, code: &[u8]) -> Result<(), AllocError>
     ensures { OnOk result (out.new.items ≡ out.old.items
         ++ text_of_words (codes "provision" ∷ name.now.bytes ∷ bytes_text code.now ∷ [])) }

@@ -15,6 +15,9 @@ use crate::print_forged::{put_forge_both, put_forge_net, put_forge_open};
 use std::alloc::AllocError;
 
 /// Prints the line of an event.
+///
+/// # Errors
+/// `AllocError`.
 pub fn put_event(out: &mut Vec<u8>, event: &Event) -> Result<(), AllocError>
     ensures { OnOk result (out.new.items ≡ out.old.items ++ event_text (event_of event.now)) }
 {

@@ -62,6 +62,9 @@ fn put_net(out: &mut Vec<u8>, net: &Net) -> Result<(), AllocError>
 }
 
 /// Prints the line of a frame that is sealed at the network layer alone.
+///
+/// # Errors
+/// `AllocError`.
 #[tactic(auto, using(std::proofs::Common::append_assoc))]
 pub fn put_forge_net(
     out: &mut Vec<u8>,
@@ -82,6 +85,9 @@ pub fn put_forge_net(
 }
 
 /// Prints the line of a frame that is sealed at both layers.
+///
+/// # Errors
+/// `AllocError`.
 #[tactic(auto, using(std::proofs::Common::append_assoc))]
 pub fn put_forge_both(
     out: &mut Vec<u8>,
@@ -104,6 +110,9 @@ pub fn put_forge_both(
 }
 
 /// Prints the line of a frame that is sealed at the APS layer alone.
+///
+/// # Errors
+/// `AllocError`.
 #[tactic(auto, using(std::proofs::Common::append_assoc))]
 pub fn put_forge_open(
     out: &mut Vec<u8>,

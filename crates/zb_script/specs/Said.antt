@@ -11,11 +11,14 @@ pub data Sentence : Type 0 where
   -- the centre with its blocks of counters, and a router or device
   Founds : (name : Bytes) (eui out_block in_block : ℕ) → Sentence
   Introduces : (name : Bytes) (role : Role) (eui short : ℕ) → Sentence
-  -- commands: a new store, a device's install code (None where the bytes are no install code), a device that is
-  -- removed by way of a parent, what is kept, its backup, and a new store from the text of a backup
+  -- a command: a new store
   Begins : (key : Bytes) → Sentence
+  -- a command: a device's install code is entered; None where the bytes are no install code
   Provisions : (name : Bytes) (code : Option Bytes) → Sentence
+  -- a command: a device is removed by way of a parent
   Removes : (name : Bytes) (parent : Bytes) → Sentence
+  -- commands: what is kept, and its backup
   Lists : Sentence
   BacksUp : Sentence
+  -- a command: a new store from the text of a backup
   Restores : (skip : ℕ) (json : Bytes) → Sentence

@@ -241,7 +241,9 @@ impl Draft {
     /// Takes the line of a peer, a router or a device. A refused line changes nothing.
     ///
     /// # Errors
-    /// `Syntax`, where there is no centre yet; `DuplicateNode`; `TooMany`.
+    /// - `Syntax` where there is no centre yet, or a command came before.
+    /// - `DuplicateNode` where its name, EUI or short address is taken.
+    /// - `TooMany` where there are 64 nodes.
     pub fn take_peer(&mut self, peer: Peer) -> Result<(), OrMemory<ScriptCause>>
         requires { is_joiner peer.role ≡ true }
         ensures steps { Steps result self.new
@@ -382,7 +384,11 @@ impl Draft {
         }
     }
 
-    /// Takes a line of that number. After an error the script so far is not to be used any more.
+    /// Takes a line of that number.
+    ///
+    /// # Errors
+    /// `Syntax` where it is no line of a script, the first rule that it breaks, or out of memory. The script so far
+    /// isn't used any more then.
     pub fn take(
         &mut self,
         alloc: Global,

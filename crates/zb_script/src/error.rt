@@ -21,7 +21,7 @@ pub enum ScriptCause {
     NoCentre,
 }
 
-/// Names the first bad line, from 1, and its first cause. That there is no centre is a fault after the last line.
+/// The first bad line, from 1, and its first cause. That there is no centre is a fault after the last line.
 #[derive(Clone, Copy, Debug, PartialEq, Eq)]
 pub struct ScriptError {
     /// The number of the line.

@@ -1,5 +1,5 @@
 //! Scripts for a centre's store: the network, and what is to be done with the store, one command a line. `read` takes
-//! exactly the texts that are scripts, and tells of others the first bad line and why. A `Draft` takes the lines of
+//! exactly the texts that are scripts, and reports of others the first bad line and why. A `Draft` takes the lines of
 //! the network one by one.
 //!
 //! A script has a line `centre NAME EUI OUT IN`, then lines `peer NAME ROLE EUI SHORT`, then commands: `init KEY`,

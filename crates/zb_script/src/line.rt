@@ -54,7 +54,7 @@ pub enum Line<'a> {
     },
 }
 
-/// Reads a line, or answers None where it is no line of a script.
+/// Reads a line, or returns None where it is no line of a script.
 pub fn read_line<'a>(line: &'a [u8]) -> Option<Line<'a>>
     ensures value { Shows sentence_of result (meaning_of line.now) }
     ensures joins { IfSome result (λ line. Joins (sentence_of line)) }
@@ -100,7 +100,7 @@ fn own_line<'a>(keyword: &[u8], words: Words<'a>) -> Option<Line<'a>>
     }
 }
 
-/// Takes an IEEE address that a node can have: not all 0, nor all F.
+/// Takes an EUI that a node can have: not all 0, nor all F.
 fn real_eui(words: &mut Words) -> Option<Eui>
     ensures { Takes (λ eui. eui.0) result (left words.new) (field real_eui_of (left words.old)) }
 {

@@ -1,5 +1,5 @@
 -- The bytes on the air of a sealed term (05-3474-21, 4.3.1, 4.4.1 and 4.5): its header with the level bits cleared,
--- the cipher text, the MIC (message integrity code).
+-- the cipher text, the MIC.
 use Rattle.std.specs.Prelude.{ℕ, zero, suc, ◌+◌, ◌-◌, ◌*◌, ◌/◌, List, [], ◌∷◌, ◌++◌, length, nat_le, if◌then◌else◌}
 use Rattle.std.specs.Int.{w32}
 use Rattle.zb_base.specs.declared.address.Eui.{Eui}

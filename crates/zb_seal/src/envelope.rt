@@ -28,7 +28,7 @@ pub enum OpenError {
     NotSecured,
     /// The frame names no source, and none was given.
     NoSource,
-    /// The MIC (message integrity code) is not that of a content under this key.
+    /// The MIC is not that of a content under this key.
     BadMic,
 }
 
@@ -86,16 +86,16 @@ pub struct Envelope {
     pub header: Frame,
     /// The cipher text.
     pub text: Frame,
-    /// The MIC (message integrity code).
+    /// The MIC.
     pub mic: [u8; 4],
 }
 
 /// A secured NWK frame, closed: how it is addressed, which network key seals it, and its envelope.
 #[derive(Debug, Drop, PartialEq, Eq)]
 pub struct NwkEnvelope {
-    /// The network address that the frame goes to.
+    /// The short address that the frame goes to.
     pub destination: Short,
-    /// The network address that the frame comes from.
+    /// The short address that the frame comes from.
     pub source: Short,
     /// The sequence number of the network key that seals the frame.
     pub key_sequence: u8,

@@ -12,7 +12,7 @@ ghost use Rattle.zb_seal.specs.Wire.{zero_level, at_place, aux_size, wire};
 ghost use Rattle.zb_seal.specs.Opening.{source_of, opened_nwk, opened_aps, IsNwkTerm, IsApsTerm};
 ghost use Rattle.zb_base.specs.Limits.{longest_frame};
 
-/// Returns what `wire` and the calls that open are to each other.
+/// States that `wire` and the calls that open undo each other.
 pub fn wire_and_open()
     // The bytes of a term open to it, under its base key, and at APS with its source where the header has none.
     ensures nwk_opens { (t : Term) (h : NwkHeader) (a : NwkAux) → IsNwkTerm t h a → length t.base.0 ≡ 16

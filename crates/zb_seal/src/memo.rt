@@ -29,8 +29,8 @@ const KEYS: usize = 8;
 
 /// The sealing keys that were used last, expanded: at most 8.
 ///
-/// What it has changes no answer: a key that it lacks is expanded for the one call. It takes memory where a key is
-/// kept, and keeps none where that lacks.
+/// What it has changes no result: a key that it lacks is expanded for the one call. It takes memory where a key is
+/// kept. Out of memory it keeps none.
 #[derive(Drop)]
 pub struct KeyMemo {
     keys: Vec<Expanded>,
@@ -59,7 +59,9 @@ impl KeyMemo {
         None
     }
 
-    /// Derives and expands a sealing key and keeps it, in place of the one that came first where there is no room.
+    /// Derives and expands a sealing key, and keeps it.
+    ///
+    /// Where there is no room, it takes the place of the one that came first.
     pub fn keep(&mut self, label: Label, base: &Key) {
         if self.find(label, base).is_some() {
             return;

@@ -62,7 +62,7 @@ fn nwk_header(bytes: &[u8], frame: &NwkFrame, aux: &NwkAux) -> Frame
 pub fn envelope_nwk(bytes: &[u8], frame: &NwkFrame) -> Result<NwkEnvelope, OpenError>
     requires { SpellsNwk bytes.now frame.now }
     ensures exact { result ≡ nwk_closed frame.now frame.now.aux }
-    // Its envelope is that which `look_nwk` answers for the bytes.
+    // Its envelope is that which `look_nwk` returns for the bytes.
     ensures envelope { IfOk result (λ x. envelope_of_nwk frame.now frame.now.aux ≡ Ok x.envelope) }
     ensures refused { IfErr result (λ e. envelope_of_nwk frame.now frame.now.aux ≡ Err e) }
     ensures label { IfOk result (λ x. x.envelope.label ≡ Network) }
@@ -87,7 +87,7 @@ pub fn envelope_nwk(bytes: &[u8], frame: &NwkFrame) -> Result<NwkEnvelope, OpenE
     }
 }
 
-/// Reads a NWK frame and answers what it says of itself before any key is tried.
+/// Reads a NWK frame, and returns what it says of itself before any key is tried.
 ///
 /// # Errors
 ///
@@ -166,7 +166,7 @@ pub fn envelope_aps(bytes: &[u8], frame: &ApsFrame) -> Result<Envelope, OpenErro
     }
 }
 
-/// Reads an APS frame and answers what it says of itself before any key is tried.
+/// Reads an APS frame, and returns what it says of itself before any key is tried.
 ///
 /// # Errors
 ///
@@ -203,11 +203,14 @@ pub fn open_nwk_with(bytes: &[u8], key: &Key, cipher: &Cipher) -> Result<Term, O
 ///
 /// # Errors
 ///
-/// `Frame` where the bytes are no NWK frame, then `NotSecured` where it is not secured, then `BadMic` where its MIC is
-/// not that of a content under the key.
+/// The first of these:
+///
+/// - `Frame` where the bytes are no NWK frame
+/// - `NotSecured` where it is not secured
+/// - `BadMic` where its MIC is not that of a content under the key
 pub fn open_nwk(bytes: &[u8], key: &Key) -> Result<Term, OpenError>
     ensures exact { result ≡ opened_nwk bytes.now key.now }
-    // What is answered is what the bytes open to, and what the bytes open to is answered.
+    // What is returned is what the bytes open to, and what the bytes open to is returned.
     ensures found { IfOk result (λ t. OpensNwk bytes.now key.now t) }
     ensures only { (t : Term) → OpensNwk bytes.now key.now t → result ≡ Ok t }
 {
@@ -249,11 +252,15 @@ fn open_aps_once(bytes: &[u8], base: &Key, source: Option<Eui>) -> Result<Term, 
 ///
 /// # Errors
 ///
-/// `Frame` where the bytes are no APS frame, then `NotSecured` where it is not secured, then `NoSource` where its
-/// source is not known, then `BadMic` where its MIC is not that of a content under the key.
+/// The first of these:
+///
+/// - `Frame` where the bytes are no APS frame
+/// - `NotSecured` where it is not secured
+/// - `NoSource` where its source is not known
+/// - `BadMic` where its MIC is not that of a content under the key
 pub fn open_aps(bytes: &[u8], base: &Key, source: Option<Eui>) -> Result<Term, OpenError>
     ensures exact { result ≡ opened_aps bytes.now base.now source }
-    // What is answered is what the bytes open to, and what the bytes open to is answered.
+    // What is returned is what the bytes open to, and what the bytes open to is returned.
     ensures found { IfOk result (λ t. OpensAps bytes.now base.now source t) }
     ensures only { (t : Term) → OpensAps bytes.now base.now source t → result ≡ Ok t }
 {
@@ -261,7 +268,7 @@ pub fn open_aps(bytes: &[u8], base: &Key, source: Option<Eui>) -> Result<Term, O
     open_aps_once(bytes, base, source)
 }
 
-// That a key has 16 bytes, for what is said of it.
+// States that a key has 16 bytes.
 fn known_key(key: &Key)
     ensures { length key.now.0 ≡ 16 }
 {

@@ -58,7 +58,7 @@ fn fill_on_air(out: &mut Frame, size: usize, header: &Frame)
     }
 }
 
-/// Encrypts the content of a term, which `text` is, in place, and returns its code.
+/// Encrypts the content of a term, which `text` is, in place, and returns its MIC.
 fn seal_content(cipher: &Cipher, term: &Term, text: &mut Frame) -> [u8; 4]
     requires { text.old.items ≡ term.now.content.items }
     ensures text { text.new.items ≡ (sealed_term cipher.now term.now).text }
@@ -70,7 +70,7 @@ fn seal_content(cipher: &Cipher, term: &Term, text: &mut Frame) -> [u8; 4]
     seal_with(cipher, &nonce, term.header.as_slice(), text.as_mut_slice())
 }
 
-/// Seals a term: answers its bytes on the air. Requires its sealing key, which was expanded before.
+/// Seals a term, and returns its bytes on the air. Requires its sealing key, which was expanded before.
 ///
 /// # Errors
 ///
@@ -92,7 +92,9 @@ pub fn wire_with(term: &Term, cipher: &Cipher) -> Result<Frame, TooLong>
     Ok(out)
 }
 
-/// Seals a term: answers its header with level bits 000, the cipher text and the code.
+/// Seals a term, and returns its bytes on the air.
+///
+/// They are its header with level bits 000, the cipher text and the MIC.
 ///
 /// # Errors
 ///

@@ -15,7 +15,7 @@ pub struct Term {
     pub base: Key,
     /// The key identifier of the auxiliary header, which says how it comes.
     pub label: Label,
-    /// The IEEE address of the node that sealed, or for which a forger wrote the frame.
+    /// The EUI of the node that sealed, or for which a forger wrote the frame.
     pub source: Eui,
     /// The security control byte of the auxiliary header, with the real level in its low three bits.
     pub control: u8,

@@ -21,8 +21,8 @@ body_of (Relayed bytes) = model.Relayed bytes.items
 abbrev pub sending_of : Sending → model.Sending
 sending_of s = record { to = s.to.0; secured = s.secured; body = body_of s.body }
 
--- The bytes for which a NWK frame has room, of its 127: its header has 8, and where it is sealed there are an
--- auxiliary header of 14 and a MIC of 4.
+-- The bytes for which a NWK frame has room, of its 127. Its header has 8. Where it is sealed, there are an auxiliary
+-- header of 14 and a MIC of 4.
 abbrev pub clear_room : ℕ
 clear_room = 119
 

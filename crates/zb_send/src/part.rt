@@ -202,10 +202,12 @@ fn relayed(bytes: &Frame, seal: &mut Option<Term>, out: &mut Frame) -> u16
     SECURED
 }
 
-/// Writes the payload of a NWK frame into `out`, and what is sealed in it at the APS layer into `seal`. Returns the
-/// NWK frame control that carries it, with the bit that says sealed.
+/// Writes the payload of a NWK frame into `out`, and the term that is sealed in it into `seal`.
 ///
-/// It is made from the node's IEEE address and the frame counters of both layers. A key that the memo lacks is
+/// That term is one of the APS layer, if there is any. Returns the NWK frame control that carries the payload, with
+/// the bit that says sealed.
+///
+/// The payload is made from the node's EUI and the frame counters of both layers. A key that the memo lacks is
 /// expanded. What stood in the places is gone.
 #[tactic(auto, using(crate::proofs::Lengths::least_room))]
 pub(crate) fn put_part(

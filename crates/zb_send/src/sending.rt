@@ -69,7 +69,7 @@ pub enum Body {
 /// A frame that a node is to send.
 #[derive(Debug, Drop)]
 pub struct Sending {
-    /// The network address that it goes to.
+    /// The short address that it goes to.
     pub to: Short,
     /// Whether it is sealed at the network layer.
     pub secured: bool,

@@ -63,14 +63,14 @@ impl Network {
         })
     }
 
-    /// Returns the node's own IEEE address.
+    /// Returns the node's own EUI.
     pub fn eui(&self) -> Eui
         ensures { result.0 ≡ self.now.me.eui }
     {
         self.me.eui
     }
 
-    /// Returns the node's own network address.
+    /// Returns the node's own short address.
     pub fn short(&self) -> Short
         ensures { result.0 ≡ self.now.me.short }
     {
@@ -116,7 +116,7 @@ impl Network {
         self.in_block
     }
 
-    /// Returns the IEEE address of the trust centre.
+    /// Returns the EUI of the trust centre.
     pub fn centre(&self) -> Eui
         ensures value { result.0 ≡ centre_of self.now.stations }
         ensures in_range { result.0 < 2 ^ 64 }
@@ -124,14 +124,14 @@ impl Network {
         peers::in_range(self.centre)
     }
 
-    /// Returns whether an IEEE address is that of the trust centre.
+    /// Returns whether an EUI is that of the trust centre.
     pub fn from_centre(&self, source: Eui) -> bool
         ensures { result ≡ from_centre self.now source.0 }
     {
         source.0 == self.centre.0
     }
 
-    /// Returns the network address of a declared node, and FFFF where none has this IEEE address.
+    /// Returns the short address of a declared node, and FFFF where none has this EUI.
     #[tactic(auto, unfolding(zb_model::specs::Rules::short_of))]
     pub fn short_of(&self, eui: Eui) -> Short
         ensures { result.0 ≡ short_of self.now eui.0 }
@@ -142,7 +142,7 @@ impl Network {
         }
     }
 
-    /// Returns the network address of the source of a frame, and FFFF where it is unknown or not declared.
+    /// Returns the short address of the source of a frame, and FFFF where it is unknown or not declared.
     #[tactic(auto, unfolding(zb_model::specs::Rules::short_of))]
     pub fn short_of_source(&self, source: Option<Eui>) -> Short
         ensures { result.0 ≡ short_of self.now (eui_of (option_map (λ e. e.0) source)) }
@@ -156,21 +156,21 @@ impl Network {
         }
     }
 
-    /// Returns whether a node of this IEEE address is declared.
+    /// Returns whether a node of this EUI is declared.
     pub fn is_declared(&self, eui: Eui) -> bool
         ensures { result ≡ is_declared self.now eui.0 }
     {
         peers::peer_of(self.peers.as_slice(), eui).is_some()
     }
 
-    /// Returns whether a router of this IEEE address is declared.
+    /// Returns whether a router of this EUI is declared.
     pub fn acts_as_router(&self, eui: Eui) -> bool
         ensures { result ≡ acts_as_router self.now eui.0 }
     {
         peers::router_of(self.peers.as_slice(), eui).is_some()
     }
 
-    /// Returns the IEEE address of the declared node with this network address.
+    /// Returns the EUI of the declared node with this short address.
     pub fn eui_at(&self, short: Short) -> Option<Eui>
         ensures { option_map (λ e. e.0) result ≡ option_map (λ p. p.eui) (station_at self.now.stations short.0) }
     {
@@ -180,8 +180,10 @@ impl Network {
         }
     }
 
-    /// Returns whether a frame to this network address is for the node (05-3474-21, 3.6.5): by its own address, or by
-    /// a broadcast to all (FFFF), to all that listen (FFFD), or to the centre and the routers (FFFC).
+    /// Returns whether a frame to this short address is for the node (05-3474-21, 3.6.5).
+    ///
+    /// The address is the node's own, or that of a broadcast to it: all (FFFF), all that listen (FFFD), or the centre
+    /// and the routers (FFFC).
     pub fn hears(&self, to: Short) -> bool
         ensures { result ≡ hears self.now to.0 }
     {
@@ -192,7 +194,7 @@ impl Network {
         }
     }
 
-    // Whether a frame to this network address is for the node, be it a router or not.
+    // Returns whether a frame to this short address is for the node, be it a router or not.
     fn is_for(&self, to: Short) -> bool
         ensures { result ≡ (nat_eq to.0 self.now.me.short || (nat_eq to.0 0xffff || nat_eq to.0 0xfffd)) }
     {

@@ -32,7 +32,7 @@ pub(crate) fn is_router(role: Role) -> bool
     }
 }
 
-/// Returns the declared node of an IEEE address.
+/// Returns the declared node of an EUI.
 #[tactic(auto, unfolding(zb_model::specs::Rules::station_of), using(crate::proofs::Looking::find_map))]
 pub(crate) fn peer_of<'a>(peers: &'a [Peer], eui: Eui) -> Option<&'a Peer>
     ensures { option_map known (option_copied result) ≡ station_of (map known peers.now) eui.0 }
@@ -40,14 +40,14 @@ pub(crate) fn peer_of<'a>(peers: &'a [Peer], eui: Eui) -> Option<&'a Peer>
     with_eui(peers, eui)
 }
 
-/// Returns the first node that has the IEEE address.
+/// Returns the first node that has the EUI.
 fn with_eui<'a>(peers: &'a [Peer], eui: Eui) -> Option<&'a Peer>
     ensures { option_copied result ≡ find (λ peer. nat_eq (known peer).eui eui.0) peers.now }
 {
     peers.iter().find(|peer| peer.eui.0 == eui.0)
 }
 
-/// Returns the declared node of a network address.
+/// Returns the declared node of a short address.
 #[tactic(auto, unfolding(zb_model::specs::Rules::station_at), using(crate::proofs::Looking::find_map))]
 pub(crate) fn peer_at<'a>(peers: &'a [Peer], short: Short) -> Option<&'a Peer>
     ensures { option_map known (option_copied result) ≡ station_at (map known peers.now) short.0 }
@@ -55,14 +55,14 @@ pub(crate) fn peer_at<'a>(peers: &'a [Peer], short: Short) -> Option<&'a Peer>
     with_short(peers, short)
 }
 
-/// Returns the first node that has the network address.
+/// Returns the first node that has the short address.
 fn with_short<'a>(peers: &'a [Peer], short: Short) -> Option<&'a Peer>
     ensures { option_copied result ≡ find (λ peer. nat_eq (known peer).short short.0) peers.now }
 {
     peers.iter().find(|peer| peer.short.0 == short.0)
 }
 
-/// Returns the declared router of an IEEE address.
+/// Returns the declared router of an EUI.
 #[tactic(auto, using(crate::proofs::Looking::find_map))]
 pub(crate) fn router_of<'a>(peers: &'a [Peer], eui: Eui) -> Option<&'a Peer>
     ensures { option_map known (option_copied result)
@@ -71,7 +71,7 @@ pub(crate) fn router_of<'a>(peers: &'a [Peer], eui: Eui) -> Option<&'a Peer>
     router_with_eui(peers, eui)
 }
 
-/// Returns the first router that has the IEEE address.
+/// Returns the first router that has the EUI.
 fn router_with_eui<'a>(peers: &'a [Peer], eui: Eui) -> Option<&'a Peer>
     ensures { option_copied result
         ≡ find (λ peer. nat_eq (known peer).eui eui.0 && is_router (known peer).role) peers.now }
@@ -88,7 +88,7 @@ fn first_centre<'a>(peers: &'a [Peer]) -> Option<&'a Peer>
     peers.iter().find(|peer| is_centre(peer.role))
 }
 
-/// Returns an address of which it says that it has 64 bits.
+/// Returns an EUI, of which the contract says that it has 64 bits.
 pub(crate) fn in_range(eui: Eui) -> Eui
     ensures same { result ≡ eui }
     ensures bits { result.0 < 2 ^ 64 }
@@ -96,7 +96,7 @@ pub(crate) fn in_range(eui: Eui) -> Eui
     eui
 }
 
-/// Returns the IEEE address of the centre. Requires that there is one.
+/// Returns the EUI of the centre. Requires that there is one.
 #[tactic(auto, unfolding(zb_model::specs::Rules::centre_of), using(crate::proofs::Looking::find_map))]
 pub(crate) fn centre_among(peers: &[Peer]) -> Eui
     requires { count_by (λ peer. is_centre peer.role) peers.now ≡ 1 }
@@ -108,7 +108,7 @@ pub(crate) fn centre_among(peers: &[Peer]) -> Eui
     }
 }
 
-/// States that a node isn't the one that represents nobody, whose number is no address.
+/// Returns whether a node is the one that represents nobody. It never is, since the number of nobody is no EUI.
 fn is_nobody(peer: &Peer) -> bool
     ensures is { result ≡ nat_eq (known peer.now).eui nobody }
     ensures never { result ≡ false }
@@ -124,7 +124,7 @@ fn first_nobody(peers: &[Peer]) -> Option<&Peer>
     peers.iter().find(|peer| is_nobody(peer))
 }
 
-/// States that nobody is declared; does nothing.
+/// States that nobody is declared. It does nothing.
 #[tactic(auto, unfolding(zb_model::specs::Rules::station_of), using(crate::proofs::Looking::find_map))]
 pub(crate) fn nobody_among(peers: &[Peer])
     ensures { station_of (map known peers.now) nobody ≡ None }

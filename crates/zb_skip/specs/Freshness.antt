@@ -1,5 +1,5 @@
--- That a centre which goes on from a backup seals nothing again under its keys: which counters the lost store may have
--- used, what the centre lives through since, and what it seals.
+-- That a centre which goes on from a backup seals nothing again under its keys. Here is which counters the lost store
+-- may have used, what the centre lives through since, and what it seals.
 use Rattle.std.specs.Prelude.{ℕ, ◌≡◌, ◌+◌, ◌≤◌, List, [], ◌∷◌, Some, ⊤}
 use Rattle.std.specs.List.{AllByRecursion}
 use Rattle.zb_model.specs.Answer.{answer, answered}
@@ -9,14 +9,14 @@ use Rattle.zb_model.specs.State.{NetKey, NodeState, after_boot, greatest_counter
 use Rattle.zb_model.specs.Tools.{Tools}
 use Rattle.zb_skip.specs.Skipping.{counted_from}
 
--- A limit that is at most so many above another. No limit is above the greatest counter.
+-- A limit that is at most `by` above another. No limit is above the greatest counter.
 pub record IsAbove (by limit lost : ℕ) : Type 0 where
   pub within : lost ≤ limit + by
   pub greatest : lost ≤ greatest_counter
 
--- The limits of a store that was lost, later than a backup of it: that of APS, and that of each network key of the
--- backup, are at most so many above those of the backup. A key that the backup has as never active counts from where a
--- skip starts it.
+-- The limits of a store that was lost, later than a backup of it, are at most `by` above those of the backup. They are
+-- that of APS, and that of each network key of the backup. A key that the backup has as never active counts from where
+-- a skip starts it.
 pub record HasUsed (by : ℕ) (backup lost : NodeState) : Type 0 where
   pub aps : IsAbove by backup.aps_limit lost.aps_limit
   pub nets : (key : Bytes) (r l : NetKey) → net_of key backup ≡ Some r → net_of key lost ≡ Some l

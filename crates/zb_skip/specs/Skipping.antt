@@ -5,7 +5,7 @@ use Rattle.zb_model.specs.State.{NetKey, NodeState, greatest_counter, stored_lim
 use Rattle.zb_node_types.specs.Changes.{edit}
 use Rattle.zb_node_types.specs.declared.change.Change.{Change}
 
--- A limit that is so many higher, up to the greatest counter.
+-- A limit that is `by` higher, up to the greatest counter.
 abbrev pub skipped_limit : ℕ → ℕ → ℕ
 skipped_limit by limit = min (limit + by) greatest_counter
 
@@ -16,9 +16,9 @@ counted_from active r = if r.started then r.limit else active
 abbrev pub skipped_net : ℕ → ℕ → NetKey → NetKey
 skipped_net by active r = record r { started = true; limit = skipped_limit by (counted_from active r) }
 
--- The tables with which a centre goes on: the limit of APS and that of each network key, dropped ones too, are so many
--- higher, and a key that was never active counts from the limit of the active one, or from the declared start where
--- none is active. As after a boot, each counter is at its limit. The declared start stays.
+-- The tables with which a centre goes on. The limit of APS and that of each network key, dropped ones too, are `by`
+-- higher. A key that was never active counts from the limit of the active one, or from the declared start where none
+-- is active. As after a boot, each counter is at its limit. The declared start stays.
 unfoldable pub skipped : ℕ → NodeState → NodeState
 skipped by s = after_boot (record s {
   aps_limit = skipped_limit by s.aps_limit;
@@ -27,7 +27,7 @@ skipped by s = after_boot (record s {
 
 -- Row by row
 
--- The row of a network key whose counter skips so many: it goes on from its new limit.
+-- The row of a network key whose counter skips `by` numbers: it goes on from its new limit.
 abbrev pub raised : ℕ → ℕ → NetKey → NetKey
 raised by active r = record (skipped_net by active r) { next = max r.next (skipped_limit by (counted_from active r)) }
 
@@ -37,7 +37,7 @@ StartsAt by active place rows change = (before after : List NetKey) (r : NetKey)
     → length before ≡ place
     → (edit change ≡ Start r.key (skipped_limit by (counted_from active r))) × (r.limit < 2 ^ 32)
 
--- The row at a place has skipped so many, and all else is as it was.
+-- The row at a place has skipped `by` numbers, and all else is as it was.
 abbrev pub Raises : ℕ → ℕ → ℕ → NodeState → NodeState → Type 0
 Raises by active place old new = (before after : List NetKey) (r : NetKey) → old.nets ≡ before ++ r ∷ after
     → length before ≡ place

@@ -1,4 +1,4 @@
-//! Tables whose outgoing counters skip so many numbers.
+//! Tables whose outgoing counters skip some numbers.
 ghost use Rattle.std.specs.Prelude.{◌≡◌, ◌<◌, ◌^◌, length, map, true};
 ghost use Rattle.zb_model.specs.Data.{Start};
 ghost use Rattle.zb_model.specs.Fits.{fits};
@@ -22,7 +22,7 @@ fn make(tables: &mut Tables, change: Change)
     tables.apply(&changes);
 }
 
-// Answers the stored limit of a layer: at NWK that of the active key, or the declared one where none is active.
+// Returns the stored limit of a layer. At NWK it is that of the active key, or the declared one where none is active.
 fn limit_of(tables: &Tables, layer: Layer) -> u32
     ensures value { result ≡ stored_limit (model_layer layer) tables.now }
     ensures fits { result < 2 ^ 32 }
@@ -30,7 +30,7 @@ fn limit_of(tables: &Tables, layer: Layer) -> u32
     tables.outgoing(layer, 0).limit
 }
 
-// Skips so many counters of the application support layer.
+// Skips `by` counters of the application support layer.
 fn skip_aps(tables: &mut Tables, by: u32)
     ensures { tables.new ≡ record tables.old { aps_limit = skipped_limit by tables.old.aps_limit } }
 {
@@ -45,7 +45,7 @@ fn skip_aps(tables: &mut Tables, by: u32)
     );
 }
 
-// Answers where a network key counts from. One that was never active counts from where the active one does.
+// Returns where a network key counts from. One that was never active counts from where the active one does.
 fn counted_from(row: &NetRow, active: u32) -> u32
     ensures value { result ≡ counted_from active (net_key row.now) }
     ensures fits { row.now.limit < 2 ^ 32 }
@@ -54,7 +54,7 @@ fn counted_from(row: &NetRow, active: u32) -> u32
     if row.started { limit } else { active }
 }
 
-// Answers the change by which a network key skips so many counters.
+// Returns the change by which a network key skips `by` counters.
 fn start_of(row: &NetRow, active: u32, by: u32) -> Change
     ensures value { edit result
         ≡ Start (net_key row.now).key (skipped_limit by (counted_from active (net_key row.now))) }
@@ -66,7 +66,7 @@ fn start_of(row: &NetRow, active: u32, by: u32) -> Change
     }
 }
 
-// Answers the change by which the network key at a place skips so many counters.
+// Returns the change by which the network key at a place skips `by` counters.
 fn start_at(rows: &[NetRow], place: usize, active: u32, by: u32) -> Change
     requires { place < length rows.now }
     ensures { StartsAt by active place (map net_key rows.now) result }
@@ -74,7 +74,7 @@ fn start_at(rows: &[NetRow], place: usize, active: u32, by: u32) -> Change
     start_of(&rows[place], active, by)
 }
 
-// Skips so many counters of the network key at a place.
+// Skips `by` counters of the network key at a place.
 fn skip_net(tables: &mut Tables, place: usize, active: u32, by: u32)
     requires { place < length tables.old.nets }
     ensures { Raises by active place tables.old tables.new }
@@ -84,11 +84,13 @@ fn skip_net(tables: &mut Tables, place: usize, active: u32, by: u32)
     make(tables, change);
 }
 
-/// Skips so many outgoing counters of each layer and each network key, as a centre does that goes on from a backup.
+/// Skips `by` outgoing counters of each layer and each network key.
+///
+/// A centre does so that goes on from a backup.
 ///
 /// Each limit rises by that number, to 4,294,967,295 at most: that of the application support layer, and that of each
-/// network key, a dropped one too. A network key that was never active becomes one that was, with the limit of the
-/// active key, or the declared one where none is active, so many higher. Counters go on from the limits, as after a
+/// network key, a dropped one too. A network key that was never active becomes one that was. Its limit is `by` above
+/// that of the active key, or above the declared one where none is active. Counters go on from the limits, as after a
 /// boot. The declared start stays. It takes no memory.
 pub fn skip(tables: &mut Tables, by: u32)
     ensures is { tables.new ≡ skipped by tables.old }

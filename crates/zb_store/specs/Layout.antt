@@ -68,7 +68,7 @@ abbrev pub followed : Option (List ℕ) → (List ℕ → List (List ℕ)) → L
 followed None behind = []
 followed (Some payload) behind = payload ∷ behind payload
 
--- the payloads of the entries that stand one after the other, up to so many or to the first place where none stands
+-- the payloads of the entries that stand one after the other, up to that many or to the first place where none stands
 unfoldable pub payloads_of : ℕ → List ℕ → List (List ℕ)
 payloads_of zero bytes = []
 payloads_of (suc n) bytes = followed (entry_of bytes) (λ payload. payloads_of n (drop (3 + length payload) bytes))

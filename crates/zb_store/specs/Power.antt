@@ -10,7 +10,7 @@ abbrev pub reads_open : List ℕ → ℕ → Bool
 reads_open [] written = written == open_gate
 reads_open (b ∷ torn) written = b == open_gate
 
--- whether a commit stands that a stop ended after so many writes and syncs
+-- whether a commit stands that a stop ended after that many writes and syncs
 abbrev pub stop_commits : ℕ → List ℕ → Bool
 stop_commits calls torn = if calls == 3 then reads_open torn open_gate else nat_lt 3 calls
 
@@ -33,7 +33,7 @@ open_stop_leaves_both calls torn = if calls == 2 then reads_open torn 0 else tru
 abbrev pub open_failure_leaves_both : ℕ → Bool
 open_failure_leaves_both call = nat_lt call 3
 
--- An armed stop fell within a run of writes and syncs: so many went through, the next one was refused, and the disk is
+-- An armed stop fell within a run of writes and syncs: `calls` went through, the next one was refused, and the disk is
 -- off.
 pub record StopFell (calls run : ℕ) (old new : Medium) : Type 0 where
   pub within : calls < run

@@ -13,7 +13,7 @@ pub record IsHeaderOf (x : List ℕ) (h : Header) : Type 0 where
   pub generation : h.generation ≡ generation_of x
   pub size : h.size ≡ size_of x
 
--- whether the slot is open, which has so many bytes
+-- whether a slot of `room` bytes is open
 abbrev pub opens : Header → ℕ → Bool
 opens h room = h.gate == open_gate && nat_le h.size record_room && nat_le (13 + h.size) room
 
@@ -42,7 +42,7 @@ pub record IsFoundIn (f : Found) (seen : List ℕ) : Type 0 where
   pub room : f.room ≡ length (slot f.second seen)
   pub other : f.other_open ≡ (gate_of (slot (not f.second) seen) == open_gate)
 
--- these bytes stand on the disk from a place on; there are so many, and the first of them are known, up to a reach
+-- these bytes stand on the disk from a place on; there are `room` of them, and the first ones are known, up to a reach
 pub record IsBehind (bytes : List ℕ) (start room reach : ℕ) (seen : List ℕ) : Type 0 where
   pub size : length bytes ≡ room
   pub same : (k : ℕ) → k < room → k < reach → get_or bytes k 0 ≡ get_or seen (start + k) 0

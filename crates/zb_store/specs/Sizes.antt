@@ -5,6 +5,6 @@ use Rattle.std.specs.Prelude.{ℕ}
 abbrev pub body_room : ℕ
 body_room = 49165
 
--- the number of bytes behind a record that reading its entries may look at: 488 for each of 32
+-- the number of bytes after a record that reading its entries may look at: 488 for each of 32
 abbrev pub entries_reach : ℕ
 entries_reach = 15616

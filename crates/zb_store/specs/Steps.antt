@@ -4,7 +4,7 @@ use Rattle.zb_base.specs.Outside.{risen, HasCause}
 use Rattle.zb_disk.specs.View.{Telling, View, Torn, Follows, Opens, Only, IsSame, LeavesOnly, overwrite}
 use Rattle.zb_store.specs.Layout.{open_gate}
 
--- so many writes and syncs went through, and those after them are refused as was told
+-- n writes and syncs went through, and those after them are refused as was told
 pub record WentThrough (tells : Telling) (n : ℕ) (old new : View) : Type 0 where
   pub calls : new.calls ≡ risen old.calls n
   pub foretold : IsTrue tells.refusals → (k : ℕ) → k < n → old.refuses k ≡ false
@@ -13,7 +13,8 @@ pub record WentThrough (tells : Telling) (n : ℕ) (old new : View) : Type 0 whe
   pub on : IsTrue tells.refusals → new.off 0 ≡ false
   pub torn : IsTrue tells.refusals → new.torn ≡ old.torn
 
--- the next one after so many was refused, and those after it, and whether the disk is off since then, were told
+-- the next one after n was refused; which of those after it are refused, and whether the disk is off since then, was
+-- told
 pub record StoppedAfter (tells : Telling) (n : ℕ) (old new : View) : Type 0 where
   pub calls : new.calls ≡ risen old.calls (n + 1)
   pub foretold : IsTrue tells.refusals → (k : ℕ) → k < n → old.refuses k ≡ false
@@ -22,11 +23,11 @@ pub record StoppedAfter (tells : Telling) (n : ℕ) (old new : View) : Type 0 wh
   pub off : IsTrue tells.refusals → new.off 0 ≡ old.off (n + 1)
   pub torn : IsTrue tells.refusals → new.torn ≡ old.torn
 
--- one of a run of so many was refused
+-- one of a run of that many was refused
 abbrev pub StoppedWithin : Telling → ℕ → View → View → Type 0
 StoppedWithin tells run old new = (n : ℕ) × (n < run) × StoppedAfter tells n old new
 
--- a count of calls after so many more, which stops at 2^64 - 1
+-- a count of calls after n more, which stops at 2^64 - 1
 abbrev pub calls_then : ℕ → ℕ → ℕ
 calls_then count n = if n == 0 then count else risen count n
 

@@ -190,7 +190,7 @@ pub record IsLaidOut {T E : Type 0} (tells : Telling) (bytes : List ℕ) (old ne
 abbrev pub AllWhole : View → Type 0
 AllWhole v = (c : List ℕ) → v.images c → (s : Standing) × IsWhole s c
 
--- the store, the record and the payloads that an `open` answers
+-- the store, the record and the payloads that an `open` returns
 pub record IsAnswerOf (s : Standing) (store : Place) (content payloads seen : List ℕ) : Type 0 where
   pub stands : stands seen ≡ Some s
   pub place : store ≡ place_of s

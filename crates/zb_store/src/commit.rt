@@ -23,6 +23,9 @@ pub(crate) fn base(second: bool) -> u64
 }
 
 /// Writes a range and makes it last.
+///
+/// # Errors
+/// `Failed` where the disk failed.
 pub(crate) fn write_synced<D: Disk>(disk: &mut D, at: u64, bytes: &[u8]) -> Result<(), Failed>
     requires { at + length bytes.now ≤ disk_size }
     ensures { IsPlaced D.tells at bytes.now (D.state disk.old) (D.state disk.new) result }
@@ -32,6 +35,9 @@ pub(crate) fn write_synced<D: Disk>(disk: &mut D, at: u64, bytes: &[u8]) -> Resu
 }
 
 /// Writes a range after a closed gate, and then opens the gate.
+///
+/// # Errors
+/// `Failed` where the disk failed.
 pub(crate) fn write_gated<D: Disk>(disk: &mut D, gate: u64, bytes: &[u8]) -> Result<(), Failed>
     requires { gate + 1 + length bytes.now ≤ disk_size }
     ensures { IsGated D.tells gate bytes.now (D.state disk.old) (D.state disk.new) result }
@@ -41,6 +47,9 @@ pub(crate) fn write_gated<D: Disk>(disk: &mut D, gate: u64, bytes: &[u8]) -> Res
 }
 
 /// Writes a record into a slot, opens its gate, and closes that of the other slot.
+///
+/// # Errors
+/// `Failed` where the disk failed.
 pub(crate) fn replace<D: Disk>(disk: &mut D, second: bool, bytes: &[u8]) -> Result<(), Failed>
     requires { length bytes.now ≤ body_room }
     ensures { IsReplaced D.tells second bytes.now (D.state disk.old) (D.state disk.new) result }
@@ -50,6 +59,9 @@ pub(crate) fn replace<D: Disk>(disk: &mut D, second: bool, bytes: &[u8]) -> Resu
 }
 
 /// Syncs, and closes the gate of the other slot where it is open.
+///
+/// # Errors
+/// `Failed` where the disk failed.
 pub(crate) fn settle<D: Disk>(disk: &mut D, second: bool, other_open: bool) -> Result<(), Failed>
     ensures { IsSettled D.tells second other_open (D.state disk.old) (D.state disk.new) result }
 {
@@ -61,6 +73,9 @@ pub(crate) fn settle<D: Disk>(disk: &mut D, second: bool, other_open: bool) -> R
 }
 
 /// Writes the body of the first slot and closes the gate of the second, and then opens the first.
+///
+/// # Errors
+/// `Failed` where the disk failed.
 pub(crate) fn lay_out<D: Disk>(disk: &mut D, bytes: &[u8]) -> Result<(), Failed>
     requires { length bytes.now ≤ body_room }
     ensures { IsLaidOut D.tells bytes.now (D.state disk.old) (D.state disk.new) result }

@@ -9,7 +9,9 @@ ghost use Rattle.zb_store.specs.Steps.{WentThrough, StoppedWithin};
 ghost use Rattle.zb_store.specs.Store.{AppendStop, PutStop, OpenStop, FormatStop, appended, replaced, both_gates_open, open_calls};
 ghost use Rattle.zb_store.specs.Power.{stop_commits, failure_commits, stop_opens_both, failure_opens_both, open_stop_leaves_both, open_failure_leaves_both, StopFell, FailureFell};
 
-/// Reports on which call of a run an armed stop or failure falls, and that nothing falls where nothing is armed.
+/// States on which call of a run an armed stop or failure falls.
+///
+/// Nothing falls where nothing is armed.
 ///
 /// A run is what a call of the store makes of writes and syncs: `append` four, `put` six, `format` five, `open` one or
 /// three. A stop or failure that didn't fall lies after it.
@@ -31,7 +33,7 @@ pub fn armed_runs()
         → WentThrough memory_tells run (memory_view old) (memory_view new) → is_stopped new.arming ≡ false }
 {}
 
-/// Reports within how many calls an `append`, a `put` or a `format` stopped.
+/// States within how many calls an `append`, a `put` or a `format` stopped.
 pub fn stopped_runs()
     ensures append { (s : Standing) (payload : List ℕ) (old new : Medium)
         → AppendStop memory_tells s payload (memory_view old) (memory_view new)
@@ -44,7 +46,9 @@ pub fn stopped_runs()
         → StoppedWithin memory_tells 5 (memory_view old) (memory_view new) }
 {}
 
-/// Returns what stands after a commit that an armed stop or failure ended, by the call on which that fell.
+/// States what stands after a commit that an armed stop or failure ended.
+///
+/// That depends on the call on which it fell.
 ///
 /// It also says whether the next `open` finds the gates of both slots open. The stop or failure counts from the
 /// beginning of the commit.
@@ -72,7 +76,7 @@ pub fn stopped_commits()
         → both_gates_open (powered new).bytes ≡ failure_opens_both call }
 {}
 
-/// Reports the same of an `open` of a disk on which all is synced.
+/// States what stands after an `open` that an armed stop or failure ended, where all was synced.
 ///
 /// What stood stands. Where the gates of both slots were open, the other clauses say whether they still are; where one
 /// was closed, one is. On a disk that isn't off it stopped at a write or a sync.

@@ -25,7 +25,7 @@ pub fn failure_commits(call: u8) -> bool
     call > 3
 }
 
-// Whether a gate that was written open and not synced reads open after a stop.
+// Returns whether a gate that was written open and not synced reads open after a stop.
 fn opens(torn: &[u8]) -> bool
     ensures { result ≡ reads_open torn.now open_gate }
 {

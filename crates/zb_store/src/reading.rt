@@ -35,7 +35,7 @@ pub(crate) struct Found {
     pub(crate) other_open: bool,
 }
 
-// The number that two bytes spell, and so on.
+// Returns the number that two bytes spell, the low one first. The next two functions do so of four and of eight bytes.
 fn le16(bytes: &[u8]) -> u16
     requires { 2 ≤ length bytes.now }
     ensures { result ≡ from_le_bytes w16 bytes.now }
@@ -80,7 +80,7 @@ fn is_open(header: Header, room: u64) -> bool
         && 13 + u64::from(header.size) <= room
 }
 
-// The newer of two open slots, and the first on a tie.
+// Returns the newer of two open slots, and the first on a tie.
 fn choose(first: Header, first_room: u64, second: Header, second_room: u64) -> Option<Found>
     ensures { result ≡ chosen first first_room second second_room }
 {
@@ -107,6 +107,9 @@ fn choose(first: Header, first_room: u64, second: Header, second_room: u64) -> O
 }
 
 /// Finds the slot that stands.
+///
+/// # Errors
+/// `Failed` where the disk failed.
 pub(crate) fn find<D: Disk>(disk: &mut D) -> Result<Option<Found>, Failed>
     ensures still { IsStill (D.state disk.old) (D.state disk.new) }
     ensures cause { HasCause (D.state disk.old).faults (D.state disk.new).faults result }
@@ -121,7 +124,7 @@ pub(crate) fn find<D: Disk>(disk: &mut D) -> Result<Option<Found>, Failed>
     Ok(choose(first, size.min(65_536), second, size.saturating_sub(65_536)))
 }
 
-// The length of the entry that stands at a place of the disk, after which its slot has so many bytes.
+// Returns the length of the entry that stands at a place of the disk. From there on its slot has `room` bytes.
 fn entry_size<D: Disk>(disk: &mut D, at: u64, room: u64) -> Result<Option<u16>, Failed>
     ensures read { IsRead D.tells (D.state disk.old) (D.state disk.new) result }
     ensures small { IfOk result (λ size. IfSome size (λ n. n ≤ payload_room)) }
@@ -134,7 +137,7 @@ fn entry_size<D: Disk>(disk: &mut D, at: u64, room: u64) -> Result<Option<u16>, 
     Ok(is_entry(buf[0], size, room).then_some(size))
 }
 
-// Whether an entry stands, of which the gate, the length and the bytes of the slot from its gate on are known.
+// Returns whether an entry stands. `room` is the number of bytes of its slot from its gate on.
 fn is_entry(gate: u8, size: u16, room: u64) -> bool
     ensures { result ≡ (gate == OPEN && nat_le size payload_room && nat_le (3 + size) room) }
 {
@@ -142,6 +145,9 @@ fn is_entry(gate: u8, size: u16, room: u64) -> bool
 }
 
 /// Returns how many entries stand from a place of the disk on, and how many bytes they take.
+///
+/// # Errors
+/// `Failed` where the disk failed.
 pub(crate) fn count_entries<D: Disk>(
     disk: &mut D,
     start: u64,
@@ -168,7 +174,7 @@ pub(crate) fn count_entries<D: Disk>(
     Ok((ENTRIES_ROOM, taken))
 }
 
-// The entry at the start, and what lies after it.
+// Returns the payload of the entry at the start, and what lies after that entry.
 fn split_entry(bytes: &[u8]) -> Option<(&[u8], &[u8])>
     ensures entry { MatchOption result (entry_of bytes.now ≡ None)
         (λ r. (entry_of bytes.now ≡ Some r.0.now) × (r.1.now ≡ drop (3 + length r.0.now) bytes.now)) }
@@ -186,6 +192,9 @@ fn split_entry(bytes: &[u8]) -> Option<(&[u8], &[u8])>
 }
 
 /// Returns the payloads of the entries one after the other.
+///
+/// # Errors
+/// `AllocError`.
 pub(crate) fn payload_bytes(alloc: Global, entries: &[u8]) -> Result<Vec<u8>, AllocError>
     ensures payloads { IfOk result (λ v. v.items ≡ concat (payloads_of entries_room entries.now)) }
     ensures short { IfOk result (λ v. length v.items ≤ length entries.now) }
@@ -203,8 +212,10 @@ pub(crate) fn payload_bytes(alloc: Global, entries: &[u8]) -> Result<Vec<u8>, Al
     Ok(payloads)
 }
 
-/// What stands on a disk: its slot, the record, the payloads one after the other, how many entries there are, and the
-/// place in the slot after the last of them.
+/// What stands on a disk.
+///
+/// That is its slot, the record, the payloads one after the other, how many entries there are, and the place in the
+/// slot after the last of them.
 #[derive(Drop)]
 pub(crate) struct Contents {
     pub(crate) found: Found,
@@ -214,7 +225,7 @@ pub(crate) struct Contents {
     pub(crate) end: u32,
 }
 
-// So many bytes from a place on.
+// Reads `len` bytes from a place on.
 fn read_bytes<D: Disk>(
     alloc: Global,
     disk: &mut D,
@@ -234,7 +245,7 @@ fn read_bytes<D: Disk>(
     }
 }
 
-// What stands in the slot that was found.
+// Reads what stands in the slot that was found.
 fn read_found<D: Disk>(alloc: Global, disk: &mut D, found: Found) -> Result<Contents, StoreFault>
     requires { found.size ≤ record_room }
     ensures reads { OnlyReads D.tells (D.state disk.old) (D.state disk.new) result }
@@ -266,7 +277,10 @@ fn read_found<D: Disk>(alloc: Global, disk: &mut D, found: Found) -> Result<Cont
     })
 }
 
-/// Returns what stands on the disk.
+/// Reads what stands on the disk.
+///
+/// # Errors
+/// `Disk` where the disk failed, `NoRecord` where nothing stands on it, or `NoMemory`.
 pub(crate) fn read_standing<D: Disk>(alloc: Global, disk: &mut D) -> Result<Contents, StoreFault>
     ensures reads { OnlyReads D.tells (D.state disk.old) (D.state disk.new) result }
     ensures faults { IfErr result (IsReadFault D.tells (D.state disk.old) (D.state disk.new)) }
@@ -283,7 +297,7 @@ pub(crate) fn read_standing<D: Disk>(alloc: Global, disk: &mut D) -> Result<Cont
     }
 }
 
-// How many entries stand in the slot that was found.
+// Returns the generation of the slot that was found, and how many entries stand in it.
 fn count_found<D: Disk>(disk: &mut D, found: Found) -> Result<(u64, u32), StoreFault>
     requires { found.size ≤ record_room }
     ensures reads { OnlyReads D.tells (D.state disk.old) (D.state disk.new) result }
@@ -300,6 +314,9 @@ fn count_found<D: Disk>(disk: &mut D, found: Found) -> Result<(u64, u32), StoreF
 }
 
 /// Returns the generation that stands, and how many entries.
+///
+/// # Errors
+/// `Disk` where the disk failed, or `NoRecord` where nothing stands on it.
 pub(crate) fn count_standing<D: Disk>(disk: &mut D) -> Result<(u64, u32), StoreFault>
     ensures reads { OnlyReads D.tells (D.state disk.old) (D.state disk.new) result }
     ensures faults { IfErr result (IsStandingFault D.tells (D.state disk.old) (D.state disk.new)) }

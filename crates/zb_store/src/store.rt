@@ -19,7 +19,7 @@ use std::marker::Model;
 use zb_base::{Failed, PAYLOAD_ROOM, RECORD_ROOM};
 use zb_disk::Disk;
 
-/// Keeps one record, and the entries after it, on any disk.
+/// A store of one record, and the entries after it, on any disk.
 ///
 /// It is open: it knows where its record stands on the disk and where the next entry goes.
 #[derive(Drop)]
@@ -58,7 +58,8 @@ impl Store {
     /// is opened again.
     ///
     /// # Errors
-    /// `Disk`; `TooLarge`, for more bytes than `PAYLOAD_ROOM`, before any device call.
+    /// - `Disk` where the disk failed.
+    /// - `TooLarge` for more bytes than `PAYLOAD_ROOM`, before any device call.
     pub fn append<D: Disk>(mut self, disk: &mut D, change: &[u8]) -> Result<Store, StoreFault>
         requires few { self.entries < entries_room }
         requires short { length change.now < 2 ^ 32 }
@@ -104,7 +105,9 @@ impl Store {
     /// Writes a new record, with no entries, in six device calls. After a fault the store is opened again.
     ///
     /// # Errors
-    /// `Disk`; `TooLarge`, for more bytes than `RECORD_ROOM`, and `Worn`, before any device call.
+    /// - `Disk` where the disk failed.
+    /// - `TooLarge` for more bytes than `RECORD_ROOM`, before any device call.
+    /// - `Worn` where the generation can't rise any more, before any device call.
     pub fn put<D: Disk>(mut self, disk: &mut D, content: &[u8]) -> Result<Store, StoreFault>
         requires short { length content.now < 2 ^ 32 }
 
@@ -155,7 +158,9 @@ impl Store {
     /// given up.
     ///
     /// # Errors
-    /// `Disk`; `NoMemory`; `TooLarge`, for more bytes than `RECORD_ROOM`, before any device call.
+    /// - `Disk` where the disk failed.
+    /// - `TooLarge` for more bytes than `RECORD_ROOM`, before any device call.
+    /// - `NoMemory`.
     pub fn format<D: Disk>(alloc: Global, disk: &mut D, first: &[u8]) -> Result<Store, StoreFault>
         requires short { length first.now < 2 ^ 32 }
         ensures ready { IfOk result (λ store. IsTrue D.tells.content
@@ -193,17 +198,19 @@ impl Store {
         }
     }
 
-    /// Opens the store that stands on the disk, and answers it, its record, and the payloads one after the other.
+    /// Opens the store that stands on the disk.
+    ///
+    /// Returns it, its record, and the payloads one after the other.
     ///
     /// It makes its reads first, then one device call, or three where the gates of both slots are open.
     ///
     /// # Errors
-    /// `Disk`; `NoRecord`; `NoMemory`.
+    /// `Disk` where the disk failed, `NoRecord` where nothing stands on it, or `NoMemory`.
     pub fn open<D: Disk>(
         alloc: Global,
         disk: &mut D,
     ) -> Result<(Store, Vec<u8>, Vec<u8>), StoreFault>
-        // What it answers is what the disk as it reads represents.
+        // What it returns is what the disk as it reads represents.
         ensures answer { IfOk result (λ r. IsTrue D.tells.content
             → IsAnswer r.0 r.1.items r.2.items (D.state disk.old).seen) }
         ensures record_size { IfOk result (λ r. length r.1.items ≤ record_room) }
@@ -249,7 +256,7 @@ impl Store {
     /// Returns the generation that stands on the disk, and how many entries. It writes nothing and takes no memory.
     ///
     /// # Errors
-    /// `Disk`; `NoRecord`.
+    /// `Disk` where the disk failed, or `NoRecord` where nothing stands on it.
     pub fn standing<D: Disk>(disk: &mut D) -> Result<(u64, u32), StoreFault>
         ensures reads { OnlyReads D.tells (D.state disk.old) (D.state disk.new) result }
         ensures answer { IfOk result (λ r. IsTrue D.tells.content → AreCounted r.0 r.1 (D.state disk.old).seen) }
@@ -261,7 +268,7 @@ impl Store {
     /// Returns the record that stands on the disk, and the payloads one after the other. It writes nothing.
     ///
     /// # Errors
-    /// `Disk`; `NoRecord`; `NoMemory`.
+    /// `Disk` where the disk failed, `NoRecord` where nothing stands on it, or `NoMemory`.
     pub fn peek<D: Disk>(alloc: Global, disk: &mut D) -> Result<(Vec<u8>, Vec<u8>), StoreFault>
         ensures reads { OnlyReads D.tells (D.state disk.old) (D.state disk.new) result }
         ensures answer { IfOk result (λ r. IsTrue D.tells.content

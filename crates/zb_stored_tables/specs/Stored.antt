@@ -33,8 +33,8 @@ version_in content = version_or (record_version content)
 abbrev pub is_of_other : Role → List ℕ → Bool
 is_of_other role content = is_some (record_version content) && not (get_or content 1 3 == role_byte role)
 
--- The entries after a record of so many bytes were made again, and the node boots with what they leave; or they are at
--- fault, at a place that counts on from the record's length.
+-- The entries after a record of `before` bytes were made again, and the node boots with what they leave. Or they are
+-- at fault, at a place that counts on from the record's length.
 abbrev pub behind : ℕ → ℕ → NodeState → Result (List ℕ) ℕ → Result NodeState ℕ
 behind before total t (Ok rest) = Ok (after_boot t)
 behind before total t (Err left) = Err (before + place_of total left)
@@ -78,8 +78,8 @@ pub record IsKept (s : NodeState) : Type 0 where
   pub forgets : shown s ≡ s
   pub widths : FitsBytes s
 
--- What a plan of a core over tables of this role keeps: its changes are made of values that can be spelled, each fits
--- the tables after those before it, and they have room in an entry.
+-- What a plan of a core over tables of this role keeps. Its changes are made of values that can be spelled. Each fits
+-- the tables after those before it, and all have room in an entry.
 pub record IsStorable (role : Role) (s : NodeState) (changes : List Change) : Type 0 where
   pub role_is : s.role ≡ role
   pub kept : IsKept s

@@ -21,7 +21,7 @@ pub fn change_bytes(changes: &Changes, into: &mut [u8]) -> u32
     zb_record::change_bytes(changes, &mut into[..PAYLOAD_ROOM])
 }
 
-/// Reports of changes that their values can be spelled; does nothing.
+/// States that the values of changes can be spelled. It does nothing.
 ///
 /// Keys have 16 bytes, and numbers are within their types.
 pub fn hold_ranges(changes: &Changes)
@@ -32,7 +32,7 @@ pub fn hold_ranges(changes: &Changes)
     }
 }
 
-// The same of one change.
+// States that the values of one change can be spelled.
 fn hold_range(change: Change)
     ensures { InRange change }
 {

@@ -45,7 +45,7 @@ pub fn changes_keep_to_the_widths()
     ensures { (c : Change) (s : NodeState) → InRange c → FitsBytes s → FitsBytes (applied (edit c) s) }
 {}
 
-/// Returns what the state keeps that a record and the entries after it give.
+/// States what the state keeps that a record and the entries after it give.
 ///
 /// It keeps the rules for records, the widths of a record and no floors of dropped network keys, and is of the role
 /// that was asked for.
@@ -69,7 +69,7 @@ pub fn what_is_in_memory_alone_is_not_recorded()
         → after_boot (after_hearing layer key sender counter s) ≡ after_boot s }
 {}
 
-/// Reports the law of cores of any core over tables.
+/// States that every core over tables keeps the law of cores.
 ///
 /// `s` are the tables before a plan and `t` those after it. An entry after a record that isn't of the first version
 /// leads from the record before to the one after. The record alone gives itself again, and isn't of the first version.
@@ -84,7 +84,7 @@ pub fn a_core_over_tables_keeps_the_law()
     ensures idle { (s t : NodeState) → shown s ≡ s → IsStoredAfter [] s t → record_of t ≡ record_of s }
 {}
 
-/// Reports the same of the value that the cores of all roles have, a setting and tables.
+/// States that the value of the cores of all roles, a setting and tables, keeps the law of cores.
 ///
 /// `c` is the core before an event, and `d` the one after its changes, accepted terms and seals. It also says that
 /// these are the tables that are shown after the event's answer, where they are those of the answer.

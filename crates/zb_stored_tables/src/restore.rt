@@ -14,21 +14,21 @@ use zb_keys::Tables;
 use zb_node_types::KeyError;
 use zb_record::{Version, role_byte, version_of};
 
-// Whether a record is of another role, or of none.
+// Returns whether a record is of another role, or of none.
 fn is_of_other(role: Role, content: &[u8]) -> bool
     ensures { result ≡ is_of_other (model_role role) content.now }
 {
     version_of(content).is_some() && content.get(1) != Some(&role_byte(role))
 }
 
-// The version of a record.
+// Returns the version of a record.
 fn version(content: &[u8]) -> Version
     ensures { result ≡ version_in content.now }
 {
     version_of(content).unwrap_or(Version::Third)
 }
 
-// Makes the entries after a record of so many bytes again. The place of a fault counts on from the record's length.
+// Makes the entries after a record of `before` bytes again. The place of a fault counts on from the record's length.
 fn redo(
     tables: &mut Tables,
     version: Version,
@@ -53,7 +53,7 @@ fn redo(
     }
 }
 
-// The tables that a record and the payloads after it lead to, before a boot.
+// Makes the tables that a record and the payloads after it lead to, before a boot.
 fn read(
     alloc: Global,
     role: Role,
@@ -78,6 +78,9 @@ fn read(
 }
 
 /// Makes the tables with which a node of that role boots on a record and the payloads after it.
+///
+/// # Errors
+/// `BadRecord` at the place of the first fault; `NoMemory`.
 pub(crate) fn restore(
     alloc: Global,
     role: Role,

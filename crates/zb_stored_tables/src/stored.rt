@@ -43,9 +43,10 @@ impl StoredTables {
     /// Makes the tables with which a node of that role boots on a record and the payloads after it.
     ///
     /// # Errors
-    /// `BadRecord` at the place of the first fault: at 1 where the record is of another role, in the record
-    /// where `Tables::from_record` finds it, and in the entries where `Tables::redo` finds it, counted on from the
-    /// record's length. `NoMemory` where memory is short.
+    /// - `BadRecord` at the place of the first fault. It is 1 where the record is of another role. In the record it is
+    ///   where `Tables::from_record` finds it. In the entries it is where `Tables::redo` finds it, counted on from the
+    ///   record's length.
+    /// - `NoMemory` out of memory.
     pub fn restore(
         alloc: Global,
         role: Role,
@@ -73,7 +74,7 @@ impl StoredTables {
         &self.tables
     }
 
-    /// Returns what holds of them at all times; does nothing.
+    /// States what holds of them at all times. It does nothing.
     pub fn keep_rules(&self)
         ensures { IsKept self.now }
     {

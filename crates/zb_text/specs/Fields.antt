@@ -19,14 +19,14 @@ is_name word = nat_le 1 (length word) && nat_le (length word) 16 && list_all is_
 abbrev pub name_of : List ℕ → Option (List ℕ)
 name_of word = if is_name word then Some word else None
 
--- The IEEE address that 16 digits spell, and its digits, most significant first.
+-- The EUI that 16 digits spell, and its digits, most significant first.
 abbrev pub eui_of : List ℕ → Option ℕ
 eui_of word = option_map (λ bytes. from_be_bytes w64 bytes) (fixed_of 8 word)
 
 abbrev pub eui_text : ℕ → List ℕ
 eui_text eui = encode_upper (to_be_bytes w64 eui)
 
--- The network address that 4 digits spell, and its digits, most significant first.
+-- The short address that 4 digits spell, and its digits, most significant first.
 abbrev pub short_of : List ℕ → Option ℕ
 short_of word = option_map (λ bytes. from_be_bytes w16 bytes) (fixed_of 2 word)
 

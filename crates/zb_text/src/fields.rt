@@ -37,7 +37,7 @@ fn has_name_bytes(word: &[u8]) -> bool
         .all(|byte| byte.is_ascii_lowercase() || byte.is_ascii_digit())
 }
 
-/// Reads an IEEE address of 16 hexadecimal digits.
+/// Reads an EUI of 16 hexadecimal digits.
 pub fn eui(word: &[u8]) -> Option<Eui>
     ensures value { Shows (λ eui. eui.0) result (eui_of word.now) }
     ensures fits { IfSome result (λ eui. eui.0 < 2 ^ 64) }
@@ -46,7 +46,7 @@ pub fn eui(word: &[u8]) -> Option<Eui>
     Some(Eui(u64::from_be_bytes(bytes)))
 }
 
-/// Reads a network address of 4 hexadecimal digits.
+/// Reads a short address of 4 hexadecimal digits.
 pub fn short(word: &[u8]) -> Option<Short>
     ensures value { Shows (λ short. short.0) result (short_of word.now) }
     ensures fits { IfSome result (λ short. short.0 < 2 ^ 16) }
@@ -64,7 +64,10 @@ pub fn key(word: &[u8]) -> Option<Key>
     Some(Key(bytes))
 }
 
-/// Prints an IEEE address in 16 digits.
+/// Prints an EUI in 16 digits.
+///
+/// # Errors
+/// `AllocError`.
 pub fn put_eui(out: &mut Vec<u8>, eui: Eui) -> Result<(), AllocError>
     ensures { OnOk result (out.new.items ≡ out.old.items ++ eui_text eui.0) }
 {
@@ -72,7 +75,10 @@ pub fn put_eui(out: &mut Vec<u8>, eui: Eui) -> Result<(), AllocError>
     Ok(())
 }
 
-/// Prints a network address in 4 digits.
+/// Prints a short address in 4 digits.
+///
+/// # Errors
+/// `AllocError`.
 pub fn put_short(out: &mut Vec<u8>, short: Short) -> Result<(), AllocError>
     ensures { OnOk result (out.new.items ≡ out.old.items ++ short_text short.0) }
 {
@@ -81,6 +87,9 @@ pub fn put_short(out: &mut Vec<u8>, short: Short) -> Result<(), AllocError>
 }
 
 /// Prints a key in 32 digits.
+///
+/// # Errors
+/// `AllocError`.
 pub fn put_key(out: &mut Vec<u8>, key: &Key) -> Result<(), AllocError>
     ensures { OnOk result (out.new.items ≡ out.old.items ++ encode_upper key.now.0) }
 {

@@ -21,7 +21,7 @@ pub fn fixed<const N: usize>(word: &[u8]) -> Option<[u8; N]>
     Some(bytes)
 }
 
-// Says of bytes what their type does: they are below 256.
+// States that bytes are below 256, as their type says.
 fn known_bytes(bytes: &[u8])
     ensures { IsBytes bytes.now }
 {}
@@ -98,6 +98,9 @@ fn pair_value(high: u8, low: u8) -> Option<u8>
 }
 
 /// Prints bytes in two digits each: by blocks of 16, then of four, and then one by one.
+///
+/// # Errors
+/// `AllocError`.
 pub fn put_digits(out: &mut Vec<u8>, bytes: &[u8]) -> Result<(), AllocError>
     ensures { OnOk result (out.new.items ≡ out.old.items ++ encode_upper bytes.now) }
 {
@@ -125,6 +128,9 @@ fn put_blocks<'a, const N: usize>(
 }
 
 /// Prints a block of bytes in two digits each.
+///
+/// # Errors
+/// `AllocError`.
 pub(crate) fn put_block<const N: usize>(
     out: &mut Vec<u8>,
     block: &[u8; N],
@@ -219,6 +225,9 @@ fn put_pair(out: &mut Vec<u8>, byte: u8)
 }
 
 /// Prints bytes in two digits each, or `-` for no bytes.
+///
+/// # Errors
+/// `AllocError`.
 pub fn put_bytes(out: &mut Vec<u8>, bytes: &[u8]) -> Result<(), AllocError>
     ensures { OnOk result (out.new.items ≡ out.old.items ++ bytes_text bytes.now) }
 {

@@ -40,14 +40,14 @@ pub fn printed_name_reads()
     ensures word { (name : List ℕ) → is_name name ≡ true → IsWord name }
 {}
 
-/// States that an IEEE address reads as itself and is a word.
+/// States that an EUI reads as itself and is a word.
 #[tactic(auto, using(crate::proofs::ReadAgain::eui_again, crate::proofs::ReadAgain::eui_words))]
 pub fn printed_eui_reads()
     ensures reads { (eui : ℕ) → eui < 2 ^ 64 → eui_of (eui_text eui) ≡ Some eui }
     ensures word { (eui : ℕ) → IsWord (eui_text eui) }
 {}
 
-/// States that a network address reads as itself and is a word.
+/// States that a short address reads as itself and is a word.
 #[tactic(auto, using(crate::proofs::ReadAgain::short_again, crate::proofs::ReadAgain::short_words))]
 pub fn printed_short_reads()
     ensures reads { (short : ℕ) → short < 2 ^ 16 → short_of (short_text short) ≡ Some short }

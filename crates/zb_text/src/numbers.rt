@@ -35,6 +35,9 @@ fn is_badly_begun(word: &[u8]) -> bool
 }
 
 /// Prints a number in decimal digits.
+///
+/// # Errors
+/// `AllocError`.
 pub fn put_number(out: &mut Vec<u8>, number: u32) -> Result<(), AllocError>
     ensures { OnOk result (out.new.items ≡ out.old.items ++ decimal number) }
 {

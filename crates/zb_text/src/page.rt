@@ -16,6 +16,9 @@ use std::alloc::AllocError;
 use zb_base::{Eui, Failed, Key, Short, Sink};
 
 /// Prints a piece of text as it is.
+///
+/// # Errors
+/// `AllocError`.
 pub fn put(out: &mut Vec<u8>, piece: &[u8]) -> Result<(), AllocError>
     ensures { OnOk result (out.new.items ≡ out.old.items ++ piece.now) }
 {
@@ -24,6 +27,9 @@ pub fn put(out: &mut Vec<u8>, piece: &[u8]) -> Result<(), AllocError>
 }
 
 /// Ends a line.
+///
+/// # Errors
+/// `AllocError`.
 pub fn end_line(out: &mut Vec<u8>) -> Result<(), AllocError>
     ensures { OnOk result (out.new.items ≡ out.old.items ++ 10 ∷ []) }
 {
@@ -39,6 +45,9 @@ fn put_space(out: &mut Vec<u8>) -> Result<(), AllocError>
 }
 
 /// Prints a word after a space.
+///
+/// # Errors
+/// `AllocError`.
 pub fn add_word(out: &mut Vec<u8>, word: &[u8]) -> Result<(), AllocError>
     ensures { OnOk result (out.new.items ≡ out.old.items ++ then word.now) }
 {
@@ -48,6 +57,9 @@ pub fn add_word(out: &mut Vec<u8>, word: &[u8]) -> Result<(), AllocError>
 }
 
 /// Prints a number in decimal digits after a space.
+///
+/// # Errors
+/// `AllocError`.
 pub fn add_number(out: &mut Vec<u8>, number: u32) -> Result<(), AllocError>
     ensures { OnOk result (out.new.items ≡ out.old.items ++ then (decimal number)) }
 {
@@ -56,7 +68,10 @@ pub fn add_number(out: &mut Vec<u8>, number: u32) -> Result<(), AllocError>
     Ok(())
 }
 
-/// Prints an IEEE address in 16 digits after a space.
+/// Prints an EUI in 16 digits after a space.
+///
+/// # Errors
+/// `AllocError`.
 pub fn add_eui(out: &mut Vec<u8>, eui: Eui) -> Result<(), AllocError>
     ensures { OnOk result (out.new.items ≡ out.old.items ++ then (eui_text eui.0)) }
 {
@@ -65,7 +80,10 @@ pub fn add_eui(out: &mut Vec<u8>, eui: Eui) -> Result<(), AllocError>
     Ok(())
 }
 
-/// Prints a network address in 4 digits after a space.
+/// Prints a short address in 4 digits after a space.
+///
+/// # Errors
+/// `AllocError`.
 pub fn add_short(out: &mut Vec<u8>, short: Short) -> Result<(), AllocError>
     ensures { OnOk result (out.new.items ≡ out.old.items ++ then (short_text short.0)) }
 {
@@ -75,6 +93,9 @@ pub fn add_short(out: &mut Vec<u8>, short: Short) -> Result<(), AllocError>
 }
 
 /// Prints a key in 32 digits after a space.
+///
+/// # Errors
+/// `AllocError`.
 pub fn add_key(out: &mut Vec<u8>, key: &Key) -> Result<(), AllocError>
     ensures { OnOk result (out.new.items ≡ out.old.items ++ then (encode_upper key.now.0)) }
 {
@@ -84,6 +105,9 @@ pub fn add_key(out: &mut Vec<u8>, key: &Key) -> Result<(), AllocError>
 }
 
 /// Prints bytes in two digits each, or `-` for no bytes, after a space.
+///
+/// # Errors
+/// `AllocError`.
 pub fn add_bytes(out: &mut Vec<u8>, bytes: &[u8]) -> Result<(), AllocError>
     ensures { OnOk result (out.new.items ≡ out.old.items ++ then (bytes_text bytes.now)) }
 {
@@ -92,7 +116,10 @@ pub fn add_bytes(out: &mut Vec<u8>, bytes: &[u8]) -> Result<(), AllocError>
     Ok(())
 }
 
-/// Hands a page out into a sink, and empties it. After `Failed` the page is as it was.
+/// Hands a page out into a sink, and empties it.
+///
+/// # Errors
+/// `Failed` where the sink failed, which took a prefix of the page. The page is then as it was.
 pub fn hand_out<W: Sink>(page: &mut Vec<u8>, out: &mut W) -> Result<(), Failed>
     ensures whole { OnOk result (Appends (W.taken out.old) (W.taken out.new) page.old.items × (page.new.items ≡ [])) }
     ensures front { OnErr result (AppendsFront (W.taken out.old) (W.taken out.new) page.old.items

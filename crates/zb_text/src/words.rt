@@ -10,7 +10,7 @@ use arrayvec::ArrayVec;
 use std::simd::prelude::*;
 use zb_base::{Attribute, Eui, Key, Label, Layer, Name, Place, Role, Rollover, Short, State};
 
-/// Reads the words of one line, from the first to the last.
+/// A reader of the words of one line, from the first to the last.
 #[derive(Clone, Copy, Debug)]
 pub struct Words<'a> {
     /// What is left of the line, or None after its last word.
@@ -33,7 +33,7 @@ impl<'a> Words<'a> {
         Words { rest: Some(line) }
     }
 
-    /// Takes the next word, or answers None where none is left.
+    /// Takes the next word, or returns None where none is left.
     pub fn word(&mut self) -> Option<&'a [u8]>
         ensures { Takes (λ word. word.now) result (left self.new) (first_of (left self.old)) }
     {
@@ -70,7 +70,7 @@ impl<'a> Words<'a> {
         Some(number)
     }
 
-    /// Takes an IEEE address of 16 hexadecimal digits.
+    /// Takes an EUI of 16 hexadecimal digits.
     pub fn eui(&mut self) -> Option<Eui>
         ensures value { Takes (λ eui. eui.0) result (left self.new) (field eui_of (left self.old)) }
         ensures fits { IfSome result (λ eui. eui.0 < 2 ^ 64) }
@@ -80,7 +80,7 @@ impl<'a> Words<'a> {
         Some(eui)
     }
 
-    /// Takes a network address of 4 hexadecimal digits.
+    /// Takes a short address of 4 hexadecimal digits.
     pub fn short(&mut self) -> Option<Short>
         ensures value { Takes (λ short. short.0) result (left self.new) (field short_of (left self.old)) }
         ensures fits { IfSome result (λ short. short.0 < 2 ^ 16) }
@@ -194,7 +194,7 @@ impl<'a> Words<'a> {
     }
 }
 
-/// What stands before the first of some byte, and what stands after it; None where there is no such byte.
+/// Returns what stands before the first separator, and what stands after it. None where there is no separator.
 #[inline(always)]
 #[tactic(auto, using(crate::proofs::Cuts::cut_none, crate::proofs::Cuts::cut_some))]
 pub(crate) fn cut(text: &[u8], separator: u8) -> Option<(&[u8], &[u8])>

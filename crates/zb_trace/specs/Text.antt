@@ -29,7 +29,7 @@ pub data Word : Type 0 where
   -- a node's name, and one in whose place `-` may stand
   Called : (name : List ℕ) → Word
   CalledOrNobody : (name : List ℕ) → Word
-  -- an IEEE address in 16 hexadecimal digits, a network address in 4, a key in 32, a byte in 2
+  -- an EUI in 16 hexadecimal digits, a short address in 4, a key in 32, a byte in 2
   Address : (eui : ℕ) → Word
   ShortAddress : (short : ℕ) → Word
   Secret : (key : List ℕ) → Word

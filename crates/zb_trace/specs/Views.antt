@@ -1,6 +1,6 @@
--- The lines of the program as the model's. A line of the program names a node by its name, and the model by its EUI:
--- that of the first node of that name that the lines before it declare, and `nobody` where there is none. The lines
--- that only the centre gives, and that don't show it, are the centre's: the first declared node of that role.
+-- The lines of the program as the model's. A line of the program names a node by its name, and the model by its EUI.
+-- It is the EUI of the first node of that name that the lines before it declare, and `nobody` where there is none. The
+-- lines that only the centre gives, and that don't show it, are the centre's: the first declared node of that role.
 use Rattle.std.specs.Prelude.{ℕ, List, find, bytes_eq, codes, Option, Some, None, if◌then◌else◌}
 use Rattle.zb_node_types.specs.Changes.{model_layer, model_role, model_state, model_attribute, is_sending, model_place, reason}
 use Rattle.zb_node_types.specs.Changes as changes

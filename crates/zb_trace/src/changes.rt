@@ -9,7 +9,7 @@ use zb_base::{Attribute, Eui, Key, Layer, Name, Rollover, State};
 use zb_text::choices::{attribute_text, layer_text, rollover_text, state_text};
 use zb_text::page::{add_eui, add_key, add_number, add_word, end_line};
 
-/// Returns a reserved outgoing counter.
+/// Prints the line of a reserved outgoing counter.
 #[tactic(auto, using(std::proofs::Common::append_assoc), unfolding(crate::specs::Text::text))]
 pub(crate) fn put_reserve(
     out: &mut Vec<u8>,
@@ -27,7 +27,7 @@ pub(crate) fn put_reserve(
     Ok(())
 }
 
-/// Returns a stored floor.
+/// Prints the line of a stored floor.
 #[tactic(auto, using(std::proofs::Common::append_assoc), unfolding(crate::specs::Text::text))]
 pub(crate) fn put_floor(
     out: &mut Vec<u8>,
@@ -50,7 +50,7 @@ pub(crate) fn put_floor(
     Ok(())
 }
 
-/// Returns a key of the supply that is used.
+/// Prints the line of a key of the supply that is used.
 #[tactic(auto, using(std::proofs::Common::append_assoc), unfolding(crate::specs::Text::text))]
 pub(crate) fn put_draw(out: &mut Vec<u8>, event: u32, key: &Key) -> Result<(), AllocError>
     ensures { OnOk result (out.new.items ≡ out.old.items ++ spec.text (line.Draw event key.now)) }
@@ -61,7 +61,7 @@ pub(crate) fn put_draw(out: &mut Vec<u8>, event: u32, key: &Key) -> Result<(), A
     Ok(())
 }
 
-/// Returns a network key that is dropped.
+/// Prints the line of a network key that is dropped.
 #[tactic(auto, using(std::proofs::Common::append_assoc), unfolding(crate::specs::Text::text))]
 pub(crate) fn put_drop_net(
     out: &mut Vec<u8>,
@@ -78,7 +78,7 @@ pub(crate) fn put_drop_net(
     Ok(())
 }
 
-/// Returns a link key that is dropped.
+/// Prints the line of a link key that is dropped.
 #[tactic(auto, using(std::proofs::Common::append_assoc), unfolding(crate::specs::Text::text))]
 pub(crate) fn put_drop_link(
     out: &mut Vec<u8>,
@@ -97,7 +97,7 @@ pub(crate) fn put_drop_link(
     Ok(())
 }
 
-/// Returns a new network key.
+/// Prints the line of a new network key.
 #[tactic(auto, using(std::proofs::Common::append_assoc), unfolding(crate::specs::Text::text))]
 pub(crate) fn put_install(
     out: &mut Vec<u8>,
@@ -115,7 +115,7 @@ pub(crate) fn put_install(
     Ok(())
 }
 
-/// Returns the active network key.
+/// Prints the line of a network key that becomes active.
 #[tactic(auto, using(std::proofs::Common::append_assoc), unfolding(crate::specs::Text::text))]
 pub(crate) fn put_active(
     out: &mut Vec<u8>,
@@ -131,7 +131,7 @@ pub(crate) fn put_active(
     Ok(())
 }
 
-/// Returns the first counter of a network key.
+/// Prints the line of the first counter of a network key.
 #[tactic(auto, using(std::proofs::Common::append_assoc), unfolding(crate::specs::Text::text))]
 pub(crate) fn put_start(
     out: &mut Vec<u8>,
@@ -149,7 +149,7 @@ pub(crate) fn put_start(
     Ok(())
 }
 
-/// Returns a link key and its attribute.
+/// Prints the line of a link key and its attribute.
 #[tactic(auto, using(std::proofs::Common::append_assoc), unfolding(crate::specs::Text::text))]
 pub(crate) fn put_row(
     out: &mut Vec<u8>,
@@ -170,7 +170,7 @@ pub(crate) fn put_row(
     Ok(())
 }
 
-/// Returns a key for two devices.
+/// Prints the line of a key for two devices.
 #[tactic(auto, using(std::proofs::Common::append_assoc), unfolding(crate::specs::Text::text))]
 pub(crate) fn put_pair(
     out: &mut Vec<u8>,
@@ -191,7 +191,7 @@ pub(crate) fn put_pair(
     Ok(())
 }
 
-/// Returns the state of a node.
+/// Prints the line of the state that a node comes to.
 #[tactic(auto, using(std::proofs::Common::append_assoc), unfolding(crate::specs::Text::text))]
 pub(crate) fn put_state(
     out: &mut Vec<u8>,
@@ -207,7 +207,7 @@ pub(crate) fn put_state(
     Ok(())
 }
 
-/// Returns an admitted device.
+/// Prints the line of an admitted device.
 #[tactic(auto, using(std::proofs::Common::append_assoc), unfolding(crate::specs::Text::text))]
 pub(crate) fn put_live(out: &mut Vec<u8>, event: u32, device: Eui) -> Result<(), AllocError>
     ensures { OnOk result (out.new.items ≡ out.old.items ++ spec.text (line.Live event device)) }
@@ -218,7 +218,7 @@ pub(crate) fn put_live(out: &mut Vec<u8>, event: u32, device: Eui) -> Result<(),
     Ok(())
 }
 
-/// Returns a removed device.
+/// Prints the line of a removed device.
 #[tactic(auto, using(std::proofs::Common::append_assoc), unfolding(crate::specs::Text::text))]
 pub(crate) fn put_removed(out: &mut Vec<u8>, event: u32, device: Eui) -> Result<(), AllocError>
     ensures { OnOk result (out.new.items ≡ out.old.items ++ spec.text (line.Removed event device)) }
@@ -229,7 +229,7 @@ pub(crate) fn put_removed(out: &mut Vec<u8>, event: u32, device: Eui) -> Result<
     Ok(())
 }
 
-/// Returns a rollover.
+/// Prints the line of a rollover that begins or ends.
 #[tactic(auto, using(std::proofs::Common::append_assoc), unfolding(crate::specs::Text::text))]
 pub(crate) fn put_roll(
     out: &mut Vec<u8>,
@@ -245,7 +245,7 @@ pub(crate) fn put_roll(
     Ok(())
 }
 
-/// Returns a device that was sent the newest network key.
+/// Prints the line of a device that was sent the newest network key.
 #[tactic(auto, using(std::proofs::Common::append_assoc), unfolding(crate::specs::Text::text))]
 pub(crate) fn put_told(out: &mut Vec<u8>, event: u32, device: Eui) -> Result<(), AllocError>
     ensures { OnOk result (out.new.items ≡ out.old.items ++ spec.text (line.Told event device)) }
@@ -256,7 +256,7 @@ pub(crate) fn put_told(out: &mut Vec<u8>, event: u32, device: Eui) -> Result<(),
     Ok(())
 }
 
-/// Returns a device that is to be sent it again.
+/// Prints the line of a device that is to be sent the newest network key again.
 #[tactic(auto, using(std::proofs::Common::append_assoc), unfolding(crate::specs::Text::text))]
 pub(crate) fn put_untold(out: &mut Vec<u8>, event: u32, device: Eui) -> Result<(), AllocError>
     ensures { OnOk result (out.new.items ≡ out.old.items ++ spec.text (line.Untold event device)) }

@@ -12,7 +12,7 @@ use zb_node_types::Refusal;
 use zb_text::choices::answer_text;
 use zb_text::page::{add_bytes, add_number, add_word, end_line, put};
 
-/// Changes that are stored.
+/// Prints the line of a commit: changes of a node that are stored.
 #[tactic(auto, using(std::proofs::Common::append_assoc), unfolding(crate::specs::Text::text))]
 pub(crate) fn put_commit(out: &mut Vec<u8>, event: u32, node: &Name) -> Result<(), AllocError>
     ensures { OnOk result (out.new.items ≡ out.old.items ++ spec.text (line.Commit event node.now)) }
@@ -22,7 +22,7 @@ pub(crate) fn put_commit(out: &mut Vec<u8>, event: u32, node: &Name) -> Result<(
     Ok(())
 }
 
-/// Returns an accepted layer of a frame.
+/// Prints the line of an accepted layer of a frame.
 #[tactic(auto, using(std::proofs::Common::append_assoc), unfolding(crate::specs::Text::text))]
 pub(crate) fn put_accept(
     out: &mut Vec<u8>,
@@ -38,7 +38,7 @@ pub(crate) fn put_accept(
     Ok(())
 }
 
-/// Returns a refused event.
+/// Prints the line of a refused event.
 #[tactic(auto, using(std::proofs::Common::append_assoc), unfolding(crate::specs::Text::text))]
 pub(crate) fn put_refuse(
     out: &mut Vec<u8>,
@@ -54,7 +54,7 @@ pub(crate) fn put_refuse(
     Ok(())
 }
 
-/// Returns a sealed layer of a frame.
+/// Prints the line of a sealed layer of a frame.
 #[tactic(auto, using(std::proofs::Common::append_assoc), unfolding(crate::specs::Text::text))]
 pub(crate) fn put_seal(
     out: &mut Vec<u8>,
@@ -70,7 +70,7 @@ pub(crate) fn put_seal(
     Ok(())
 }
 
-/// Returns a forged layer of a frame.
+/// Prints the line of a forged layer of a frame.
 #[tactic(auto, using(std::proofs::Common::append_assoc), unfolding(crate::specs::Text::text))]
 pub(crate) fn put_forge(out: &mut Vec<u8>, event: u32, term: &Term) -> Result<(), AllocError>
     ensures { OnOk result (out.new.items ≡ out.old.items ++ spec.text (line.Forge event term.now)) }
@@ -81,7 +81,7 @@ pub(crate) fn put_forge(out: &mut Vec<u8>, event: u32, term: &Term) -> Result<()
     Ok(())
 }
 
-/// Returns a frame on the air.
+/// Prints the line of a frame that goes on the air.
 #[tactic(auto, using(std::proofs::Common::append_assoc), unfolding(crate::specs::Text::text))]
 pub(crate) fn put_send(
     out: &mut Vec<u8>,
@@ -99,7 +99,7 @@ pub(crate) fn put_send(
     Ok(())
 }
 
-/// Injected bytes.
+/// Prints the line of injected bytes.
 #[tactic(auto, using(std::proofs::Common::append_assoc), unfolding(crate::specs::Text::text))]
 pub(crate) fn put_inject(
     out: &mut Vec<u8>,
@@ -116,7 +116,7 @@ pub(crate) fn put_inject(
     Ok(())
 }
 
-/// Returns a disk that stopped.
+/// Prints the line of a node whose disk stopped.
 #[tactic(auto, using(std::proofs::Common::append_assoc), unfolding(crate::specs::Text::text))]
 pub(crate) fn put_stopped(out: &mut Vec<u8>, event: u32, node: &Name) -> Result<(), AllocError>
     ensures { OnOk result (out.new.items ≡ out.old.items ++ spec.text (line.Stopped event node.now)) }
@@ -126,7 +126,7 @@ pub(crate) fn put_stopped(out: &mut Vec<u8>, event: u32, node: &Name) -> Result<
     Ok(())
 }
 
-/// Returns a reset node.
+/// Prints the line of a node that was reset.
 #[tactic(auto, using(std::proofs::Common::append_assoc), unfolding(crate::specs::Text::text))]
 pub(crate) fn put_down_reset(out: &mut Vec<u8>, event: u32, node: &Name) -> Result<(), AllocError>
     ensures { OnOk result (out.new.items ≡ out.old.items ++ spec.text (line.DownReset event node.now)) }
@@ -137,7 +137,7 @@ pub(crate) fn put_down_reset(out: &mut Vec<u8>, event: u32, node: &Name) -> Resu
     Ok(())
 }
 
-/// Returns a node whose disk failed.
+/// Prints the line of a node whose disk failed.
 #[tactic(auto, using(std::proofs::Common::append_assoc), unfolding(crate::specs::Text::text))]
 pub(crate) fn put_down_disk(out: &mut Vec<u8>, event: u32, node: &Name) -> Result<(), AllocError>
     ensures { OnOk result (out.new.items ≡ out.old.items ++ spec.text (line.DownDisk event node.now)) }
@@ -148,7 +148,7 @@ pub(crate) fn put_down_disk(out: &mut Vec<u8>, event: u32, node: &Name) -> Resul
     Ok(())
 }
 
-/// Returns a node that booted.
+/// Prints the line of a node that booted.
 #[tactic(auto, using(std::proofs::Common::append_assoc), unfolding(crate::specs::Text::text))]
 pub(crate) fn put_boot(out: &mut Vec<u8>, event: u32, node: &Name) -> Result<(), AllocError>
     ensures { OnOk result (out.new.items ≡ out.old.items ++ spec.text (line.Boot event node.now)) }
@@ -158,7 +158,7 @@ pub(crate) fn put_boot(out: &mut Vec<u8>, event: u32, node: &Name) -> Result<(),
     Ok(())
 }
 
-/// Returns the record that a node's disk represents.
+/// Prints the line of the record that a node's disk represents.
 #[tactic(auto, using(std::proofs::Common::append_assoc), unfolding(crate::specs::Text::text))]
 pub(crate) fn put_dump(
     out: &mut Vec<u8>,
@@ -174,7 +174,7 @@ pub(crate) fn put_dump(
     Ok(())
 }
 
-/// Returns the end of a transcript.
+/// Prints the end line of a transcript.
 #[tactic(auto, using(std::proofs::Common::append_assoc), unfolding(crate::specs::Text::text))]
 pub(crate) fn put_end(
     out: &mut Vec<u8>,

@@ -3,9 +3,10 @@ use zb_base::{Attribute, Eui, Frame, Key, Layer, List, Name, Role, Rollover, Sho
 use zb_model_real::Term;
 use zb_node_types::Refusal;
 
-/// One line of a transcript. `event` is the number of the event that gave the line, from 1; the lines of the start
-/// have the number 0. A node is named by its name, and where a line names a partner, a sender or a device, by its
-/// IEEE address.
+/// One line of a transcript.
+///
+/// `event` is the number of the event that gave the line, from 1. The lines of the start have the number 0. A node is
+/// named by its name. A partner, a sender or a device is named by its EUI.
 #[derive(Drop)]
 pub enum Line {
     /// At the start: a node, with the blocks in which it reserves outgoing counters and stores floors.
@@ -204,9 +205,9 @@ pub enum Line {
         node: Name,
         bytes: List<u8>,
     },
-    /// The end: how many events, and seal, accept and refuse lines there are; whether all that was accepted, and all
-    /// keys that were taken in, come from earlier seals or forgeries; whether outsiders forged only with what
-    /// outsiders know.
+    /// The end, with the numbers of events and of seal, accept and refuse lines. `ideal` says whether all that was
+    /// accepted, and all keys that were taken in, come from earlier seals or forgeries. `private` says whether
+    /// outsiders forged only with what outsiders know.
     End {
         events: u32,
         seals: u32,

@@ -15,6 +15,9 @@ use zb_base::{Failed, NoMemory, OrMemory, Sink};
 use zb_text::page::hand_out;
 
 /// Prints a line, with its line feed, after what is printed already. It takes memory only where the page grows.
+///
+/// # Errors
+/// `AllocError`.
 pub fn put_line(out: &mut Vec<u8>, line: &Line) -> Result<(), AllocError>
     ensures { OnOk result (out.new.items ≡ out.old.items ++ spec.text line.now) }
 {
@@ -172,6 +175,9 @@ fn put_last_line(out: &mut Vec<u8>, line: &Line) -> Result<(), AllocError>
 }
 
 /// Makes the text of a line, with its line feed.
+///
+/// # Errors
+/// `NoMemory`.
 pub fn text(alloc: Global, line: &Line) -> Result<Vec<u8>, NoMemory>
     ensures { IfOk result (λ bytes. bytes.items ≡ spec.text line.now) }
 {
@@ -184,7 +190,7 @@ pub fn text(alloc: Global, line: &Line) -> Result<Vec<u8>, NoMemory>
 /// keeps its room from line to line.
 ///
 /// # Errors
-/// Where the sink fails, a prefix of the text was taken; where memory lacks, nothing was.
+/// Where the sink fails, it took a prefix of the text. Out of memory it took nothing.
 pub fn write_line<W: Sink>(
     page: &mut Vec<u8>,
     out: &mut W,

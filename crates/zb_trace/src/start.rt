@@ -11,7 +11,7 @@ use zb_base::{Eui, Key, Layer, Name, Role, Short};
 use zb_text::choices::{layer_text, role_text};
 use zb_text::page::{add_eui, add_key, add_number, add_short, add_word, end_line};
 
-/// Returns a node, as it is declared.
+/// Prints the line of a node, as it is declared.
 #[tactic(auto, using(std::proofs::Common::append_assoc), unfolding(crate::specs::Text::text))]
 pub(crate) fn put_node(
     out: &mut Vec<u8>,
@@ -45,7 +45,7 @@ fn add_peer(out: &mut Vec<u8>, role: Role, eui: Eui, short: Short) -> Result<(),
     Ok(())
 }
 
-/// Returns a network key that a node holds.
+/// Prints the line of a network key that a node holds from the start.
 #[tactic(auto, using(std::proofs::Common::append_assoc), unfolding(crate::specs::Text::text))]
 pub(crate) fn put_given_net(
     out: &mut Vec<u8>,
@@ -63,7 +63,7 @@ pub(crate) fn put_given_net(
     Ok(())
 }
 
-/// Returns the link key of an install code.
+/// Prints the line of the link key of an install code.
 #[tactic(auto, using(std::proofs::Common::append_assoc), unfolding(crate::specs::Text::text))]
 pub(crate) fn put_given_link(
     out: &mut Vec<u8>,
@@ -81,7 +81,7 @@ pub(crate) fn put_given_link(
     Ok(())
 }
 
-/// Returns a stored limit of an outgoing counter.
+/// Prints the line of a stored limit of an outgoing counter.
 #[tactic(auto, using(std::proofs::Common::append_assoc), unfolding(crate::specs::Text::text))]
 pub(crate) fn put_counter(
     out: &mut Vec<u8>,

@@ -1,8 +1,8 @@
 //! What a line of the model is as text.
 //!
-//! A line of the model names a node by its IEEE address, and its text by the name that the node's own line gives. So a
-//! text is that of lines and of declared nodes. `laws` says that a text fixes its lines, and that texts of lines
-//! follow each other; `making` makes the program's lines, each with what it is in the model.
+//! A line of the model names a node by its EUI, and its text by the name that the node's own line gives. So a text is
+//! that of lines and of declared nodes. `laws` says that a text fixes its lines, and that texts of lines follow each
+//! other; `making` makes the program's lines, each with what it is in the model.
 #![tactic(auto)]
 
 mod laws;

@@ -6,7 +6,8 @@ use Rattle.zb_trace.specs.declared.line.Line.{Line}
 use Rattle.zb_trace.specs.Text.{text, texts, IsProper, AllProper}
 use Rattle.zb_trace_read.specs.declared.fault.TraceError.{TraceError}
 
--- The text has so many lines, and what is after them isn't empty and begins with the text of no line.
+-- The text begins with the lines before that number. What is after them isn't empty, and begins with the text of no
+-- line.
 pub record IsFirstBad (bytes : List ℕ) (number : ℕ) : Type 0 where
   pub before : List Line
   pub rest : List ℕ

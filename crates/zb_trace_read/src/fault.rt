@@ -2,7 +2,7 @@
 use std::error::Error;
 use std::fmt;
 
-/// Names the first line, from 1, that is no text of a line of a transcript.
+/// The first line, from 1, that is no text of a line of a transcript.
 #[derive(Clone, Copy, Debug, PartialEq, Eq)]
 pub struct TraceError {
     /// The number of the line.

@@ -134,7 +134,7 @@ pub(crate) fn has_no_small_letter(word: &[u8]) -> bool
     none
 }
 
-/// Takes an IEEE address.
+/// Takes an EUI.
 pub(crate) fn eui(reader: &mut Words<'_>) -> Option<Eui>
     ensures value { Takes (λ e. Address e.0) result (left reader.new) (field (value_of AnAddress) (left reader.old)) }
     ensures fits { IfSome result (λ e. e.0 < 2 ^ 64) }
@@ -143,7 +143,7 @@ pub(crate) fn eui(reader: &mut Words<'_>) -> Option<Eui>
     zb_text::fields::eui(word)
 }
 
-/// Takes a network address.
+/// Takes a short address.
 pub(crate) fn short(reader: &mut Words<'_>) -> Option<Short>
     ensures value { Takes (λ s. ShortAddress s.0) result (left reader.new)
         (field (value_of AShort) (left reader.old)) }

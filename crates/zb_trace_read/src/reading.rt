@@ -21,8 +21,10 @@ use zb_text::numbers::number;
 use zb_text::words::Words;
 use zb_trace::Line;
 
-/// Reads the lines of a transcript: those that the whole text is the text of, hexadecimal digits in upper case and a
-/// line feed after the last line included. Requires a text shorter than 4 GiB.
+/// Reads the lines of a transcript, which is the whole text.
+///
+/// The text is exactly the text of these lines: hexadecimal digits are in upper case, and a line feed is after the
+/// last line. Requires a text shorter than 4 GiB.
 ///
 /// # Errors
 /// The first line that is no text of a line; or out of memory.
@@ -49,7 +51,7 @@ pub fn read_lines(alloc: Global, bytes: &[u8]) -> Result<Vec<Line>, OrMemory<Tra
     Ok(lines)
 }
 
-/// Makes the fault after so many lines.
+/// Makes the fault after `before` good lines.
 fn first_bad(before: usize) -> OrMemory<TraceError>
     requires { before + 1 < 2 ^ 32 }
     ensures { result ≡ OrMemory.Fault (record { line = before + 1 }) }
@@ -59,7 +61,9 @@ fn first_bad(before: usize) -> OrMemory<TraceError>
     })
 }
 
-/// Takes the line whose text a text begins with, and answers it with what is after it; or none.
+/// Takes the line whose text a text begins with.
+///
+/// Returns it with what is after it, or none where there is no such line.
 ///
 /// # Errors
 /// Out of memory.
@@ -88,10 +92,12 @@ pub fn no_line() -> Line {
     }
 }
 
-/// Takes the line whose text a text begins with into a place, and answers what is after it; or none.
+/// Takes the line whose text a text begins with into a place.
 ///
-/// So a transcript can be read line by line, with no list of lines, and in one place: after `None` what stands there
-/// says nothing.
+/// Returns what is after it, or none where there is no such line.
+///
+/// So a transcript can be read line by line, with no list of lines, and in one place. After `None` what stands there
+/// means nothing.
 ///
 /// # Errors
 /// Out of memory.

@@ -12,7 +12,7 @@ use Rattle.zb_trace_watch.specs.declared.keys.Keys.{Keys}
 abbrev pub was_removed : Exposure → ℕ → Bool
 was_removed e device = contains eui_cmp e.removed (record { 0 = device })
 
--- The sets of keys that outsiders may know at least: they have the well-known key and what removed devices ever held,
+-- The sets of keys that outsiders may know at least. They have the well-known key and what removed devices ever held,
 -- and with a base key what terms carry under it.
 pub record Covers (e : Exposure) (S : List ℕ → Bool) : Type 0 where
   pub everybody : S well_known ≡ true

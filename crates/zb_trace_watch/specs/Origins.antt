@@ -4,8 +4,8 @@ use Rattle.std.specs.Ordering.{nat_cmp}
 use Rattle.zb_trace_watch.specs.Sets.{key_cmp, keys_at, meet, number_has}
 use Rattle.zb_trace_watch.specs.declared.origins.Origins.{Origins}
 
--- whether the key is that of the node's code, or a term carries it under one of the node's keys; nothing is asked
--- where there is no node
+-- whether the key is that of the node's install code, or a term carries it under one of the node's keys; nothing is
+-- asked where there is no node
 abbrev pub came : Origins → Option ℕ → List ℕ → Bool
 came o None key = true
 came o (Some node) key = number_has o.codes node key

@@ -6,7 +6,7 @@ use Rattle.zb_base.specs.declared.state.Attribute.TheVariants.{Provisional}
 use Rattle.zb_trace_watch.specs.Sets.{has}
 use Rattle.zb_trace_watch.specs.declared.keys.Keys.{Keys}
 
--- a link key that was entered as a code
+-- a link key that was entered as an install code
 abbrev pub is_code : Attribute → Bool
 is_code Provisional = true
 is_code _ = false

@@ -18,7 +18,7 @@ pub record Sayings : Type 0 where
   -- the terms that were sealed or forged, and those that were forged
   pub terms : List Term
   pub forged : List Term
-  -- the keys of the code of each node, and those under which it may be sent a key; a node goes by a number
+  -- the keys of the install code of each node, and those under which it may be sent a key; a node goes by a number
   pub codes : ℕ → List Bytes
   pub bases : ℕ → List Bytes
   -- the keys that each device ever held, and the removed devices; a device goes by its address
@@ -36,7 +36,7 @@ pub record Sayings : Type 0 where
 unfoldable pub exposed : Tools → Sayings → List Bytes
 exposed tools said = rounds said.lines tools said.terms (well_known ∷ flat_map said.ever said.removed)
 
--- whether a node's key is its code's, or a term carries it under one of the node's keys
+-- whether a node's key is its install code's, or a term carries it under one of the node's keys
 unfoldable pub came_by : Tools → Sayings → ℕ → Bytes → Bool
 came_by tools said node key = holds (said.codes node) key
     || list_any (brings tools (said.bases node) key) said.terms
@@ -74,7 +74,7 @@ nothing = record start { lines = 1 }
 abbrev pub only_if : Bool → Bytes → List Bytes
 only_if test key = if test then key ∷ [] else []
 
--- What a line says, whose node is `who`, after lines that say so much.
+-- What a line says, whose node is `who`, after lines that say `said`.
 abbrev pub said_by : Tools → Sayings → Speaker → Line → Sayings
 said_by tools said who (line.GivenNet node key sequence) = record nothing {
   network = key.0 ∷ [];

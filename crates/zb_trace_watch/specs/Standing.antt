@@ -45,7 +45,7 @@ pub record Represents (tools : Tools) (counts : ℕ → Bool) (w : EndWords) (sa
   pub terms : (t : Term) → has_term w.origins.terms t ≡ list_any (same_term (model_term t)) said.terms
   pub carried : (base key : Bytes) → is_carried w.exposure.carried base key
       ≡ list_any (carries tools base key) said.terms
-  -- the keys that each device ever held, those of a node's code, and those under which it may be sent a key
+  -- the keys that each device ever held, those of a node's install code, and those under which it may be sent a key
   pub ever : (device : ℕ) → nat_eq device nobody ≡ false → (key : Bytes) → node_has w.exposure.ever device key
       ≡ holds (said.ever device) key
   pub codes : (node : ℕ) → counts node ≡ true → (key : Bytes) → number_has w.origins.codes node key
@@ -71,7 +71,7 @@ pub record Represents (tools : Tools) (counts : ℕ → Bool) (w : EndWords) (sa
   pub ideal : w.origins.ideal ≡ said.ideal
   pub based : w.exposure.based ≡ said.based
 
--- After a line that says so much more, the two words represent all that was said.
+-- After a line that says `more`, the two words represent all that was said.
 abbrev pub Follows : Tools → (ℕ → Bool) → Sayings → Sayings → EndWords → EndWords → Type 0
 Follows tools counts said more old new = FindKeys tools → (after : Sayings) → Grows counts said more after
     → Represents tools counts old said → Represents tools counts new after

@@ -12,8 +12,8 @@ use zb_base::{Eui, Key, WELL_KNOWN};
 /// What outsiders may know: the well-known key, what removed devices ever held, and what all that opens.
 #[derive(Drop)]
 pub struct Exposure {
-    /// The keys that outsiders may know: the least set that has the well-known key and what removed devices ever held,
-    /// and with the base key of a term also the key that the term carries.
+    /// The keys that outsiders may know. It is the least set that has the well-known key and what removed devices ever
+    /// held, and with the base key of a term also the key that the term carries.
     pub known: Keys,
     /// The keys that terms carry, by the base keys of these terms.
     pub carried: Holdings<Key>,
@@ -27,6 +27,9 @@ pub struct Exposure {
 
 impl Exposure {
     /// Makes the exposure before the first line: outsiders know the well-known key alone.
+    ///
+    /// # Errors
+    /// `AllocError`.
     pub fn new(alloc: Global) -> Result<Exposure, AllocError>
         ensures settled { IfOk result (λ e. IsSettled e) }
         ensures ever { IfOk result (λ e. (d : ℕ) (k : List ℕ) → node_has e.ever d k ≡ false) }
@@ -46,6 +49,9 @@ impl Exposure {
     }
 
     /// Notes that a node came to hold a key; changes nothing where the node was never declared.
+    ///
+    /// # Errors
+    /// `AllocError`.
     pub fn hold(&mut self, alloc: Global, node: Option<Eui>, key: Key) -> Result<(), AllocError>
         ensures settled { OnOk result (IsSettled self.old → IsSettled self.new) }
         ensures ever { OnOk result ((d : ℕ) (k : List ℕ)
@@ -76,6 +82,9 @@ impl Exposure {
     }
 
     /// Notes that a device was removed: outsiders may know what it ever held.
+    ///
+    /// # Errors
+    /// `AllocError`.
     pub fn remove(&mut self, alloc: Global, device: Eui) -> Result<(), AllocError>
         ensures settled { OnOk result (IsSettled self.old → IsSettled self.new) }
         ensures ever { OnOk result (self.new.ever ≡ self.old.ever) }
@@ -94,6 +103,9 @@ impl Exposure {
     }
 
     /// Notes that a term under a base key carries a key, or none.
+    ///
+    /// # Errors
+    /// `AllocError`.
     pub fn carry(&mut self, alloc: Global, base: Key, key: Option<Key>) -> Result<(), AllocError>
         ensures settled { OnOk result (IsSettled self.old → IsSettled self.new) }
         ensures ever { OnOk result (self.new.ever ≡ self.old.ever) }

@@ -9,7 +9,7 @@ use std::alloc::{AllocError, Global};
 use std::collections::BTreeMap;
 use zb_base::Key;
 
-/// Holds, for each owner, the keys that were added for it.
+/// The keys that were added for each owner.
 #[derive(Drop)]
 pub struct Holdings<O: Ord> {
     /// The set of each owner that has any.
@@ -37,6 +37,9 @@ impl<O: Ord + Drop> Holdings<O> {
     }
 
     /// Adds a key for an owner.
+    ///
+    /// # Errors
+    /// `AllocError`.
     pub fn add(&mut self, alloc: Global, owner: O, key: Key) -> Result<(), AllocError>
         ensures { OnOk result ((o : O) (k : List ℕ)
             → held O.cmp self.new o k ≡ (held O.cmp self.old o k || (is_eq (O.cmp owner o) && bytes_eq k key.0))) }
@@ -65,6 +68,9 @@ impl<O: Ord + Drop> Holdings<O> {
     }
 
     /// Puts the keys of an owner after those of a list.
+    ///
+    /// # Errors
+    /// `AllocError`.
     pub fn append_to(&self, owner: &O, list: &mut Vec<Key>) -> Result<(), AllocError>
         ensures { OnOk result (list.new.items ≡ list.old.items ++ keys_at O.cmp self.now owner.now) }
     {
@@ -77,6 +83,9 @@ impl<O: Ord + Drop> Holdings<O> {
 
 impl Holdings<Key> {
     /// Adds a key for another one, if there is one.
+    ///
+    /// # Errors
+    /// `AllocError`.
     pub fn add_under(
         &mut self,
         alloc: Global,
@@ -95,6 +104,9 @@ impl Holdings<Key> {
 
 impl Holdings<u64> {
     /// Adds a key for a node, if there is one.
+    ///
+    /// # Errors
+    /// `AllocError`.
     pub fn add_at(&mut self, alloc: Global, node: Option<u64>, key: Key) -> Result<(), AllocError>
         ensures { OnOk result ((n : ℕ) (k : List ℕ)
             → number_has self.new n k ≡ (number_has self.old n k || (is_number node n && bytes_eq k key.0))) }

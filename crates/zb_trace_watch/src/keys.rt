@@ -31,6 +31,9 @@ impl Keys {
     }
 
     /// Adds a key, and returns whether it is new.
+    ///
+    /// # Errors
+    /// `AllocError`.
     pub fn add(&mut self, key: Key) -> Result<bool, AllocError>
         ensures new { IfOk result (λ new. new ≡ not (has self.old key.0)) }
         ensures adds { OnOk result ((k : List ℕ) → has self.new k ≡ (has self.old k || bytes_eq k key.0)) }
@@ -39,7 +42,9 @@ impl Keys {
         Ok(new)
     }
 
-    /// Returns whether the two sets have a key in common: the keys of the smaller one are looked up in the other.
+    /// Returns whether the two sets have a key in common.
+    ///
+    /// The keys of the smaller one are looked up in the other.
     #[tactic(auto, using(crate::proofs::Alike::meet_turned))]
     pub fn meets(&self, other: &Keys) -> bool
         ensures { result ≡ meet self.now.keys.keys other.now.keys.keys }
@@ -51,7 +56,7 @@ impl Keys {
         }
     }
 
-    // Whether a key of this set is in the other.
+    // Returns whether a key of this set is in the other.
     fn any_is_in(&self, other: &Keys) -> bool
         ensures { result ≡ meet self.now.keys.keys other.now.keys.keys }
     {
@@ -64,6 +69,9 @@ impl Keys {
     }
 
     /// Puts the keys after those of a list.
+    ///
+    /// # Errors
+    /// `AllocError`.
     pub fn append_to(&self, list: &mut Vec<Key>) -> Result<(), AllocError>
         ensures { OnOk result (list.new.items ≡ list.old.items ++ self.now.keys.keys) }
     {

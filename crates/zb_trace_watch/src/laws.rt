@@ -8,8 +8,10 @@ ghost use Rattle.zb_model_real.specs.Real.{real};
 ghost use Rattle.zb_trace_watch.specs.Closure.{IsClosed};
 ghost use Rattle.zb_trace_watch.specs.Standing.{FindKeys};
 
-/// The exposed keys have the start, have what a term carries wherever they have its base key, and are no more than
-/// any such set of keys has.
+/// States that the exposed keys are the least set that is closed over a start.
+///
+/// They have the keys of the start. Wherever they have the base key of a term, they have the key that it carries. They
+/// are no more than any such set of keys has.
 pub fn exposed_keys_are_the_least_closed_set()
     ensures covers { (tools : Tools) (h : List Line) (from : List Bytes) (k : Bytes) → holds from k ≡ true
         → holds (exposed tools h from) k ≡ true }
@@ -20,7 +22,9 @@ pub fn exposed_keys_are_the_least_closed_set()
         → (k : Bytes) → holds (exposed tools h from) k ≡ true → S k ≡ true }
 {}
 
-/// The keys that real commands and frames carry are those that the watch over a transcript finds in them.
+/// States that the watch over a transcript finds the keys that real commands and frames carry.
+///
+/// It finds no other keys in them.
 pub fn the_watch_finds_the_keys_of_frames()
     ensures { FindKeys real }
 {}

@@ -13,14 +13,14 @@ use std::alloc::{AllocError, Global};
 use std::collections::BTreeMap;
 use zb_base::{Eui, Name, Role};
 
-/// What is needed of the declared nodes. Where two have one name or one address, the first counts.
+/// What is needed of the declared nodes. Where two have one name or one EUI, the first counts.
 #[derive(Drop)]
 pub struct Nodes {
-    /// The address of the first node of each name.
+    /// The EUI of the first node of each name.
     pub addresses: BTreeMap<Name, Eui>,
-    /// The role of the first node of each address.
+    /// The role of the first node of each EUI.
     pub roles: BTreeMap<Eui, Role>,
-    /// The address of the first centre.
+    /// The EUI of the first centre.
     pub centre: Option<Eui>,
 }
 
@@ -49,7 +49,7 @@ impl Nodes {
         }
     }
 
-    /// Returns the address of the first node of that name.
+    /// Returns the EUI of the first node of that name.
     fn named(&self, name: &Name) -> Option<Eui>
         ensures { result ≡ address_of self.now name.now }
     {
@@ -92,6 +92,9 @@ impl Nodes {
     }
 
     /// Adds a declared node.
+    ///
+    /// # Errors
+    /// `AllocError`.
     pub fn add(&mut self, name: Name, eui: Eui, role: Role) -> Result<(), AllocError>
         ensures { OnOk result ((known : List Station) (station : Station) → IsOf station name.bytes eui.0 role
             → Declares self.old known → Declares self.new (known ++ station ∷ [])) }
@@ -103,7 +106,7 @@ impl Nodes {
     }
 }
 
-/// Returns the number of an address, if there is one.
+/// Returns the number of an EUI, if there is one.
 fn number(address: Option<Eui>) -> Option<u64>
     ensures { result ≡ option_map (λ (e : AnyEui). e.0) address }
 {
@@ -125,7 +128,7 @@ fn first_centre(before: Option<Eui>, eui: Eui, role: Role) -> Option<Eui>
     }
 }
 
-/// Notes the address of a name, unless one is there.
+/// Notes the EUI of a name, unless one is there.
 fn name_it(addresses: &mut BTreeMap<Name, Eui>, name: Name, eui: Eui) -> Result<(), AllocError>
     ensures { OnOk result ((q : ArrayString)
         → address_in addresses.new q
@@ -137,7 +140,7 @@ fn name_it(addresses: &mut BTreeMap<Name, Eui>, name: Name, eui: Eui) -> Result<
     Ok(())
 }
 
-/// Notes the role of an address, unless one is there.
+/// Notes the role of an EUI, unless one is there.
 fn give_role(roles: &mut BTreeMap<Eui, Role>, eui: Eui, role: Role) -> Result<(), AllocError>
     ensures { OnOk result ((q : ℕ)
         → role_in roles.new q ≡ option_or (role_in roles.old q) (if nat_eq q eui.0 then Some role else None)) }

@@ -21,14 +21,15 @@ pub struct Origins {
     pub terms: Terms,
     /// The link keys of each node's install code.
     pub codes: Holdings<u64>,
-    /// The keys under which each node may be sent a key: its code's, and those of its link rows.
+    /// The keys under which each node may be sent a key: its install code's, and those of its link rows.
     pub bases: Holdings<u64>,
     /// For each key that terms carry, the base keys of these terms.
     pub carriers: Holdings<Key>,
     /// For each node, keys of which it was found where they came from, so that none is looked for twice.
     pub traced: Holdings<u64>,
-    /// Whether each accepted term was sealed or forged before, and each key that a router or device took in is its
-    /// code's or came in an earlier term under one of its keys.
+    /// Whether all that was accepted or taken in came from earlier terms. Each accepted term was sealed or forged
+    /// before. Each key that a router or device took in is its install code's, or came in an earlier term under one of
+    /// its keys.
     pub ideal: bool,
 }
 
@@ -53,6 +54,9 @@ impl Origins {
     }
 
     /// Notes that a term was sealed or forged, and which key it carries, if any.
+    ///
+    /// # Errors
+    /// `AllocError`.
     pub fn term(&mut self, alloc: Global, term: &Term, key: Option<Key>) -> Result<(), AllocError>
         ensures terms { OnOk result ((t : AnyTerm)
             → has_term self.new.terms t
@@ -79,6 +83,9 @@ impl Origins {
 
     /// Notes that a router or device took a key in, or no node did. What was traced isn't looked for again, and once a
     /// key came from nowhere none is.
+    ///
+    /// # Errors
+    /// `AllocError`.
     pub fn take_in(&mut self, alloc: Global, node: Option<u64>, key: Key) -> Result<(), AllocError>
         ensures ideal { OnOk result (IsTraced self.old node key.0
             → self.new.ideal ≡ (self.old.ideal && came self.old node key.0)) }
@@ -119,14 +126,14 @@ impl Origins {
         Ok(())
     }
 
-    // Whether nothing is to be looked for: the key was traced, or the run isn't ideal anyway.
+    // Returns whether nothing is to be looked for: the key was traced, or the run isn't ideal anyway.
     fn is_settled(&self, number: &u64, key: &Key) -> bool
         ensures { result ≡ (not self.now.ideal || number_has self.now.traced number.now key.now.0) }
     {
         !self.ideal || self.traced.has(number, key)
     }
 
-    // Whether the key is that of the node's code, or a term carries it under one of the node's keys.
+    // Returns whether the key is that of the node's install code, or a term carries it under one of the node's keys.
     fn came(&self, number: &u64, key: &Key) -> bool
         ensures { result ≡ came self.now (Some number.now) key.now.0 }
     {
@@ -143,7 +150,10 @@ impl Origins {
         }
     }
 
-    /// Notes the link key of a node's install code; changes nothing where the node has no number.
+    /// Notes the link key of a node's install code. It changes nothing where the node has no number.
+    ///
+    /// # Errors
+    /// `AllocError`.
     pub fn code(&mut self, alloc: Global, node: Option<u64>, key: Key) -> Result<(), AllocError>
         ensures codes { OnOk result ((n : ℕ) (k : List ℕ)
             → number_has self.new.codes n k
@@ -162,6 +172,9 @@ impl Origins {
     }
 
     /// Notes a node's link row with that key; changes nothing where the node has no number.
+    ///
+    /// # Errors
+    /// `AllocError`.
     pub fn row(&mut self, alloc: Global, node: Option<u64>, key: Key) -> Result<(), AllocError>
         ensures bases { OnOk result ((n : ℕ) (k : List ℕ)
             → number_has self.new.bases n k

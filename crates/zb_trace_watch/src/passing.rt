@@ -10,7 +10,7 @@ use zb_base::{Attribute, Key};
 /// The network's keys, and those that forged terms carry.
 #[derive(Drop)]
 pub struct Passing {
-    /// The keys that were given, drawn or entered as codes.
+    /// The keys that were given, drawn or entered as install codes.
     pub network: Keys,
     /// The keys that forged terms carry.
     pub forged: Keys,
@@ -33,6 +33,9 @@ impl Passing {
     }
 
     /// Notes a key of the network.
+    ///
+    /// # Errors
+    /// `AllocError`.
     pub fn network_key(&mut self, key: Key) -> Result<(), AllocError>
         ensures network { OnOk result ((k : List ℕ)
             → has self.new.network k ≡ (has self.old.network k || bytes_eq k key.0)) }
@@ -46,7 +49,10 @@ impl Passing {
         Ok(())
     }
 
-    /// Notes the key of a link row, which is the network's where it was entered as a code.
+    /// Notes the key of a link row, which is the network's where it was entered as an install code.
+    ///
+    /// # Errors
+    /// `AllocError`.
     pub fn row_key(&mut self, key: Key, attribute: Attribute) -> Result<(), AllocError>
         ensures network { OnOk result ((k : List ℕ)
             → has self.new.network k ≡ (has self.old.network k || (is_code attribute && bytes_eq k key.0))) }
@@ -62,6 +68,9 @@ impl Passing {
     }
 
     /// Notes which key a forged term carries, if any.
+    ///
+    /// # Errors
+    /// `AllocError`.
     pub fn forged_key(&mut self, key: Option<Key>) -> Result<(), AllocError>
         ensures network { self.new.network ≡ self.old.network }
         ensures forged { OnOk result ((k : List ℕ) → has self.new.forged k ≡ (has self.old.forged k || is_key key k)) }

@@ -4,17 +4,17 @@ use zb_base::Eui;
 /// Who the node of a line is, as far as the two words of the end line ask.
 #[derive(Clone, Copy)]
 pub struct Speaker {
-    /// The number that its own keys go by, if it has one: its address, or the place of its name.
+    /// The number that its own keys go by, if it has one: its EUI, or the place of its name.
     pub number: Option<u64>,
     /// That number where it is a router or device.
     pub joiner: Option<u64>,
-    /// Its address, if it was declared.
+    /// Its EUI, if it was declared.
     pub address: Option<Eui>,
     /// Whether it is the centre.
     pub is_centre: bool,
 }
 
-/// Stands for the node of a line of which the two words ask nothing.
+/// The node of a line of which the two words ask nothing.
 pub const NOBODY: Speaker = Speaker {
     number: None,
     joiner: None,

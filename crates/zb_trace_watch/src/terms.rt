@@ -74,6 +74,9 @@ impl Terms {
     }
 
     /// Adds a term.
+    ///
+    /// # Errors
+    /// `AllocError`.
     pub fn add(&mut self, term: &Term) -> Result<(), AllocError>
         ensures { OnOk result ((t : Term)
             → has_term self.new t ≡ (has_term self.old t || same_term (model_term t) (model_term term.now))) }

@@ -28,6 +28,9 @@ pub struct Watch {
 
 impl Watch {
     /// Makes a watch over no lines.
+    ///
+    /// # Errors
+    /// `NoMemory`.
     pub fn new(alloc: Global) -> Result<Watch, NoMemory>
         ensures { IfOk result (λ watch. (tools : Tools) → Stands tools watch []) }
     {
@@ -51,7 +54,10 @@ impl Watch {
         self.words.private()
     }
 
-    /// Goes on by one line. After `NoMemory` the watch isn't used further.
+    /// Goes on by one line.
+    ///
+    /// # Errors
+    /// `NoMemory`, after which the watch isn't used further.
     pub fn line(&mut self, alloc: Global, line: &Line) -> Result<(), NoMemory>
         ensures { OnOk result ((tools : Tools) (h : List log.Line)
             → Follows self.old self.new (logged (stations_of h) line.now) h tools) }

@@ -20,14 +20,15 @@ use zb_trace::Line;
 
 /// What is known of a transcript after the lines so far, and no line.
 ///
-/// What it keeps stands in ordered maps and sets, so that a step, which looks a key, a node or a term up or puts it
-/// in, costs logarithmic work. A line takes a fixed number of steps, and those of two tasks:
+/// What it keeps stands in ordered maps and sets. A step looks a key, a node or a term up, or puts it in, and costs
+/// logarithmic work. A line takes a fixed number of steps, and those of two tasks:
 ///
 /// - Where a key came from is asked the first time that a router or device takes that key in, and no more once the
 ///   lines aren't ideal. The node's link keys are looked up among the base keys under which the key was carried, or
 ///   the other way round, whichever are fewer. Over a run these look-ups are at most as many as its routers and
-///   devices times its lines that carry a key, so with 63 of them at most 63 a line. A transcript of this program asks
-///   for at most 64 in any one line, since a router or device has at most 64 link rows, dropped ones among them.
+///   devices times its lines that carry a key. With 63 routers and devices that is at most 63 a line. A transcript of
+///   this program asks for at most 64 in any one line, since a router or device has at most 64 link rows, dropped ones
+///   among them.
 /// - What outsiders come to know is followed when they come to know it. Each key becomes known once, and what was
 ///   carried under it is walked then. Over n lines that is at most 2n + 1 steps, but a single line, such as a
 ///   removal, may take nearly all of them.
@@ -47,6 +48,9 @@ pub struct EndWords {
 
 impl EndWords {
     /// Makes the words of no lines.
+    ///
+    /// # Errors
+    /// `NoMemory`.
     pub fn new(alloc: Global) -> Result<EndWords, NoMemory>
         ensures { IfOk result (λ words. (tools : Tools) (counts : ℕ → Bool) → Represents tools counts words start) }
     {
@@ -59,8 +63,8 @@ impl EndWords {
 
     /// Returns whether all that was accepted or taken in came from earlier terms.
     ///
-    /// Each accepted term was sealed or forged before, and each key that a router or device took in is its code's or
-    /// came in an earlier term under one of its keys.
+    /// Each accepted term was sealed or forged before. Each key that a router or device took in is its install code's,
+    /// or came in an earlier term under one of its keys.
     pub fn ideal(&self) -> bool
         ensures { (tools : Tools) (counts : ℕ → Bool) (said : Sayings) → Represents tools counts self.now said
             → result ≡ said.ideal }
@@ -76,7 +80,10 @@ impl EndWords {
         self.exposure.based && !self.passing.passed_on
     }
 
-    /// Goes on by one line, whose node is `who`. After `NoMemory` it isn't used further.
+    /// Goes on by one line, whose node is `who`.
+    ///
+    /// # Errors
+    /// `NoMemory`, after which the words aren't used further.
     pub fn line(&mut self, alloc: Global, line: &Line, who: Speaker) -> Result<(), NoMemory>
         ensures { OnOk result ((tools : Tools) (counts : ℕ → Bool) (said : Sayings) → JoinerCounts counts who line.now
             → Follows tools counts said (said_by tools said who line.now) self.old self.new) }
