@@ -65,9 +65,9 @@ impl State {
         )
     }
 
-    // Adds what the rows of an old column become in a round to the columns that they move to: row 0 to the first of
-    // them, and the rows 3, 2 and 1 to those after it. Then the first one goes last, so that the next old column finds
-    // its own first; four calls make a round. They take one word after the other, and so all stay in registers.
+    // Adds what the rows of an old column become in a round to the columns that they move to. Row 0 goes to the first
+    // of them, and the rows 3, 2 and 1 go to those after it. Then the first one goes last, so that the next old column
+    // finds its own first; four calls make a round. They take one word after the other, and so all stay in registers.
     #[inline(always)]
     fn with_mixed(self, column: u32) -> State
         ensures row_0 { word_bytes result.3

@@ -152,7 +152,9 @@ fn substituted_bytes(a: u8, b: u8, c: u8, d: u8) -> u32
     sum(sum(alone_0(a), alone_1(b)), sum(alone_2(c), alone_3(d)))
 }
 
-/// Rotates a word of the key by a byte, substitutes it, and adds the constant of its round (FIPS 197, 5.2).
+/// Returns a word of the key as it goes into the next round key (FIPS 197, 5.2).
+///
+/// It is rotated by a byte and substituted, and the constant of its round is added.
 pub fn turned_word(constant: u8, word: u32) -> u32
     ensures { word_bytes result ≡ turned constant (word_bytes word) }
 {
