@@ -72,7 +72,7 @@ uint32_t tc_keyed(const uint8_t *key, size_t key_len, const uint8_t *message, si
 
 /* What a frame opens to, beside its content. */
 struct tc_opened {
-    uint64_t source;  /* the IEEE address of the node that sealed it */
+    uint64_t source;  /* the EUI of the node that sealed it */
     uint32_t counter; /* its frame counter */
     uint32_t len;     /* how many bytes its content has */
     uint8_t label;    /* the key identifier: 0 data, 1 network, 2 key-transport, 3 key-load */
@@ -84,7 +84,7 @@ uint32_t tc_open_nwk(const uint8_t *frame, size_t frame_len, const uint8_t *key,
                      size_t content_room, struct tc_opened *opened);
 
 /* Opens a secured APS frame under a link key, which is the base of all its key identifiers. `key` has 16 bytes,
- * `content` 127 at least. `source` is the IEEE address of the node that sealed the frame, which counts where the frame
+ * `content` 127 at least. `source` is the EUI of the node that sealed the frame, which counts where the frame
  * names none, or 0. */
 uint32_t tc_open_aps(const uint8_t *frame, size_t frame_len, const uint8_t *key, size_t key_len, uint64_t source,
                      uint8_t *content, size_t content_room, struct tc_opened *opened);

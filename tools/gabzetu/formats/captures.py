@@ -21,7 +21,7 @@ FORMS = [
         'an install code that is known, its CRC at the end; its link key is one that is known',
         KINDS,
     ),
-    Form(WHAT, 'addr SHORT EUI', 'the node of this short address has this IEEE address', KINDS),
+    Form(WHAT, 'addr SHORT EUI', 'the node of this short address has this EUI', KINDS),
     Form(
         WHAT,
         'frame HEX',

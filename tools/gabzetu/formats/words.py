@@ -108,16 +108,16 @@ class Digits:
 
 
 class Eui(Digits):
-    """An IEEE address that a node can have."""
+    """An EUI that a node can have."""
 
     def __init__(self, name='EUI'):
-        super().__init__(name, 16, 'an IEEE address')
+        super().__init__(name, 16, 'an EUI')
 
     def fault(self, word):
         """Returns what is wrong with a word, or none."""
         fault = super().fault(word)
         if fault is None and word.upper() in ('0' * 16, 'F' * 16):
-            return f'an IEEE address of all {word[0].upper()} is no address of a node'
+            return f'an EUI of all {word[0].upper()} is no address of a node'
         return fault
 
 
