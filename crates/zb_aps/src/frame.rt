@@ -120,7 +120,7 @@ pub fn read_into(bytes: &[u8], frame: &mut ApsFrame) -> Result<(), ApsError>
     Ok(())
 }
 
-fn read_whole(bytes: &[u8]) -> Result<ApsFrame, ApsError>
+fn read_into_blank(bytes: &[u8]) -> Result<ApsFrame, ApsError>
     ensures found { IfOk result (λ f. Spells bytes.now f) }
     ensures exact { result ≡ frame_of bytes.now }
 {
@@ -142,7 +142,7 @@ pub fn read(bytes: &[u8]) -> Result<ApsFrame, ApsError>
     ensures exact { result ≡ frame_of bytes.now }
     ensures fault { (e : ApsError) → (result ≡ Err e) ↔ HasFault bytes.now e }
 {
-    read_whole(bytes)
+    read_into_blank(bytes)
 }
 
 fn put_content(out: &mut Frame, value: &ApsFrame) -> Result<(), TooLong>

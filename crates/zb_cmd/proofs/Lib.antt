@@ -1,3 +1,4 @@
 pub mod ReadAgain
+pub mod Whole
 pub mod Endings
 pub mod FaultLaws

@@ -16,10 +16,9 @@ use crate::fault::CmdError;
 use crate::request::{put_partner, read_request};
 use crate::transport::{put_application, put_link, put_network, read_transport};
 use crate::tunnel::{put_tunnel, read_tunnel};
-use crate::whole::{begin, end};
 use arrayvec::ArrayVec;
 use zb_base::{Eui, Frame, Key, Short};
-use zb_cursor::{Reader, TooLong, put, put_byte, put_eui, put_short};
+use zb_cursor::{Reader, TooLong, put, put_byte, put_eui, put_short, read_whole};
 
 /// A command of the APS security services (05-3474-21, 4.4.10), without the APS header that carries it.
 #[derive(Debug, Drop, PartialEq, Eq)]
@@ -196,18 +195,6 @@ fn read_front(reader: &mut Reader<CmdError>) -> Result<Command, CmdError>
     Ok(command)
 }
 
-#[tactic(auto, unfolding(crate::specs::Reading::command_of))]
-fn read_whole(bytes: &[u8]) -> Result<Command, CmdError>
-    requires { length bytes.now < 2 ^ 32 }
-    ensures found { IfOk result (λ c. Spells bytes.now c) }
-    ensures exact { result ≡ command_of bytes.now }
-{
-    let mut reader = begin(bytes);
-    let command = read_front(&mut reader)?;
-    end(&reader)?;
-    Ok(command)
-}
-
 /// Reads the command that all of the bytes are. Requires fewer than 2^32 bytes.
 ///
 /// # Errors
@@ -222,7 +209,10 @@ pub fn read_command(bytes: &[u8]) -> Result<Command, CmdError>
     ensures exact { result ≡ command_of bytes.now }
     ensures fault { (e : CmdError) → (result ≡ Err e) ↔ HasFault bytes.now e }
 {
-    read_whole(bytes)
+    let cut = CmdError::Short {
+        at: bytes.len() as u32,
+    };
+    read_whole(bytes, cut, read_front, |count| CmdError::Trailing { count })
 }
 
 fn put_update(out: &mut Frame, device: Eui, address: Short, status: u8) -> Result<(), TooLong>

@@ -9,9 +9,8 @@ ghost use Rattle.zb_cmd.specs.Reading.{leave_body, leave_at, leave_of};
 ghost use Rattle.zb_cmd.specs.Faults.{HasLeaveFault};
 
 use crate::fault::CmdError;
-use crate::whole::{begin, end};
 use zb_base::Frame;
-use zb_cursor::{Reader, frame_from};
+use zb_cursor::{Reader, frame_from, read_whole};
 
 /// The NWK command Leave (05-3474-21, 3.4.4), without the NWK header that carries it.
 #[derive(Clone, Copy, Debug, PartialEq, Eq)]
@@ -48,18 +47,6 @@ fn read_front(reader: &mut Reader<CmdError>) -> Result<Leave, CmdError>
     Ok(leave)
 }
 
-#[tactic(auto, unfolding(crate::specs::Reading::leave_of))]
-fn read_whole(bytes: &[u8]) -> Result<Leave, CmdError>
-    requires { length bytes.now < 2 ^ 32 }
-    ensures found { IfOk result (λ l. SpellsLeave bytes.now l) }
-    ensures exact { result ≡ leave_of bytes.now }
-{
-    let mut reader = begin(bytes);
-    let leave = read_front(&mut reader)?;
-    end(&reader)?;
-    Ok(leave)
-}
-
 /// Reads the Leave that all of the bytes are. Requires fewer than 2^32 bytes.
 ///
 /// # Errors
@@ -74,7 +61,10 @@ pub fn read_leave(bytes: &[u8]) -> Result<Leave, CmdError>
     ensures exact { result ≡ leave_of bytes.now }
     ensures fault { (e : CmdError) → (result ≡ Err e) ↔ HasLeaveFault bytes.now e }
 {
-    read_whole(bytes)
+    let cut = CmdError::Short {
+        at: bytes.len() as u32,
+    };
+    read_whole(bytes, cut, read_front, |count| CmdError::Trailing { count })
 }
 
 /// Writes the one spelling of a Leave.

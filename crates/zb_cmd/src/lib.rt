@@ -9,7 +9,6 @@ mod leave;
 mod request;
 mod transport;
 mod tunnel;
-mod whole;
 
 pub use command::{Command, read_command, write_command};
 pub use fault::CmdError;

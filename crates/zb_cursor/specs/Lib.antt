@@ -1,5 +1,5 @@
 pub mod Spelling
 pub mod Reading
-pub mod Ending
+pub mod Whole
 pub mod Writing
 pub mod Texts

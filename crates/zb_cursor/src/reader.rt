@@ -2,7 +2,6 @@
 ghost use Rattle.std.specs.Prelude.{◌≡◌, [], ◌+◌, ◌*◌, ◌<◌, ◌≤◌, ◌^◌, ◌++◌, length, IfOk, OnOk, OnErr, IfSome, is_some};
 ghost use Rattle.std.specs.Int.{w16, w32, w64};
 ghost use Rattle.zb_cursor.specs.Spelling.{byte, number, short, eui, key, optional};
-ghost use Rattle.zb_cursor.specs.Ending.{end_of};
 ghost use Rattle.zb_cursor.specs.Reading.{Gives, GivesBy, read_into, byte_at, body_and_mic_at, bytes_at, number_at, short_at, eui_at, key_at, optional_at, times_at};
 ghost use Rattle.std.specs.List.{flat_map, AllByRecursion};
 ghost use Rattle.zb_base.specs.Limits.{longest_frame};
@@ -78,20 +77,6 @@ impl<'a, E: Copy + Drop> Reader<'a, E> {
         let rest = self.rest;
         self.rest = &[];
         rest
-    }
-
-    /// Checks that no byte is left.
-    ///
-    /// # Errors
-    /// `left` where one is.
-    pub fn end(&self, left: E) -> Result<(), E>
-        ensures exact { result ≡ end_of left self.now.rest.now }
-        ensures nothing { OnOk result (self.now.rest.now ≡ []) }
-    {
-        if !self.rest.is_empty() {
-            return Err(left);
-        }
-        Ok(())
     }
 
     /// Reads all bytes that are left: a body, and after it a MIC of 4 bytes.

@@ -115,7 +115,7 @@ pub fn read_into(bytes: &[u8], frame: &mut NwkFrame) -> Result<(), NwkError>
     Ok(())
 }
 
-fn read_whole(bytes: &[u8]) -> Result<NwkFrame, NwkError>
+fn read_into_blank(bytes: &[u8]) -> Result<NwkFrame, NwkError>
     ensures found { IfOk result (λ f. Spells bytes.now f) }
     ensures exact { result ≡ frame_of bytes.now }
 {
@@ -137,7 +137,7 @@ pub fn read(bytes: &[u8]) -> Result<NwkFrame, NwkError>
     ensures exact { result ≡ frame_of bytes.now }
     ensures fault { (e : NwkError) → (result ≡ Err e) ↔ HasFault bytes.now e }
 {
-    read_whole(bytes)
+    read_into_blank(bytes)
 }
 
 fn put_content(out: &mut Frame, value: &NwkFrame) -> Result<(), TooLong>
