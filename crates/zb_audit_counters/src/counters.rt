@@ -135,6 +135,9 @@ impl Counters {
     }
 
     /// Notes that the node is given a network key at the start.
+    ///
+    /// # Errors
+    /// Out of memory.
     pub fn give(&mut self, group: u32, key: Key) -> Result<(), AllocError>
         ensures { OnOk result ((number sequence : ℕ) (m : ArrayString)
             → Hears group number m.bytes (line.GivenNet m key sequence) self.old self.new) }
@@ -149,6 +152,9 @@ impl Counters {
     }
 
     /// Notes that a network key becomes active, and judges the line.
+    ///
+    /// # Errors
+    /// Out of memory.
     pub fn activate(&mut self, group: u32, key: Key) -> Result<Judgement, AllocError>
         ensures judged { IfOk result (λ judgement. judgement ≡ active_judged group self.old key) }
         ensures heard { OnOk result ((number e : ℕ) (m : ArrayString)
@@ -164,6 +170,9 @@ impl Counters {
     }
 
     /// Notes that a network key starts, and judges the line. `declared` tells whether a line declares the node.
+    ///
+    /// # Errors
+    /// Out of memory.
     pub fn start(
         &mut self,
         group: u32,
@@ -188,6 +197,9 @@ impl Counters {
 
     /// Notes that a limit is reserved, and judges the line. `block` is the node's outgoing block, where a line
     /// declares the node.
+    ///
+    /// # Errors
+    /// Out of memory.
     pub fn reserve(
         &mut self,
         group: u32,
@@ -267,6 +279,9 @@ impl Counters {
     }
 
     /// Notes that a term is sealed, and judges the line. `declared` tells whether a line declares the node.
+    ///
+    /// # Errors
+    /// Out of memory.
     pub fn seal(&mut self, group: u32, term: &Term, declared: bool) -> Result<Judgement, AllocError>
         ensures judged { IfOk result (λ judgement.
             judgement ≡ seal_judged group self.old term.now.layer term.now.base term.now.counter declared) }
@@ -323,6 +338,9 @@ impl Counters {
     }
 
     /// Notes that a frame is accepted, and judges the line.
+    ///
+    /// # Errors
+    /// Out of memory.
     pub fn accept(
         &mut self,
         group: u32,
@@ -342,6 +360,9 @@ impl Counters {
 
     /// Notes that a floor is stored, and judges the line. `block` is the node's incoming block, where a line declares
     /// the node.
+    ///
+    /// # Errors
+    /// Out of memory.
     pub fn store_floor(
         &mut self,
         group: u32,
@@ -360,6 +381,9 @@ impl Counters {
     }
 
     /// Goes on by a line of this node, which has this number, and judges it. `node` is what lines before it declare.
+    ///
+    /// # Errors
+    /// Out of memory.
     pub fn hear(
         &mut self,
         group: u32,

@@ -59,6 +59,9 @@ impl Recount {
 
     /// Goes on by one line. `number` is its number, from 1. `who` is the node that it speaks of, by the lines before.
     /// After `NoMemory` the recount isn't used further.
+    ///
+    /// # Errors
+    /// `NoMemory`.
     pub fn line(
         &mut self,
         alloc: Global,

@@ -26,6 +26,9 @@ impl Back {
     }
 
     /// Notes that a device comes to hold a key, unless it is among what devices held before.
+    ///
+    /// # Errors
+    /// Out of memory.
     pub fn hold(
         &mut self,
         alloc: Global,

@@ -25,6 +25,9 @@ pub struct Before {
 
 impl Before {
     /// Makes the value before the first line.
+    ///
+    /// # Errors
+    /// Out of memory.
     pub fn new(alloc: Global) -> Result<Before, AllocError>
         ensures settled { IfOk result (λ b. IsSettled b.exposure) }
         ensures ever { IfOk result (λ b. (d : ℕ) (k : List ℕ) → node_has b.exposure.ever d k ≡ false) }
@@ -40,6 +43,9 @@ impl Before {
     }
 
     /// Learns one more fact.
+    ///
+    /// # Errors
+    /// Out of memory.
     pub fn learn(&mut self, alloc: Global, fact: Fact) -> Result<(), AllocError>
         ensures { OnOk result (Learnt self.old self.new fact) }
     {

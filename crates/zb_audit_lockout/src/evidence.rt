@@ -56,6 +56,9 @@ impl Evidence {
     }
 
     /// Notes that a term was forged.
+    ///
+    /// # Errors
+    /// Out of memory.
     pub fn forge(&mut self, term: &Term) -> Result<(), AllocError>
         ensures forged { OnOk result ((t : AnyTerm) → has_term self.new.forged t
             ≡ (has_term self.old.forged t || same_term (model_term t) (model_term term.now))) }
@@ -65,6 +68,9 @@ impl Evidence {
     }
 
     /// Notes that a device, if there is one, sealed a term, where it is removed.
+    ///
+    /// # Errors
+    /// Out of memory.
     pub fn seal(
         &mut self,
         alloc: Global,
@@ -116,6 +122,9 @@ impl Evidence {
     ///
     /// It is where a removed device sealed it since its removal. It also is where it was forged and some device is
     /// removed. The call forgets some seals of devices that were admitted since.
+    ///
+    /// # Errors
+    /// Out of memory.
     pub fn is_foul(&mut self, windows: &Windows, term: &Term) -> Result<bool, AllocError>
         ensures foul { IfOk result (λ foul. foul ≡ is_foul windows.now self.old term.now) }
         ensures forgets { OnOk result (Forgets windows.now self.old self.new) }

@@ -12,6 +12,9 @@ use zb_trace_watch::keys::Keys;
 /// A level above `early` saves work: the keys needn't be raised again for each removal that is a little earlier. No
 /// contract says how far it is above. It is half way to the level at which one of the keys would be late, or at which
 /// further ones would have to be raised.
+///
+/// # Errors
+/// Out of memory.
 pub fn level_above(
     alloc: Global,
     leads: &Holdings<Key>,

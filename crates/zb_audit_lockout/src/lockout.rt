@@ -62,6 +62,9 @@ pub struct Lockout {
 
 impl Lockout {
     /// Makes the value of no lines.
+    ///
+    /// # Errors
+    /// `NoMemory`.
     pub fn new(alloc: Global) -> Result<Lockout, NoMemory>
         ensures { IfOk result (λ lockout. (tools : Tools) (names : List Bytes) → Stands tools names lockout []) }
     {
@@ -82,6 +85,9 @@ impl Lockout {
     }
 
     /// Goes on by one line, the `number`-th. `who` is the line's node. After `NoMemory` the value isn't used further.
+    ///
+    /// # Errors
+    /// `NoMemory`.
     pub fn line(
         &mut self,
         alloc: Global,

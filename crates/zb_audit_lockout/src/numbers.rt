@@ -36,6 +36,9 @@ impl Numbers {
     }
 
     /// Sets the number of a key, whatever it had.
+    ///
+    /// # Errors
+    /// Out of memory.
     pub fn set(&mut self, key: Key, number: u64) -> Result<(), AllocError>
         ensures { OnOk result ((k : List ℕ) → number_of self.new k
             ≡ (if bytes_eq k key.0 then number else number_of self.old k)) }
@@ -60,6 +63,9 @@ impl Numbers {
     }
 
     /// Raises keys to a number, and all keys that terms carry under raised ones. Returns the keys that were raised.
+    ///
+    /// # Errors
+    /// Out of memory.
     pub fn raise(
         &mut self,
         alloc: Global,
@@ -91,6 +97,9 @@ impl Numbers {
     }
 
     /// Takes the numbers of keys away, and those of all keys that lead to them. Returns the keys that had one.
+    ///
+    /// # Errors
+    /// Out of memory.
     pub fn clear(
         &mut self,
         alloc: Global,

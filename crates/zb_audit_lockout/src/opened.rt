@@ -63,6 +63,9 @@ impl Opened {
     }
 
     /// Notes the number of a device, unless it has one.
+    ///
+    /// # Errors
+    /// Out of memory.
     pub fn note(&mut self, device: Eui, number: u32) -> Result<(), AllocError>
         ensures { OnOk result ((d : ℕ) → number_in self.new d
             ≡ option_or (number_in self.old d) (if nat_eq d device.0 then Some number else None)) }
@@ -83,6 +86,9 @@ impl Opened {
     }
 
     /// Returns the devices with their numbers, the least number first.
+    ///
+    /// # Errors
+    /// Out of memory.
     pub fn list(&self, alloc: Global) -> Result<Vec<Opening>, AllocError>
         ensures { IfOk result (λ list. (n d : ℕ) → is_listed n d list.items ≡ is_number n (number_in self.now d)) }
     {
@@ -112,6 +118,9 @@ impl Opened {
 }
 
 /// Puts the devices of an order after those of a list.
+///
+/// # Errors
+/// Out of memory.
 pub fn append_all(order: &BTreeSet<Opening>, list: &mut Vec<Opening>) -> Result<(), AllocError>
     ensures { OnOk result (list.new.items ≡ list.old.items ++ order.now.keys) }
 {

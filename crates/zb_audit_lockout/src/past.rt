@@ -33,6 +33,9 @@ pub struct Past {
 
 impl Past {
     /// Makes the past of no lines.
+    ///
+    /// # Errors
+    /// Out of memory.
     pub fn new(alloc: Global) -> Result<Past, AllocError>
         ensures { IfOk result (λ past. (tools : Tools) (names : List Bytes) → IsPast tools names past []) }
     {
@@ -44,6 +47,9 @@ impl Past {
     }
 
     /// Goes on by one line. `who` is the line's node.
+    ///
+    /// # Errors
+    /// Out of memory.
     pub fn line(&mut self, alloc: Global, line: &Line, who: Who) -> Result<(), AllocError>
         ensures { OnOk result ((tools : Tools) (names : List Bytes) (h : List AnyLine) → FindKeys tools
             → IsSpeaker who names (declared_in h) line.now → IsPast tools names self.old h

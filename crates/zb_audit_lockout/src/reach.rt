@@ -57,6 +57,9 @@ impl Reach {
     }
 
     /// Notes that a key was drawn, and returns whether drawn keys stay out of the reach of removed devices.
+    ///
+    /// # Errors
+    /// Out of memory.
     pub fn draw(&mut self, alloc: Global, key: Key) -> Result<bool, AllocError>
         ensures draws { OnOk result (Draws self.old self.new key) }
         ensures tells { IfOk result (λ stays. Tells self.old self.new stays) }
@@ -70,6 +73,9 @@ impl Reach {
     }
 
     /// Notes that a term under a base key carries a key, and returns whether drawn keys stay out of reach.
+    ///
+    /// # Errors
+    /// Out of memory.
     pub fn carry(&mut self, alloc: Global, base: Key, key: Key) -> Result<bool, AllocError>
         ensures carries { OnOk result (Carries self.old self.new base key) }
         ensures tells { IfOk result (λ stays. Tells self.old self.new stays) }
@@ -81,6 +87,9 @@ impl Reach {
     }
 
     /// Notes that a device came to hold a key, if there is a device. Returns whether drawn keys stay out of reach.
+    ///
+    /// # Errors
+    /// Out of memory.
     pub fn hold(&mut self, alloc: Global, device: Option<Eui>, key: Key) -> Result<bool, AllocError>
         ensures holds { OnOk result (CameToHold self.old self.new (λ d k. is_node device d && bytes_eq k key.0)) }
         ensures tells { IfOk result (λ stays. Tells self.old self.new stays) }
@@ -103,6 +112,9 @@ impl Reach {
 
     /// Notes that two devices came to hold a key, as far as there are two. Returns whether drawn keys stay out of
     /// reach.
+    ///
+    /// # Errors
+    /// Out of memory.
     pub fn hold_both(
         &mut self,
         alloc: Global,
@@ -120,6 +132,9 @@ impl Reach {
     }
 
     /// Notes that the line of that number removed a device.
+    ///
+    /// # Errors
+    /// Out of memory.
     pub fn remove(&mut self, alloc: Global, device: Eui, number: u32) -> Result<(), AllocError>
         ensures { OnOk result (Removes self.old self.new device.0 number) }
     {

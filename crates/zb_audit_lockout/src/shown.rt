@@ -47,6 +47,9 @@ impl Shown {
     }
 
     /// Goes on by one fact, which is among what is known and live.
+    ///
+    /// # Errors
+    /// Out of memory.
     pub fn follow(
         &mut self,
         alloc: Global,
@@ -146,6 +149,9 @@ fn note(
 }
 
 /// Takes a key of a node out.
+///
+/// # Errors
+/// Out of memory.
 pub fn drop_from(keys: &mut Holdings<usize>, place: usize, key: Key) -> Result<(), AllocError>
     ensures { OnOk result ((p : ℕ) (k : List ℕ)
         → lives_at keys.new p k ≡ (lives_at keys.old p k && not (nat_eq place p && bytes_eq k key.0))) }

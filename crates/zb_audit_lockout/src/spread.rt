@@ -69,6 +69,9 @@ impl Spread {
     /// Notes how early a device was removed, unless it is noted as early already.
     ///
     /// Returns the keys that come out for it now, and came out for no device that was removed as early.
+    ///
+    /// # Errors
+    /// Out of memory.
     pub fn enter(
         &mut self,
         alloc: Global,
@@ -108,6 +111,9 @@ impl Spread {
     }
 
     /// Raises a key, and what comes out under it. Returns the keys that were raised.
+    ///
+    /// # Errors
+    /// Out of memory.
     pub fn follow(
         &mut self,
         alloc: Global,
@@ -127,6 +133,9 @@ impl Spread {
 
     /// Forgets the removals of all devices that hold one of these keys, which no longer come out. Returns those that
     /// are still removed, the earliest removal first.
+    ///
+    /// # Errors
+    /// Out of memory.
     pub fn forget(
         &mut self,
         alloc: Global,

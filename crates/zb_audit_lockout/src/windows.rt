@@ -30,6 +30,9 @@ impl Windows {
     }
 
     /// Notes that the line of that number removed a device.
+    ///
+    /// # Errors
+    /// Out of memory.
     pub fn remove(&mut self, device: Eui, number: u32) -> Result<(), AllocError>
         ensures found { OnOk result ((d : ℕ)
             → open_at self.new d ≡ option_or (open_at self.old d) (if nat_eq d device.0 then Some number else None)) }

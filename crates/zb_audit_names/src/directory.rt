@@ -62,6 +62,9 @@ impl Directory {
 
     /// Goes on by one line, and returns who its node is by the lines before it. For a line that speaks of no node the
     /// value says nothing.
+    ///
+    /// # Errors
+    /// `NoMemory`.
     pub fn line(&mut self, line: &Line) -> Result<Who, NoMemory>
         ensures stands { OnOk result ((h : List AnyLine) → Stands self.old (names_in h) (declared_in h)
             → Stands self.new (names_in (h ++ line.now ∷ [])) (declared_in (h ++ line.now ∷ []))) }

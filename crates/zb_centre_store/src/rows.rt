@@ -108,6 +108,9 @@ fn put_links(page: &mut Vec<u8>, rows: &[LinkRow]) -> Result<(), AllocError>
 }
 
 /// Prints what the tables hold, a line for each row.
+///
+/// # Errors
+/// Out of memory.
 pub fn put_tables(page: &mut Vec<u8>, tables: &Tables) -> Result<(), AllocError>
     ensures { OnOk result (page.new.items ≡ page.old.items ++ page_of (listed tables.now)) }
 {

@@ -91,6 +91,9 @@ impl Incoming {
     }
 
     /// Splits off what stands after the whole lines, since it may go on.
+    ///
+    /// # Errors
+    /// Out of memory.
     pub fn split(&mut self) -> Result<Incoming, AllocError>
         ensures count { IfOk result (λ rest. rest.count ≡ self.old.count) }
         ensures parts { IfOk result (λ rest. self.old.part.items ≡ self.new.part.items ++ rest.part.items) }
@@ -107,6 +110,9 @@ impl Incoming {
     /// Takes what is left of others in place of what came here.
     ///
     /// So the memory for it is used again.
+    ///
+    /// # Errors
+    /// Out of memory.
     pub fn go_on_from(&mut self, rest: &Incoming) -> Result<(), AllocError>
         ensures count { OnOk result (self.new.count ≡ rest.now.count) }
         ensures part { OnOk result (self.new.part.items ≡ rest.now.part.items) }

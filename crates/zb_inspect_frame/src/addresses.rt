@@ -36,6 +36,9 @@ impl<'a> Addresses<'a> {
     ghost use Rattle.zb_inspect_frame.specs.Shows.{addr_of};
 
     /// Takes the addresses of a list.
+    ///
+    /// # Errors
+    /// Out of memory.
     pub fn new(alloc: Global, list: &'a [(Short, Eui)]) -> Result<Addresses<'a>, AllocError>
         ensures { IfOk result (λ a. a ≡ list.now) }
     {

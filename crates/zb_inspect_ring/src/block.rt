@@ -350,6 +350,9 @@ impl Block {
     /// Puts the lines of the frames after a page. Where that is empty, lines that are kept become the page.
     ///
     /// Requires that the numbers of the frames are below 2^32.
+    ///
+    /// # Errors
+    /// Out of memory.
     pub fn print(self, page: Vec<u8>) -> Result<Vec<u8>, AllocError>
         requires { HasRoom self.first self.count self.seen }
         ensures { IfOk result (λ printed. printed.items ≡ page.items ++ seen_text self.first self.count self.seen) }

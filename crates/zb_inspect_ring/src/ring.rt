@@ -84,6 +84,9 @@ impl KeyRing {
     }
 
     /// Adds one key, if that is new.
+    ///
+    /// # Errors
+    /// `NoMemory`.
     pub fn with(self, key: Key, found: Option<(u32, u32)>) -> Result<KeyRing, NoMemory>
         ensures { IfOk result (λ r. r ≡ with_key self key found) }
     {

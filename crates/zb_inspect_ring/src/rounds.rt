@@ -31,6 +31,9 @@ pub struct Opened {
 ///
 /// In each round only the layers that are still closed are tried, and only under the keys that are new. Frames of
 /// which no layer is closed are kept as the lines that they have in a report. Requires a job.
+///
+/// # Errors
+/// `NoMemory`.
 pub fn open_all<T: Threads + Sync, G: Gate>(
     rt: &T,
     alloc: Global,

@@ -7,6 +7,9 @@ use std::alloc::AllocError;
 use zb_text::page::{add_number, add_word, end_line, put};
 
 /// Prints that the line of that number was carried out.
+///
+/// # Errors
+/// Out of memory.
 #[tactic(auto, using(std::proofs::Common::append_assoc), unfolding(crate::specs::Answers::ok_text))]
 pub fn put_ok(page: &mut Vec<u8>, line: u32) -> Result<(), AllocError>
     ensures { OnOk result (page.new.items ≡ page.old.items ++ ok_text line) }
@@ -18,6 +21,9 @@ pub fn put_ok(page: &mut Vec<u8>, line: u32) -> Result<(), AllocError>
 }
 
 /// Prints that the line of that number wasn't carried out, and why.
+///
+/// # Errors
+/// Out of memory.
 #[tactic(auto, using(std::proofs::Common::append_assoc), unfolding(crate::specs::Answers::refused_text))]
 pub fn put_refused(page: &mut Vec<u8>, line: u32, cause: Cause) -> Result<(), AllocError>
     ensures { OnOk result (page.new.items ≡ page.old.items ++ refused_text line cause) }
