@@ -33,6 +33,8 @@ pub struct ApsFrame {
 
 impl ApsFrame {
     /// Makes a frame that others may be read into.
+    ///
+    /// Nothing is promised of its fields: where `read_into` succeeds, it has written them all.
     pub fn blank() -> ApsFrame {
         ApsFrame {
             header: ApsHeader::blank(),

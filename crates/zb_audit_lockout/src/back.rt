@@ -1,6 +1,7 @@
 //! Which keys and which devices lead to each key.
-ghost use Rattle.std.specs.Prelude.{OnOk};
-ghost use Rattle.zb_audit_lockout.specs.Backing.{Notes};
+ghost use Rattle.std.specs.Prelude.{◌≡◌, ℕ, List, false, OnOk};
+ghost use Rattle.zb_audit_lockout.specs.Backing.{Notes, is_holder};
+ghost use Rattle.zb_trace_watch.specs.Sets.{is_carried};
 
 use crate::bags::Bags;
 use std::alloc::{AllocError, Global};
@@ -18,7 +19,10 @@ pub struct Back {
 
 impl Back {
     /// Makes the value before the first line.
-    pub fn new(alloc: Global) -> Back {
+    pub fn new(alloc: Global) -> Back
+        ensures bases { (b k : List ℕ) → is_carried result.bases b k ≡ false }
+        ensures holders { (d : ℕ) (k : List ℕ) → is_holder result k d ≡ false }
+    {
         Back {
             bases: Holdings::new(alloc),
             holders: Bags::new(alloc),

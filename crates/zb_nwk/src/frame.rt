@@ -33,6 +33,8 @@ pub struct NwkFrame {
 
 impl NwkFrame {
     /// Makes a frame that others may be read into.
+    ///
+    /// Nothing is promised of its fields: where `read_into` succeeds, it has written them all.
     pub fn blank() -> NwkFrame {
         NwkFrame {
             header: NwkHeader::blank(),

@@ -1,5 +1,5 @@
 //! What a run leaves to those after it.
-ghost use Rattle.std.specs.Prelude.{◌≡◌, ◌≤◌, OnOk, length, vec_len};
+ghost use Rattle.std.specs.Prelude.{◌≡◌, ◌≤◌, [], OnOk, length, vec_len};
 ghost use Rattle.zb_base.specs.Sizes.{record_room};
 
 use std::alloc::{AllocError, Global};
@@ -17,7 +17,10 @@ pub struct Spare {
 
 impl Spare {
     /// Makes the spare memory of no runs: none.
-    pub fn new(alloc: Global) -> Spare {
+    pub fn new(alloc: Global) -> Spare
+        ensures disks { result.disks.items ≡ [] }
+        ensures room { result.room.items ≡ [] }
+    {
         Spare {
             disks: Vec::new(alloc),
             room: Vec::new(alloc),

@@ -1,10 +1,11 @@
 //! A transcript as a whole, line by line.
-ghost use Rattle.std.specs.Prelude.{◌≡◌, ◌==◌, ◌<◌, ◌+◌, ◌^◌, ◌++◌, ◌∷◌, [], ℕ, List, length, position, codes, IfSome, IfOk, IfErr, OnErr, MatchOption, Some, map};
+ghost use Rattle.std.specs.Prelude.{◌≡◌, ◌==◌, ◌<◌, ◌+◌, ◌^◌, ◌++◌, ◌∷◌, [], ℕ, List, length, position, codes, IfSome, IfOk, IfErr, OnErr, MatchOption, Some, false, map};
 ghost use Rattle.std.specs.List.{AllByRecursion};
 ghost use Rattle.hex.specs.Hex.{IsBytes};
 ghost use Rattle.zb_text.specs.Words.{left, Shows, parts, words as words_of};
 ghost use Rattle.zb_trace.specs.Text.{MayStand, words, text as text_of, texts, IsProper, AllProper};
 ghost use Rattle.zb_trace.specs.declared.line.Line.{Line as ALine};
+ghost use Rattle.zb_trace.specs.declared.line.Line.TheVariants.{End};
 ghost use Rattle.zb_trace_read.specs.Faults.{IsTraceFault, IsNoMemory};
 ghost use Rattle.zb_trace_read.specs.Grammar.{all_bytes_of, in_capitals};
 ghost use Rattle.zb_trace_read.specs.Reading as spec;
@@ -80,8 +81,10 @@ pub fn take_line(alloc: Global, text: &[u8]) -> Result<Option<(Line, &[u8])>, Al
     }
 }
 
-/// Makes a line that others may be read into.
-pub fn no_line() -> Line {
+/// Makes a line that others may be read into: an end line of an empty run.
+pub fn no_line() -> Line
+    ensures { result ≡ End 0 0 0 0 false false }
+{
     Line::End {
         events: 0,
         seals: 0,
