@@ -1,5 +1,5 @@
 -- What the centre sealed so far was used, command after command and run after run.
-use Rattle.std.proofs.Common.{◌≡◌, ℕ, ◌≤◌, ◌<◌, ◌+◌, ◌++◌, suc, zero, Bool, true, false, if◌then◌else◌, IfOk, List, [], ◌∷◌, take, length, Option, Some, None, Result, Ok, Err, refl, sym, ap, ◌∙◌, subst, arith, append_assoc, append-nil}
+use Rattle.std.proofs.Common.{◌≡◌, ℕ, ◌≤◌, ◌<◌, ◌++◌, suc, zero, Bool, true, false, if◌then◌else◌, IfOk, List, [], ◌∷◌, take, length, Option, Some, None, Result, Ok, Err, refl, sym, ap, ◌∙◌, subst, arith, append_assoc, append-nil}
 use Rattle.std.specs.Prelude.{slice_get}
 use Rattle.std.specs.List.{AllByRecursion, concat}
 use Rattle.law_admin_runs.specs.Runs.{AreRuns, Found, KeepsTables, IsLeft, Restores, Run, after_run, backup_tables, commands_of, left_by_all, order_seals, run_seals, sealed_on, setting_of, step_seals, steps_seal}
@@ -18,7 +18,7 @@ use Rattle.zb_install.specs.Code.{code_key}
 use Rattle.zb_keys.specs.Declarations.{first_state}
 use Rattle.zb_model.specs.Data.{Bytes, Centre, DoProvision, DoRemove, Term}
 use Rattle.zb_model.specs.Rules.{Setting}
-use Rattle.zb_model.specs.State.{NodeState, after_boot, shown, with_declared, with_given_net}
+use Rattle.zb_model.specs.State.{NodeState, after_boot, with_declared, with_given_net}
 use Rattle.zb_model_real.specs.Real.{real}
 use Rattle.zb_record.specs.Ranges.{fits_widths}
 use Rattle.zb_script.specs.Scripts.{IsScript}

@@ -1,7 +1,6 @@
 -- All runs of `admin` on one store, one after the other, each cut at any moment or not. What a run finds in the store,
 -- which of its commands are stored, and what the centre seals in them.
 use Rattle.std.specs.Prelude.{ℕ, ◌≡◌, ◌≤◌, ◌++◌, List, [], ◌∷◌, take, Option, Some, None, Result, Ok, Err, ⊤}
-use Rattle.law_sessions.specs.Sessions.{NoneAgain, NoneTwice}
 use Rattle.zb_admin.specs.Served.{done, served}
 use Rattle.zb_centre_store.specs.Makings.{tables_of}
 use Rattle.zb_centre_store.specs.Standing.{StandsAs, found_on}
@@ -10,7 +9,7 @@ use Rattle.zb_install.specs.Code.{code_key}
 use Rattle.zb_model.specs.Answer.{answer}
 use Rattle.zb_model.specs.Data.{Term, DoProvision, DoRemove}
 use Rattle.zb_model.specs.Rules.{Setting}
-use Rattle.zb_model.specs.State.{NodeState, after_boot, shown}
+use Rattle.zb_model.specs.State.{NodeState}
 use Rattle.zb_model_real.specs.Real.{real}
 use Rattle.zb_record.specs.Records.{record_read}
 use Rattle.zb_script.specs.Scripts.{IsScript}

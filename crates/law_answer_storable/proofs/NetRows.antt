@@ -9,7 +9,7 @@ use Rattle.zb_model.specs.State.{NetKey, NodeState, same_key, is_centre, is_acti
 use Rattle.zb_model.specs.Fits.{all_apart, row_is_live, live_net}
 use Rattle.zb_model.specs.Rules.{nets_full, first_drop, drop_old}
 use Rattle.zb_model.specs.Answer.{changes, activated}
-use Rattle.law_change_fits.proofs.Tests.{both, neither, never, any_map, any_from, any_same, apart_filter, or_true}
+use Rattle.law_change_fits.proofs.Tests.{both, neither, never, any_map, any_from, any_same, apart_filter}
 use Rattle.law_change_fits.proofs.Parts.{Rules, nets_alike, same_key_is, same_key_of}
 use Rattle.law_answer_storable.proofs.Lists.{Heads, heads_of, any_filter}
 use Rattle.law_answer_storable.proofs.Moves.{move_fits, moves_fit}

@@ -1,14 +1,13 @@
 -- What tables forget, the floors of dropped network keys, is asked by no change.
-use Rattle.std.proofs.Common.{◌≡◌, ℕ, List, [], ◌∷◌, length, map, filter, refl, sym, ap, ◌∙◌, Bool, true, false, not, if◌then◌else◌, ◌&&◌, ◌||◌, Option, Some, None}
-use Rattle.std.specs.Prelude.{find, nat_le, nat_lt, option_map, is_some, nat_eq}
-use Rattle.std.specs.List.{list_any}
+use Rattle.std.proofs.Common.{◌≡◌, ℕ, List, [], ◌∷◌, length, map, filter, refl, sym, ap, ◌∙◌, Bool, true, false, not, if◌then◌else◌, ◌&&◌, Option, Some, None}
+use Rattle.std.specs.Prelude.{find, nat_le, nat_lt, option_map, is_some}
 use Rattle.std.proofs.lemmas.List.{length-map}
-use Rattle.zb_model.specs.Data.{Bytes, Role, Nwk, Aps, Move, Draw, DropNet, DropLink, Install, Active, Row, Pair, Became, Live, Removed, Roll, Told, Untold, Edit, Reserve, Floor, Start, Moved}
-use Rattle.zb_model.specs.State.{NodeState, NetKey, same_key, shown, shown_net, net_of, net_of_active, active_row, has_net, live_nets, stored_limit, limit_of, is_live, pair_of}
-use Rattle.zb_model.specs.Fits.{keeps_rules, may_change, may_move, fits, live_net, row_is_live, net_stored, net_limit}
+use Rattle.zb_model.specs.Data.{Bytes, Nwk, Aps, Move, Draw, DropNet, DropLink, Install, Active, Row, Pair, Became, Live, Removed, Roll, Told, Untold, Edit, Reserve, Floor, Start, Moved}
+use Rattle.zb_model.specs.State.{NodeState, NetKey, same_key, shown, shown_net, net_of, net_of_active, active_row, has_net, stored_limit, limit_of, is_live, pair_of}
+use Rattle.zb_model.specs.Fits.{keeps_rules, may_change, may_move, fits, row_is_live, net_stored, net_limit}
 use Rattle.law_change_fits.specs.Fitting.{leaves_rules, move_leaves, floor_has_room}
 use Rattle.law_change_fits.proofs.Tests.{any_map, all_map}
-use Rattle.law_change_fits.proofs.Parts.{Rules, rules_of, floors_rule}
+use Rattle.law_change_fits.proofs.Parts.{rules_of, floors_rule}
 use Rattle.law_change_fits.proofs.Nets.{Mild, mild_kept}
 use Rattle.law_change_fits.proofs.FitLaws.{fits_is}
 

@@ -1,6 +1,5 @@
 -- What a state shows after a change, from what it showed before.
 use Rattle.std.proofs.Common.{◌≡◌, ℕ, List, [], ◌∷◌, ◌++◌, map, refl, sym, ap, ◌∙◌, Bool, true, false, if◌then◌else◌, Option, Some, None, max, min}
-use Rattle.std.specs.List.{list_any}
 use Rattle.std.proofs.lemmas.List.{map-append}
 use Rattle.zb_model.specs.Data.{Bytes, Nwk, Aps, Draw, DropNet, DropLink, Install, Active, Row, Pair, Became, Live, Removed, Roll, Told, Untold, Edit, Reserve, Floor, Start, Moved}
 use Rattle.zb_model.specs.State.{NodeState, NetKey, same_key, shown, shown_net, applied, at_net, has_net, reserved, started_at, dropped_net, net_floor, new_net, of_active, is_told, greatest_counter}

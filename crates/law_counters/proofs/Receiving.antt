@@ -1,12 +1,11 @@
 -- How a floor judges a counter, and what becomes of the frame.
-use Rattle.std.proofs.Common.{◌≡◌, ◌<◌, ◌≤◌, ◌+◌, ◌^◌, ℕ, ◌&&◌, ◌==◌, min, not, nat_eq, nat_le, nat_lt, Bool, true, false, Option, Some, None, if◌then◌else◌, refl, sym, ◌∙◌, ap, subst, arith}
+use Rattle.std.proofs.Common.{◌≡◌, ◌<◌, ◌+◌, ◌^◌, ℕ, ◌&&◌, ◌==◌, min, not, nat_le, nat_lt, Bool, true, false, Option, Some, None, if◌then◌else◌, refl, sym, ◌∙◌, ap, subst, arith}
 use Rattle.std.proofs.lemmas.Bool.Decides.{nat_tests}
 use Rattle.zb_counter.specs.Floor.{judge_of, store_to_of}
 use Rattle.zb_counter.specs.declared.receiving.Floor.{Floor}
-use Rattle.zb_counter.specs.declared.receiving.Judge.{Judge}
 use Rattle.zb_counter.specs.declared.receiving.Judge.TheVariants as judge
 use Rattle.zb_model.specs.Answer.{floor_for, stored_floor}
-use Rattle.zb_model.specs.Data.{AtAps, AtNwk, BadMic, Bytes, CounterMax, NoKey, NotMember, Place, RowsFull, Stale, Term}
+use Rattle.zb_model.specs.Data.{AtAps, AtNwk, BadMic, Bytes, CounterMax, NotMember, Place, RowsFull, Stale, Term}
 use Rattle.zb_model.specs.Judging.{Good, Not, Unsealed, Verdict, aps_source, candidates, chosen_row, judge_aps, judge_net, need, reject, senders_full}
 use Rattle.zb_model.specs.Rules.{Setting, is_declared}
 use Rattle.zb_model.specs.State.{LinkKey, NetKey, NodeState, greatest_counter, is_centre, is_known, is_live, sender_floor, usable_of}

@@ -1,6 +1,6 @@
 -- What a draw answers, and what a node does with the frame.
-use Rattle.std.proofs.Common.{◌≡◌, ◌+◌, ℕ, ◌&&◌, ◌||◌, ◌==◌, min, not, nat_eq, nat_le, Bool, true, false, Option, Some, None, is_some, if◌then◌else◌, refl, sym, ◌∙◌, ap, subst, arith}
-use Rattle.std.proofs.lemmas.Bool.{eqb-true, le-leb, false≢true}
+use Rattle.std.proofs.Common.{◌≡◌, ◌+◌, ◌&&◌, ◌||◌, min, not, nat_eq, Bool, true, false, Option, Some, None, is_some, if◌then◌else◌, refl, sym, ◌∙◌, ap, subst, arith}
+use Rattle.std.proofs.lemmas.Bool.{eqb-true, le-leb}
 use Rattle.zb_counter.specs.Outgoing.{draw_of}
 use Rattle.zb_counter.specs.declared.sending.Draw.TheVariants as draw
 use Rattle.zb_model.specs.Answer.{may_seal, reserve_of, seals_at}

@@ -8,7 +8,7 @@ use Rattle.zb_counter.specs.declared.sending.Draw as drawn
 use Rattle.zb_counter.specs.declared.sending.Draw.TheVariants as draw
 use Rattle.zb_counter.specs.declared.sending.Outgoing as counter
 use Rattle.zb_model.specs.Answer.{may_seal, reserve_of}
-use Rattle.zb_model.specs.Data.{Layer, Nwk, Aps, Place, AtNwk, AtAps, Reason, CounterMax, Stale}
+use Rattle.zb_model.specs.Data.{Layer, Place, Reason, CounterMax, Stale}
 use Rattle.zb_model.specs.Judging.{Verdict, Not, Good}
 use Rattle.zb_model.specs.Rules.{Sending, Setting}
 use Rattle.zb_model.specs.State.{LinkKey, NetKey, NodeState, next_counter, sender_floor, stored_limit}

@@ -1,12 +1,12 @@
 -- The deeds of a faithful file meet what the trait says of its calls.
-use Rattle.std.proofs.Common.{◌≡◌, inr, ℕ, ◌+◌, ◌≤◌, List, [], ◌∷◌, length, true, false, Ok, Err, refl, sym, subst, arith}
+use Rattle.std.proofs.Common.{◌≡◌, inr, ℕ, ◌+◌, List, [], ◌∷◌, length, refl, sym, subst, arith}
 use Rattle.std.proofs.lemmas.Bool.{false≢true}
 use Rattle.law_faithful_files.specs.Disks.{IsDisk, IsDiskFrom, content_told, file_told, done, failed}
 use Rattle.law_faithful_files.specs.Faithful.{Deed, wrote, spoiled, synced, unsynced, read, sized, lost, GoesFaithfully, IsFaithful, TornThere}
 use Rattle.zb_base.specs.Outside.{risen}
 use Rattle.zb_disk.specs.Calls.{Elapses, IsCounted, IsSync, IsWrite}
 use Rattle.zb_disk.specs.TrailLaws.{whole_write}
-use Rattle.zb_disk.specs.View.{Torn, overwrite}
+use Rattle.zb_disk.specs.View.{overwrite}
 
 module _ (seen now : List ℕ) (left may : List ℕ → Type 0) (calls faults : ℕ) where
   elapses : (more : ℕ) → Elapses content_told (file_told seen left calls faults)

@@ -3,7 +3,7 @@ use Rattle.std.specs.Prelude.{ℕ, ◌+◌, ◌≡◌, List, [], ◌∷◌, leng
 use Rattle.law_faithful_files.specs.Faithful.{Deed, wrote, spoiled, synced, unsynced, read, sized, lost, TornThere}
 use Rattle.zb_base.specs.Outside.{risen}
 use Rattle.zb_disk.specs.Calls.{IsSync, IsWrite}
-use Rattle.zb_disk.specs.View.{Telling, View, overwrite, window, Torn}
+use Rattle.zb_disk.specs.View.{Telling, View, overwrite, window}
 
 -- It tells what it reads and what a crash may leave: this the theorems on stores ask of a disk.
 abbrev pub content_told : Telling

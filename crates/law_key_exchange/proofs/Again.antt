@@ -1,17 +1,17 @@
 -- A request and a proof that come again, since the answer to the first was lost: the centre offers its key again, and
 -- confirms the key again that it has verified.
-use Rattle.std.proofs.Common.{◌≡◌, ℕ, nat_lt, Bool, true, false, List, [], ◌∷◌, filter, Option, Some, None, nat_eq, refl, sym, ap, ◌∙◌, eq-eqb, subst, arith}
+use Rattle.std.proofs.Common.{◌≡◌, ℕ, nat_lt, Bool, true, false, [], ◌∷◌, Option, Some, None, refl, sym, ap, ◌∙◌, eq-eqb, subst, arith}
 use Rattle.zb_model.specs.Data.{Bytes, Nwk, Aps, ForData, ForLoad, AtAps, CounterSpent, RequestLink, TransportLink, VerifyKey, ConfirmKey, Received}
 use Rattle.zb_model.specs.Fits.{keeps_rules}
 use Rattle.zb_model.specs.State.{LinkKey, NodeState, same_key, is_centre, is_live, is_verified, current, offered, next_counter}
 use Rattle.zb_model.specs.Tools.{Tools, verify_hash}
 use Rattle.zb_model.specs.Rules.{Setting, Plan, Outcome, Stop, Does, Secret, sends, unless, found_or, choose, short_of, both_spent}
 use Rattle.zb_model.specs.Commands.{take_request, take_verify, take_command}
-use Rattle.zb_model.specs.Answer.{comes_to, changes, moves_of, reason_of, refusal_of, answer_by, counting_of, plan_of, answer, answered}
+use Rattle.zb_model.specs.Answer.{comes_to, reason_of, refusal_of, answer_by, counting_of, plan_of, answer, answered}
 use Rattle.law_change_fits.proofs.Parts.{same_key_of}
 use Rattle.law_recovery.specs.Answering.{after_task, frame_of}
 use Rattle.law_key_exchange.specs.CommandFrames.{NetFrame, net_term, sealed_content, clear_content, sealed_bytes, LinkFrameInRange, ClearInRange, DeliversCommands}
-use Rattle.law_key_exchange.specs.Exchanging.{Seals, net_frame, request, request_bytes, offer_bytes, proof_bytes, confirmation_bytes, seals_now, Confirms, OffersAgain, StationsInRange, StaysClosed, NwkInRange, ApsInRange}
+use Rattle.law_key_exchange.specs.Exchanging.{Seals, net_frame, request, request_bytes, offer_bytes, proof_bytes, seals_now, Confirms, OffersAgain, StationsInRange, StaysClosed, NwkInRange, ApsInRange}
 use Rattle.law_key_exchange.specs.Meeting.{AreDeclared, HasNetwork, HasBoth, HasProved}
 use Rattle.law_key_exchange.specs.Obstacles.{or_else, when, in_row, why_unheard, why_not_heard, why_not_opened, why_not_sealed, why_no_offer_again, why_no_confirmation}
 use Rattle.law_key_exchange.proofs.Baring.{bare, bare_after}

@@ -1,10 +1,10 @@
 -- Changes that leave the network rows their keys and their next counters: all but seals, first counters and new keys.
-use Rattle.std.proofs.Common.{◌≡◌, ℕ, ◌+◌, Bool, true, false, if◌then◌else◌, List, [], ◌∷◌, ◌++◌, map, filter, find, flat_map, Option, Some, None, option_map, option_to_list, nat_eq, refl, sym, ap, ◌∙◌, subst}
+use Rattle.std.proofs.Common.{◌≡◌, ℕ, ◌+◌, Bool, true, false, if◌then◌else◌, List, [], ◌∷◌, ◌++◌, map, filter, find, flat_map, Option, Some, None, option_map, option_to_list, refl, sym, ap, ◌∙◌, subst}
 use Rattle.std.specs.List.{AllByRecursion}
 use Rattle.std.proofs.lemmas.Bool.{false≢true}
 use Rattle.zb_model.specs.Data.{Bytes, Layer, Nwk, Aps, Term, Move, Draw, DropLink, Row, Became, Edit, Reserve, Floor, Start, Moved}
 use Rattle.zb_model.specs.Rules.{Plan}
-use Rattle.zb_model.specs.State.{NetKey, NodeState, same_key, at_net, of_active, reserved, net_floor, net_kept, next_at, net_of_active, active_row, next_of, next_counter, applied, applied_all, moved, after_hearing, after_accepting}
+use Rattle.zb_model.specs.State.{NetKey, NodeState, same_key, at_net, reserved, net_floor, net_kept, next_at, net_of_active, active_row, next_of, next_counter, applied, applied_all, moved, after_hearing, after_accepting}
 use Rattle.zb_model.specs.Answer.{Counting, accepted_all, changes, moves_of, move_edits, floor_edit, edits_of}
 use Rattle.law_change_fits.proofs.Parts.{same_key_of}
 use Rattle.law_recovery.proofs.Changing.{IsMild, active_after, active_key, in_rows, mild_if, mild_then}

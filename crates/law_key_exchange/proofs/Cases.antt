@@ -1,8 +1,8 @@
 -- Each obstacle of the exchange on a small state, computed: it is there, and it gives its refusal. The exact laws say
 -- that the event is refused so, and that nothing else stands in its way.
-use Rattle.std.specs.Prelude.{◌≡◌, ℕ, true, false, List, [], ◌∷◌, ◌++◌, map, replicate, Option, Some, None, refl}
+use Rattle.std.specs.Prelude.{◌≡◌, ℕ, true, false, List, [], ◌∷◌, map, replicate, Option, Some, None, refl}
 use Rattle.std.specs.List.{range_with_len}
-use Rattle.zb_model.specs.Data.{Bytes, Role, Centre, Device, Attribute, Provisional, Unverified, Joined, Offered, Nwk, Aps, NoKey, CounterSpent, NoDraw, RowsFull, KeyInUse, Stale}
+use Rattle.zb_model.specs.Data.{Bytes, Centre, Device, Attribute, Provisional, Unverified, Joined, Offered, NoKey, CounterSpent, NoDraw, RowsFull, KeyInUse, Stale}
 use Rattle.zb_model.specs.Rules.{spent, both_spent}
 use Rattle.zb_model.specs.State.{greatest_counter, SenderFloor, NetKey, LinkKey, NodeState, new_node, active_row, usable_nets, usable_of, current, next_counter, other_user, sender_floor}
 use Rattle.law_key_exchange.specs.Exchanging.{Seals}

@@ -1,27 +1,25 @@
 -- The next counters of the two nodes after the events of the exchange, and what the device keeps of the offered key's
 -- floor.
-use Rattle.std.proofs.Common.{◌≡◌, ℕ, ◌+◌, ◌<◌, ◌≤◌, Bool, true, false, not, ◌&&◌, if◌then◌else◌, List, [], ◌∷◌, ◌++◌, map, filter, find, length, reverse, flat_map, Option, Some, None, option_map, option_to_list, nat_eq, refl, sym, ap, ◌∙◌, subst, arith, eq-eqb}
+use Rattle.std.proofs.Common.{◌≡◌, ℕ, ◌+◌, ◌≤◌, Bool, true, false, if◌then◌else◌, List, [], ◌∷◌, ◌++◌, map, filter, find, length, reverse, flat_map, Option, Some, None, option_map, option_to_list, nat_eq, refl, sym, ap, ◌∙◌, subst, arith, eq-eqb}
 use Rattle.std.specs.List.{AllByRecursion}
 use Rattle.std.proofs.lemmas.List.{map-append}
-use Rattle.zb_model.specs.Data.{Bytes, Layer, Nwk, Aps, Label, ForData, ForLoad, Command, CounterSpent, AtAps, AtEvent, Attribute, Unverified, Draw, Row, Became, Offered, RequestLink, TransportLink, Edit, Reserve, Floor, Moved, Move, Term, Place, DoTimer, Received}
+use Rattle.zb_model.specs.Data.{Bytes, Layer, Nwk, Aps, Label, ForData, ForLoad, Command, CounterSpent, AtAps, AtEvent, Unverified, Row, Became, Offered, RequestLink, TransportLink, Edit, Reserve, Floor, Moved, Move, Term, Place, DoTimer, Received}
 use Rattle.zb_model.specs.Fits.{keeps_rules}
 use Rattle.zb_model.specs.Frames.{secured_frame, nwk_term, aps_term, sealed_command}
 use Rattle.zb_model.specs.Rules.{Setting, Outcome, Does, Secret, sends, short_of, both_spent}
-use Rattle.zb_model.specs.State.{NetKey, LinkKey, NodeState, same_key, is_link, is_live_of, is_told, has_link, at_link, at_net, new_link, with_link, link_floor, link_kept, next_at, active_row, next_counter, applied, applied_all, moved, sealed_at, after_sealing, after_hearing, after_accepting}
+use Rattle.zb_model.specs.State.{NetKey, LinkKey, NodeState, is_link, is_live_of, is_told, has_link, at_link, at_net, new_link, link_floor, link_kept, next_at, active_row, next_counter, applied, applied_all, after_sealing, after_hearing, after_accepting}
 use Rattle.zb_model.specs.Tools.{Tools}
-use Rattle.zb_model.specs.Answer.{Answer, Counting, accepted_all, sealed_all, comes_to, part_of, may_seal, out_of, changes, moves_of, move_edits, floor_edit, edits_of, answer_by, reserve_of, counting_of, plan_of, answer, answered}
-use Rattle.law_change_fits.proofs.Parts.{same_key_of}
+use Rattle.zb_model.specs.Answer.{Answer, Counting, accepted_all, sealed_all, comes_to, part_of, may_seal, out_of, changes, moves_of, move_edits, floor_edit, edits_of, answer_by, counting_of, plan_of, answer, answered}
 use Rattle.law_change_fits.proofs.Tests.{any_map, any_same}
 use Rattle.law_recovery.specs.Answering.{after_task}
-use Rattle.law_recovery.proofs.Asking.{by_outcome}
 use Rattle.law_recovery.proofs.Changing.{applied_then, reserves}
 use Rattle.law_key_exchange.specs.CommandFrames.{DeliversCommands, link_term, net_term, sealed_content}
-use Rattle.law_key_exchange.specs.Exchanging.{Seals, net_frame, offer, offer_bytes, request, request_bytes, seals_now, StationsInRange, NwkInRange, ApsInRange}
+use Rattle.law_key_exchange.specs.Exchanging.{Seals, net_frame, offer, offer_bytes, request, request_bytes, StationsInRange, NwkInRange, ApsInRange}
 use Rattle.law_key_exchange.specs.Meeting.{AreDeclared, HasLink, HasNetwork, IsJoined}
-use Rattle.law_key_exchange.specs.Obstacles.{or_else, why_no_offer, why_no_request, why_not_heard, why_not_offered, why_not_opened, why_offer_not_kept, why_not_sealed}
+use Rattle.law_key_exchange.specs.Obstacles.{or_else, why_no_offer, why_no_request, why_not_heard, why_not_offered, why_not_opened, why_offer_not_kept}
 use Rattle.law_key_exchange.proofs.Calm.{OfLinks, calm_answer, calm_next, sealed_next}
 use Rattle.law_key_exchange.proofs.Judged.{both_terms, or_second, when_none}
-use Rattle.law_key_exchange.proofs.Laws.{asks_again, no_offer, not_kept, offers, keeps}
+use Rattle.law_key_exchange.proofs.Laws.{asks_again, no_offer, not_kept, offers}
 use Rattle.law_key_exchange.proofs.Offering as offering
 use Rattle.law_key_exchange.proofs.Quiet.{quiet, quiet_after}
 use Rattle.law_key_exchange.proofs.Rows.{last_first}

@@ -1,6 +1,6 @@
 -- The next counters of the centre after it offers its key again, confirms a key, or confirms it again: one is used at
 -- each layer.
-use Rattle.std.proofs.Common.{◌≡◌, ℕ, true, false, [], ◌∷◌, Option, None, refl, sym, ◌∙◌, subst}
+use Rattle.std.proofs.Common.{◌≡◌, true, false, [], ◌∷◌, Option, None, refl, sym, ◌∙◌, subst}
 use Rattle.zb_model.specs.Answer.{answer_by, counting_of, plan_of, answer, answered}
 use Rattle.zb_model.specs.Data.{Bytes, ForData, ForLoad, AtAps, CounterSpent, TransportLink, VerifyKey, ConfirmKey, Received}
 use Rattle.zb_model.specs.Fits.{keeps_rules}

@@ -1,6 +1,6 @@
 -- Lines with one text have the same words.
-use Rattle.std.proofs.Common.{◌≡◌, List, [], ◌++◌, map, ap}
-use Rattle.zb_trace.specs.Text.{words, text, texts, IsProper, AllProper}
+use Rattle.std.proofs.Common.{◌≡◌, List, [], ◌++◌, ap}
+use Rattle.zb_trace.specs.Text.{text, texts, IsProper, AllProper}
 use Rattle.zb_trace.specs.declared.line.Line.{Line}
 use Rattle.zb_trace_read.proofs.Taking.{one_front, one_text}
 use Rattle.law_line_texts.specs.Plain.{plain, plains}

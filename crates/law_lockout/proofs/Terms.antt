@@ -1,6 +1,6 @@
 -- Terms in lists, and the terms that lines seal.
 use Rattle.std.proofs.Common.{◌≡◌, ◌||◌, ◌⊎◌, inl, inr, ℕ, zero, suc, ◌<◌, Bool, true, false, cond, List, [], ◌∷◌, ◌++◌, length, get_or, nat_eq, bytes_eq, flat_map, refl, sym, ◌∙◌, ap, subst, zero-lt-suc, suc-le-suc, not-suc-le-zero, le_of_suc-le-suc}
-use Rattle.std.specs.List.{AllByRecursion, Any, list_any}
+use Rattle.std.specs.List.{AllByRecursion, list_any}
 use Rattle.std.proofs.lemmas.Bool.{and_parts, eqb-true, false≢true}
 use Rattle.std.proofs.lemmas.Slice.Eq.{bytes_eq-Decides}
 use Rattle.std.proofs.lemmas.Grind.{flat_map-append}

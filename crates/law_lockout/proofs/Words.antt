@@ -1,13 +1,13 @@
 -- Nothing is accepted that is sealed only later, so the two ways to say the lockout are one.
-use Rattle.std.proofs.Common.{◌≡◌, ◌⊎◌, inl, inr, ℕ, Bool, true, false, cond, ◌&&◌, List, [], ◌∷◌, ◌++◌, flat_map, refl, sym, ◌∙◌, ap, subst, append_assoc}
+use Rattle.std.proofs.Common.{◌≡◌, ◌⊎◌, inl, inr, ℕ, Bool, true, false, cond, List, [], ◌∷◌, ◌++◌, flat_map, refl, sym, ◌∙◌, ap, subst, append_assoc}
 use Rattle.std.proofs.lemmas.Bool.{and_parts}
 use Rattle.std.proofs.lemmas.List.{append-nil}
 use Rattle.std.proofs.lemmas.Grind.{flat_map-append}
 use Rattle.std.proofs.lemmas.List.Concat.{flat_map-cons}
-use Rattle.zb_model.specs.Claims.{AreApart, Each, Fresh, HasTerm, HoldsNoneKnown, Locked, LockedFrom, LockedLine, RefusesLine, before_group, is_live_line, sealed_in, sealed_terms, seals_of, until_live}
+use Rattle.zb_model.specs.Claims.{AreApart, Each, Fresh, HoldsNoneKnown, Locked, LockedFrom, LockedLine, RefusesLine, before_group, is_live_line, sealed_in, sealed_terms, seals_of, until_live}
 use Rattle.zb_model.specs.Data.{Moved, Nwk, Removed, Term}
 use Rattle.zb_model.specs.Lines.{Accept, Changed, Line}
-use Rattle.zb_model.specs.Secrets.{each_line, forged_in, ideal, ideal_line, terms_in, terms_of}
+use Rattle.zb_model.specs.Secrets.{each_line, forged_in, ideal, ideal_line, terms_of}
 use Rattle.zb_model.specs.Tools.{Tools}
 use Rattle.law_lockout.specs.LockedOut.{LockedOut, LockedOutFrom, LockedOutLine, TakesNoneOf}
 use Rattle.law_lockout.proofs.Terms.{Has, has_by_test, has_from, has_lines, has_term, lines_either, lines_front, own_seal, sealed_once, sealed_or_forged}

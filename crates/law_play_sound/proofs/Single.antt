@@ -1,6 +1,5 @@
 -- Of any text an audit may say one thing alone.
-use Rattle.std.proofs.Common.{◌≡◌, ◌≢◌, ℕ, suc, ◌+◌, List, [], ◌∷◌, ◌++◌, length, Option, Some, None, refl, sym, ap, ◌∙◌, append_assoc}
-use Rattle.zb_audit.specs.Faults as audit
+use Rattle.std.proofs.Common.{◌≡◌, ℕ, suc, ◌+◌, List, [], ◌∷◌, ◌++◌, length, Some, refl, sym, ap, ◌∙◌, append_assoc}
 use Rattle.zb_audit.specs.Faults.{first_fault}
 use Rattle.zb_audit.specs.declared.fault.BadLine.{BadLine}
 use Rattle.zb_audit.specs.declared.fault.Verdict.{Verdict}

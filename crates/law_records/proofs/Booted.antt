@@ -1,5 +1,5 @@
 -- What tables forget, they forget after a boot, too.
-use Rattle.std.proofs.Common.{◌≡◌, map, ap, sym, ◌∙◌, refl}
+use Rattle.std.proofs.Common.{◌≡◌, map, ap, sym, ◌∙◌}
 use Rattle.zb_model.specs.State.{NodeState, after_boot, booted_net, booted_link, shown, shown_net}
 use Rattle.zb_keys.proofs.BootLemmas.{booted_shown}
 

@@ -1,5 +1,5 @@
 -- Each obstacle on the way through a router on a small state, computed: it is there, and it gives its refusal.
-use Rattle.std.specs.Prelude.{◌≡◌, ℕ, true, false, List, [], ◌∷◌, replicate, Some, None, refl}
+use Rattle.std.specs.Prelude.{◌≡◌, ℕ, true, false, [], ◌∷◌, replicate, Some, None, refl}
 use Rattle.zb_model.specs.Data.{Bytes, Centre, Router, Confirmed, Verified, NotMember, CounterSpent, Stale}
 use Rattle.zb_model.specs.Rules.{spent, both_spent}
 use Rattle.zb_model.specs.State.{greatest_counter, SenderFloor, NetKey, LinkKey, NodeState, new_node, active_row, usable_nets, usable_of, current, next_counter, sender_floor}

@@ -1,5 +1,5 @@
 -- Before each event of a run, the row of the active key is there and has started.
-use Rattle.std.proofs.Common.{◌≡◌, ℕ, ◌+◌, Bool, true, false, cond, List, [], ◌∷◌, ◌++◌, filter, Option, Some, None, flat_map, refl, sym, ap, ◌∙◌, subst, ◌⊎◌, inl, inr}
+use Rattle.std.proofs.Common.{◌≡◌, ℕ, Bool, true, false, cond, List, [], ◌∷◌, ◌++◌, filter, Option, Some, None, flat_map, refl, sym, ap, ◌∙◌, subst, ◌⊎◌, inl, inr}
 use Rattle.std.specs.List.{AllByRecursion}
 use Rattle.zb_model.specs.Data.{Bytes, Layer, Nwk, Aps, Term, Edit, Reserve, Floor, Start, Moved, Move, Draw, DropNet, DropLink, Install, Active, Row, Pair, Became, Live, Removed, Roll, Told, Untold, Task}
 use Rattle.zb_model.specs.Lines.{Line}
@@ -9,12 +9,12 @@ use Rattle.zb_model.specs.Rules.{Outcome, Stop, Does, Plan}
 use Rattle.zb_model.specs.Answer.{Counting, answer_by, plan_of, counting_of, edits_of, reserve_edit, floor_edit, start_edit, changes, moves_of, activated, start_for, is_started_key}
 use Rattle.zb_model.specs.Readings.{state_of}
 use Rattle.zb_model.specs.Play.{Schedule, Event, Disk, setting_of, step}
-use Rattle.law_run.proofs.EventStates.{IsKept, TaskOf, AllKeep, answer_to, step-kept}
+use Rattle.law_run.proofs.EventStates.{IsKept, answer_to, step-kept}
 use Rattle.law_run.proofs.Groups.{applied-all-append}
 use Rattle.law_run_counters.proofs.Shown.{NoActive, MovesFit, Fits, plan-fits}
 use Rattle.law_run_counters.proofs.Sections.{IsReserve, IsFloor, are-reserves, are-floors, kept_moves}
 use Rattle.law_run_counters.proofs.Calls.{edits_by, filter-fits}
-use Rattle.law_run_counters.proofs.Started.{started, started-map, started-at, started-moved, started-heard, started-sealed, reserve-same, start-at, plain-row, or-yes, Within, same-nets, install-nets, drop-nets, active-nets, floors-within, reserves-within, ActiveStarted}
+use Rattle.law_run_counters.proofs.Started.{started, started-map, started-at, started-moved, started-heard, started-sealed, reserve-same, start-at, plain-row, or-yes, Within, same-nets, install-nets, drop-nets, floors-within, reserves-within, ActiveStarted}
 
 pub moves-fit : (s : NodeState) (o : Outcome) → Fits s o → MovesFit s.nets (filter (changes s) (moves_of o))
 moves-fit s (Stop reason) f = tt

@@ -1,12 +1,12 @@
 -- Each event of a run: its group is counted, and a group that is counted is the run's.
-use Rattle.std.proofs.Common.{◌≡◌, ℕ, ◌+◌, Bool, true, false, cond, ◌||◌, List, [], ◌∷◌, ◌++◌, map, filter, find, length, Option, Some, None, nat_eq, flat_map, refl, sym, ap, ◌∙◌, subst, append_assoc}
+use Rattle.std.proofs.Common.{◌≡◌, ℕ, ◌+◌, Bool, true, false, cond, ◌||◌, List, [], ◌∷◌, ◌++◌, map, find, length, Option, Some, None, nat_eq, flat_map, refl, sym, ap, ◌∙◌, subst, append_assoc}
 use Rattle.std.specs.List.{AllByRecursion}
 use Rattle.zb_model.specs.Data.{Bytes, Layer, Nwk, Aps, Term, Edit, Place, Reason, Down, NoFrame, WrongState, Task, Received, DoRoll}
 use Rattle.zb_model.specs.Lines.{Line, Declared, GivenNet, GivenLink, Counter, Changed, Accept, Seal, Forge, Send, DownReset, Boot}
 use Rattle.zb_model.specs.State.{NetKey, NodeState, has_net, given_net, same_key, declared_at, with_given_net, with_given_link, with_declared}
 use Rattle.zb_model.specs.Tools.{Tools}
 use Rattle.zb_model.specs.Rules.{Outcome, Stop, Does, Plan, centre_of}
-use Rattle.zb_model.specs.Answer.{Answer, Counting, row_is_started, answer_by, changes, moves_of, sending_of, plan_of, counting_of}
+use Rattle.zb_model.specs.Answer.{Answer, Counting, row_is_started, answer_by, sending_of, plan_of, counting_of}
 use Rattle.zb_model.specs.Readings.{state_of, after, speaker, is_up, air}
 use Rattle.zb_model.specs.Play.{Schedule, Node, Event, Own, RollOver, Deliver, Reset, PowerOn, ShowRecord, ArmStop, ArmFail, InjectBytes, ForgeNet, ForgeNetAps, ForgeOpen, Step, Disk, Armed, NotArmed, StopAfter, FailAt, Calls, BootCalls, stations, setting_of, net_line, link_line, limit_line, start, disk_of, with_disk, falls, stands, calls_for, leaves_both, commit_lines, refuse_lines, send_lines, stored_lines, told_lines, group_of, cut_of, fallen_line, answer_step, boot_step, refused_step, task_step, deliver_step, frame_at, supply, forged_net, forged_both, forged_open, step_by, step}
 use Rattle.zb_model.specs.Claims.{Each}
@@ -17,8 +17,7 @@ use Rattle.law_run.proofs.FreshLines.{all-append, heard-keeps}
 use Rattle.law_run.proofs.Sound.{sound}
 use Rattle.law_run.proofs.Judged.{plan-accepts}
 use Rattle.law_run_counters.specs.Counted.{IsCounted, answered_with, whole_group, has_started}
-use Rattle.law_run_counters.proofs.Shown.{MovesFit, Shown, Fits, plan-fits}
-use Rattle.law_run_counters.proofs.Calls.{filter-fits}
+use Rattle.law_run_counters.proofs.Shown.{Shown, Fits, plan-fits}
 use Rattle.law_run_counters.proofs.Same.{group-counted, answer-same}
 use Rattle.law_run_counters.proofs.Started.{started, declared-row, StartFits, LineStarts, Bridged, bridged-lines, Quiet, quiet-lines, edit-lines, edits-start, ActiveStarted, grown-new, has-map}
 use Rattle.law_run_counters.proofs.ActiveRows.{AllActive, moves-fit, active-step, one-active}

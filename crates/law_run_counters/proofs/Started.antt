@@ -1,12 +1,12 @@
 -- A row of a run is started exactly where lines say that its key has started.
 use Rattle.std.proofs.Common.{◌≡◌, ℕ, ◌+◌, max, Bool, true, false, cond, ◌&&◌, ◌||◌, List, [], ◌∷◌, ◌++◌, map, Option, Some, None, option_map, find, nat_eq, flat_map, refl, sym, ap, ◌∙◌, subst, append_assoc, ⊎_elim, ◌⊎◌, inl, inr, eqb-true}
-use Rattle.std.proofs.lemmas.Bool.{false≢true, and_parts}
+use Rattle.std.proofs.lemmas.Bool.{false≢true}
 use Rattle.std.specs.List.{AllByRecursion, list_any}
 use Rattle.zb_model.specs.Data.{Bytes, Layer, Nwk, Aps, Term, Edit, Reserve, Floor, Start, Moved, Move, Draw, DropNet, DropLink, Install, Active, Row, Pair, Became, Live, Removed, Roll, Told, Untold}
 use Rattle.zb_model.specs.Lines.{Line, Declared, GivenNet, GivenLink, Counter, Changed, Commit, Accept, Refuse, Seal, Forge, Send, Inject, Stopped, DownReset, DownDisk, Boot, Dump, End}
-use Rattle.zb_model.specs.State.{NetKey, NodeState, same_key, has_net, at_net, of_active, net_of_active, active_row, new_net, given_net, reserved, started_at, dropped_net, net_floor, net_kept, next_at, booted_net, declared_at, applied, moved, applied_all, after_sealing, sealed_at, after_boot, after_hearing, after_accepting, with_given_net, with_given_link, with_declared}
+use Rattle.zb_model.specs.State.{NetKey, NodeState, same_key, has_net, at_net, of_active, new_net, given_net, reserved, started_at, dropped_net, net_floor, net_kept, next_at, booted_net, declared_at, applied, moved, applied_all, after_sealing, sealed_at, after_boot, after_hearing, after_accepting, with_given_net, with_given_link, with_declared}
 use Rattle.zb_model.specs.Rules.{Plan}
-use Rattle.zb_model.specs.Answer.{Answer, Counting, row_is_started, is_started_key, reserve_edit, floor_edit, start_edit, edits_of}
+use Rattle.zb_model.specs.Answer.{Counting, row_is_started, is_started_key, reserve_edit, floor_edit, start_edit, edits_of}
 use Rattle.zb_model.specs.Readings.{state_of, heard_line, after, speaker}
 use Rattle.zb_model.specs.Claims.{Each}
 use Rattle.law_run.proofs.Basics.{same_key-eq, same_key-refl, find-map, append-nil', state-snoc}

@@ -1,8 +1,8 @@
 -- Each line of a run is of a declared node, or of none.
-use Rattle.std.proofs.Common.{◌≡◌, ℕ, ◌+◌, ◌||◌, Bool, true, false, cond, List, [], ◌∷◌, ◌++◌, map, find, flat_map, length, Option, Some, None, is_some, nat_eq, refl, sym, ap, ◌∙◌, subst, eqb-true, eq-eqb}
+use Rattle.std.proofs.Common.{◌≡◌, ℕ, ◌+◌, ◌||◌, Bool, true, false, cond, List, [], ◌∷◌, ◌++◌, map, find, flat_map, length, Option, Some, None, is_some, nat_eq, refl, sym, ap, ◌∙◌, eqb-true, eq-eqb}
 use Rattle.std.specs.List.{AllByRecursion, list_any}
 use Rattle.std.proofs.lemmas.Bool.{false≢true}
-use Rattle.zb_model.specs.Data.{Bytes, Layer, Nwk, Aps, Station, nobody, Term, Place, Reason, Down, NoFrame, WrongState, AtEvent, Task, Received, DoRoll, Move, Draw, DropNet, DropLink, Install, Active, Row, Pair, Became, Live, Removed, Roll, Told, Untold, Edit, Reserve, Floor, Start, Moved}
+use Rattle.zb_model.specs.Data.{Bytes, Layer, Nwk, Aps, Station, nobody, Term, Place, Reason, Down, WrongState, Task, Received, DoRoll, Draw, DropNet, DropLink, Install, Active, Row, Pair, Became, Live, Removed, Roll, Told, Untold, Edit, Reserve, Floor, Start, Moved}
 use Rattle.zb_model.specs.Lines.{Line, Declared, Changed, Accept, Seal, DownReset, Boot}
 use Rattle.zb_model.specs.Answer.{Answer, answer, counting_of}
 use Rattle.zb_model.specs.Play.{Schedule, Node, Event, Own, RollOver, Deliver, Reset, PowerOn, ShowRecord, ArmStop, ArmFail, InjectBytes, ForgeNet, ForgeNetAps, ForgeOpen, Step, Disk, Armed, NotArmed, StopAfter, FailAt, Calls, BootCalls, stations, station_or, setting_of, net_line, link_line, limit_line, start, groups, disk_of, with_disk, falls, stands, calls_for, leaves_both, commit_lines, refuse_lines, send_lines, stored_lines, told_lines, group_of, cut_of, fallen_line, answer_step, boot_step, refused_step, task_step, deliver_step, frame_at, supply, forged_net, forged_both, forged_open, step_by, step}

@@ -1,5 +1,5 @@
 -- Lines of declared nodes, whose numbers are in their ranges, are proper.
-use Rattle.std.proofs.Common.{◌≡◌, ℕ, true, List, [], ◌∷◌, Option, Some, None, refl, inl, inr}
+use Rattle.std.proofs.Common.{◌≡◌, ℕ, true, List, [], ◌∷◌, Some, None, refl, inl, inr}
 use Rattle.std.specs.List.{AllByRecursion}
 use Rattle.zb_base.specs.declared.place.Place.{Place}
 use Rattle.zb_model.specs.Data as model
@@ -14,9 +14,9 @@ use Rattle.law_run_lines.specs.Alone.{AreWide, StandAlone}
 use Rattle.law_run_lines.specs.OfNodes.{IsOfSchedule}
 use Rattle.law_run_lines.specs.Wide.{IsWide, MayBe}
 use Rattle.law_run_lines.proofs.Lines.{are_of_nodes}
-use Rattle.zb_trace_model.specs.Naming.{AreNamed, IsDeclared, name_of}
+use Rattle.zb_trace_model.specs.Naming.{AreNamed, name_of}
 use Rattle.zb_trace_model.specs.Parts.{place_for, refusal_for}
-use Rattle.zb_trace_model.specs.Said.{AreProper, IsProper, edit_line, line_for}
+use Rattle.zb_trace_model.specs.Said.{AreProper, line_for}
 use Rattle.zb_trace_model.proofs.Fixed.{text_fixes}
 use Rattle.zb_trace_model.proofs.Naming.{each_name}
 use Rattle.zb_text.specs.Fields.{is_name}

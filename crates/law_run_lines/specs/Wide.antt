@@ -1,7 +1,6 @@
 -- Lines whose numbers are in their ranges and whose keys have 16 bytes, whatever their nodes are called.
-use Rattle.std.specs.Prelude.{◌≡◌, ◌≤◌, ℕ, List, [], length}
+use Rattle.std.specs.Prelude.{[]}
 use Rattle.std.specs.List.{AllByRecursion}
-use Rattle.hex.specs.Hex.{IsBytes}
 use Rattle.zb_model.specs.Lines as log
 use Rattle.zb_trace_model.specs.Said.{line_for}
 use Rattle.zb_trace.specs.Text.{Word, Called, CalledOrNobody, MayStand, words}

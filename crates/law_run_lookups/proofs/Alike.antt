@@ -1,6 +1,5 @@
 -- The live link row of a partner with a key: which changes leave it as it is.
-use Rattle.std.proofs.Common.{◌≡◌, ℕ, ◌+◌, Bool, true, false, cond, ◌&&◌, List, [], ◌∷◌, ◌++◌, map, filter, Option, Some, None, flat_map, nat_eq, refl, sym, ap, ◌∙◌, subst, ◌⊎◌, inl, inr, ⊎_elim}
-use Rattle.std.proofs.lemmas.Bool.{false≢true}
+use Rattle.std.proofs.Common.{◌≡◌, ℕ, ◌+◌, Bool, true, false, cond, List, [], ◌∷◌, ◌++◌, map, filter, Option, Some, None, flat_map, refl, sym, ap, ◌∙◌, ⊎_elim}
 use Rattle.std.specs.List.{AllByRecursion}
 use Rattle.zb_model.specs.Data.{Bytes, Layer, Nwk, Aps, Attribute, Term, Edit, Reserve, Floor, Start, Moved, Move, Draw, DropNet, DropLink, Install, Active, Row, Pair, Became, Live, Removed, Roll, Told, Untold}
 use Rattle.zb_model.specs.State.{LinkKey, NodeState, is_unverified, is_link, is_live_of, has_link, is_told, at_link, dropped_link, revived, new_link, told_as, link_floor, link_kept, booted_link, applied, moved, applied_all, after_accepting, after_hearing, after_sealing, sealed_at, after_boot}
@@ -8,7 +7,7 @@ use Rattle.zb_model.specs.Answer.{Counting, changes, move_edits, start_edit}
 use Rattle.law_run.proofs.FreshLines.{all-append}
 use Rattle.law_run.proofs.Judged.{In}
 use Rattle.law_run.proofs.ConfirmsLines.{From, in-map, in-append', slot-eq}
-use Rattle.law_run.proofs.LockoutRows.{in-mapped, in-left, in-right}
+use Rattle.law_run.proofs.LockoutRows.{in-mapped, in-left}
 
 -- a live row of the partner with the key, unverified or not
 pub record Has (q : ℕ) (k : Bytes) (t : Bool) (links : List LinkKey) : Type 0 where

@@ -1,20 +1,19 @@
 -- No row of the centre has a key that is still to be drawn.
-use Rattle.std.proofs.Common.{◌≡◌, ℕ, ◌<◌, ◌≤◌, ◌+◌, Bool, true, false, cond, List, [], ◌∷◌, ◌++◌, map, filter, Option, Some, None, flat_map, slice_get, fold, refl, sym, ap, ◌∙◌, subst, append_assoc, arith, le_refl, lt_irrefl, ◌⊎◌, inl, inr, ⊎_elim}
+use Rattle.std.proofs.Common.{◌≡◌, ℕ, ◌<◌, ◌≤◌, ◌+◌, Bool, true, false, cond, List, [], ◌∷◌, ◌++◌, map, filter, Option, Some, None, flat_map, slice_get, fold, sym, ap, ◌∙◌, subst, arith, le_refl, lt_irrefl, inl, inr, ⊎_elim}
 use Rattle.std.proofs.lemmas.Bool.{false≢true}
 use Rattle.std.proofs.lemmas.List.Sums.{fold-append}
 use Rattle.std.specs.List.{AllByRecursion}
 use Rattle.zb_model.specs.Data.{Bytes, Term, Edit, Reserve, Floor, Start, Moved, Move, Draw, DropNet, DropLink, Install, Active, Row, Pair, Became, Live, Removed, Roll, Told, Untold, Task, SayTo, TellTo, DoKnock, DoRejoin, DoTimer, AskFor, HasChild, DoProvision, DoRemove, DoRoll, DoSwitch, DoAgain, DoShare, Received}
-use Rattle.zb_model.specs.Lines.{Line, Changed, Commit, Accept, Seal, Boot}
+use Rattle.zb_model.specs.Lines.{Line, Changed, Accept, Seal, Boot}
 use Rattle.zb_model.specs.State.{NetKey, LinkKey, NodeState, is_centre, is_live, applied, applied_all, after_accepting, after_sealing, after_boot}
-use Rattle.zb_model.specs.Rules.{Setting, drop_link, drop_row, drop_partner}
+use Rattle.zb_model.specs.Rules.{Setting, drop_link, drop_partner}
 use Rattle.zb_model.specs.Readings.{draw_line, draws_used, after}
 use Rattle.zb_model.specs.Answer.{Counting, changes, move_edits, start_edit}
-use Rattle.zb_model.specs.Play.{Schedule, Event, Own, RollOver, Deliver, supply, commit_lines}
+use Rattle.zb_model.specs.Play.{Schedule, Own, supply}
 use Rattle.law_run.specs.KeysApart.{KeysApart, EntersOwn, IsNoneOf}
 use Rattle.law_run.proofs.FreshLines.{all-append}
 use Rattle.law_run.proofs.EventStates.{TaskOf}
-use Rattle.law_run.proofs.Judged.{In}
-use Rattle.law_run.proofs.LockoutDeeds.{HasRow, HasNet, IdleMove, Quiet, IsNew, draw_of, EnteredBy, Deed, member, nothing, quiet, verifies, rolls, offers, pairs, enters, removes}
+use Rattle.law_run.proofs.LockoutDeeds.{HasRow, HasNet, IdleMove, Quiet, draw_of, EnteredBy, Deed, member, nothing, quiet, verifies, rolls, offers, pairs, enters, removes}
 use Rattle.law_run.proofs.LockoutKept.{used-less}
 use Rattle.law_run.proofs.LockoutMoves.{new-by, none-at, places-one, no-key}
 use Rattle.law_run.proofs.LockoutRows.{OldLink, SameNet, RowOf, NetOf, after-back, nets-after-back, applied-back, nets-applied-back}

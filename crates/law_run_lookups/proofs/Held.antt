@@ -1,24 +1,22 @@
 -- What each answer keeps of link rows: at the centre each partner with an offered row has a current one, and a router
 -- or device in Offered has an offered row of the centre.
-use Rattle.std.proofs.Common.{◌≡◌, ℕ, Bool, true, false, cond, not, ◌&&◌, ◌||◌, List, [], ◌∷◌, ◌++◌, map, filter, Option, Some, None, flat_map, find, is_some, nat_eq, refl, sym, ap, ◌∙◌, subst, eqb-true, eq-eqb, ◌⊎◌, inl, inr, ⊎_elim}
+use Rattle.std.proofs.Common.{◌≡◌, ℕ, Bool, true, false, cond, not, ◌&&◌, List, [], ◌∷◌, ◌++◌, map, filter, Option, Some, None, flat_map, find, is_some, nat_eq, refl, sym, ap, ◌∙◌, subst, eqb-true, eq-eqb, ◌⊎◌, inl, inr}
 use Rattle.std.proofs.lemmas.Bool.{false≢true, and_parts}
 use Rattle.std.specs.List.{AllByRecursion, list_any}
-use Rattle.zb_model.specs.Data.{Bytes, Attribute, Provisional, Unverified, Verified, State, Fresh, Knocked, Joined, Offered, Confirmed, Rejoining, Gone, Edit, Reserve, Floor, Start, Moved, Move, Draw, DropNet, DropLink, Install, Active, Row, Pair, Became, Live, Removed, Roll, Told, Untold, Nwk, Aps, Task}
-use Rattle.zb_model.specs.State.{LinkKey, NodeState, same_key, is_centre, is_unverified, is_link, is_live_of, has_link, is_told, at_link, dropped_link, revived, new_link, applied, moved, applied_all, current, offered, is_live}
-use Rattle.zb_model.specs.Record.{attribute_byte, state_byte}
-use Rattle.zb_model.specs.Rules.{Setting, centre_of, drop_link, drop_row, drop_partner}
-use Rattle.zb_model.specs.Commands.{has_key}
-use Rattle.zb_model.specs.Answer.{Counting, changes, move_edits, start_edit}
-use Rattle.law_run.proofs.Basics.{flat_map-append, same_key-eq, same_key-refl, nat_eq-refl}
-use Rattle.law_run.proofs.FreshLines.{all-append}
+use Rattle.zb_model.specs.Data.{Bytes, Attribute, Provisional, Unverified, Verified, Offered, Moved, Move, Draw, DropNet, DropLink, Install, Active, Row, Pair, Became, Live, Removed, Roll, Told, Untold, Task}
+use Rattle.zb_model.specs.State.{LinkKey, NodeState, is_centre, is_unverified, is_link, is_live_of, has_link, is_told, at_link, dropped_link, revived, new_link, applied, applied_all, current, offered, is_live}
+use Rattle.zb_model.specs.Record.{attribute_byte}
+use Rattle.zb_model.specs.Rules.{Setting, drop_link, drop_row, drop_partner}
+use Rattle.zb_model.specs.Answer.{Counting, changes, move_edits}
+use Rattle.law_run.proofs.Basics.{flat_map-append}
 use Rattle.law_run.proofs.Groups.{applied-all-append}
 use Rattle.law_run.proofs.Judged.{In, found-element, all-in}
 use Rattle.law_run.proofs.Sound.{Sound, link_test}
 use Rattle.law_run.proofs.ConfirmsLines.{From, in-map, slot-eq, eq-slot}
 use Rattle.law_run.proofs.LockoutRows.{in-mapped, in-right, any-in}
-use Rattle.law_run.proofs.LockoutDeeds.{HasRow, Still, KeepsState, OnlyOf, MemberDeed, still, goes_on, leaves, takes, shares, IsNew, draw_of, Deed, member, nothing, quiet, verifies, rolls, offers, pairs, enters, removes, current-found}
+use Rattle.law_run.proofs.LockoutDeeds.{Still, OnlyOf, IsNew, draw_of, Deed, member, nothing, quiet, verifies, rolls, offers, pairs, enters, removes, current-found}
 use Rattle.law_run.proofs.LockoutMoves.{new-by, new-rows}
-use Rattle.law_run_lookups.proofs.Alike.{Has, Alike, alike-same, alike-then, Spares, kept_edits, moves-alike}
+use Rattle.law_run_lookups.proofs.Alike.{Has, Alike, alike-then, Spares, kept_edits, moves-alike}
 
 abbrev pub Current : ℕ → List LinkKey → Type 0
 Current q links = (k : Bytes) × Has q k false links

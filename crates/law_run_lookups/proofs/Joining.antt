@@ -1,5 +1,5 @@
 -- A router or device that is in Offered has an offered row of the centre, after each of its answers.
-use Rattle.std.proofs.Common.{◌≡◌, ℕ, Bool, true, false, cond, not, List, [], ◌∷◌, ◌++◌, filter, Option, Some, None, flat_map, is_some, nat_eq, refl, sym, ap, ◌∙◌, subst, ◌⊎◌, inl, inr}
+use Rattle.std.proofs.Common.{◌≡◌, ℕ, Bool, true, false, cond, List, [], ◌∷◌, ◌++◌, filter, Option, Some, None, flat_map, nat_eq, refl, sym, ap, ◌∙◌, subst, ◌⊎◌, inl, inr}
 use Rattle.std.proofs.lemmas.Bool.{false≢true}
 use Rattle.std.specs.List.{AllByRecursion}
 use Rattle.zb_model.specs.Data.{Bytes, Unverified, State, Fresh, Knocked, Joined, Offered, Confirmed, Rejoining, Gone, Edit, Reserve, Floor, Start, Moved, Move, Draw, DropNet, DropLink, Install, Active, Row, Pair, Became, Live, Removed, Roll, Told, Untold, Nwk, Aps}
@@ -11,8 +11,8 @@ use Rattle.zb_model.specs.Answer.{Counting, changes, move_edits, start_edit}
 use Rattle.law_run.proofs.Basics.{same_key-refl}
 use Rattle.law_run.proofs.FreshLines.{all-append}
 use Rattle.law_run.proofs.LockoutDeeds.{Still, KeepsState, OnlyOf, MemberDeed, still, goes_on, leaves, takes, shares}
-use Rattle.law_run_lookups.proofs.Alike.{Has, Spares, kept_edits}
-use Rattle.law_run_lookups.proofs.Held.{Offer, OfferHeld, settle, same_rows, rows_after, through, row-spares, offered-some, still-append, still-spares, only-spares, kept-appended, not-false}
+use Rattle.law_run_lookups.proofs.Alike.{Spares, kept_edits}
+use Rattle.law_run_lookups.proofs.Held.{Offer, OfferHeld, settle, same_rows, rows_after, through, row-spares, offered-some, still-spares, only-spares, kept-appended, not-false}
 
 -- What leaves the state
 

@@ -1,9 +1,8 @@
 -- By the rules for records the active network key is live, so there is a newest live one.
-use Rattle.std.proofs.Common.{◌≡◌, ℕ, Bool, true, false, ◌&&◌, List, [], ◌∷◌, Option, Some, None, find, is_some, reverse, refl, ◌⊎◌, inl, inr}
+use Rattle.std.proofs.Common.{◌≡◌, ℕ, Bool, true, ◌&&◌, List, [], ◌∷◌, Option, Some, None, find, is_some, reverse, refl, ◌⊎◌, inl, inr}
 use mathlib.Core.List.{reverse_aux}
 use Rattle.std.proofs.lemmas.Bool.{false≢true, and_parts}
 use Rattle.zb_model.specs.Data.{Bytes}
-use Rattle.zb_model.specs.Lines.{Line}
 use Rattle.zb_model.specs.State.{NetKey, NodeState, same_key, net_of_active, active_row, newest}
 use Rattle.zb_model.specs.Fits.{keeps_rules, rows_have_room, keys_differ, at_most_two_live, active_is_live, row_is_live, partners_agree, links_are_marked, floors_are_kept, limits_are_started, role_is_kept, pairs_are_kept}
 use Rattle.zb_model.specs.Tools.{Tools}

@@ -1,21 +1,21 @@
 -- Floors are of declared nodes, so that there is room for each: rows-full never comes at NWK.
 use Rattle.std.proofs.Common.{◌≡◌, ℕ, zero, suc, ◌<◌, ◌≤◌, ◌+◌, max, Bool, true, false, cond, not, ◌&&◌, List, [], ◌∷◌, ◌++◌, map, filter, find, length, Option, Some, None, option_map, option_to_list, is_some, flat_map, nat_eq, nat_lt, nat_le, refl, sym, ap, ◌∙◌, subst, arith, eq-eqb, eqb-true, lt_irrefl, ◌⊎◌, inl, inr, ⊎_elim}
-use Rattle.std.proofs.lemmas.Bool.{false≢true, and_parts}
+use Rattle.std.proofs.lemmas.Bool.{false≢true}
 use Rattle.std.proofs.lemmas.List.{length-map}
 use Rattle.std.specs.List.{AllByRecursion}
 use Rattle.zb_model.specs.Data.{Bytes, Layer, Nwk, Aps, Station, Term, Edit, Reserve, Floor, Start, Moved, Move, Draw, DropNet, DropLink, Install, Active, Row, Pair, Became, Live, Removed, Roll, Told, Untold, Place, Task, Received}
 use Rattle.zb_model.specs.Lines.{Line, Declared, GivenNet, GivenLink, Counter}
-use Rattle.zb_model.specs.State.{greatest_counter, SenderFloor, NetKey, NodeState, same_key, has_net, at_net, of_active, new_net, given_net, declared_at, with_given_net, with_given_link, with_declared, dropped_net, reserved, started_at, net_floor, net_kept, next_at, booted_net, booted_floor, floor_stored, floor_kept, applied, moved, applied_all, after_accepting, after_hearing, after_sealing, sealed_at, after_boot, sender_floor, usable_of}
-use Rattle.zb_model.specs.Tools.{Tools, NwkShown, NwkAuxiliary, ApsShown, ApsAuxiliary, CommandShown, Known, Unknown, Broken, LeaveShown, Leave, Other, NoCommand}
-use Rattle.zb_model.specs.Judging.{Verdict, Not, Good, Carrier, judge_nwk, payload_of, Unsealed, judge_aps, senders_full}
+use Rattle.zb_model.specs.State.{SenderFloor, NetKey, NodeState, same_key, has_net, at_net, of_active, new_net, given_net, declared_at, with_given_net, with_given_link, with_declared, dropped_net, reserved, started_at, net_floor, net_kept, next_at, booted_net, booted_floor, floor_stored, floor_kept, applied, applied_all, after_accepting, after_hearing, after_sealing, sealed_at, after_boot, sender_floor}
+use Rattle.zb_model.specs.Tools.{Tools, NwkShown, ApsShown, ApsAuxiliary, CommandShown, Known, Unknown, Broken, LeaveShown, Leave, Other, NoCommand}
+use Rattle.zb_model.specs.Judging.{Verdict, Not, Good, Carrier, judge_nwk, payload_of, Unsealed, judge_aps}
 use Rattle.zb_model.specs.Rules.{Setting, Plan, Does, is_declared, station_of}
 use Rattle.zb_model.specs.Answer.{Counting, answer_by, plan_of, counting_of, comes_to, nwk_command, aps_command, clear_part, sealed_part, by_security, aps_part, net_part, received_as, edits_of, reserve_edit, floor_edit, start_edit, move_edits, changes, moves_of}
 use Rattle.zb_model.specs.Readings.{state_of, after}
-use Rattle.zb_model.specs.Play.{Schedule, Event, Disk, Node, stations, setting_of, without_blocks, step, start}
+use Rattle.zb_model.specs.Play.{Schedule, Event, Node, stations, setting_of, without_blocks, start}
 use Rattle.law_run.specs.Events.{BeforeEach}
 use Rattle.law_run.specs.Opening.{Opens}
 use Rattle.law_run.proofs.FreshLines.{all-append}
-use Rattle.law_run.proofs.EventStates.{IsKept, TaskOf, AllKeep, answer_to, kept-before}
+use Rattle.law_run.proofs.EventStates.{IsKept, AllKeep, answer_to, kept-before}
 use Rattle.law_run.proofs.FloorRows.{Sorted}
 use Rattle.law_run.proofs.Judged.{In, all-in, OnGood, Judged, aps-good, usable-row}
 use Rattle.law_run.proofs.LockoutDeeds.{IfDeclared, nwk-declared}

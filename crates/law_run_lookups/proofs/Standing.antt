@@ -1,10 +1,10 @@
 -- What the rules take for granted holds of every node before each event of a run.
-use Rattle.std.proofs.Common.{◌≡◌, ℕ, ◌<◌, ◌≤◌, ◌+◌, Bool, true, false, cond, ◌&&◌, ◌||◌, not, List, [], ◌∷◌, ◌++◌, map, filter, find, Option, Some, None, option_to_list, is_some, flat_map, slice_get, nat_eq, refl, sym, ap, ◌∙◌, subst, append_assoc, arith, le_refl, eq-eqb, ◌⊎◌, inl, inr, ⊎_elim}
+use Rattle.std.proofs.Common.{◌≡◌, ℕ, ◌<◌, ◌≤◌, ◌+◌, Bool, true, false, cond, ◌&&◌, ◌||◌, not, List, [], ◌∷◌, ◌++◌, map, find, Option, Some, None, option_to_list, is_some, flat_map, slice_get, nat_eq, refl, sym, ap, ◌∙◌, subst, append_assoc, arith, le_refl, eq-eqb, ◌⊎◌, inl, inr}
 use Rattle.std.proofs.lemmas.Bool.{false≢true}
 use Rattle.std.specs.List.{AllByRecursion, list_any}
-use Rattle.zb_model.specs.Data.{Bytes, Layer, Nwk, Aps, Station, Role, State, Fresh, Joined, Offered, Provisional, Term, Edit, Reserve, Floor, Start, Moved, Move, Draw, Task}
+use Rattle.zb_model.specs.Data.{Bytes, Layer, Nwk, Aps, Station, State, Fresh, Joined, Offered, Provisional, Term, Edit, Reserve, Floor, Start, Moved, Move, Task}
 use Rattle.zb_model.specs.Lines.{Line, Declared, GivenNet, GivenLink, Counter, Changed}
-use Rattle.zb_model.specs.State.{NetKey, LinkKey, NodeState, same_key, is_centre, is_unverified, is_link, is_live_of, has_net, has_link, at_link, revived, new_link, applied, applied_all, after_accepting, after_sealing, after_boot, after_hearing, sealed_at, net_of_active, active_row, current, offered, is_live, with_given_net, with_given_link, with_declared}
+use Rattle.zb_model.specs.State.{NetKey, LinkKey, NodeState, same_key, is_centre, is_unverified, is_link, is_live_of, has_net, has_link, at_link, revived, new_link, applied_all, after_accepting, after_sealing, after_boot, after_hearing, sealed_at, net_of_active, active_row, current, offered, with_given_net, with_given_link, with_declared}
 use Rattle.zb_model.specs.Tools.{Tools}
 use Rattle.zb_model.specs.Rules.{Setting, Plan, Outcome, Stop, Does, centre_of, unless_held}
 use Rattle.zb_model.specs.Answer.{Counting, row_is_started, answer_by, plan_of, counting_of, moves_of, edits_of}
@@ -23,7 +23,6 @@ use Rattle.law_run.proofs.ConfirmsRuns.{Mere, rest_edits, rests-mere}
 use Rattle.law_run.proofs.LockoutDeeds.{HasRow, HasNet, MemberDeed, still, Deed, member, nothing, quiet, verifies, rolls, offers, pairs, enters, removes, OutcomeFits, plan-fits}
 use Rattle.law_run.proofs.LockoutGroups.{edits-parts}
 use Rattle.law_run.proofs.LockoutMoves.{all-at}
-use Rattle.law_run.proofs.LockoutRows.{NetOf, RowOf}
 use Rattle.law_run_counters.proofs.Started.{ActiveStarted}
 use Rattle.law_run_counters.proofs.ActiveRows.{active-kept}
 use Rattle.law_run_counters.proofs.Events.{start-grounded}

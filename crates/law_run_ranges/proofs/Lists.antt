@@ -1,5 +1,5 @@
 -- Claims on each item of a list, and on what is found in it.
-use Rattle.std.proofs.Common.{ℕ, zero, suc, Bool, true, false, cond, List, [], ◌∷◌, map, filter, find, reverse, slice_get, Option, Some, None, IfSome}
+use Rattle.std.proofs.Common.{ℕ, zero, suc, Bool, true, false, cond, List, [], ◌∷◌, map, filter, find, reverse, slice_get, Option, Some, IfSome}
 use Rattle.std.specs.List.{AllByRecursion}
 use Rattle.zb_model.specs.State.{last_where}
 use mathlib.Core.List.{reverse_aux}

@@ -4,7 +4,7 @@ use Rattle.std.specs.List.{AllByRecursion}
 use Rattle.zb_model.specs.Data.{Bytes, Move}
 use Rattle.zb_model.specs.OwnEvents.{is_waiting, least, next_member}
 use Rattle.zb_model.specs.Rules.{unless_held, drop_link, drop_partner, drop_others, drop_row, first_drop, drop_old}
-use Rattle.zb_model.specs.State.{NetKey, LinkKey, NodeState, same_key, is_live_of, is_unverified, names_two, net_of_active, active_row, live_nets, usable_nets, may_use, usable_active, newest, usable_of, live_of, current, offered, code_row, other_user, pair_of, is_active_key}
+use Rattle.zb_model.specs.State.{NetKey, LinkKey, NodeState, same_key, is_live_of, is_unverified, names_two, net_of_active, active_row, live_nets, usable_nets, may_use, newest, usable_of, live_of, current, offered, code_row, other_user, pair_of, is_active_key}
 use Rattle.law_run_ranges.specs.Ranges.{IsEui, IsKey, MoveInRange}
 use Rattle.law_run_ranges.proofs.Lists.{found, last_found, filtered, if_then}
 use Rattle.law_run_ranges.proofs.States.{NetInRange, LinkInRange, PairInRange, StateInRange}

@@ -1,5 +1,5 @@
 -- Where no disk is given, a run is the model's.
-use Rattle.std.proofs.Common.{◌≡◌, ℕ, ◌+◌, Bool, true, false, cond, if◌then◌else◌, nat_eq, eq-eqb, eqb-true, List, [], ◌∷◌, ◌++◌, length, Option, Some, None, refl, sym, ap, ◌∙◌}
+use Rattle.std.proofs.Common.{◌≡◌, ℕ, ◌+◌, Bool, true, false, cond, nat_eq, eq-eqb, eqb-true, List, [], ◌∷◌, ◌++◌, length, Option, Some, None, refl, sym, ap, ◌∙◌}
 use Rattle.law_run_steps.proofs.Spared.{spared}
 use Rattle.law_run_steps.specs.Conditions.{Condition, condition_of}
 use Rattle.law_run_steps.specs.Steps.{is_of}

@@ -1,5 +1,5 @@
 -- In the run of a hub no counter of a sender is accepted twice, and only stored keys are confirmed.
-use Rattle.std.proofs.Common.{◌≡◌, ℕ, ◌<◌, ◌^◌, true, nat_eq, is_some, List, [], ◌∷◌, ◌++◌, length, Option, Some, None, refl, sym, ◌∙◌, subst, eqb-true}
+use Rattle.std.proofs.Common.{◌≡◌, ℕ, ◌<◌, ◌^◌, true, nat_eq, is_some, List, [], ◌∷◌, ◌++◌, length, Option, Some, None, sym, ◌∙◌, subst, eqb-true}
 use Rattle.std.proofs.lemmas.Bool.{false≢true}
 use Rattle.law_sessions.specs.Hubs.{hub_events}
 use Rattle.law_sessions.proofs.Carried.{IsCarried, group_is, own_setting, run_carries}
@@ -7,7 +7,7 @@ use Rattle.law_run.specs.Commanding.{OneCentre, SpellsConfirm}
 use Rattle.law_run.specs.Opening.{Opens}
 use Rattle.law_run.proofs.Basics.{each-append}
 use Rattle.law_run.proofs.ConfirmsLines.{Calm, Firm, firm-lines}
-use Rattle.law_run.proofs.ConfirmsRuns.{Here, group-claims, group-firm, here, run-centre, start-firm}
+use Rattle.law_run.proofs.ConfirmsRuns.{group-claims, group-firm, here, run-centre, start-firm}
 use Rattle.law_run.proofs.ConfirmsRuns.{plain as sealless}
 use Rattle.law_run.proofs.Groups.{NoSeal}
 use Rattle.law_run.proofs.Judged.{plan-accepts}
@@ -20,7 +20,7 @@ use Rattle.law_run_steps.specs.Steps.{whole_lines}
 use Rattle.law_run_steps.proofs.Walks.{OfStart, start-all}
 use Rattle.zb_model.specs.Answer.{answer, plan_of}
 use Rattle.zb_model.specs.Claims.{ConfirmLine, Confirms, Each, Once}
-use Rattle.zb_model.specs.Data.{Bytes, Station, Task}
+use Rattle.zb_model.specs.Data.{Station, Task}
 use Rattle.zb_model.specs.Lines.{Line, Boot, DownReset, Inject}
 use Rattle.zb_model.specs.Play.{Schedule, setting_of, start, stations}
 use Rattle.zb_model.specs.Readings.{state_of}

@@ -1,5 +1,5 @@
 -- What a line of a session says has addresses of 64 bits and keys of 16 bytes.
-use Rattle.std.proofs.Common.{◌≡◌, ℕ, zero, suc, ◌+◌, ◌-◌, ◌*◌, ◌/◌, ◌<◌, ◌≤◌, ◌^◌, Bool, true, false, not, if◌then◌else◌, ◌==◌, ◌&&◌, List, [], ◌∷◌, length, take, drop, map, replicate, Option, Some, None, IfSome, Result, Ok, Err, refl, sym, ◌∙◌, arith, length-take, length-drop}
+use Rattle.std.proofs.Common.{◌≡◌, ℕ, zero, suc, ◌+◌, ◌*◌, ◌/◌, ◌<◌, ◌≤◌, ◌^◌, Bool, true, false, if◌then◌else◌, ◌&&◌, List, [], ◌∷◌, length, take, drop, map, replicate, Option, Some, None, IfSome, Result, Ok, Err, refl, sym, ◌∙◌, arith, length-take, length-drop}
 use Rattle.std.specs.Prelude.{bytes_eq, codes}
 use Rattle.std.specs.Int.{from_be_bytes, w64}
 use Rattle.std.specs.List.{fold, range_with_len}
@@ -13,8 +13,8 @@ use Rattle.zb_base.specs.declared.node.Role.{Role}
 use Rattle.zb_aes.proofs.Lengths.{length-enciphered}
 use Rattle.zb_aes.proofs.Xored.{length-xored}
 use Rattle.zb_aes.specs.Block.{enciphered}
-use Rattle.zb_live_line.specs.Grammar.{again_of, child_of, deliver_of, draw_of, event_at, header_at, log_named, log_of, meaning_of, own_line, roll_of, say_of, scripted, scripted_in, share_of}
-use Rattle.zb_live_line.specs.Said.{Event, Delivers, Rolls, Adopts, Ticks, Says, Switches, Repeats, Shares, Sentence, Quiet, Founds, Introduces, Logs, Opens, Happens, Lists, BacksUp}
+use Rattle.zb_live_line.specs.Grammar.{again_of, child_of, deliver_of, draw_of, event_at, header_at, log_of, meaning_of, own_line, roll_of, say_of, scripted_in, share_of}
+use Rattle.zb_live_line.specs.Said.{Event, Delivers, Rolls, Ticks, Switches, Repeats, Shares, Sentence, Quiet, Founds, Introduces, Logs, Opens, Happens}
 use Rattle.zb_mmo.specs.Hash.{blocks_of, hash, mixed, padded}
 use Rattle.zb_sched_line.specs.Grammar.{◌>>=◌, is_quiet, is_real_eui, kept, name_alone, or_else, real_eui_of, rejoin_of, two_names}
 use Rattle.zb_sched_line.specs.Grammar as schedule_line

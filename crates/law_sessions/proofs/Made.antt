@@ -1,5 +1,5 @@
 -- A hub whose store `init` made is a node of the schedule that its header and its sessions give.
-use Rattle.std.proofs.Common.{◌≡◌, ℕ, ◌+◌, ◌≤◌, ◌<◌, ◌^◌, Bool, true, false, cond, not, ◌&&◌, ◌||◌, nat_eq, List, [], ◌∷◌, map, length, find, Option, Some, None, is_some, refl, sym, ap, ◌∙◌, subst, arith}
+use Rattle.std.proofs.Common.{◌≡◌, ℕ, ◌≤◌, ◌<◌, ◌^◌, true, cond, not, ◌&&◌, ◌||◌, nat_eq, List, [], ◌∷◌, map, length, find, Option, Some, None, is_some, refl, sym, ap, ◌∙◌, subst, arith}
 use Rattle.std.proofs.lemmas.Bool.{false≢true}
 use Rattle.std.specs.List.{AllByRecursion, list_any}
 use Rattle.law_run.specs.Commanding.{OneCentre}

@@ -1,5 +1,5 @@
 -- The tables of a centre keep the rules for records and the widths of a record in a session, whatever lines it is fed.
-use Rattle.std.proofs.Common.{◌≡◌, ℕ, ◌+◌, ◌≤◌, ◌<◌, ◌^◌, ◌++◌, Bool, true, false, not, if◌then◌else◌, find, nat_eq, is_some, List, [], ◌∷◌, length, map, Option, Some, None, option_map, Result, Ok, Err, IfOk, IfSome, refl, sym, ap, ◌∙◌, subst, arith, eqb-true, leb-false, length-append}
+use Rattle.std.proofs.Common.{◌≡◌, ℕ, ◌≤◌, ◌<◌, ◌^◌, ◌++◌, Bool, true, false, not, if◌then◌else◌, find, nat_eq, is_some, List, [], ◌∷◌, length, map, Option, Some, None, option_map, Result, Ok, Err, IfOk, IfSome, refl, sym, ap, ◌∙◌, subst, arith, eqb-true, leb-false, length-append}
 use Rattle.std.proofs.lemmas.Bool.{and_parts, false≢true, leb-true, not-false, not-true, or_parts}
 use Rattle.std.specs.List.{AllByRecursion, concat, list_any}
 use Rattle.std.specs.Prelude.{◌==◌, ◌&&◌, ◌||◌, bytes_eq, nat_le, ⊤}
@@ -30,7 +30,6 @@ use Rattle.zb_model.specs.Fits.{all_apart}
 use Rattle.zb_model.specs.Rules.{Setting, station_of}
 use Rattle.zb_model.specs.State.{NodeState, after_accepting, after_boot, after_hearing, after_sealing, applied_all, is_centre, sealed_at, shown}
 use Rattle.zb_model_real.specs.Real.{real}
-use Rattle.zb_node_types.specs.Changes.{model_role}
 use Rattle.zb_record.proofs.Tested.{fits_from}
 use Rattle.zb_record.specs.Ranges.{FitsBytes, fits_widths}
 use Rattle.zb_sched.specs.Judge.{are_blocks}

@@ -1,5 +1,5 @@
 -- Tables that keep the rules for records are sound: each row is found by its key, and floors ascend.
-use Rattle.std.proofs.Common.{◌≡◌, ◌<◌, Bool, true, false, cond, not, ◌&&◌, ◌||◌, nat_eq, nat_lt, find, List, [], ◌∷◌, Some, refl, ap, ◌∙◌}
+use Rattle.std.proofs.Common.{◌≡◌, ◌<◌, Bool, true, false, cond, not, ◌&&◌, nat_eq, nat_lt, find, List, [], ◌∷◌, Some, refl, ap, ◌∙◌}
 use Rattle.std.proofs.lemmas.Bool.{and_parts, ltb-true, not-true, or_parts}
 use Rattle.std.specs.List.{AllByRecursion, list_all, list_any}
 use Rattle.law_run.proofs.Basics.{nat_eq-refl, same_key-refl}

@@ -1,19 +1,19 @@
 -- What the centre stores is within the widths of a record: its changes bring no addresses but those of declared nodes
 -- and of rows that it has, and no keys but install codes', drawn ones and those that it has.
-use Rattle.std.proofs.Common.{◌≡◌, ℕ, ◌+◌, ◌<◌, ◌^◌, min, max, Bool, true, false, cond, not, ◌&&◌, ◌||◌, if◌then◌else◌, nat_eq, nat_le, nat_lt, flat_map, map, filter, length, List, [], ◌∷◌, ◌++◌, Option, Some, None, IfSome, option_map, option_to_list, refl, sym, ap, ◌∙◌, subst, arith, eqb-true}
+use Rattle.std.proofs.Common.{◌≡◌, ℕ, ◌+◌, ◌<◌, ◌^◌, min, Bool, true, false, not, ◌||◌, if◌then◌else◌, nat_eq, nat_le, nat_lt, flat_map, map, filter, length, List, [], ◌∷◌, ◌++◌, Option, Some, None, IfSome, option_map, option_to_list, refl, sym, ap, ◌∙◌, subst, arith, eqb-true}
 use Rattle.std.proofs.lemmas.Bool.{and_parts, false≢true}
 use Rattle.std.specs.List.{AllByRecursion, list_any}
 use Rattle.law_run.specs.Opening.{Opens}
 use Rattle.law_run.proofs.FreshLines.{all-append, all-map}
-use Rattle.law_run.proofs.Judged.{In, all-in}
-use Rattle.law_run.proofs.LockoutDeeds.{Deed, Done, EnteredBy, HasRow, IdleMove, IsNew, OutcomeFits, Quiet, draw_of, enters, member, nothing, offers, pairs, plan-fits, quiet, removes, rolls, verifies}
+use Rattle.law_run.proofs.Judged.{all-in}
+use Rattle.law_run.proofs.LockoutDeeds.{Deed, EnteredBy, HasRow, IdleMove, IsNew, OutcomeFits, Quiet, draw_of, enters, member, nothing, offers, pairs, plan-fits, quiet, removes, rolls, verifies}
 use Rattle.law_run_lookups.proofs.Senders.{plan-accepts}
 use Rattle.law_sessions.proofs.SoundTables.{sound_by_rules}
 use Rattle.zb_model.specs.Answer.{Answer, Counting, accepted_all, answer, answer_by, answered, changes, counting_of, edits_of, floor_edit, floor_for, floor_of, move_edits, moves_of, plan_of, reserve_edit, start_edit, stored_floor}
-use Rattle.zb_model.specs.Data.{Bytes, Layer, Nwk, Aps, Attribute, Task, SayTo, TellTo, DoKnock, DoRejoin, DoTimer, AskFor, HasChild, DoProvision, DoRemove, DoRoll, DoSwitch, DoAgain, DoShare, Received, Term, Move, Draw, DropNet, DropLink, Install, Active, Row, Pair, Became, Live, Removed, Roll, Told, Untold, Edit, Reserve, Floor, Start, Moved}
+use Rattle.zb_model.specs.Data.{Bytes, Layer, Nwk, Aps, Attribute, Task, DoProvision, DoRoll, Received, Term, Move, Draw, DropNet, DropLink, Install, Active, Row, Pair, Became, Live, Removed, Roll, Told, Untold, Edit, Reserve, Floor, Start, Moved}
 use Rattle.zb_model.specs.Fits.{keeps_rules}
-use Rattle.zb_model.specs.Rules.{Outcome, Stop, Does, Plan, Setting, drop_link, drop_partner, is_declared, unless_held}
-use Rattle.zb_model.specs.State.{LinkKey, NetKey, NodeState, PairKey, SenderFloor, after_boot, applied, applied_all, at_link, at_net, dropped_link, dropped_net, floor_stored, greatest_counter, has_link, has_net, is_centre, is_link, is_live, is_live_of, is_told, link_floor, names, names_two, net_floor, new_link, new_net, of_active, reserved, revived, same_key, same_layer, shown, started_at, told_as, with_link, with_pair}
+use Rattle.zb_model.specs.Rules.{Outcome, Stop, Does, Plan, Setting, drop_link, drop_partner, is_declared}
+use Rattle.zb_model.specs.State.{LinkKey, NetKey, NodeState, PairKey, SenderFloor, after_boot, applied, applied_all, dropped_link, dropped_net, floor_stored, greatest_counter, has_link, has_net, is_centre, is_link, is_live, is_live_of, is_told, link_floor, names, names_two, net_floor, new_link, new_net, of_active, reserved, revived, same_key, same_layer, shown, started_at, told_as, with_link}
 use Rattle.zb_model.specs.Tools.{Tools}
 use Rattle.zb_record.specs.Ranges.{FitsBytes, LinkFits, NetFits, PairFits}
 use Rattle.zb_stored_tables.proofs.CoreValues.{boot_of_all_accepted, boot_of_all_sealed}

@@ -1,5 +1,5 @@
 -- A disk has room for all that its calls write.
-use Rattle.std.proofs.Common.{◌≡◌, ◌≤◌, ◌+◌, ℕ, List, length, max, Bool, true, false, arith, sym, subst, cond}
+use Rattle.std.proofs.Common.{◌≡◌, ◌≤◌, ◌+◌, ℕ, List, length, Bool, true, false, arith, sym, subst, cond}
 use Rattle.zb_disk.specs.Memory.{Medium, after_sync, after_write, counted, refuses, stored, synced}
 use Rattle.zb_disk.proofs.Images.{stored_is}
 use Rattle.tc_c_centre.specs.Outside.{HasRoom}

@@ -1,5 +1,5 @@
 -- A store in memory, before anything is served over it.
-use Rattle.std.proofs.Common.{◌≡◌, ◌⊎◌, inl, inr, ⊎_elim, ℕ, List, [], length, replicate, false, sym, ◌∙◌, subst}
+use Rattle.std.proofs.Common.{◌≡◌, inl, inr, ⊎_elim, ℕ, List, [], length, replicate, false, sym, ◌∙◌, subst}
 use Rattle.tc_c_centre.specs.Stores.{IsSound}
 use Rattle.zb_centre_store.specs.Standing.{CanBeServed}
 use Rattle.zb_disk.specs.Memory.{IsImage, fresh, memory_view}

@@ -1,5 +1,5 @@
 -- A script over the bytes of a store: what comes of it.
-use Rattle.std.specs.Prelude.{ℕ, ◌≡◌, ◌≤◌, ◌<◌, List, length, Option, Some, Result, Ok, Err, ⊤}
+use Rattle.std.specs.Prelude.{ℕ, ◌≡◌, ◌≤◌, ◌<◌, List, length, Option, Result, Ok, Err, ⊤}
 use Rattle.tc_c_centre.specs.Buffers.{Made}
 use Rattle.tc_c_centre.specs.Outside.{Written}
 use Rattle.tc_c_centre.specs.Stores.{IsSound, in_memory, unwritten}

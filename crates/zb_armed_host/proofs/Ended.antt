@@ -1,5 +1,5 @@
 -- How a call ended that went wrong, on any disk.
-use Rattle.std.proofs.Common.{◌≡◌, inl, inr, ℕ, zero, suc, ◌+◌, ◌-◌, ◌<◌, ◌==◌, ◌&&◌, Bool, true, false, not, nat_le, nat_lt, if◌then◌else◌, refl, sym, ◌∙◌, ap, subst, arith, zero-add}
+use Rattle.std.proofs.Common.{◌≡◌, inl, inr, ℕ, zero, suc, ◌+◌, ◌-◌, ◌<◌, ◌==◌, ◌&&◌, Bool, true, false, not, nat_le, nat_lt, if◌then◌else◌, refl, sym, ◌∙◌, ap, arith, zero-add}
 use Rattle.std.proofs.lemmas.Bool.{cases_lt, le-leb, lt-leb, eq-eqb, ne_eqb}
 use Rattle.zb_disk.specs.declared.memory.Arming.{Arming}
 use Rattle.zb_disk.specs.declared.memory.Arming.TheVariants.{Stop, Fail, Unarmed}

@@ -1,11 +1,11 @@
 -- All parts of an auditor, line by line.
 use Rattle.std.proofs.Common.{◌≡◌, ℕ, ◌+◌, ◌<◌, get_or, take, Bool, true, false, ◌&&◌, List, [], ◌∷◌, ◌++◌, length, length-append, append_assoc, Option, Some, None, refl, ap, sym, subst, ◌∙◌, if◌then◌else◌}
-use Rattle.std.specs.Prelude.{fold, Result, Ok, Err}
+use Rattle.std.specs.Prelude.{fold}
 use Rattle.std.proofs.lemmas.List.{take_more}
 use Rattle.std.proofs.lemmas.List.Sums.{fold-append}
 use Rattle.zb_audit.specs.Auditing.{LocksOn, StandAt, Stands}
 use Rattle.zb_audit.specs.Ending.{ill_ended}
-use Rattle.zb_audit.specs.Faults.{by, first_fault, IsAnswer, IsSound, sooner, unlocked}
+use Rattle.zb_audit.specs.Faults.{by, first_fault, sooner, unlocked}
 use Rattle.zb_audit.specs.Confirming.{is_confirmable}
 use Rattle.zb_audit.specs.Failing.{failing, head}
 use Rattle.zb_audit.specs.Nonces.{is_fresh}

@@ -1,12 +1,10 @@
 -- Where no line is bad, the claims hold.
-use Rattle.std.proofs.Common.{◌≡◌, ℕ, ◌+◌, ◌<◌, Bool, true, false, true≢false, not, ◌&&◌, ◌||◌, List, [], ◌∷◌, ◌++◌, length, append_assoc, Option, Some, None, refl, ap, sym, subst, ◌∙◌, bytes_eq, nat_eq, nat_le, eq-eqb, le-leb, leb-true, leb-false, if◌then◌else◌}
+use Rattle.std.proofs.Common.{◌≡◌, ℕ, ◌+◌, ◌<◌, Bool, true, false, not, ◌&&◌, List, [], ◌∷◌, ◌++◌, length, append_assoc, Option, Some, None, refl, ap, sym, ◌∙◌, bytes_eq, nat_eq, nat_le, leb-false, if◌then◌else◌}
 use Rattle.std.specs.List.{list_any, AllByRecursion}
 use Rattle.std.proofs.lemmas.Bool.{and_from}
 use Rattle.std.proofs.lemmas.List.{append-nil}
-use Rattle.std.proofs.lemmas.List.Folds.{list_any-append}
-use Rattle.zb_audit.specs.Claims.{ConfirmLine, Confirms, Each, Fresh, FreshFrom, IsOfCentre, Keeps, Once, OnceFrom, Rises, SealsApart, StoredVerified}
+use Rattle.zb_audit.specs.Claims.{ConfirmLine, Each, Fresh, FreshFrom, IsOfCentre, Keeps, Once, OnceFrom, Rises, SealsApart, StoredVerified}
 use Rattle.zb_audit.specs.Confirming.{Absent, Kept, Made, RowState, confirmed, is_confirmable, is_kept, row_in, stands_for}
-use Rattle.zb_audit.specs.Ending.{ill_ended}
 use Rattle.zb_audit.specs.Failing.{failing, failing_from, head}
 use Rattle.std.specs.Prelude.{Result, Ok, Err, IfOk}
 use Rattle.zb_audit.specs.declared.fault.AuditFault.{AuditFault}
@@ -23,7 +21,7 @@ use Rattle.zb_base.specs.declared.label.Layer.TheVariants.{Nwk, Aps}
 use Rattle.zb_audit_names.proofs.Places.{itself}
 use Rattle.zb_audit_names.specs.Naming.{declared_in, is_centres}
 use Rattle.zb_audit_names.specs.Secrets.{ideal, private}
-use Rattle.zb_audit_lockout.specs.Lockout.{first_unlocked, locked, locked_from, unlocked_from}
+use Rattle.zb_audit_lockout.specs.Lockout.{first_unlocked, locked, unlocked_from}
 use Rattle.zb_model.specs.Data.{Bytes}
 use Rattle.zb_model.specs.Tools.{Tools}
 use Rattle.zb_audit_counters.specs.Counting.{first_uncounted}

@@ -1,10 +1,9 @@
 -- The centre's verified link rows, line by line.
-use Rattle.std.proofs.Common.{◌≡◌, ℕ, ◌+◌, ◌<◌, ◌≤◌, Bool, true, false, not, ◌||◌, ◌&&◌, List, [], ◌∷◌, ◌++◌, length, length-append, Option, Some, None, refl, ap, sym, subst, ◌∙◌, bytes_eq, nat_eq, nat_lt, cond, arith, lt-ltb, ltb-true, inl, inr}
+use Rattle.std.proofs.Common.{◌≡◌, ℕ, ◌+◌, ◌<◌, ◌≤◌, Bool, true, false, ◌&&◌, List, [], ◌∷◌, ◌++◌, length, length-append, Option, Some, None, refl, ap, sym, subst, ◌∙◌, nat_eq, nat_lt, cond, arith, lt-ltb, ltb-true}
 use Rattle.std.specs.BTreeMap.{BTreeMap, get, is_at}
-use Rattle.std.specs.Option.{option_or, IfSome, is_some}
+use Rattle.std.specs.Option.{option_or, IfSome}
 use Rattle.std.specs.Ordering.{is_eq}
 use Rattle.std.specs.Prelude.{if◌then◌else◌, fold}
-use Rattle.std.proofs.lemmas.List.Sums.{fold-append}
 use Rattle.arrayvec.specs.ArrayString.{ArrayString}
 use Rattle.zb_base.specs.declared.address.Eui.{Eui}
 use Rattle.zb_base.specs.declared.key.Key.{Key}
@@ -13,7 +12,7 @@ use Rattle.zb_base.specs.declared.state.Attribute.TheVariants as attribute
 use Rattle.zb_seal.specs.declared.term.Term.{Term}
 use Rattle.zb_trace.specs.declared.line.Line.{Line}
 use Rattle.zb_trace.specs.declared.line.Line.TheVariants as line
-use Rattle.zb_audit.specs.Confirming.{Absent, Kept, Made, RowState, committed, confirmed, is_confirmable, is_kept, is_row, made, row_becomes, row_from, row_in, stands_for, with_attribute}
+use Rattle.zb_audit.specs.Confirming.{Absent, Kept, Made, RowState, committed, confirmed, is_confirmable, is_row, made, row_becomes, row_from, row_in, stands_for, with_attribute}
 use Rattle.zb_audit.specs.Failing.{failing, failing_from}
 use Rattle.zb_audit.specs.Standing.{AreConfirmed, row_cmp, row_state, stands_in, verified, verified_at}
 use Rattle.zb_audit.specs.declared.confirming.Confirming.{Confirming}

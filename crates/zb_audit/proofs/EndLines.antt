@@ -1,12 +1,12 @@
 -- How the lines so far end, and what they sum up to.
-use Rattle.std.proofs.Common.{◌≡◌, ℕ, ◌+◌, max, Bool, true, false, not, ◌&&◌, List, [], ◌∷◌, ◌++◌, length, length-append, append_assoc, Option, Some, None, refl, ap, sym, subst, ◌∙◌}
+use Rattle.std.proofs.Common.{◌≡◌, ℕ, ◌+◌, max, Bool, true, false, not, List, [], ◌∷◌, ◌++◌, length, length-append, append_assoc, Option, Some, None, refl, ap, sym, ◌∙◌}
 use Rattle.std.specs.Option.{option_or}
-use Rattle.std.specs.Prelude.{if◌then◌else◌, fold}
+use Rattle.std.specs.Prelude.{if◌then◌else◌}
 use Rattle.std.proofs.lemmas.List.{append-nil}
 use Rattle.std.proofs.lemmas.List.Sums.{fold-append}
-use Rattle.zb_audit.specs.Ending.{accept_count, accepts_in, agree, ends_from, ends_well, front, greater_event, greatest_event, ill_ended, is_no_end, refusals_in, refuse_count, seal_count, seals_in, sums_up}
+use Rattle.zb_audit.specs.Ending.{accept_count, accepts_in, ends_from, ends_well, front, greater_event, greatest_event, ill_ended, is_no_end, refusals_in, refuse_count, seal_count, seals_in, sums_up}
 use Rattle.zb_audit.specs.Failing.{failing, failing_from, head}
-use Rattle.zb_audit.specs.Standing.{Ends, counts_are, fits}
+use Rattle.zb_audit.specs.Standing.{Ends, fits}
 use Rattle.zb_audit.specs.declared.ending.Ending.{Ending}
 use Rattle.zb_audit.proofs.Failing.{failing_more, head_then}
 use Rattle.zb_audit_names.specs.Groups.{event_of}

@@ -1,5 +1,5 @@
 -- The stamps of all seals so far.
-use Rattle.std.proofs.Common.{◌≡◌, ℕ, ◌+◌, Bool, true, false, not, ◌||◌, ◌&&◌, List, [], ◌∷◌, ◌++◌, length, Option, Some, None, refl, ap, sym, ◌∙◌, bytes_eq, nat_eq, cond}
+use Rattle.std.proofs.Common.{◌≡◌, ℕ, ◌+◌, Bool, true, false, not, ◌||◌, ◌&&◌, List, [], ◌∷◌, ◌++◌, length, Some, None, refl, ap, sym, ◌∙◌, bytes_eq, nat_eq, cond}
 use Rattle.std.specs.BTreeMap.{is_at}
 use Rattle.std.specs.BTreeSet.{BTreeSet}
 use Rattle.std.specs.List.{list_any}
@@ -8,9 +8,6 @@ use Rattle.std.specs.Ordering.{is_eq, ordering_then}
 use Rattle.std.specs.Prelude.{if◌then◌else◌}
 use Rattle.std.specs.declared.cmp.Ordering.{Ordering}
 use Rattle.arrayvec.specs.ArrayString.{ArrayString}
-use Rattle.zb_base.specs.declared.address.Eui.{Eui}
-use Rattle.zb_base.specs.declared.key.Key.{Key}
-use Rattle.zb_base.specs.declared.state.Attribute.{Attribute}
 use Rattle.zb_seal.specs.declared.term.Term.{Term}
 use Rattle.zb_trace.specs.declared.line.Line.{Line}
 use Rattle.zb_trace.specs.declared.line.Line.TheVariants as line

@@ -1,5 +1,5 @@
 -- What a line adds to what lines say for the two words, read by names.
-use Rattle.std.proofs.Common.{◌≡◌, ℕ, ◌+◌, ◌≤◌, suc, List, [], ◌∷◌, ◌++◌, Bool, true, false, not, ◌||◌, ◌&&◌, Option, Some, None, refl, ap, sym, subst, ◌∙◌, bytes_eq, nat_eq, length, length-append, get_or, append_assoc, arith}
+use Rattle.std.proofs.Common.{◌≡◌, ℕ, ◌+◌, ◌≤◌, suc, List, [], ◌∷◌, ◌++◌, Bool, true, false, not, ◌||◌, ◌&&◌, Option, Some, None, refl, ap, sym, ◌∙◌, bytes_eq, nat_eq, length, length-append, append_assoc, arith}
 use Rattle.std.specs.List.{list_any, flat_map}
 use Rattle.std.specs.Option.{IfSome, option_map}
 use Rattle.std.specs.Prelude.{fold, if◌then◌else◌}
@@ -18,17 +18,16 @@ use Rattle.zb_base.specs.declared.address.Eui.{Eui}
 use Rattle.zb_base.specs.declared.key.Key.{Key}
 use Rattle.zb_base.specs.declared.state.Attribute.{Attribute}
 use Rattle.zb_base.specs.declared.state.Attribute.TheVariants as attribute
-use Rattle.zb_model.specs.Data.{Bytes, Role, Station, Term, nobody}
+use Rattle.zb_model.specs.Data.{Bytes, Role, Station, Term}
 use Rattle.zb_model.specs.Secrets.{carried, holds, holds_some}
 use Rattle.zb_model.specs.Tools.{Tools}
-use Rattle.zb_node_types.specs.Changes.{model_role}
 use Rattle.zb_trace.specs.declared.line.Line.{Line}
 use Rattle.zb_trace.specs.declared.line.Line.TheVariants as line
 use Rattle.zb_trace_watch.specs.Passing.{is_code}
 use Rattle.zb_trace_watch.specs.Sayings as say
 use Rattle.zb_trace_watch.specs.Sayings.{came_to, only_if, said_by, start, Grows, JoinerCounts, Sayings}
 use Rattle.zb_trace_watch.specs.Sets.{is_node, is_number}
-use Rattle.zb_trace_watch.specs.Standing.{FindKeys, Represents}
+use Rattle.zb_trace_watch.specs.Standing.{Represents}
 use Rattle.zb_trace_watch.specs.declared.words.EndWords.{EndWords}
 use Rattle.zb_trace_watch.proofs.Growth.{and_all, and_assoc, any_grows, any_more, or_assoc, or_none}
 use Rattle.zb_trace_watch.proofs.Truth.{and_left, and_right, itself_number, not_both, or_left, same_bytes, same_number, same_truth, turned_number}

@@ -1,17 +1,13 @@
 -- The greatest counters that were accepted so far.
-use Rattle.std.proofs.Common.{◌≡◌, ℕ, ◌+◌, ◌<◌, ◌≤◌, Bool, true, false, true≢false, not, ◌||◌, ◌&&◌, List, [], ◌∷◌, ◌++◌, length, Option, Some, None, refl, ap, sym, subst, ◌∙◌, bytes_eq, nat_eq, nat_le, cond, arith, le-leb, leb-true, leb-false, inl, inr}
+use Rattle.std.proofs.Common.{◌≡◌, ℕ, ◌+◌, ◌<◌, ◌≤◌, Bool, true, false, not, ◌||◌, ◌&&◌, List, [], ◌∷◌, ◌++◌, length, Option, Some, None, refl, ap, sym, ◌∙◌, bytes_eq, nat_eq, nat_le, cond, arith, le-leb, leb-true, leb-false, inl, inr}
 use Rattle.std.specs.BTreeMap.{BTreeMap, get, is_at}
 use Rattle.std.specs.List.{list_any}
 use Rattle.std.specs.Option.{option_or}
 use Rattle.std.specs.Ordering.{is_eq}
 use Rattle.std.specs.Prelude.{if◌then◌else◌}
 use Rattle.arrayvec.specs.ArrayString.{ArrayString}
-use Rattle.zb_base.specs.declared.address.Eui.{Eui}
-use Rattle.zb_base.specs.declared.key.Key.{Key}
 use Rattle.zb_base.specs.declared.label.Layer.{Layer}
 use Rattle.zb_base.specs.declared.label.Layer.TheVariants.{Nwk, Aps}
-use Rattle.zb_base.specs.declared.state.Attribute.{Attribute}
-use Rattle.zb_base.specs.declared.state.Attribute.TheVariants as attribute
 use Rattle.zb_seal.specs.declared.term.Term.{Term}
 use Rattle.zb_trace.specs.declared.line.Line.{Line}
 use Rattle.zb_trace.specs.declared.line.Line.TheVariants as line
@@ -23,12 +19,11 @@ use Rattle.zb_audit.specs.declared.taking.Taking.{Taking}
 use Rattle.zb_audit.proofs.Failing.{any_more, any_stays, first_more, first_stays, or_false}
 use Rattle.zb_audit.proofs.FreshNonces.{part}
 use Rattle.zb_base.specs.contracts.label.LayerOrd.TheImpl as layer_ord
-use Rattle.zb_audit_names.proofs.Places.{itself, one_place, same_bytes, apart}
-use Rattle.zb_audit_names.specs.Naming.{declared_in, place_in}
-use Rattle.zb_audit_names.specs.Standing.{IsSpeaker, Tells}
+use Rattle.zb_audit_names.proofs.Places.{itself, one_place, same_bytes}
+use Rattle.zb_audit_names.specs.Naming.{place_in}
 use Rattle.zb_model.specs.Data.{Bytes}
 use Rattle.zb_trace_watch.proofs.Alike.{bytes_alike, bytes_eq_sym}
-use Rattle.zb_trace_watch.proofs.Truth.{itself_number, number_so, same_number, same_truth, turned_number, either, or_left, or_right, and_left, and_right, not_false, not_true}
+use Rattle.zb_trace_watch.proofs.Truth.{itself_number, number_so, same_number, same_truth, turned_number, either, or_left, or_right, and_left, and_right}
 
 layer_alike : (a b : Layer) → is_eq (layer_ord.cmp-value.it a b) ≡ same_layer a b
 layer_alike Nwk Nwk = refl

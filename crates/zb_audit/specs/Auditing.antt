@@ -1,5 +1,5 @@
 -- The lines for which an auditor stands.
-use Rattle.std.specs.Prelude.{◌≡◌, ℕ, ◌+◌, Bool, true, ◌&&◌, List, [], ◌∷◌, ◌++◌, length}
+use Rattle.std.specs.Prelude.{◌≡◌, ℕ, ◌+◌, true, ◌&&◌, List, [], ◌∷◌, ◌++◌, length}
 use Rattle.zb_audit.specs.Standing.{AreConfirmed, AreNonces, AreTaken, Ends}
 use Rattle.zb_audit.specs.declared.auditor.Auditor.{Auditor}
 use Rattle.zb_audit_names.specs.Naming.{declared_in, names_in}

@@ -1,5 +1,5 @@
 -- What holds of lines none of which is bad, as relations between lines.
-use Rattle.std.specs.Prelude.{◌≡◌, ◌<◌, ℕ, true, List, [], ◌∷◌, ◌++◌, Option, Some, ⊤}
+use Rattle.std.specs.Prelude.{◌≡◌, ◌<◌, ℕ, true, List, [], ◌∷◌, ◌++◌, Some, ⊤}
 use Rattle.std.specs.List.{AllByRecursion}
 use Rattle.zb_audit.specs.Confirming.{confirmed}
 use Rattle.zb_audit.specs.declared.fault.Verdict.{Verdict}

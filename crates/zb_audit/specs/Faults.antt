@@ -1,5 +1,5 @@
 -- Which line is the first bad one, and by which claim.
-use Rattle.std.specs.Prelude.{◌≡◌, ℕ, Bool, ◌&&◌, if◌then◌else◌, List, nat_le, Option, Some, None, Result, Ok, Err}
+use Rattle.std.specs.Prelude.{◌≡◌, ℕ, ◌&&◌, if◌then◌else◌, List, nat_le, Option, Some, None, Result, Ok, Err}
 use Rattle.zb_audit.specs.Confirming.{is_confirmable}
 use Rattle.zb_audit.specs.Ending.{accepts_in, ill_ended, seals_in}
 use Rattle.zb_audit.specs.Failing.{failing, head}

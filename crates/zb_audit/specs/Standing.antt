@@ -1,6 +1,6 @@
 -- What the parts of an audit keep of the lines so far.
 use Rattle.std.specs.Prelude.{◌≡◌, ℕ, ◌≤◌, Bool, true, false, not, ◌&&◌, if◌then◌else◌, List, bytes_eq, nat_eq, nat_le, nat_lt, length, Option, Some, None, IfSome}
-use Rattle.std.specs.BTreeMap.{BTreeMap, get}
+use Rattle.std.specs.BTreeMap.{get}
 use Rattle.std.specs.List.{list_any}
 use Rattle.std.specs.Option.{option_or}
 use Rattle.std.specs.declared.cmp.Ordering.{Ordering}
@@ -8,7 +8,7 @@ use Rattle.zb_audit.specs.Confirming.{RowState, Absent, Made, Kept, is_confirmab
 use Rattle.zb_audit.specs.Ending.{accepts_in, agree, ends_well, front, greatest_event, is_no_end, refusals_in, seals_in}
 use Rattle.zb_audit.specs.Failing.{failing, head}
 use Rattle.zb_audit.specs.Nonces.{is_fresh, seals_alike}
-use Rattle.zb_audit.specs.Taking.{bars, is_later, same_layer}
+use Rattle.zb_audit.specs.Taking.{bars, is_later}
 use Rattle.zb_audit.specs.declared.confirming.Confirming.{Confirming}
 use Rattle.zb_audit.specs.declared.confirming.LinkRow.{LinkRow}
 use Rattle.zb_audit.specs.declared.ending.Ending.{Ending}

@@ -1,11 +1,10 @@
 -- What lines say of terms and keys for the two words of the end line, read by names.
-use Rattle.std.specs.Prelude.{◌≡◌, ℕ, Bool, false, List, [], length, get_or, nat_eq, Option, Some, None, flat_map, if◌then◌else◌}
+use Rattle.std.specs.Prelude.{ℕ, Bool, false, List, [], length, get_or, nat_eq, Option, Some, None, flat_map, if◌then◌else◌}
 use Rattle.std.specs.Option.{option_map}
 use Rattle.zb_audit_names.specs.Naming.{place_in}
 use Rattle.zb_audit_names.specs.Secrets.{based_line, bases, codes_of, each_line, ever, forged_in, ideal, is_member, network_keys, removed_devices, terms_of}
 use Rattle.zb_audit_names.specs.declared.node.Node.{Node}
 use Rattle.zb_audit_names.specs.declared.node.Who.{Who}
-use Rattle.zb_base.specs.declared.address.Eui.{Eui}
 use Rattle.zb_model.specs.Data.{Bytes, Role}
 use Rattle.zb_model.specs.Tools.{Tools}
 use Rattle.zb_node_types.specs.Changes.{model_role}

@@ -8,7 +8,6 @@ use Rattle.std.proofs.lemmas.List.Folds.{list_any-append}
 use Rattle.std.proofs.lemmas.List.Sums.{fold-append}
 use Rattle.zb_base.specs.declared.label.Layer.{Layer}
 use Rattle.zb_audit_names.specs.Groups.{event_of, flat, groups, onto, same_event}
-use Rattle.zb_audit_names.specs.Naming.{declared_in, declares}
 use Rattle.zb_model.specs.Data.{Bytes}
 use Rattle.zb_audit_counters.specs.Counting.{accepted, accepted_in, first_of, is_counted, uncounted_from, uncounted_in}
 use Rattle.zb_audit_counters.specs.Readings.{active, boots, is_key, last, limit_behind, limit_in, sealed_in, since_boot}

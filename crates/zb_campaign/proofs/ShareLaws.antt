@@ -1,5 +1,5 @@
 -- Consecutive shares of runs.
-use Rattle.std.proofs.Common.{◌≡◌, ℕ, zero, suc, ◌+◌, ◌-◌, ◌<◌, ◌≤◌, ◌^◌, min, List, [], ◌∷◌, ◌++◌, map, drop, get_or, length, Vec, Global, Result, Ok, Err, refl, ap, sym, ◌∙◌, subst, arith, add-one, append_assoc, append-nil}
+use Rattle.std.proofs.Common.{◌≡◌, ℕ, zero, suc, ◌+◌, ◌-◌, ◌<◌, ◌≤◌, ◌^◌, min, List, [], ◌∷◌, ◌++◌, map, drop, get_or, length, Vec, Global, Result, Ok, Err, refl, ap, sym, ◌∙◌, subst, arith, add-one, append-nil}
 use Rattle.std.specs.List.{AllByRecursion, AllZip, range_with_len}
 use Rattle.std.proofs.lemmas.List.{length-map, map-append}
 use Rattle.zb_campaign.specs.Answers.{Answers, last_lines}

@@ -1,6 +1,5 @@
 -- Frames in a text, and from a place on, past the runs before it.
 use Rattle.std.proofs.Common.{◌≡◌, ℕ, zero, suc, ◌+◌, ◌-◌, ◌*◌, ◌<◌, ◌≤◌, List, [], ◌∷◌, ◌++◌, length, get_or, take, drop, refl, ap, sym, subst, ◌∙◌, add-one, arith, length-append, append_assoc}
-use Rattle.std.proofs.lemmas.List.{drop-append-le}
 use Rattle.arrayvec.specs.ArrayVec.{ArrayVec}
 use Rattle.zb_capture.specs.Runs.{all_runs, frames_in, AreEnds}
 

@@ -1,5 +1,5 @@
 -- Transcripts that are audited as their lines are taken off a text.
-use Rattle.std.proofs.Common.{◌≡◌, ◌≢◌, ◌∙◌, ℕ, ◌+◌, List, [], ◌∷◌, ◌++◌, length, refl, sym, ap, subst, append_assoc, append-nil, length-append, Option, Some, None, IfSome, Result, Ok, Err, arith}
+use Rattle.std.proofs.Common.{◌≡◌, ◌∙◌, ℕ, ◌+◌, List, [], ◌∷◌, ◌++◌, length, refl, sym, ap, subst, append_assoc, append-nil, length-append, Result, Ok, Err, arith}
 use Rattle.zb_audit.proofs.ClaimsHold.{claims_hold}
 use Rattle.zb_audit.specs.Auditing.{Stands}
 use Rattle.zb_audit.specs.Faults.{IsAnswer}
@@ -12,7 +12,6 @@ use Rattle.zb_model.specs.Tools.{Tools}
 use Rattle.zb_model_real.specs.Real.{real}
 use Rattle.zb_trace.specs.Text.{AllProper, IsProper, text, texts}
 use Rattle.zb_trace.specs.declared.line.Line.{Line}
-use Rattle.zb_trace_read.specs.Faults.{IsFirstBad}
 use Rattle.zb_trace_watch.proofs.Starting.{readers_find}
 use Rattle.zb_trace_watch.specs.Standing.{FindKeys}
 use Rattle.zb_command.specs.Auditing.{IsAudited, IsBrokenText, IsSoundText, IsTranscript}

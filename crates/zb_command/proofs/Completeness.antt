@@ -1,10 +1,8 @@
 -- What the end of a command says of its status.
-use Rattle.std.proofs.Common.{◌≡◌, ◌⊎◌, inl, inr, ℕ, Option, None, Some, IfSome, refl, sym, ap, ◌∙◌, subst}
-use Rattle.zb_base.specs.Outside.{Rose}
+use Rattle.std.proofs.Common.{◌≡◌, ℕ, Option, None, Some, IfSome, subst}
 use Rattle.zb_model.specs.Data.{Bytes}
-use Rattle.zb_command.specs.Answers.{Answer, Writes, Refuses, Exceeds, status_of}
-use Rattle.zb_command.specs.Outcomes.{Ends, IsWritten, WritesFront, WritesNothing}
-use Rattle.zb_command.specs.declared.status.Cause.{Cause}
+use Rattle.zb_command.specs.Answers.{Answer}
+use Rattle.zb_command.specs.Outcomes.{Ends, IsWritten, WritesFront}
 use Rattle.zb_command.specs.declared.status.Status.{Status}
 use Rattle.zb_command.specs.declared.status.Status.TheVariants as status
 

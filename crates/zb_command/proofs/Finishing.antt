@@ -1,16 +1,11 @@
 -- What the end of any command says of its status.
-use Rattle.std.proofs.Common.{◌≡◌, ◌⊎◌, ℕ, Option, Some, IfSome, subst}
-use Rattle.zb_base.specs.Outside.{Rose}
+use Rattle.std.proofs.Common.{ℕ, Option, IfSome}
 use Rattle.zb_model.specs.Data.{Bytes}
-use Rattle.zb_command.specs.Answers.{Answer, Refuses, Exceeds, status_of, wanted}
-use Rattle.zb_command.specs.Auditing.{Audits}
+use Rattle.zb_command.specs.Answers.{wanted}
 use Rattle.zb_command.specs.Commands.{Invocation, Playing, Installing, Making, Inspecting, Sniffing, Campaigning, Auditing, Serving}
 use Rattle.zb_command.specs.Finishing.{Finishes}
-use Rattle.zb_command.specs.Serving.{ServesOut}
-use Rattle.zb_command.specs.Outcomes.{IsWritten, WritesFront, WritesNothing}
-use Rattle.zb_command.specs.declared.status.Cause.{Cause}
+use Rattle.zb_command.specs.Outcomes.{WritesFront}
 use Rattle.zb_command.specs.declared.status.Status.{Status}
-use Rattle.zb_command.specs.declared.status.Status.TheVariants as status
 use Rattle.zb_command.proofs.Completeness as ends
 
 pub front : (t : Invocation) (s : Status) (rest before after : Option Bytes) (old new : ℕ)

@@ -1,5 +1,5 @@
 -- Where nothing failed, the input and the store give the status.
-use Rattle.std.proofs.Common.{◌≡◌, ◌≤◌, ℕ, Ok, Err, IsTrue, Option, None, Some, IfSome, length, refl}
+use Rattle.std.proofs.Common.{◌≡◌, ℕ, Ok, IsTrue, Option, None, Some, IfSome, refl}
 use Rattle.zb_admin.specs.Serving.{Ended, Outside}
 use Rattle.zb_base.specs.Outside.{Rose}
 use Rattle.zb_model.specs.Data.{Bytes}

@@ -15,7 +15,7 @@ use Rattle.zb_host.specs.declared.plan.Plan.{Plan as Program}
 use Rattle.zb_judge.specs.Verdicts.{carrier_seen, judged, unsealed_seen}
 use Rattle.zb_nwk.specs.declared.frame.NwkFrame.{NwkFrame}
 use Rattle.zb_judge.specs.declared.aps.Unsealed.{Unsealed}
-use Rattle.zb_model.specs.Answer.{aps_command, aps_part, by_security, clear_part, heard_clear, heard_sealed, net_part, nwk_command, plan_of, received_as, sealed_part}
+use Rattle.zb_model.specs.Answer.{aps_command, aps_part, clear_part, heard_clear, heard_sealed, net_part, nwk_command, plan_of, received_as, sealed_part}
 use Rattle.zb_model.specs.Commands.{Heard}
 use Rattle.zb_model.specs.Data.{AtAps, AtNwk, Bytes, Received}
 use Rattle.zb_model.specs.Data as model
@@ -23,7 +23,7 @@ use Rattle.zb_model.specs.Judging.{Verdict, Good, judge_aps, judge_nwk, payload_
 use Rattle.zb_model.specs.Judging as judging
 use Rattle.zb_model.specs.Rules.{Plan, Setting}
 use Rattle.zb_model.specs.State.{NodeState}
-use Rattle.zb_model.specs.Tools.{ApsShown, ApsAuxiliary, CommandShown, Known, Unknown, Broken, LeaveShown, Leave, Other, NoCommand, NwkShown}
+use Rattle.zb_model.specs.Tools.{ApsShown, CommandShown, Known, Unknown, Broken, LeaveShown, Leave, Other, NoCommand, NwkShown}
 use Rattle.zb_model_real.specs.Readers.{aps_frame_shown, auxiliary, nwk_frame_shown}
 use Rattle.zb_model_real.specs.Real.{real}
 use Rattle.zb_model_real.specs.Terms.{model_term}

@@ -23,7 +23,6 @@ use Rattle.zb_model_real.specs.Real.{real}
 use Rattle.zb_model_real.specs.Terms.{model_term}
 use Rattle.zb_node_types.specs.Changes.{model_layer}
 use Rattle.zb_plan.specs.Deciding.{IsAps, IsNwk}
-use Rattle.zb_carried_keys.specs.Carrying.{is_command}
 use Rattle.zb_seal.specs.declared.term.Term as program
 
 -- verdicts

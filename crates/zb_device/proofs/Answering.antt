@@ -1,5 +1,5 @@
 -- The answer to an event of a router's or device's own is that of its rule.
-use Rattle.std.proofs.Common.{◌≡◌, ℕ, refl, Bool, true, false, None}
+use Rattle.std.proofs.Common.{◌≡◌, ℕ, refl, Bool, true, false}
 use Rattle.arrayvec.specs.ArrayVec.{ArrayVec}
 use Rattle.zb_device.specs.Tasks.{IsTaskOf, own_task}
 use Rattle.zb_device.specs.declared.event.DeviceEvent.{DeviceEvent}

@@ -1,19 +1,16 @@
 -- The install codes and the keys.
-use Rattle.std.proofs.Common.{◌≡◌, ℕ, zero, suc, ◌+◌, ◌*◌, ◌-◌, ◌<◌, ◌≤◌, List, [], ◌∷◌, ◌++◌, length, get_or, Ok, ◌⊎◌, inl, inr, refl, ap, sym, ◌∙◌, subst, arith, lit<, length-append, eq-eqb}
+use Rattle.std.proofs.Common.{◌≡◌, ℕ, zero, suc, ◌+◌, ◌*◌, ◌-◌, ◌<◌, List, [], ◌∷◌, ◌++◌, length, Ok, refl, ap, ◌∙◌, arith, lit<, length-append, eq-eqb}
 use Rattle.std.specs.Int.{w16, w32, to_le_bytes}
 use Rattle.std.specs.List.{AllByRecursion}
-use Rattle.std.proofs.lemmas.List.{take_at, drop_at, get_or_append_left}
-use Rattle.std.proofs.Math.Seq.{get_or-append_seam}
-use Rattle.std.proofs.lemmas.Bool.{cases_lt}
+use Rattle.std.proofs.lemmas.List.{take_at, drop_at}
 use Rattle.std.proofs.lemmas.Nat.{from_le_bytes-to_le_bytes_2}
 use Rattle.hex.specs.Hex.{IsBytes, encode_with}
-use Rattle.zb_base.specs.declared.key.Key.{Key}
 use Rattle.zb_install.specs.Code.{code_of}
 use Rattle.zb_install.specs.Crc.{crc}
 use Rattle.zb_text.specs.Hexadecimal.{bytes_text}
 use Rattle.zb_sched_line.specs.Fits.{IsCode, IsKey}
 use Rattle.zb_gen.specs.Made.{code_word}
-use Rattle.zb_gen.specs.Codes.{AreKeysOf, code_bytes}
+use Rattle.zb_gen.specs.Codes.{code_bytes}
 use Rattle.zb_gen.specs.Words.{key_at, word}
 use Rattle.zb_gen.proofs.Bits.{crc_fits}
 

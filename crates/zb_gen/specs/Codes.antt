@@ -1,5 +1,5 @@
 -- The install codes of a made schedule.
-use Rattle.std.specs.Prelude.{◌≡◌, ℕ, ◌+◌, ◌*◌, ◌-◌, ◌<◌, List, ◌++◌, length, get_or}
+use Rattle.std.specs.Prelude.{◌≡◌, ℕ, ◌*◌, ◌-◌, ◌<◌, List, ◌++◌, length, get_or}
 use Rattle.std.specs.Int.{w16, to_le_bytes}
 use Rattle.zb_base.specs.declared.key.Key.{Key}
 use Rattle.zb_install.specs.Crc.{crc}

@@ -3,17 +3,16 @@ use Rattle.std.proofs.Common.{◌≡◌, ◌≢◌, ◌≤◌, ◌⊎◌, ◌++�
 use Rattle.std.specs.List.{concat}
 use Rattle.std.proofs.lemmas.Bool.{or_parts}
 use Rattle.zb_disk.specs.View.{Telling, View, IsStill, LeavesOnly}
-use Rattle.zb_disk.proofs.Moments.{started, weakened}
+use Rattle.zb_disk.proofs.Moments.{weakened}
 use Rattle.zb_store.specs.declared.fault.StoreFault.{StoreFault}
 use Rattle.zb_store.specs.declared.fault.StoreFault.TheVariants.{Disk, NoRecord, TooLarge, NoMemory, Worn}
 use Rattle.zb_store.specs.Layout.{Standing}
-use Rattle.zb_store.specs.Store.{Place, place_of, IsReady, IsHeld, IsWholeEither}
+use Rattle.zb_store.specs.Store.{Place, place_of, IsReady, IsWholeEither}
 use Rattle.zb_store.specs.Faults.{IsPutFault, IsAppendFault}
 use Rattle.zb_node_types.specs.declared.change.Change.{Change}
 use Rattle.zb_host.specs.declared.fault.CommitFault.{CommitFault}
 use Rattle.zb_host.specs.declared.fault.CommitFault.TheVariants as commit
-use Rattle.zb_host.specs.declared.fault.HostFault.{HostFault}
-use Rattle.zb_host.specs.declared.fault.HostFault.TheVariants.{Disk as disk_of, NoMemory as no_memory, NoRecord as no_record, BadRecord as bad_record, Worn as worn_out}
+use Rattle.zb_host.specs.declared.fault.HostFault.TheVariants.{Disk as disk_of, Worn as worn_out}
 use Rattle.arrayvec.specs.declared.array_vec.ArrayVec.{ArrayVec}
 use Rattle.zb_host.specs.Plans.{gives}
 use Rattle.zb_host.specs.HostFaults.{IsUnstored, commit_fault, told_fault}

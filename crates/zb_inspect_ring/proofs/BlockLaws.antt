@@ -13,7 +13,7 @@ use Rattle.zb_inspect_frame.proofs.UnopenedFrames.{unopened_same}
 use Rattle.zb_inspect_ring.specs.Pieces.{all_fresh, frames_in, fresh, found_in, IsNext, MayStandFor, StandsFor, SameFrames, Sees, IsShown}
 use Rattle.zb_inspect_ring.specs.declared.block.Block.{Block}
 use Rattle.zb_inspect_ring.specs.declared.block.Seen.{Seen}
-use Rattle.zb_inspect_ring.specs.declared.block.Seen.TheVariants.{Lines, Unopened}
+use Rattle.zb_inspect_ring.specs.declared.block.Seen.TheVariants.{Lines}
 use Rattle.zb_inspect_ring.specs.declared.ring.Lead.{Lead}
 use Rattle.zb_inspect_ring.specs.Rings.{frames_shown}
 use Rattle.zb_inspect_ring.proofs.FreshLeads.{both_true, settled_frames}

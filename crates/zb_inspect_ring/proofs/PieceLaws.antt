@@ -1,17 +1,13 @@
 -- A piece that is looked at, for the first time or again.
-use Rattle.std.proofs.Common.{◌≡◌, ℕ, ◌+◌, ◌<◌, ◌≤◌, List, [], ◌∷◌, ◌++◌, ap, sym, ◌∙◌, subst, arith, append-nil, refl, true}
-use Rattle.std.specs.List.{AllByRecursion, AllZip}
+use Rattle.std.proofs.Common.{◌≡◌, ℕ, ◌+◌, ◌<◌, ◌≤◌, List, [], ◌∷◌, ◌++◌, ap, arith}
+use Rattle.std.specs.List.{AllZip}
 use Rattle.arrayvec.specs.ArrayVec.{ArrayVec}
 use Rattle.zb_base.specs.declared.address.Eui.{Eui}
 use Rattle.zb_base.specs.declared.address.Short.{Short}
 use Rattle.zb_base.specs.declared.key.Key.{Key}
-use Rattle.zb_inspect_ring.specs.Pieces.{all_fresh, count_of, found_in, frames_from, new_leads, is_nothing, AreShown, IsNext, IsNextPiece, IsOneUnseen, IsWithin, Numbered}
-use Rattle.zb_inspect_ring.specs.Rings.{leads, frames_shown}
+use Rattle.zb_inspect_ring.specs.Pieces.{all_fresh, count_of, IsNext, IsNextPiece}
 use Rattle.zb_inspect_ring.specs.declared.block.Block.{Block}
-use Rattle.zb_inspect_ring.specs.declared.block.Seen.{Seen}
-use Rattle.zb_inspect_ring.specs.declared.block.Seen.TheVariants.{Nothing, Unopened, Lines, Whole}
 use Rattle.zb_inspect_ring.specs.declared.piece.Piece.{Piece}
-use Rattle.zb_inspect_ring.specs.declared.ring.Lead.{Lead}
 use Rattle.zb_inspect_ring.proofs.PieceLists.{counts_append, next_shown, same_counts, same_numbers}
 
 pub next_piece : (frames : List (ArrayVec ℕ)) (addrs : List (Short × Eui)) (keys : List Key) (old new : Piece)

@@ -1,7 +1,7 @@
 -- Several changes one after the other.
 use Rattle.std.proofs.Common.{◌≡◌, ℕ, ◌+◌, ◌<◌, ◌≤◌, List, [], ◌∷◌, ◌++◌, length, refl, sym, ap, ◌∙◌, arith, true, subst, take, drop, get_or}
 use Rattle.std.specs.Prelude.{vec_capacity}
-use Rattle.std.proofs.lemmas.List.{take_more, drop_more, take_all, get_or-map, length-map}
+use Rattle.std.proofs.lemmas.List.{take_more, drop_more, get_or-map, length-map}
 use Rattle.zb_node_types.specs.declared.change.Change.{Change}
 use Rattle.zb_node_types.specs.Changes.{model_role, edit, edits}
 use Rattle.zb_model.specs.Data.{Role, Centre, Router, Device, Edit}

@@ -4,7 +4,7 @@ use Rattle.std.specs.Prelude.{find, flat_map, fold, max, nat_eq, option_map, vec
 use borrow.Author.Tests.{eqb-true, eq-eqb}
 use Rattle.zb_node_types.specs.Changes.{model_role}
 use Rattle.zb_model.specs.Data.{Bytes, Role, Centre, Router, Device, State, Layer, Nwk, Aps}
-use Rattle.zb_model.specs.State.{NodeState, NetKey, LinkKey, PairKey, new_node, shown_net, after_boot, with_given_net, with_given_link, with_declared, declared_at, given_net}
+use Rattle.zb_model.specs.State.{NodeState, NetKey, LinkKey, PairKey, new_node, shown_net, after_boot, with_given_net, with_given_link, with_declared}
 use Rattle.zb_model.specs.Fits.{keeps_rules, rows_have_room, keys_differ, at_most_two_live, active_is_live, partners_agree, links_are_marked, floors_are_kept, limits_are_started, role_is_kept, pairs_are_kept, most_nets, most_links, most_pairs, all_apart}
 use Rattle.std.proofs.lemmas.List.Sums.{fold-append}
 use Rattle.zb_model.specs.Lines.{Line, Declared, GivenNet, GivenLink, Counter}

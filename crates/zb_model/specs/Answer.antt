@@ -3,7 +3,7 @@
 use Rattle.std.specs.Prelude.{ℕ, ◌+◌, min, Bool, true, false, not, if◌then◌else◌, ◌&&◌, ◌||◌, List, [], ◌∷◌, ◌++◌, filter, find, Option, Some, None, nat_eq, nat_le, flat_map, option_map, option_to_list, is_some}
 use Rattle.std.specs.List.{list_any}
 use Rattle.zb_model.specs.Data.{Bytes, Layer, Nwk, Aps, ForTransport, ForData, Term, Move, Active, Row, Became, Edit, Reserve, Floor, Start, Moved, Place, AtNwk, AtAps, AtEvent, Reason, Malformed, Policy, Tunnel, Task, Received, nobody}
-use Rattle.zb_model.specs.State.{greatest_counter, NetKey, LinkKey, NodeState, same_key, is_link, net_of, active_row, next_counter, stored_limit, applied_all, after_accepting, after_sealing, same_layer, is_active_key}
+use Rattle.zb_model.specs.State.{greatest_counter, NetKey, LinkKey, NodeState, is_link, net_of, active_row, next_counter, stored_limit, applied_all, after_accepting, after_sealing, same_layer, is_active_key}
 use Rattle.zb_model.specs.Fits.{net_stored, link_stored}
 use Rattle.zb_model.specs.Record.{state_byte, attribute_byte}
 use Rattle.zb_model.specs.Tools.{Tools, NwkShown, ApsShown, ApsAuxiliary, CommandShown, Known, Unknown, Broken, LeaveShown, Leave, Other, NoCommand}

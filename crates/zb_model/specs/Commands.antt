@@ -1,7 +1,7 @@
 -- The commands that a node receives, one rule each: which node takes it, in which form (any other form is `policy`),
 -- what it is refused for, and what it does. This project's profile of Zigbee 05-3474-21, 4.4.
 use Rattle.std.specs.Prelude.{ℕ, ◌+◌, ◌%◌, ◌/◌, Bool, true, false, not, if◌then◌else◌, ◌&&◌, ◌||◌, List, [], ◌∷◌, ◌++◌, find, Option, Some, None, nat_eq, nat_lt, nat_le, is_some, is_none}
-use Rattle.zb_model.specs.Data.{Bytes, Nwk, State, Joined, Offered, Confirmed, Gone, Unverified, Verified, Label, ForData, ForNetwork, ForTransport, ForLoad, Term, Move, Draw, Install, Active, Row, Pair, Became, NoKey, NotMember, WrongState, KeyOld, KeysFull, RowsFull, KeyInUse, NoDraw, CounterSpent, WrongHash, Policy, Command, TransportNet, TransportApp, TransportLink, UpdateDevice, RemoveDevice, RequestApp, RequestLink, SwitchKey, Tunnel, VerifyKey, ConfirmKey, nobody}
+use Rattle.zb_model.specs.Data.{Bytes, Nwk, State, Joined, Offered, Confirmed, Gone, Unverified, Verified, Label, ForData, ForTransport, ForLoad, Term, Move, Draw, Install, Active, Row, Pair, Became, NoKey, NotMember, WrongState, KeyOld, KeysFull, RowsFull, KeyInUse, NoDraw, CounterSpent, WrongHash, Policy, Command, TransportNet, TransportApp, TransportLink, UpdateDevice, RemoveDevice, RequestApp, RequestLink, SwitchKey, Tunnel, VerifyKey, ConfirmKey, nobody}
 use Rattle.zb_model.specs.State.{NetKey, LinkKey, PairKey, NodeState, same_key, is_centre, is_verified, is_live_of, has_net, has_link, active_row, live_of, current, offered, is_live, other_user, pair_of, same_label}
 use Rattle.zb_model.specs.Tools.{Tools, verify_hash}
 use Rattle.zb_model.specs.Rules.{Secret, Tunnelled, Leaving, Relayed, Outcome, Stop, Does, Setting, unless, found_or, choose, sends, centre_of, short_of, is_declared, acts_as_router, from_centre, is_router, spent, both_spent, in_rejoining, waits_for_key, nets_full, links_full, pairs_full, unless_held, drop_row, drop_partner, drop_old}

@@ -1,7 +1,7 @@
 -- What a list of transcript lines says. Each reading is a fold over the lines, so what a list says is changed by the
 -- lines that follow it one by one.
 use Rattle.std.specs.Prelude.{ℕ, ◌+◌, Bool, true, false, if◌then◌else◌, List, [], ◌∷◌, ◌++◌, fold, nat_eq}
-use Rattle.zb_model.specs.Data.{Bytes, nobody, Device, Layer, Nwk, Aps, Station, Draw, Moved}
+use Rattle.zb_model.specs.Data.{Bytes, nobody, Device, Station, Draw, Moved}
 use Rattle.zb_model.specs.Lines.{Line, Declared, GivenNet, GivenLink, Counter, Changed, Commit, Accept, Refuse, Seal, Forge, Send, Inject, Stopped, DownReset, DownDisk, Boot, Dump, End}
 use Rattle.zb_model.specs.State.{NodeState, new_node, applied, after_sealing, after_accepting, after_boot, with_given_net, with_given_link, with_declared}
 

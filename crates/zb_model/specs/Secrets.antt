@@ -1,7 +1,7 @@
 -- What keys stand in a transcript, who came to know them, and the two words of its end line.
 use Rattle.std.specs.Prelude.{ℕ, ◌%◌, Bool, true, false, not, if◌then◌else◌, ◌&&◌, ◌||◌, List, [], ◌∷◌, ◌++◌, map, length, get_or, fold, filter, find, Option, Some, None, nat_eq, nat_lt, is_some, flat_map, filter_map, option_to_list, bytes_eq}
 use Rattle.std.specs.List.{list_any, list_all}
-use Rattle.zb_model.specs.Data.{Bytes, Role, Centre, Router, Device, Layer, Nwk, Aps, Label, ForData, ForNetwork, ForTransport, ForLoad, Provisional, Station, Term, Move, Draw, Install, Row, Pair, Removed, Moved, Command, TransportNet, TransportApp, TransportLink}
+use Rattle.zb_model.specs.Data.{Bytes, Role, Centre, Router, Device, Layer, Nwk, Aps, Provisional, Station, Term, Move, Draw, Install, Row, Pair, Removed, Moved, Command, TransportNet, TransportApp, TransportLink}
 use Rattle.zb_model.specs.Lines.{Line, GivenNet, GivenLink, Changed, Accept, Seal, Forge}
 use Rattle.zb_model.specs.State.{same_key, is_centre, same_layer, same_label}
 use Rattle.zb_model.specs.Tools.{Tools, ApsShown, ApsAuxiliary, CommandShown, Known, Unknown, Broken}

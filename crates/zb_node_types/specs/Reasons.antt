@@ -1,5 +1,5 @@
 -- How the reason of a refusal is reported: its word, and what is reported beside the word.
-use Rattle.std.specs.Prelude.{List, [], ◌∷◌, ℕ, codes}
+use Rattle.std.specs.Prelude.{List, ℕ, codes}
 use Rattle.zb_model.specs.Data.{Reason, Down, Malformed, NotForMe, Unsecured, NoKey, CounterMax, Stale, BadMic, Policy, NotMember, WrongState, KeyOld, KeysFull, RowsFull, KeyInUse, NoDraw, CounterSpent, WrongHash, NoFrame}
 use Rattle.zb_node_types.specs.declared.refusal.Detail.{Detail}
 use Rattle.zb_node_types.specs.declared.refusal.Detail.TheVariants as detail

@@ -4,7 +4,7 @@ use Rattle.std.proofs.Math.Seq.{take-append_seam}
 use Rattle.zb_base.specs.declared.key.Key.{Key}
 use Rattle.zb_disk.specs.Memory.{Medium}
 use Rattle.zb_player_events.specs.Seats.{AreSeats}
-use Rattle.zb_model.specs.Data.{Bytes, Station}
+use Rattle.zb_model.specs.Data.{Station}
 use Rattle.zb_model.specs.Lines.{Line}
 use Rattle.zb_model.specs.Play.{start, stations}
 use Rattle.law_run.proofs.ConfirmsRuns.{start-stations}
@@ -12,7 +12,7 @@ use Rattle.law_schedules.specs.Schedules.{schedule_of, station_for}
 use Rattle.law_schedules.proofs.Meets.{same_stations}
 use Rattle.zb_player_events.specs.Nodes.{AllStand}
 use Rattle.zb_player.specs.Playing.{RunStands}
-use Rattle.zb_player.specs.Runs.{IsPlayed, text_in}
+use Rattle.zb_player.specs.Runs.{IsPlayed}
 use Rattle.zb_player.specs.declared.run.Run.{Run}
 use Rattle.zb_trace_model.specs.Said.{IsLineOf, line_text, text_of}
 use Rattle.zb_sched.specs.Schedules as sched

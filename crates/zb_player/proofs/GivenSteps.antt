@@ -22,7 +22,7 @@ use Rattle.zb_player_events.specs.declared.seats.Seats.{Seats}
 use Rattle.zb_player.specs.Benches.{Gave, GaveAt, GaveFor, given_at, given_for}
 use Rattle.zb_player.specs.Playing.{FitsRun, RunIn, RunPasses}
 use Rattle.zb_player.specs.Runs.{text_in}
-use Rattle.zb_player.specs.Swapping.{AgreesTo, AnswersGiven, Fits, FitsAt, IsAnswered, IsGiven, PrintsGiven, nodes_after, nodes_in, passed_with, swapped_in}
+use Rattle.zb_player.specs.Swapping.{AgreesTo, AnswersGiven, FitsAt, IsAnswered, IsGiven, PrintsGiven, nodes_after, nodes_in, passed_with, swapped_in}
 use Rattle.zb_player.specs.declared.run.Run.{Run}
 use Rattle.zb_player.proofs.Answering.{no_node}
 use Rattle.zb_player.proofs.Asking.{few_stations}

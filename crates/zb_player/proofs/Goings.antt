@@ -13,7 +13,7 @@ use Rattle.zb_player_events.specs.declared.seats.Seats.{Seats}
 use Rattle.zb_player_events.specs.Seats.{AreSeats}
 use Rattle.zb_model.specs.Data.{Role, Station}
 use Rattle.zb_model.specs.Lines.{Line}
-use Rattle.zb_model.specs.Play.{Disk, Event, Schedule, setting_of, stations, step}
+use Rattle.zb_model.specs.Play.{Disk, Event, Schedule, setting_of, stations}
 use Rattle.zb_model.specs.Rules.{Setting}
 use Rattle.zb_model_real.specs.Real.{real}
 use Rattle.law_schedules.specs.Schedules.{schedule_of}

@@ -1,5 +1,5 @@
 -- What a sink takes of a page, whether that is read or not, and runs that differ in their pages.
-use Rattle.std.proofs.Common.{◌≡◌, List, ℕ, [], ◌++◌, map, Option, Some, None, ap, subst, sym, ◌∙◌, refl}
+use Rattle.std.proofs.Common.{◌≡◌, List, ℕ, ◌++◌, map, Option, Some, None, ap, subst, sym, ◌∙◌, refl}
 use Rattle.std.specs.Io.KnownBytes.{Appends, append_known}
 use Rattle.zb_base.specs.Outside.{AppendsFront}
 use Rattle.zb_disk.specs.Memory.{Medium}

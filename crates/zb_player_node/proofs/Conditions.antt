@@ -15,7 +15,6 @@ use Rattle.zb_armed_host.proofs.Resets.{one_open}
 use Rattle.zb_armed_host.proofs.Ties.{stop_stands, fail_stands}
 use Rattle.zb_armed_host.specs.Arms.{arms_stand, IsArming, IsUnarmed, armed_of, commit_of, calls_after}
 use Rattle.zb_armed_host.specs.Driven.{IsAtRest, IsUp, HasFallen, IsDown, calls_in, next_of}
-use Rattle.zb_armed_host.specs.declared.arms.Arms.{Arms}
 use Rattle.zb_armed_host.specs.declared.arms.Arms.TheVariants.{Unarmed}
 use Rattle.zb_armed_host.specs.declared.fall.Cut.{Cut as CutEvent}
 use Rattle.zb_armed_host.specs.declared.fall.Fall.{Fall}
@@ -30,7 +29,7 @@ use Rattle.zb_model.specs.Rules.{Setting}
 use Rattle.zb_model.specs.State.{NodeState, after_boot, applied_all, shown}
 use Rattle.zb_model_real.specs.Real.{real}
 use Rattle.law_tables_suffice.proofs.Answered.{answered_same, boot_same}
-use Rattle.law_run_steps.specs.Conditions.{Condition, after_arming, after_cut, after_cut_boot, after_fall, after_power_on, after_reset, after_storing, after_whole, calls_by, commits_with}
+use Rattle.law_run_steps.specs.Conditions.{Condition, after_cut, after_cut_boot, after_fall, after_power_on, after_storing, after_whole, calls_by, commits_with}
 use Rattle.zb_setting.specs.Settings.{setting_for}
 use Rattle.law_run_swaps.specs.Swaps.{Stood, after_swap}
 use Rattle.zb_player_node.proofs.Showing.{same_answer}

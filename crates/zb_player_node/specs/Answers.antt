@@ -1,5 +1,5 @@
 -- What a node's calls leave, in the model's words.
-use Rattle.std.specs.Prelude.{ℕ, ◌≡◌, ◌+◌, ◌<◌, ◌&&◌, ◌⊎◌, length, Bool, true, false, if◌then◌else◌, List, [], Option, Some, None, Result, Ok, Err, is_some, ⊤}
+use Rattle.std.specs.Prelude.{ℕ, ◌≡◌, ◌+◌, ◌<◌, ◌&&◌, ◌⊎◌, length, true, false, if◌then◌else◌, List, [], Option, Some, None, Result, Ok, Err, is_some, ⊤}
 use Rattle.std.specs.List.{concat}
 use Rattle.arrayvec.specs.declared.array_vec.ArrayVec.{ArrayVec}
 use Rattle.zb_base.specs.Outside.{risen}
@@ -18,7 +18,7 @@ use Rattle.zb_host.specs.Hosts.{Hosted, Restoring}
 use Rattle.zb_model.specs.Answer.{Answer, answer}
 use Rattle.zb_model.specs.Data.{Role}
 use Rattle.zb_model.specs.Data as model
-use Rattle.zb_model.specs.Play.{Armed, NotArmed, StopAfter, FailAt, BootCalls, falls, stands, new_disk}
+use Rattle.zb_model.specs.Play.{Armed, BootCalls, falls, stands, new_disk}
 use Rattle.zb_model.specs.Rules.{Setting}
 use Rattle.zb_model.specs.State.{NodeState, after_boot, shown}
 use Rattle.zb_model_real.specs.Real.{real}

@@ -15,7 +15,7 @@ use Rattle.zb_base.specs.declared.node.Role.TheVariants.{Centre, Router, Device}
 use Rattle.zb_model.specs.Data.{Station}
 use Rattle.zb_model.specs.Play as model
 use Rattle.zb_model.specs.Play.{setting_of, without_blocks, station_or}
-use Rattle.zb_model.specs.Rules.{Setting, centre_of, eui_or, station_of}
+use Rattle.zb_model.specs.Rules.{centre_of, eui_or, station_of}
 use Rattle.zb_model.specs.State as state
 use Rattle.law_schedules.specs.Schedules.{schedule_of, station_for}
 use Rattle.law_schedules.proofs.Meets.{same_stations}

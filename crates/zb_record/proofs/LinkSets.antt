@@ -1,10 +1,9 @@
 -- Marks beside link rows: a further row, and what is read off them.
-use Rattle.std.proofs.Common.{◌≡◌, ◌&&◌, ◌||◌, not, ℕ, List, [], ◌∷◌, ◌++◌, Bool, true, false, cond, refl, ap, sym, subst, ◌∙◌, bytes_eq, nat_eq, eqb-true}
+use Rattle.std.proofs.Common.{◌≡◌, ◌&&◌, ◌||◌, not, ℕ, List, [], ◌∷◌, ◌++◌, Bool, true, false, refl, ap, sym, subst, ◌∙◌, nat_eq, eqb-true}
 use Rattle.std.specs.List.{list_any}
 use Rattle.std.proofs.lemmas.Slice.Eq.{bytes_eq-Decides}
 use Rattle.std.proofs.lemmas.List.Folds.{list_any-append}
 use Rattle.law_change_fits.proofs.Tests.{both}
-use Rattle.zb_model.specs.Data.{Bytes}
 use Rattle.zb_model.specs.Fits.{same_bool}
 use Rattle.zb_model.specs.State.{LinkKey, same_key, is_unverified}
 use Rattle.zb_record.specs.LinkSets.{HaveKeys, HaveLive, HaveMarks, is_live_so}

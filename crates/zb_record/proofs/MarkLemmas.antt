@@ -1,5 +1,5 @@
 -- Marks in a table of bytes: what a further number does to them.
-use Rattle.std.proofs.Common.{◌≡◌, ℕ, zero, suc, Bool, true, false, ◌||◌, if◌then◌else◌, List, [], ◌∷◌, length, get_or, set, nat_eq, refl, sym, ap, ◌∙◌, subst, eq-eqb, ne_eqb, true≢false, append-nil, arith, ◌++◌, take, drop}
+use Rattle.std.proofs.Common.{◌≡◌, ℕ, zero, suc, Bool, true, false, ◌||◌, if◌then◌else◌, List, [], ◌∷◌, length, get_or, set, nat_eq, refl, sym, ap, ◌∙◌, eq-eqb, ne_eqb, true≢false, append-nil, arith, ◌++◌, take, drop}
 use Rattle.std.proofs.lemmas.List.{length-set, drop_all, take_all}
 use Rattle.zb_record.specs.Marks.{is_mark_of, mark_after, mark_of, may_have, noted, place_of}
 

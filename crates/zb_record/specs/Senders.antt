@@ -1,5 +1,5 @@
 -- The floors of senders in a row of the program, which has room for 64 of them.
-use Rattle.std.specs.Prelude.{◌≡◌, ℕ, ◌+◌, ◌≤◌, List, ◌∷◌, ◌++◌, length, map, take, drop, ◌≢◌, if◌then◌else◌}
+use Rattle.std.specs.Prelude.{◌≡◌, ℕ, ◌≤◌, List, ◌∷◌, ◌++◌, length, map, take, drop, ◌≢◌, if◌then◌else◌}
 use Rattle.zb_model.specs.State.{NetKey, floor_stored, net_floor}
 use Rattle.zb_record.specs.declared.net_row.SenderFloor.{SenderFloor}
 use Rattle.zb_record.specs.RowViews.{heard_floor}

@@ -1,11 +1,11 @@
 -- What the calls that tell the changes of rows come to, in the words of the policy: each is the part of a rule that is
 -- about its rows. This project's profile of Zigbee 05-3474-21, chapter 4.
-use Rattle.std.specs.Prelude.{ℕ, ◌≡◌, ◌≤◌, ◌&&◌, ◌||◌, ⊤, List, [], ◌∷◌, ◌++◌, map, filter, flat_map, find, length, Option, Some, None, if◌then◌else◌, is_none, Result, Ok, Err}
+use Rattle.std.specs.Prelude.{ℕ, ◌≤◌, ◌&&◌, ◌||◌, ⊤, List, [], ◌∷◌, ◌++◌, map, filter, flat_map, find, length, Option, Some, None, if◌then◌else◌, is_none, Result, Ok, Err}
 use Rattle.zb_model.specs.Answer.{changes, start_edit, start_for}
 use Rattle.zb_model.specs.Commands.{activates, dropped_at, greater, has_key, lesser, proves, take_row, unless_old, verified_current}
 use Rattle.zb_model.specs.Data.{Bytes, Edit, Moved, Move, Install, Active, Row, Pair, Unverified, Verified, Reason, KeyOld, KeysFull, RowsFull, KeyInUse, WrongState, WrongHash, Malformed}
 use Rattle.zb_model.specs.Rules.{Outcome, Stop, Does, Sending, unless, found_or, choose, drop_old, drop_partner, drop_row, nets_full, pairs_full}
-use Rattle.zb_model.specs.State.{NodeState, NetKey, LinkKey, current, has_net, is_live_of, live_of, offered}
+use Rattle.zb_model.specs.State.{NodeState, current, has_net, is_live_of, live_of, offered}
 use Rattle.zb_model.specs.Tools.{Tools}
 use Rattle.zb_node_types.specs.Changes.{edits}
 use Rattle.zb_node_types.specs.declared.change.Change.{Change}

@@ -5,7 +5,7 @@ use borrow.Author.Tests.{lt-leb, le-leb}
 use Rattle.std.proofs.lemmas.List.{map_push}
 use Rattle.zb_node_types.specs.declared.change.Change.{Change}
 use Rattle.zb_node_types.specs.Changes.{edit, edits}
-use Rattle.zb_model.specs.Data.{Bytes, Move, DropNet, Edit, Moved}
+use Rattle.zb_model.specs.Data.{Bytes, Move, DropNet, Moved}
 use Rattle.zb_model.specs.State.{NodeState, NetKey, live_nets, is_active_key}
 use Rattle.zb_model.specs.Rules.{drop_old, first_drop}
 use Rattle.zb_record.specs.declared.net_row.NetRow.{NetRow}

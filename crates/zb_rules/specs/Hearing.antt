@@ -1,5 +1,5 @@
 -- How a command came, in the words of the policy.
-use Rattle.std.specs.Prelude.{ℕ, Option, Some, None, option_map}
+use Rattle.std.specs.Prelude.{Some, None, option_map}
 use Rattle.zb_base.specs.declared.address.Eui.{Eui}
 use Rattle.zb_model.specs.Commands as model
 use Rattle.zb_row_changes.specs.Terms.{model_label}

@@ -1,25 +1,22 @@
 -- The printed lines read as themselves.
-use Rattle.std.proofs.Common.{◌≡◌, ℕ, ◌==◌, ◌^◌, ◌<◌, ◌≤◌, nat_lt, nat_le, List, [], ◌∷◌, ◌++◌, length, Bool, true, false, Option, Some, None, refl, arith, lit≤, lit<, ap, sym, ◌∙◌, codes, decimal, bytes_eq}
-use Rattle.std.specs.Prelude.{if◌then◌else◌}
+use Rattle.std.proofs.Common.{◌≡◌, ℕ, ◌==◌, ◌^◌, ◌<◌, ◌≤◌, nat_lt, nat_le, List, [], ◌∷◌, ◌++◌, length, Bool, true, false, Option, Some, refl, arith, ap, ◌∙◌, codes, decimal, bytes_eq}
 use Rattle.std.specs.List.{AllByRecursion}
 use Rattle.std.specs.Option.{option_map}
 use Rattle.std.proofs.lemmas.Bool.Decides.{nat_tests}
-use Rattle.hex.specs.Hex.{encode_upper, upper_digits, IsBytes}
+use Rattle.hex.specs.Hex.{encode_upper, upper_digits}
 use Rattle.hex.proofs.HexLemmas.{length-encode_with}
 use Rattle.zb_base.specs.declared.label.Label.{Label}
 use Rattle.zb_base.specs.declared.label.Layer.{Layer}
 use Rattle.zb_base.specs.declared.node.Role.{Role}
 use Rattle.zb_text.specs.Choices.{role_text, layer_text, label_text}
-use Rattle.zb_text.specs.Fields.{eui_text, short_text, name_of, eui_of, short_of, key_of}
-use Rattle.zb_text.specs.Hexadecimal.{bytes_text, bytes_of}
-use Rattle.zb_text.specs.Numbers.{number_of}
+use Rattle.zb_text.specs.Fields.{eui_text, short_text, key_of}
+use Rattle.zb_text.specs.Hexadecimal.{bytes_text}
 use Rattle.zb_text.specs.Pages.{IsWord, IsLine, line_of_words}
-use Rattle.zb_text.specs.Words.{words, first_of, field, nothing}
 use Rattle.zb_text.proofs.ChoiceLemmas.{role_again, role_words, layer_again, layer_words, label_again, label_words}
 use Rattle.zb_text.proofs.ReadAgain.{words_again, differ, number_again, name_again, eui_again, short_again, fixed_again, bytes_again, IsWord-name, IsWord-decimal, IsWord-digits, IsWord-bytes, eui_words, short_words, IsLine-words}
-use Rattle.zb_sched_line.specs.Fits.{IsName, IsEui, IsKey, AtMost, SomeUpTo, IsCode, IsApsLabel, FitsSealed, FitsEvent, FitsSentence}
-use Rattle.zb_sched_line.specs.Grammar.{greatest, kept, number_from, real_eui_of, some_bytes_of, literal, aps_label_of, rejoin_of, code_of as word_of_code, or_else, own_event, other_event, declaration, is_quiet, meaning_of}
-use Rattle.zb_sched_line.specs.Said.{Bytes, Event, Says, Delivers, Ticks, Knocks, Rejoins, Adopts, Provisions, Repeats, Rolls, Switches, Removes, Resets, Boots, Dumps, Stops, Fails, Injects, ForgesNet, ForgesBoth, ForgesOpen, Asks, Shares, Tells, Sentence, Quiet, Introduces, Codes, Holds, Starts, Draws, Misprovisions, Happens}
+use Rattle.zb_sched_line.specs.Fits.{IsName, IsEui, IsKey, SomeUpTo, IsCode, IsApsLabel, FitsEvent, FitsSentence}
+use Rattle.zb_sched_line.specs.Grammar.{greatest, number_from, real_eui_of, some_bytes_of, aps_label_of, rejoin_of, code_of as word_of_code, or_else, own_event, other_event, declaration, is_quiet, meaning_of}
+use Rattle.zb_sched_line.specs.Said.{Bytes, Event, Says, Delivers, Ticks, Knocks, Rejoins, Adopts, Provisions, Repeats, Rolls, Switches, Removes, Resets, Boots, Dumps, Stops, Fails, Injects, ForgesNet, ForgesBoth, ForgesOpen, Asks, Shares, Tells, Sentence, Introduces, Codes, Holds, Starts, Draws, Happens}
 use Rattle.zb_sched_line.specs.Texts.{rejoin_text, node_words, code_words, netkey_words, counter_words, draw_words, event_words}
 
 -- what a line means, from its words

@@ -1,5 +1,5 @@
 -- The ranges of what lines say.
-use Rattle.std.specs.Prelude.{◌≡◌, ℕ, ◌^◌, ◌<◌, ◌≤◌, List, length, true, Option, Some, None, ⊤}
+use Rattle.std.specs.Prelude.{◌≡◌, ℕ, ◌^◌, ◌<◌, ◌≤◌, length, true, Option, Some, None, ⊤}
 use Rattle.hex.specs.Hex.{IsBytes}
 use Rattle.zb_text.specs.Fields.{is_name}
 use Rattle.zb_sched_line.specs.Codes.{is_code}

@@ -1,5 +1,5 @@
 -- The grammar of the lines of a schedule, word by word.
-use Rattle.std.specs.Prelude.{ℕ, ◌-◌, ◌^◌, ◌==◌, ◌&&◌, ◌||◌, not, nat_lt, nat_le, List, [], ◌∷◌, length, slice_index, codes, bytes_eq, Bool, true, false, if◌then◌else◌, Option, Some, None}
+use Rattle.std.specs.Prelude.{ℕ, ◌==◌, ◌&&◌, ◌||◌, not, nat_lt, nat_le, List, length, slice_index, codes, bytes_eq, Bool, true, false, if◌then◌else◌, Option, Some, None}
 use Rattle.std.specs.Option.{option_map}
 use Rattle.zb_base.specs.declared.label.Label.{Label}
 use Rattle.zb_base.specs.declared.label.Label.TheVariants.{Data, Network, Transport, Load}

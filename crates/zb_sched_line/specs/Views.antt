@@ -1,6 +1,4 @@
 -- What the program's lines and events say.
-use Rattle.std.specs.Prelude.{ℕ, List, Bool, Option, Some, None}
-use Rattle.std.specs.Option.{option_map}
 use Rattle.zb_sched_line.specs.Said.{Event, Says, Delivers, Ticks, Knocks, Rejoins, Adopts, Provisions, Repeats, Rolls, Switches, Removes, Resets, Boots, Dumps, Stops, Fails, Injects, ForgesNet, ForgesBoth, ForgesOpen, Asks, Shares, Tells, Sentence, Quiet, Introduces, Codes, Holds, Starts, Draws, Misprovisions, Happens}
 use Rattle.zb_sched_line.specs.Grammar.{Sealed}
 use Rattle.zb_sched_line.specs.declared.event.Event.{Event as CodeEvent}

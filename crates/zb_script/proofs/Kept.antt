@@ -1,6 +1,6 @@
 -- What every script keeps is kept by each line.
-use Rattle.std.proofs.Common.{◌≡◌, ◌≢◌, ℕ, ◌+◌, ◌<◌, ◌||◌, ◌==◌, not, List, [], ◌∷◌, ◌++◌, length, map, true, false, cond, refl, sym, ap, ap₂, subst, ◌∙◌, arith, length-append}
-use Rattle.std.proofs.lemmas.Bool.{false≢true, and_parts, not-false, or_parts, eqb-false, eqb-true, leb-true}
+use Rattle.std.proofs.Common.{◌≡◌, ◌≢◌, ℕ, ◌+◌, ◌<◌, ◌||◌, ◌==◌, not, List, [], ◌∷◌, ◌++◌, length, map, true, false, cond, refl, sym, ap, ap₂, subst, ◌∙◌, arith}
+use Rattle.std.proofs.lemmas.Bool.{false≢true, and_parts, or_parts, eqb-false, leb-true}
 use Rattle.std.proofs.lemmas.List.{length-map, map_push}
 use Rattle.std.proofs.lemmas.List.Sums.{sum_by-cons}
 use Rattle.std.proofs.lemmas.Slice.Eq.{bytes_eq-Decides}
@@ -14,13 +14,11 @@ use Rattle.zb_base.specs.declared.node.Role.TheVariants.{Centre, Router, Device}
 use Rattle.zb_model.specs.Data as model
 use Rattle.zb_setting.specs.Settings.{own, setting_for}
 use Rattle.zb_node_types.specs.Changes.{model_role}
-use Rattle.zb_sched.specs.Judge.{are_blocks}
 use Rattle.zb_stored_tables.specs.Cores.{IsOfRole}
 use Rattle.zb_script.specs.Grammar.{is_joiner}
 use Rattle.zb_script.specs.Judge.{has_centre, is_taken}
-use Rattle.zb_script.specs.Reading.{start}
 use Rattle.zb_script.specs.Said.{Bytes}
-use Rattle.zb_script.specs.Scripts.{Station, Script, IsStep, IsScript}
+use Rattle.zb_script.specs.Scripts.{Station, Script, IsScript}
 use Rattle.zb_script.specs.SoFar.{AreLed, IsSoFar}
 use Rattle.zb_script.specs.Views.{script_of, script_with, station_of}
 use Rattle.zb_script.specs.declared.script.Script.{Script as Read}

@@ -4,7 +4,7 @@ use Rattle.std.proofs.lemmas.Bool.{eq-eqb}
 use Rattle.zb_disk.specs.View.{Telling, View, Torn, Follows, IsStill, LeavesOnly, overwrite}
 use Rattle.zb_disk.specs.Calls.{IsWrite}
 use Rattle.zb_disk.proofs.Images.{torn_stands}
-use Rattle.zb_disk.proofs.Moments.{weakened, still_then, still_leaves, still_trans}
+use Rattle.zb_disk.proofs.Moments.{weakened, still_then, still_trans}
 use Rattle.zb_store.specs.Layout.{Standing, Opened, IsWhole, slot, base_of, gate_of, opened, elected, stands, end_of, body, open_gate}
 use Rattle.zb_store.specs.Steps.{WentThrough, PlaceStop, IsPlaced}
 use Rattle.zb_store.specs.Store.{Place, place_of, IsHeld, IsReady, formatted, IsTornLayout, FormatStop, IsLaidOut, both_gates_open, AllWhole, WasThere, IsFound, IsSettled, OpenStop}

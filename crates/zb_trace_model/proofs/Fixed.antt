@@ -1,6 +1,5 @@
 -- The text of lines fixes the lines: its words do, and they say which lines they are.
-use Rattle.std.proofs.Common.{◌≡◌, ℕ, List, [], ◌∷◌, ◌++◌, map, refl, ap, sym, ◌∙◌, append_assoc}
-use Rattle.std.specs.List.{AllByRecursion}
+use Rattle.std.proofs.Common.{◌≡◌, List, [], ◌∷◌, ◌++◌, map, refl, ap, sym, ◌∙◌}
 use Rattle.zb_model.specs.Data.{Station}
 use Rattle.zb_model.specs.Lines as log
 use Rattle.zb_trace.specs.Text.{Word, words, text, texts, AllProper}

@@ -1,25 +1,16 @@
 -- Lines to the model and back, both ways.
-use Rattle.std.proofs.Common.{◌≡◌, ℕ, List, [], ◌∷◌, Option, Some, None, refl, sym, ap, ◌∙◌, bytes_eq, codes, true, false}
-use Rattle.std.specs.Prelude.{if◌then◌else◌, ⊤}
-use Rattle.arrayvec.specs.ArrayString.{ArrayString}
+use Rattle.std.proofs.Common.{◌≡◌, ℕ, List, Some, None, refl, ap, ◌∙◌}
 use Rattle.zb_model.specs.Data as model
 use Rattle.zb_model.specs.Data.{Bytes, Station}
 use Rattle.zb_model.specs.Lines as log
-use Rattle.zb_model_real.specs.Terms.{layer_of, eui_of, key_of, term_of, model_term}
-use Rattle.zb_node_types.specs.Changes.{edit, model_layer, model_role, model_state, model_attribute, is_sending, model_place, place_of, reason}
-use Rattle.zb_node_types.specs.declared.change.Change.{Change}
-use Rattle.zb_node_types.specs.declared.change.Change.TheVariants as change
-use Rattle.zb_node_types.specs.declared.refusal.Refusal.{Refusal}
-use Rattle.zb_seal.specs.declared.term.Term.{Term}
-use Rattle.zb_trace.specs.Text.{Word, Called, CalledOrNobody, words, text, line_of, begun_of, begun, counted, Fixed, Octets, term_words, refusal_words}
-use Rattle.zb_trace.specs.Views.{named, the_centre, sent_by, logged}
-use Rattle.zb_trace.specs.declared.line.Line.{Line}
-use Rattle.zb_trace.specs.declared.line.Line.TheVariants as line
-use Rattle.zb_trace_model.specs.Naming.{name_of, IsDeclared, AreNamed, IsCalled}
-use Rattle.zb_trace_model.specs.Parts.{role_for, state_for, attribute_for, rollover_for, place_for, refusal_for}
-use Rattle.zb_trace_model.specs.Said.{name_in, called, sender, move_line, edit_line, line_for, line_text, IsLineOf, IsOfCentre, IsOfNodes}
+use Rattle.zb_model_real.specs.Terms.{layer_of, term_of, model_term}
+use Rattle.zb_node_types.specs.Changes.{model_layer, model_state, model_attribute, is_sending, model_place, place_of, reason}
+use Rattle.zb_trace.specs.Views.{logged}
+use Rattle.zb_trace_model.specs.Naming.{IsDeclared, AreNamed}
+use Rattle.zb_trace_model.specs.Parts.{state_for, attribute_for, rollover_for, place_for, refusal_for}
+use Rattle.zb_trace_model.specs.Said.{called, move_line, edit_line, line_for, line_text, IsLineOf, IsOfCentre, IsOfNodes}
 use Rattle.zb_trace_model.proofs.Naming.{named_again, sent_again, nobody_again}
-use Rattle.zb_trace_model.proofs.Parts.{layer_same, role_same, state_same, attribute_same, rollover_same, place_same, term_same, refusal_same, layer_again, role_again, state_again, attribute_again, rollover_again, place_again, term_again, reason_again, place_is}
+use Rattle.zb_trace_model.proofs.Parts.{layer_again, role_again, state_again, attribute_again, rollover_again, place_again, term_again, reason_again, place_is}
 
 -- From the model to the program and back: `e` says that the name leads to the node.
 

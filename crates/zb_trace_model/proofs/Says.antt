@@ -1,5 +1,5 @@
 -- A line of the program, with the name of a declared node, is the line of the model of that node.
-use Rattle.std.proofs.Common.{◌≡◌, ℕ, List, [], ◌∷◌, Option, Some, None, refl, sym, ap, subst, ◌∙◌, bytes_eq, codes, true, false}
+use Rattle.std.proofs.Common.{◌≡◌, ℕ, List, Option, Some, None, refl, sym, ap, subst, ◌∙◌, bytes_eq, codes, true}
 use Rattle.std.specs.Prelude.{if◌then◌else◌, Bool}
 use Rattle.arrayvec.specs.ArrayString.{ArrayString}
 use Rattle.arrayvec.specs.ArrayVec.{ArrayVec}
@@ -23,7 +23,7 @@ use Rattle.zb_trace.specs.Text.{words, text, line_of}
 use Rattle.zb_trace.specs.Views.{named, the_centre, sent_by, logged}
 use Rattle.zb_trace.specs.declared.line.Line.{Line}
 use Rattle.zb_trace.specs.declared.line.Line.TheVariants as line
-use Rattle.zb_trace_model.specs.Naming.{name_of, IsCalled}
+use Rattle.zb_trace_model.specs.Naming.{IsCalled}
 use Rattle.zb_trace_model.specs.Parts.{state_for, attribute_for, rollover_for}
 use Rattle.zb_trace_model.specs.Said.{name_in, called, edit_line, line_for, line_text, IsLineOf, IsOfCentre}
 use Rattle.zb_trace_model.proofs.Naming.{not_dash}

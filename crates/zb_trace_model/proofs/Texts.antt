@@ -1,5 +1,5 @@
 -- The text of lines one after the other.
-use Rattle.std.proofs.Common.{◌≡◌, ℕ, List, [], ◌∷◌, ◌++◌, refl, ap, sym, ◌∙◌, append_assoc}
+use Rattle.std.proofs.Common.{◌≡◌, List, [], ◌∷◌, ◌++◌, refl, ap, sym, ◌∙◌, append_assoc}
 use Rattle.zb_model.specs.Data.{Station}
 use Rattle.zb_model.specs.Lines.{Line}
 use Rattle.zb_trace_model.specs.Said.{line_text, text_of}

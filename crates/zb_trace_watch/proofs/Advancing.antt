@@ -11,7 +11,7 @@ use Rattle.zb_model_real.specs.Terms.{model_term}
 use Rattle.zb_seal.specs.declared.term.Term.{Term}
 use Rattle.zb_trace_watch.specs.Exposure.{IsSettled, was_removed}
 use Rattle.zb_trace_watch.specs.Passing.{has_that}
-use Rattle.zb_trace_watch.specs.Sayings.{came_by, exposed, passes_on, Grows, Sayings}
+use Rattle.zb_trace_watch.specs.Sayings.{came_by, passes_on, Grows, Sayings}
 use Rattle.zb_trace_watch.specs.Sets.{has, is_carried, is_key, node_has, number_has}
 use Rattle.zb_trace_watch.specs.Standing.{Represents, carries, is_that}
 use Rattle.zb_trace_watch.specs.Terms.{has_term}

@@ -4,7 +4,6 @@ use Rattle.std.specs.Prelude.{if◌then◌else◌}
 use Rattle.std.specs.Map.{lookup}
 use Rattle.std.specs.BTreeMap.{is_at}
 use Rattle.zb_base.specs.declared.key.Key.{Key}
-use Rattle.zb_trace_watch.specs.Exposure.{Learns}
 use Rattle.zb_trace_watch.specs.Sets.{has, is_among, is_carried, key_cmp, keys_at, keys_of}
 use Rattle.zb_trace_watch.specs.declared.holdings.Holdings.{Holdings}
 use Rattle.zb_trace_watch.specs.declared.keys.Keys.{Keys}

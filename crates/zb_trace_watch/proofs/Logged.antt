@@ -1,8 +1,8 @@
 -- What a line of a run adds to what the model reads from its lines.
 use Rattle.zb_model.specs.Lines as log
-use Rattle.std.proofs.Common.{◌≡◌, ℕ, List, [], ◌∷◌, ◌++◌, Bool, true, false, not, ◌||◌, ◌&&◌, Option, Some, None, refl, ap, sym, ◌∙◌, bytes_eq, nat_eq, subst, append_assoc}
+use Rattle.std.proofs.Common.{◌≡◌, ℕ, List, [], ◌∷◌, ◌++◌, Bool, true, false, not, ◌||◌, ◌&&◌, refl, ap, sym, ◌∙◌, bytes_eq, nat_eq, subst, append_assoc}
 use Rattle.std.specs.List.{list_any, flat_map}
-use Rattle.std.specs.Prelude.{fold, if◌then◌else◌}
+use Rattle.std.specs.Prelude.{fold}
 use Rattle.std.proofs.lemmas.List.Folds.{list_any-append}
 use Rattle.std.proofs.lemmas.List.{append-nil}
 use Rattle.std.proofs.lemmas.List.Sums.{fold-append}
@@ -23,12 +23,12 @@ use Rattle.zb_model.specs.Tools.{Tools}
 use Rattle.zb_trace.specs.Views.{logged, named}
 use Rattle.zb_trace.specs.declared.line.Line.{Line as AnyLine}
 use Rattle.zb_trace.specs.declared.line.Line.TheVariants as line
-use Rattle.zb_trace_watch.specs.Nodes.{address_of, is_first_centre, no_node, who_is, Declares}
+use Rattle.zb_trace_watch.specs.Nodes.{address_of, no_node, who_is, Declares}
 use Rattle.zb_trace_watch.specs.Passing.{is_code}
 use Rattle.zb_trace_watch.specs.Sayings as say
 use Rattle.zb_trace_watch.specs.Sayings.{nothing, only_if, said_by, Grows, JoinerCounts, Sayings}
 use Rattle.zb_trace_watch.specs.Sets.{is_node}
-use Rattle.zb_trace_watch.specs.Standing.{FindKeys, Represents}
+use Rattle.zb_trace_watch.specs.Standing.{FindKeys}
 use Rattle.zb_trace_watch.specs.Watching.{is_somebody, said, FollowsBy, Stands}
 use Rattle.zb_trace_watch.specs.declared.nodes.Nodes.{Nodes}
 use Rattle.zb_trace_watch.specs.declared.speaker.Speaker.{Speaker}

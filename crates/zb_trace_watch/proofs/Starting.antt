@@ -1,6 +1,6 @@
 -- The words of no lines, a watch over none, and forms that answers share.
 use Rattle.zb_model.specs.Lines as log
-use Rattle.std.proofs.Common.{◌≡◌, ℕ, List, [], Bool, true, false, not, ◌||◌, ◌&&◌, Option, Some, None, refl, ap, sym, ◌∙◌, bytes_eq, Result, Ok, Err, arith}
+use Rattle.std.proofs.Common.{◌≡◌, ℕ, List, [], Bool, true, false, not, ◌&&◌, Option, Some, None, refl, Result, Ok, Err, arith}
 use Rattle.std.specs.Result.{OnOk}
 use Rattle.std.specs.Option.{is_none, option_map}
 use Rattle.std.specs.Prelude.{if◌then◌else◌}
@@ -14,8 +14,6 @@ use Rattle.zb_cmd.specs.declared.command.Command.{Command}
 use Rattle.zb_cmd.specs.declared.command.Command.TheVariants as command
 use Rattle.zb_cmd.specs.declared.fault.CmdError.{CmdError}
 use Rattle.zb_cmd.specs.declared.fault.CmdError.TheVariants as fault
-use Rattle.zb_base.specs.declared.address.Eui.{Eui}
-use Rattle.zb_base.specs.declared.key.Key.{Key}
 use Rattle.zb_model.specs.Data.{Bytes}
 use Rattle.zb_model.specs.Readings.{stations_of}
 use Rattle.zb_model.specs.Secrets.{clear_key, key_shown, unsealed_key, bases, codes_of, each_line, ever, ideal, network_keys, passes_on, private, removed_devices, terms_of}

@@ -3,7 +3,6 @@
 use Rattle.std.specs.Prelude.{◌≡◌, ◌≤◌, ℕ, Bool, true, false, not, ◌&&◌, ◌||◌, if◌then◌else◌, List, [], ◌∷◌, length, nat_eq, Option, Some, None, flat_map}
 use Rattle.std.specs.List.{list_any}
 use Rattle.std.specs.Option.{IfSome}
-use Rattle.zb_base.specs.declared.state.Attribute.{Attribute}
 use Rattle.zb_model.specs.Data.{Bytes, Term, nobody}
 use Rattle.zb_model.specs.Secrets.{brings, carried, holds, holds_some, rounds, same_term, well_known}
 use Rattle.zb_model.specs.Tools.{Tools}

@@ -1,5 +1,5 @@
 -- What a watch represents: a list of transcript lines, by the readings of the model.
-use Rattle.std.specs.Prelude.{◌≡◌, ℕ, not, Bool, List, [], ◌∷◌, ◌++◌, length, nat_eq, flat_map}
+use Rattle.std.specs.Prelude.{ℕ, not, Bool, List, [], ◌∷◌, ◌++◌, length, nat_eq, flat_map}
 use Rattle.zb_model.specs.Data.{nobody}
 use Rattle.zb_model.specs.Lines as log
 use Rattle.zb_model.specs.Readings.{stations_of}

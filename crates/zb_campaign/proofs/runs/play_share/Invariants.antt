@@ -1,4 +1,3 @@
-use Rattle.std.proofs.Common.{◌≤◌}
 use Rattle.zb_campaign.proofs.RunLaws.{AreRun}
 use Rattle.zb_campaign.proofs.runs.play_share.Given as goal
 

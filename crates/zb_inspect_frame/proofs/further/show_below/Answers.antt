@@ -1,6 +1,5 @@
-use Rattle.std.proofs.Common.{◌≡◌, Some, take, drop, refl, ap, sym, ◌∙◌}
+use Rattle.std.proofs.Common.{take, refl, ap, sym, ◌∙◌}
 use Rattle.zb_nwk.specs.Reading as nwk_reading
-use Rattle.zb_inspect_frame.specs.Layers.{tried}
 use Rattle.zb_inspect_frame.specs.Shows.{frame_shown, shown_under}
 use Rattle.zb_inspect_frame.specs.declared.layer.Finding.{Finding}
 use Rattle.zb_inspect_frame.specs.declared.shown.Shown.{Shown}

@@ -1,7 +1,5 @@
-use Rattle.std.proofs.Common.{◌≡◌, refl, None}
-use Rattle.zb_base.specs.declared.place.Place.TheVariants.{Event}
+use Rattle.std.proofs.Common.{refl}
 use Rattle.zb_model.specs.OwnEvents.{say}
-use Rattle.zb_plan.specs.Deciding.{IsAps, IsNwk}
 use Rattle.zb_plan.specs.Storing.{own_plan}
 use Rattle.zb_plan.proofs.plan.plan_say.Goals as goal
 

@@ -1,5 +1,5 @@
 -- The line of each node is told after those of the nodes before it.
-use Rattle.std.proofs.Common.{◌≡◌, ◌++◌, arith, subst}
+use Rattle.std.proofs.Common.{◌≡◌, arith, subst}
 use Rattle.std.specs.Io.KnownBytes.{append_known}
 use Rattle.zb_trace_model.specs.Said.{text_of}
 use Rattle.zb_player_scribe.specs.Kept.{Kept}

@@ -1,5 +1,5 @@
 -- The lines of the nodes so far are told.
-use Rattle.std.proofs.Common.{◌≡◌, ◌+◌, ◌≤◌, List, [], ◌++◌, take}
+use Rattle.std.proofs.Common.{◌≡◌, ◌+◌, ◌≤◌, List, [], take}
 use Rattle.std.specs.Io.KnownBytes.{append_known}
 use Rattle.zb_model.specs.Data.{Station}
 use Rattle.zb_trace_model.specs.Said.{text_of}

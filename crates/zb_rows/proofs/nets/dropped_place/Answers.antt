@@ -1,6 +1,5 @@
-use Rattle.std.proofs.Common.{◌∙◌, ap, arith, length}
+use Rattle.std.proofs.Common.{ap, arith, length}
 use Rattle.std.proofs.lemmas.List.{length-map}
-use Rattle.zb_model.specs.Commands.{dropped_at}
 use Rattle.zb_model.specs.State.{NetKey}
 use Rattle.zb_record.specs.RowViews.{net_key}
 use Rattle.zb_keys.proofs.ReadLemmas.{few_nets}

@@ -1,6 +1,4 @@
-use Rattle.std.proofs.Common.{ℕ, Option, [], ◌++◌, ◌∙◌, ap, sym}
-use Rattle.zb_audit.specs.Faults.{by, first_fault, sooner}
-use Rattle.zb_audit.specs.declared.fault.BadLine.{BadLine}
+use Rattle.std.proofs.Common.{[], ◌++◌}
 use Rattle.zb_audit_names.specs.Naming.{names_in}
 use Rattle.zb_audit.proofs.Auditing.{faults_are}
 use Rattle.zb_audit.proofs.auditor.Auditor.first_fault.Goals as goal

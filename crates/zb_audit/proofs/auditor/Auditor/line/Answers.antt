@@ -2,7 +2,7 @@ use Rattle.std.proofs.Common.{◌∙◌, subst}
 use Rattle.zb_audit.proofs.Auditing.{line_stands}
 use Rattle.zb_audit.proofs.SaidByName.{words_follow, words_private}
 use Rattle.zb_audit.specs.Words.{is_place, said}
-use Rattle.zb_trace_watch.specs.Sayings.{said_by, Grows, JoinerCounts, Sayings}
+use Rattle.zb_trace_watch.specs.Sayings.{said_by, Grows, JoinerCounts}
 use Rattle.zb_trace_watch.specs.Standing.{Represents}
 use Rattle.zb_trace_watch.specs.declared.speaker.Speaker.{Speaker}
 use Rattle.zb_audit.proofs.auditor.Auditor.line.Goals as goal

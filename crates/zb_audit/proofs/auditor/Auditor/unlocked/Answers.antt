@@ -1,4 +1,4 @@
-use Rattle.std.proofs.Common.{Bool, Option, None, ℕ, true, sym, ap, ◌∙◌, if◌then◌else◌}
+use Rattle.std.proofs.Common.{Bool, None, sym, ap, ◌∙◌, if◌then◌else◌}
 use Rattle.zb_audit.proofs.Auditing.{unlocked_is}
 use Rattle.zb_trace_watch.proofs.Truth.{not_both}
 use Rattle.zb_audit.proofs.auditor.Auditor.unlocked.Goals as goal

@@ -1,4 +1,4 @@
-use Rattle.std.proofs.Common.{List, ◌++◌, ◌∷◌, [], subst, sym}
+use Rattle.std.proofs.Common.{◌++◌, ◌∷◌, [], subst, sym}
 use Rattle.zb_audit.specs.Standing.{AreConfirmed}
 use Rattle.zb_audit.specs.declared.confirming.Confirming.{Confirming}
 use Rattle.zb_audit.proofs.ConfirmedKeys.{commit_follows, drop_follows, quiet_follows, row_follows, seal_follows}

@@ -1,7 +1,6 @@
-use Rattle.std.proofs.Common.{List, ◌++◌, ◌∷◌, [], subst, sym}
+use Rattle.std.proofs.Common.{◌++◌, ◌∷◌, [], subst, sym}
 use Rattle.zb_audit.specs.Standing.{AreNonces}
 use Rattle.zb_audit.proofs.FreshNonces.{quiet_follows, seal_follows}
-use Rattle.zb_audit_names.proofs.Entries.{on_ok}
 use Rattle.zb_trace.specs.declared.line.Line.{Line}
 use Rattle.zb_audit.proofs.nonces.Nonces.line.Goals as goal
 

@@ -1,4 +1,4 @@
-use Rattle.std.proofs.Common.{◌∙◌, ap, Bool, Option, Some, None}
+use Rattle.std.proofs.Common.{◌∙◌, ap, Bool, Some, None}
 use Rattle.std.specs.Option.{option_or}
 use Rattle.std.specs.Prelude.{not, if◌then◌else◌}
 use Rattle.zb_audit.specs.Standing.{stamp_of}

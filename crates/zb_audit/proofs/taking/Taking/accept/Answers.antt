@@ -1,6 +1,5 @@
-use Rattle.std.proofs.Common.{◌∙◌, ap, sym, cond, Bool, true, false, refl, Option, Some}
+use Rattle.std.proofs.Common.{◌∙◌, ap, sym, cond, Some}
 use Rattle.std.specs.BTreeMap.{get, is_at}
-use Rattle.std.specs.Prelude.{not}
 use Rattle.zb_audit.specs.Standing.{channel_cmp, height, is_below}
 use Rattle.zb_audit.specs.declared.taking.Channel.{Channel}
 use Rattle.zb_audit.specs.declared.taking.Taking.{Taking}

@@ -1,4 +1,4 @@
-use Rattle.std.proofs.Common.{List, ◌++◌, ◌∷◌, [], subst, sym}
+use Rattle.std.proofs.Common.{◌++◌, ◌∷◌, [], subst, sym}
 use Rattle.zb_audit.specs.Standing.{AreTaken}
 use Rattle.zb_audit.proofs.TakenCounters.{accept_follows, quiet_follows}
 use Rattle.zb_audit_names.specs.Naming.{declared_in, speaker}

@@ -1,4 +1,4 @@
-use Rattle.std.proofs.Common.{◌≡◌, ap, map, None, Option}
+use Rattle.std.proofs.Common.{ap, map, None, Option}
 use Rattle.std.specs.Prelude.{slice_get}
 use Rattle.zb_model.specs.State.{NetKey, SenderFloor}
 use Rattle.zb_record.specs.RowViews.{net_key}

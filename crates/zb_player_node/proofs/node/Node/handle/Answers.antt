@@ -1,10 +1,8 @@
-use Rattle.std.proofs.Common.{◌≡◌, ◌&&◌, Bool, List, [], Option, Some, None, option_map, refl, sym, ◌∙◌, ap, subst}
+use Rattle.std.proofs.Common.{Bool, [], Option, Some, None, option_map, refl, sym, ◌∙◌, ap, subst}
 use Rattle.std.specs.Prelude.{if◌then◌else◌}
-use Rattle.zb_armed_host.specs.Arms.{armed_of, arms_stand}
 use Rattle.zb_armed_host.specs.declared.arms.Arms.{Arms}
 use Rattle.zb_model.specs.Answer.{answer}
 use Rattle.zb_model_real.specs.Real.{real}
-use Rattle.zb_node_types.specs.declared.change.Change.{Change}
 use Rattle.zb_player_node.specs.Answers.{HasHandledOn, WasCut}
 use Rattle.zb_player_node.specs.declared.node.Handled.TheVariants.{Cut}
 use Rattle.zb_player_node.proofs.Conditions.{was_answered, was_cut}

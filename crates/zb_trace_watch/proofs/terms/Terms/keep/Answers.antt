@@ -1,4 +1,4 @@
-use Rattle.std.proofs.Common.{◌≡◌, ℕ, Bool, Option, ◌||◌, ap, sym, ◌∙◌, bytes_eq, is_some}
+use Rattle.std.proofs.Common.{ℕ, Option, ◌||◌, ap, sym, ◌∙◌, bytes_eq, is_some}
 use Rattle.std.specs.BTreeMap.{get}
 use Rattle.std.specs.Global.{Vec}
 use Rattle.std.specs.List.{list_any}

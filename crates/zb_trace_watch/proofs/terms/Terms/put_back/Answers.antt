@@ -1,4 +1,4 @@
-use Rattle.std.proofs.Common.{◌≡◌, ℕ, Bool, Option, ◌||◌, ap, sym, ◌∙◌, bytes_eq, false}
+use Rattle.std.proofs.Common.{ℕ, Option, ◌||◌, ap, sym, ◌∙◌, bytes_eq, false}
 use Rattle.std.specs.Global.{Vec}
 use Rattle.std.specs.List.{list_any}
 use Rattle.zb_trace_watch.specs.Terms.{is_kept}

@@ -1,5 +1,4 @@
-use Rattle.std.proofs.Common.{List, refl, subst, sym}
-use Rattle.zb_model.specs.Lines as log
+use Rattle.std.proofs.Common.{refl, subst, sym}
 use Rattle.zb_model.specs.Readings.{stations_of}
 use Rattle.zb_trace.specs.Views.{logged}
 use Rattle.zb_trace.specs.declared.line.Line.{Line}
