@@ -6,7 +6,7 @@ import subprocess
 import tempfile
 
 from ..errors import MISSING, UNREADABLE, WRONG_USE, Stop
-from ..formats import pcap
+from ..formats import diagnosis, pcap, transcripts
 from ..formats.made import made
 from ..output import read_input
 from ..program import run_tc
@@ -198,9 +198,11 @@ def finish(count, same, opened, neither, found, wrong):
 
 def compare_transcript(path):
     """Compares the frames of a transcript, and returns the exit status."""
-    frames, keys = frames_and_keys(read_input(path).decode('ascii', 'replace'))
+    data = read_input(path)
+    frames, keys = frames_and_keys(data.decode('ascii', 'replace'))
     if not frames:
-        raise Stop(f'{path}: no frames are in it', UNREADABLE)
+        is_one = transcripts.is_line(data.decode('ascii', 'replace').partition('\n')[0])
+        raise Stop(f'{path}: no frames are in it' if is_one else diagnosis.no_transcript(path, data), UNREADABLE)
     return finish(len(frames), *compare_all(frames, keys))
 
 

@@ -1,8 +1,8 @@
 """gabzetu explain: an event of a transcript in words, with the rule that answered it; or what a broken claim is
 about."""
 from .. import program, told
-from ..errors import WRONG_USE, Stop
-from ..formats import broken, policy, stories
+from ..errors import UNREADABLE, WRONG_USE, Stop
+from ..formats import broken, diagnosis, policy, stories
 from ..formats.causes import CLAIMS
 from ..formats.grammar import printable
 from ..formats.sentences import Speaker
@@ -184,6 +184,8 @@ def run(arguments):
     data = read_input(arguments.transcript)
     lines = stories.read_text(data.decode('ascii', 'replace'))
     if event is not None:
+        if not any(it.fields for it in lines):
+            raise Stop(diagnosis.no_transcript(arguments.transcript, data), UNREADABLE)
         said = explain_event(arguments, lines, event)
     else:
         number, claim = broken_words or ask_audit(arguments, data)

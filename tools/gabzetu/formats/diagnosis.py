@@ -28,6 +28,14 @@ OTHERS = [
 ]
 
 
+# What a text of each kind is for, for who gives it where a transcript is wanted.
+USES = {
+    'schedule': 'a schedule: `gabzetu play` writes its transcript',
+    'capture': 'a text capture: `gabzetu inspect` reads it',
+    'script': 'a script: `gabzetu admin` carries it out',
+}
+
+
 class LinkKeys:
     """The link keys of install codes, as tc says them."""
 
@@ -55,14 +63,26 @@ def score(kind, lines):
     return sum(2 if table.read(line)[0] else 1 if line.words[0].text in table.firsts else 0 for line in lines)
 
 
-def kind_of(path, data):
-    """Returns the kind of a text: that of its lines, else of the ending of its name, else a schedule."""
+def kind_by_lines(path, data):
+    """Returns the kind that the lines of a text tell, or none. Where two fit as well, the name decides."""
     lines = [line for line, _ in zip(grammar.read_lines(data), range(LINES_THAT_TELL))]
     scores = {kind: score(kind, lines) for kind in READERS}
     best = max(scores, key=lambda it: (scores[it], path.endswith('.' + it)))
-    if scores[best]:
-        return best
-    return next((kind for ending, kind in ENDINGS.items() if path.endswith(ending)), 'schedule')
+    return best if scores[best] else None
+
+
+def kind_of(path, data):
+    """Returns the kind of a text: that of its lines, else of the ending of its name, else a schedule."""
+    by_name = (kind for ending, kind in ENDINGS.items() if path.endswith(ending))
+    return kind_by_lines(path, data) or next(by_name, 'schedule')
+
+
+def no_transcript(path, data):
+    """Returns why an input is no transcript, where its first line is none: with what it is, if that can be told."""
+    if not data:
+        return f'{path}: it is empty, and no transcript'
+    what = other_kind_of(data) or USES.get(kind_by_lines(path, data))
+    return f'{path}: line 1 is no line of a transcript' + (f'; this is {what}' if what else '')
 
 
 def find_mistakes(kind, data):

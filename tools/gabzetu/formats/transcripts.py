@@ -5,6 +5,7 @@ import re
 
 from ..errors import UNREADABLE, Stop
 from ..output import read_input
+from .diagnosis import no_transcript
 
 Node = collections.namedtuple('Node', 'name role eui short')
 
@@ -88,6 +89,8 @@ def parse_transcript(text, path):
         elif is_line(line):
             words = line.split(' ')
             events.setdefault(int(words[0]), []).append(words[1:])
+        elif number == 1:
+            raise NoTranscript(no_transcript(path, text.encode()))
         else:
             raise NoTranscript(f'{path}: line {number} is no line of a transcript')
     if end is None:

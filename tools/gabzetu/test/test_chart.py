@@ -64,7 +64,7 @@ class Charts(Folder):
         ran = run('chart', example('join.transcript'), self.path('out.msc'), '--node', 'q')
         self.assertEqual((ran.status, 'the nodes are c, r, d' in ran.said), (64, True))
         ran = run('chart', example('join.sched'), self.path('out.msc'))
-        self.assertEqual((ran.status, 'line 1 is no line of a transcript' in ran.said), (66, True))
+        self.assertEqual((ran.status, 'line 1 is no line of a transcript; this is a schedule' in ran.said), (66, True))
 
     @needs_mscgen
     def test_names_of_strangers(self):

@@ -22,9 +22,13 @@ class Compare(Folder):
 
     def test_says_what_it_needs(self):
         self.assertEqual(run('compare').status, 64)
-        ran = run('compare', self.write('none', 'hello\n'))
-        self.assertEqual((ran.status, ran.output), (66, ''))
-        self.assertIn('no frames are in it', ran.said)
+        for text, wanted in {
+            'hello\n': 'line 1 is no line of a transcript',
+            '0 node c centre 00124B0000000001 0000 16 4\n': 'no frames are in it',
+        }.items():
+            ran = run('compare', self.write('none', text))
+            self.assertEqual((ran.status, ran.output), (66, ''))
+            self.assertIn(wanted, ran.said)
 
     @needs_tc
     def test_a_difference_is_shown(self):

@@ -164,6 +164,28 @@ class Explain(Folder):
             self.assertEqual(run('explain', example('join.transcript'), *words).status, 64)
 
 
+class Others(Folder):
+    """Inputs that are no transcript: it is said what they are, where that can be told."""
+
+    def said_of(self, path):
+        ran = run('explain', path, '1')
+        self.assertEqual((ran.status, ran.output), (66, ''))
+        return ran.said.partition(f'{path}: ')[2].strip()
+
+    def test_what_an_input_is(self):
+        wrong = 'line 1 is no line of a transcript'
+        for path, wanted in {
+            example('join.sched'): f'{wrong}; this is a schedule: `gabzetu play` writes its transcript',
+            example('join.capture'): f'{wrong}; this is a text capture: `gabzetu inspect` reads it',
+            example('admin.script'): f'{wrong}; this is a script: `gabzetu admin` carries it out',
+            example('admin.backup'): f'{wrong}; this is a backup: `restore SKIP BACKUP` in a script takes it',
+            os.path.join(TOP, 'tools/data/mixed.pcap'): f'{wrong}; this is a pcap file: `gabzetu open` reads it',
+            os.path.join(TOP, 'README.md'): wrong,
+            self.write('empty', ''): 'it is empty, and no transcript',
+        }.items():
+            self.assertEqual(self.said_of(path), wanted)
+
+
 @needs_tc
 class Broken(Folder):
     """Transcripts with one thing changed: tc says which line breaks which claim, and explain what it is about."""
