@@ -1,12 +1,16 @@
 """What `gabzetu help` says of the lines of texts: made from the same tables that read them."""
+import collections
 import textwrap
 
-from .formats import captures, schedules, scripts
+from .formats import captures, fields, schedules, scripts
 from .formats.causes import CAUSES, CLAIMS
 from .scenarios import language
 from .told import STATUSES
 
 WIDTH = 100
+
+# A line's words, and what it means.
+Described = collections.namedtuple('Described', 'text about')
 
 INTRODUCTIONS = {
     'schedule': (
@@ -28,6 +32,11 @@ INTRODUCTIONS = {
         'a scenario too, and stays as it is. A step that is refused in the middle of a line ends with a message; '
         '`deliver last`, `say`, `send` and the lines of schedules may be refused. docs/SCENARIOS.md has examples.'
     ),
+    'transcript': (
+        'A transcript has what happened, one fact a line. EVENT is the number of the event: from 1, and 0 for the '
+        'start. The lines of an event come in this order: what changes and its commit, what is accepted, a refusal, '
+        'what is sealed, the frame that is sent. SENDER, PARTNER, DEVICE, FIRST and SECOND are EUIs.'
+    ),
 }
 
 # How `help causes` names the kinds of inputs.
@@ -42,11 +51,22 @@ TITLES = {
 CAUSES_TOPIC = 'causes'
 TOPICS = sorted([*INTRODUCTIONS, CAUSES_TOPIC])
 
+
+def transcript_lines():
+    """Returns the lines of a transcript: the forms of each kind, and what it means. The end line alone has no event."""
+    found = []
+    for kind, about in fields.MEANINGS.items():
+        forms = [f'EVENT {kind} {fields.shown(it)}' for it in fields.TRANSCRIPT.get(kind, [])]
+        found.append(Described('\n  '.join(forms or [f'{kind} {fields.shown(fields.END)}']), about))
+    return found
+
+
 SECTIONS = {
     'schedule': [('Declarations', schedules.DECLARATIONS), ('Events', schedules.EVENTS)],
     'capture': [('Lines', captures.FORMS)],
     'script': [('Lines', scripts.FORMS)],
     'scenario': [('Declarations', language.DECLARATIONS), ('Steps', language.STEPS)],
+    'transcript': [('Lines', transcript_lines())],
 }
 
 MORE = {
@@ -57,6 +77,10 @@ MORE = {
     'capture': 'The exact rules: docs/FORMATS.md. What is wrong with a file: gabzetu check FILE.',
     'script': 'What is wrong with a file: gabzetu check FILE.',
     'scenario': 'The schedule of a scenario: gabzetu scenario FILE. Its options: gabzetu scenario --help.',
+    'transcript': (
+        'The exact rules: docs/FORMATS.md. What happened in an event: gabzetu explain TRANSCRIPT EVENT. The claims '
+        'that `gabzetu audit` judges: gabzetu help causes.'
+    ),
 }
 
 
@@ -90,7 +114,7 @@ def describe_causes():
 
 
 def describe_topic(topic):
-    """Returns the text of `gabzetu help` on the lines of schedules, captures, scripts or scenarios, or on causes."""
+    """Returns the text of `gabzetu help` on the lines of a kind of text, or on causes."""
     if topic == CAUSES_TOPIC:
         return describe_causes()
     parts = [wrapped(INTRODUCTIONS[topic]), *(describe_forms(*it) for it in SECTIONS[topic]), wrapped(MORE[topic])]

@@ -4,7 +4,7 @@ from ..errors import WRONG_USE, Stop
 from ..formats.words import suggestion
 from ..output import write_output
 
-SUMMARY = 'describe a command, or the lines of schedules, captures, scripts and scenarios'
+SUMMARY = 'describe a command, or the lines of schedules, transcripts, captures, scripts and scenarios'
 
 
 def add_arguments(parser):

@@ -72,6 +72,42 @@ TRANSCRIPT = {
     'dump': ['node hex'],
 }
 
+# What a line of each kind means, in the order of docs/FORMATS.md.
+MEANINGS = {
+    'node': 'A node, with its role, its two addresses and its two blocks. This line and the next two have event 0.',
+    'given': 'A key that a node holds at the start: a network key with its sequence, or the link key of a code.',
+    'counter': 'The number from which a node counts its frames of a layer, where that is not 0.',
+    'reserve': 'Outgoing counters of a layer below LIMIT are stored as used. After a boot the node goes on from LIMIT.',
+    'floor': 'The least counter that is taken from a sender under a key, as it is stored.',
+    'draw': 'The next key of the supply is used.',
+    'drop': 'A network key or a link key is dropped.',
+    'install': 'A node gets a network key.',
+    'active': 'The network key under which a node sends from now on.',
+    'start': 'The first counter under a network key that becomes active for the first time.',
+    'row': 'A link key is new, comes back, or has another attribute: provisional, unverified or verified.',
+    'pair': 'The centre makes a key of their own for two devices.',
+    'state': 'How far a router or device is: fresh, knocked, joined, offered, confirmed, rejoining or gone.',
+    'live': 'The centre admits a device.',
+    'removed': 'The centre removes a device.',
+    'roll': 'A rollover of the network key begins (sending), or is over (idle).',
+    'told': 'The new network key went out to a device.',
+    'untold': 'A device has yet to get the new network key.',
+    'commit': 'The changes before it in this event are stored on the disk of the node.',
+    'accept': 'A node opened a layer of a frame and took it: under which key, from whom, and what is in it.',
+    'refuse': 'A node refuses a frame at a layer, or an event. Some reasons have a detail.',
+    'seal': 'A node sealed a layer of a frame.',
+    'forge': 'An outsider sealed a layer of a frame under a key that it knows.',
+    'send': 'A frame goes on the air. NODE is - for a forged one.',
+    'inject': 'Bytes of an outsider go on the air.',
+    'stopped': 'The power of a node fell in the midst of the event.',
+    'down': 'A node has no power: after a reset, or since its disk failed.',
+    'boot': 'A node has power again, and has read its disk.',
+    'dump': 'The record that the disk of a node holds.',
+    'end': 'The last line: how many events, seal, accept and refuse lines there are. IDEAL is yes where all that was '
+    'accepted had been sealed or forged before. PRIVATE is yes where outsiders forged only under keys known outside, '
+    'and passed on no network key.',
+}
+
 # Of a report, after the frame's number: a layer that opened under key K, and one that didn't with its reason.
 LAYERS = {
     'nwk': ['=key k source counter content', 'reason'],
@@ -95,6 +131,11 @@ STORE = {
 }
 
 VERDICTS = {'sound': ['seals accepts word'], 'broken': ['line claim']}
+
+
+def shown(form):
+    """Returns the words of a form as help shows them: a name in capitals, a very word as it is."""
+    return ' '.join(it.partition('=')[2] or it.upper() for it in form.split())
 
 
 def value_of(name, word):

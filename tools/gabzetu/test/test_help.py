@@ -5,7 +5,7 @@ import subprocess
 import unittest
 
 from gabzetu import TOP, cli, helping, read_version
-from gabzetu.formats import causes, schedules
+from gabzetu.formats import causes, fields, schedules
 from gabzetu.test.support import Folder, example, needs_tc, run
 
 MAN = os.path.join(TOP, 'docs', 'gabzetu.1')
@@ -43,6 +43,13 @@ class Help(unittest.TestCase):
         self.assertIn('\n  frame HEX\n', run('help', 'capture').output)
         self.assertIn('\n  restore SKIP BACKUP\n', run('help', 'script').output)
         self.assertIn('\n  rollover but NAME ..\n', run('help', 'scenario').output)
+
+    def test_describes_each_line_of_a_transcript(self):
+        self.assertEqual({*fields.MEANINGS}, {*fields.TRANSCRIPT, 'end'})
+        said = run('help', 'transcript').output
+        for kind in fields.MEANINGS:
+            self.assertRegex(said, f'\n  (EVENT )?{kind} ')
+        self.assertIn('\n  EVENT given NODE net KEY SEQ\n  EVENT given NODE link PARTNER KEY\n', said)
 
     def test_describes_causes(self):
         said = run('help', 'causes').output
