@@ -60,7 +60,9 @@ def tell(kind, path, ran, given, usage=''):
     say(f'gabzetu: {fault}{" " + usage if ran.status == 2 and usage else ""}')
     words = told.last_words(ran.output)
     if ran.status == 5 and len(words) > 2 and words[1].isdigit():
-        for hint in diagnosis.hints(kind, given, int(words[1])):
+        other = diagnosis.other_than(kind, path, given)
+        hints = [f' this is {other}'] if other else diagnosis.hints(kind, given, int(words[1]))
+        for hint in hints:
             say(f'  {name}:{hint}')
 
 

@@ -7,7 +7,7 @@ from .output import shown
 # Where each format is described: what `gabzetu help` knows, and the page.
 FORMATS = {
     'schedule': 'The lines of a schedule: gabzetu help schedule',
-    'transcript': 'The lines of a transcript: docs/FORMATS.md, "Transcripts"',
+    'transcript': 'The lines of a transcript: gabzetu help transcript',
     'capture': 'The lines of a capture: gabzetu help capture',
     'pcap': 'What a capture file is: docs/FORMATS.md, "Capture files". `gabzetu open` reads other kinds',
     'script': 'The lines of a script: gabzetu help script',

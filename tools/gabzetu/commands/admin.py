@@ -21,6 +21,7 @@ it runs. A second run at the same time ends with `store fault` and changes nothi
 KINDS = (b'net ', b'link ', b'send ', b'ok ', b'refuse ', b'{')
 WARNING = b'tc: others may read or write '
 PRIVATE = 0o077
+STORE_FAULT = 7
 RUN_AGAIN = 'Look at the disk and run it again: it goes on from what is on the disk.'
 
 
@@ -106,6 +107,20 @@ def hand_on_warnings(said):
             say(f'gabzetu: {printable(line.decode("utf-8", "replace").rstrip()[len("tc: "):])}')
 
 
+def why_not(store):
+    """Returns why no store can be served at a path, where the path shows that; else nothing."""
+    folder = os.path.dirname(store) or '.'
+    if not os.path.isdir(folder):
+        return f'there is no folder {folder}'
+    if not os.path.lexists(store):
+        return '' if os.access(folder, os.W_OK | os.X_OK) else f'you may not make a file in {folder}'
+    if not os.path.exists(store):
+        return 'it is a link to nowhere'
+    if not os.path.isfile(store):
+        return 'it is a folder' if os.path.isdir(store) else 'it is no regular file'
+    return '' if os.access(store, os.R_OK | os.W_OK) else 'you may not read and write it'
+
+
 def run(arguments):
     """Runs the command, and returns the exit status."""
     given = read_input(arguments.script)
@@ -120,4 +135,7 @@ def run(arguments):
         lines.close()
     path = arguments.script if ran.status == 5 else arguments.store
     tell('script', path, ran, given)
+    why = why_not(store) if ran.status == STORE_FAULT else ''
+    if why:
+        say(f'  {arguments.store}: {why}')
     return told.exit_status(ran.status)

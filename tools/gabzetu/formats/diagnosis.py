@@ -14,6 +14,7 @@ LONGEST = 16777216
 # tc is asked for the link keys of this number of codes
 MOST_CODES = 512
 
+TRANSCRIPT, OF_TRANSCRIPT = 'transcript', b'0 node '
 # Inputs of other kinds, by how they begin, and what reads them.
 OTHERS = [
     (b'\xd4\xc3\xb2\xa1', 'a pcap file: `gabzetu open` reads it'),
@@ -21,7 +22,7 @@ OTHERS = [
     (b'\x4d\x3c\xb2\xa1', 'a pcap file: `gabzetu open` reads it'),
     (b'\xa1\xb2\x3c\x4d', 'a pcap file: `gabzetu open` reads it'),
     (b'\x0a\x0d\x0d\x0a', 'a pcapng file: `gabzetu open` reads it'),
-    (b'0 node ', 'a transcript: `gabzetu audit` judges it'),
+    (OF_TRANSCRIPT, 'a transcript: `gabzetu audit` judges it'),
     (b'1 nwk ', "an inspector's report"),
     (b'{"active"', 'a backup: `restore SKIP BACKUP` in a script takes it'),
     (b'{', 'a JSON text'),
@@ -63,10 +64,15 @@ def score(kind, lines):
     return sum(2 if table.read(line)[0] else 1 if line.words[0].text in table.firsts else 0 for line in lines)
 
 
+def scores_of(data):
+    """Returns how well the first lines of a text fit each kind."""
+    lines = [line for line, _ in zip(grammar.read_lines(data), range(LINES_THAT_TELL))]
+    return {kind: score(kind, lines) for kind in READERS}
+
+
 def kind_by_lines(path, data):
     """Returns the kind that the lines of a text tell, or none. Where two fit as well, the name decides."""
-    lines = [line for line, _ in zip(grammar.read_lines(data), range(LINES_THAT_TELL))]
-    scores = {kind: score(kind, lines) for kind in READERS}
+    scores = scores_of(data)
     best = max(scores, key=lambda it: (scores[it], path.endswith('.' + it)))
     return best if scores[best] else None
 
@@ -83,6 +89,15 @@ def no_transcript(path, data):
         return f'{path}: it is empty, and no transcript'
     what = other_kind_of(data) or USES.get(kind_by_lines(path, data))
     return f'{path}: line 1 is no line of a transcript' + (f'; this is {what}' if what else '')
+
+
+def other_than(kind, path, data):
+    """Returns what an input is that was taken for this kind, where it fits another one twice as well; or none."""
+    if kind not in (*READERS, TRANSCRIPT) or (kind == TRANSCRIPT and data.startswith(OF_TRANSCRIPT)):
+        return None
+    scores = scores_of(data)
+    fits_better = max(scores.values()) >= 2 * scores.get(kind, 0)
+    return other_kind_of(data) or (USES.get(kind_by_lines(path, data)) if fits_better else None)
 
 
 def find_mistakes(kind, data):

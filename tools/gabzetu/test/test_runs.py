@@ -171,6 +171,31 @@ class Admin(Folder):
         with open(self.path('hub.store'), 'rb') as store:
             self.assertEqual(store.read(), before)
 
+    def test_an_input_of_another_kind_is_named(self):
+        for words, name, what in (
+            (['play'], 'join.transcript', 'a transcript: `gabzetu audit` judges it'),
+            (['play'], 'join.capture', 'a text capture: `gabzetu inspect` reads it'),
+            (['audit'], 'join.sched', 'a schedule: `gabzetu play` writes its transcript'),
+            (['inspect'], 'join.sched', 'a schedule: `gabzetu play` writes its transcript'),
+            (['admin', self.path('hub.store')], 'join.sched', 'a schedule: `gabzetu play` writes its transcript'),
+            (['play'], 'admin.script', 'a script: `gabzetu admin` carries it out'),
+        ):
+            ran = run(*words, example(name))
+            self.assertEqual((ran.status, ran.said.endswith(f'\n  {example(name)}: this is {what}\n')), (5, True))
+
+    def test_a_path_that_can_be_no_store_is_explained(self):
+        os.symlink(self.path('gone'), self.path('link'))
+        os.mkfifo(self.path('fifo'))
+        for path, why in {
+            self.path('none/hub.store'): f'there is no folder {self.path("none")}',
+            self.path('.'): 'it is a folder',
+            self.path('link'): 'it is a link to nowhere',
+            self.path('fifo'): 'it is no regular file',
+        }.items():
+            ran = run('admin', path, example('admin.script'))
+            self.assertEqual((ran.status, ran.output), (7, ''))
+            self.assertIn(f'\n  {path}: {why}\n', ran.said)
+
     def test_the_cache_of_the_store_is_dropped(self):
         path = self.write('hub.store', 'x' * 8192)
         calls = mock.Mock()
