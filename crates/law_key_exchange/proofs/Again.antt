@@ -5,7 +5,7 @@ use Rattle.zb_model.specs.Data.{Bytes, Nwk, Aps, ForData, ForLoad, AtAps, Counte
 use Rattle.zb_model.specs.Fits.{keeps_rules}
 use Rattle.zb_model.specs.State.{LinkKey, NodeState, same_key, is_centre, is_live, is_verified, current, offered, next_counter}
 use Rattle.zb_model.specs.Tools.{Tools, verify_hash}
-use Rattle.zb_model.specs.Rules.{Setting, Plan, Outcome, Stop, Does, Secret, sends, unless, found_or, choose, short_of, both_spent}
+use Rattle.zb_model.specs.Rules.{Setting, Plan, Outcome, Stop, Does, Secret, sends, refuse_if, found_or, choose, short_of, both_spent}
 use Rattle.zb_model.specs.Commands.{take_request, take_verify, take_command}
 use Rattle.zb_model.specs.Answer.{comes_to, reason_of, refusal_of, answer_by, counting_of, plan_of, answer, answered}
 use Rattle.law_change_fits.proofs.Parts.{same_key_of}
@@ -13,7 +13,7 @@ use Rattle.law_recovery.specs.Answering.{after_task, frame_of}
 use Rattle.law_key_exchange.specs.CommandFrames.{NetFrame, net_term, sealed_content, clear_content, sealed_bytes, LinkFrameInRange, ClearInRange, DeliversCommands}
 use Rattle.law_key_exchange.specs.Exchanging.{Seals, net_frame, request, request_bytes, offer_bytes, proof_bytes, seals_now, Confirms, OffersAgain, StationsInRange, StaysClosed, NwkInRange, ApsInRange}
 use Rattle.law_key_exchange.specs.Meeting.{AreDeclared, HasNetwork, HasBoth, HasProved}
-use Rattle.law_key_exchange.specs.Obstacles.{or_else, when, in_row, why_unheard, why_not_heard, why_not_opened, why_not_sealed, why_no_offer_again, why_no_confirmation}
+use Rattle.law_key_exchange.specs.Obstacles.{or_else, obstacle_if, in_row, why_unheard, why_not_heard, why_not_opened, why_not_sealed, why_no_offer_again, why_no_confirmation}
 use Rattle.law_key_exchange.proofs.Baring.{bare, bare_after}
 use Rattle.law_key_exchange.proofs.Choosing.{chosen_of_two}
 use Rattle.law_key_exchange.proofs.Judged.{IsChosen, plan_at, plan_opened, both_terms, heard_with, heard_open, delivered_chosen, delivered_clear, refused_at, refused_opened, free_at, free_opened, or_first, or_second, when_none}
@@ -34,14 +34,14 @@ again_by : (tools : Tools) (c m : Setting) (s : NodeState) (f : NetFrame) (k : S
     → offered s m.me.eui ≡ Some offer → (b : Bool) → both_spent s ≡ b
     → take_command tools c s draw (heard_with tools f (request m k) row) RequestLink
     ≡ offers_again c m.me.eui row offer.key b
-unfolding take_command take_request unless found_or
+unfolding take_command take_request refuse_if found_or
 again_by tools c m s f k row offer draw role here there true z =
     rw (role, here, same_key_of row.key row.key refl, there, z) refl
 again_by tools c m s f k row offer draw role here there false z =
     rw (role, here, same_key_of row.key row.key refl, there, z) refl
 
 again_reason : (c : Setting) (device : ℕ) (row : LinkKey) (key : Bytes) (b : Bool)
-    → reason_of (offers_again c device row key b) ≡ when b CounterSpent
+    → reason_of (offers_again c device row key b) ≡ obstacle_if b CounterSpent
 again_reason c device row key true = refl
 again_reason c device row key false = refl
 
@@ -192,14 +192,14 @@ confirms_by : (tools : Tools) (c m : Setting) (s : NodeState) (f : NetFrame) (ro
     → same_key (verify_hash tools row.key) hash ≡ true → is_live s m.me.eui ≡ true → (b : Bool) → both_spent s ≡ b
     → take_command tools c s draw (heard_open tools f (VerifyKey 4 m.me.eui hash)) (VerifyKey 4 m.me.eui hash)
     ≡ confirms_again c m.me.eui row.key b
-unfolding take_command take_verify unless choose found_or
+unfolding take_command take_verify refuse_if choose found_or
 confirms_by tools c m s f row hash draw role source here proved none good live true z =
     rw (role, eq-eqb m.me.eui f.source (sym source), live, none, here, proved, z) refl
 confirms_by tools c m s f row hash draw role source here proved none good live false z =
     rw (role, eq-eqb m.me.eui f.source (sym source), live, none, here, proved, z, good) refl
 
 confirms_reason : (c : Setting) (device : ℕ) (key : Bytes) (b : Bool) → reason_of (confirms_again c device key b)
-    ≡ when b CounterSpent
+    ≡ obstacle_if b CounterSpent
 confirms_reason c device key true = refl
 confirms_reason c device key false = refl
 

@@ -4,7 +4,7 @@ use Rattle.zb_model.specs.Data.{Bytes, Offered, Confirmed, Verified, AtAps, Reas
 use Rattle.zb_model.specs.Fits.{keeps_rules}
 use Rattle.zb_model.specs.State.{LinkKey, NodeState, same_key, is_live_of, is_unverified, is_told, at_link, dropped_link, revived, current, offered}
 use Rattle.zb_model.specs.Tools.{Tools}
-use Rattle.zb_model.specs.Rules.{Setting, Plan, Outcome, Does, unless, found_or, centre_of}
+use Rattle.zb_model.specs.Rules.{Setting, Plan, Outcome, Does, refuse_if, found_or, centre_of}
 use Rattle.zb_model.specs.Commands.{take_confirm, take_command}
 use Rattle.zb_model.specs.Judging.{candidates}
 use Rattle.zb_model.specs.Answer.{comes_to, changes, refusal_of, answer_by, counting_of, plan_of, answer, answered}
@@ -37,7 +37,7 @@ takes_by : (tools : Tools) (c m : Setting) (t : NodeState) (f : NetFrame) (k : S
     → same_key tried.key offer.key ≡ true
     → take_command tools m t draw (heard_with tools f (confirmation c m k) tried) (ConfirmKey 0 4 m.me.eui)
     ≡ Does (confirmed_moves row offer) None
-unfolding take_command take_confirm unless found_or
+unfolding take_command take_confirm refuse_if found_or
 takes_by tools c m t f k tried row offer draw d state here there same =
     let from : nat_eq c.me.eui (centre_of m.stations) ≡ true =
     eq-eqb c.me.eui (centre_of m.stations) (sym d.network.centre_known) in

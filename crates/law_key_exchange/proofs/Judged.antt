@@ -9,7 +9,7 @@ use Rattle.zb_model.specs.Judging.{Verdict, Good, reject, need, Carrier, carrier
 use Rattle.zb_model.specs.Commands.{Heard, take_command}
 use Rattle.zb_model.specs.Answer.{stopped_at, comes_to, heard_sealed, heard_clear, received_as, aps_part, by_security, sealed_part, plan_of, refusal_of}
 use Rattle.law_key_exchange.specs.CommandFrames.{NetFrame, LinkFrame, net_term, link_term, sealed_content, clear_content, sealed_bytes, clear_bytes, IsCarried, IsUnsealed, IsRead}
-use Rattle.law_key_exchange.specs.Obstacles.{or_else, when, why_not_heard, why_not_opened}
+use Rattle.law_key_exchange.specs.Obstacles.{or_else, obstacle_if, why_not_heard, why_not_opened}
 
 -- ---- at NWK
 
@@ -203,7 +203,7 @@ delivered_clear tools b y f command net draw a u h =
 -- ---- what is refused, and where nothing is
 
 refused_heard : (floor : ℕ) (rest : Plan) (stale full : Bool) → refusal_of (plan_heard stale full floor rest)
-    ≡ or_else (or_else (when stale (Stale floor)) (when full RowsFull)) (refusal_of rest)
+    ≡ or_else (or_else (obstacle_if stale (Stale floor)) (obstacle_if full RowsFull)) (refusal_of rest)
 refused_heard floor rest true full = refl
 refused_heard floor rest false true = refl
 refused_heard floor rest false false = refl
@@ -215,7 +215,7 @@ refused_at f row rest = refused_heard (sender_floor f.source row).kept rest (sta
     (senders_full f.source f.counter row)
 
 refused_by_floor : (accepts : List Term) (floor : ℕ) (rest : Plan) (stale : Bool)
-    → refusal_of (plan_opened stale accepts floor rest) ≡ or_else (when stale (Stale floor)) (refusal_of rest)
+    → refusal_of (plan_opened stale accepts floor rest) ≡ or_else (obstacle_if stale (Stale floor)) (refusal_of rest)
 refused_by_floor accepts floor rest true = refl
 refused_by_floor accepts floor rest false = refl
 
@@ -233,11 +233,11 @@ pub or_second : (a b : Option Reason) → or_else a b ≡ None → b ≡ None
 or_second None b e = e
 or_second (Some r) b e = absurd (false≢true (sym (ap is_some e)))
 
-pub when_none : (b : Bool) (r : Reason) → when b r ≡ None → b ≡ false
+pub when_none : (b : Bool) (r : Reason) → obstacle_if b r ≡ None → b ≡ false
 when_none true r e = absurd (false≢true (sym (ap is_some e)))
 when_none false r e = refl
 
-free_heard : (floor : ℕ) (rest : Plan) (stale full : Bool) → or_else (when stale (Stale floor)) (when full RowsFull)
+free_heard : (floor : ℕ) (rest : Plan) (stale full : Bool) → or_else (obstacle_if stale (Stale floor)) (obstacle_if full RowsFull)
     ≡ None → plan_heard stale full floor rest ≡ rest
 free_heard floor rest true full e = absurd (false≢true (sym (ap is_some e)))
 free_heard floor rest false true e = absurd (false≢true (sym (ap is_some e)))
@@ -254,6 +254,6 @@ pub free_opened : (accepts : List Term) (row : LinkKey) (counter : ℕ) (rest : 
 unfolding why_not_opened
 free_opened accepts row counter rest e = by_test (nat_lt counter row.kept) e
   where
-    by_test : (b : Bool) → when b (Stale row.kept) ≡ None → plan_opened b accepts row.kept rest ≡ rest
+    by_test : (b : Bool) → obstacle_if b (Stale row.kept) ≡ None → plan_opened b accepts row.kept rest ≡ rest
     by_test true f = absurd (false≢true (sym (ap is_some f)))
     by_test false f = refl

@@ -6,7 +6,7 @@ use Rattle.zb_model.specs.Fits.{keeps_rules}
 use Rattle.zb_model.specs.Record.{attribute_byte}
 use Rattle.zb_model.specs.State.{greatest_counter, NetKey, LinkKey, NodeState, new_link, same_key, has_link, is_told, current, offered, other_user}
 use Rattle.zb_model.specs.Tools.{Tools}
-use Rattle.zb_model.specs.Rules.{Setting, Plan, Outcome, Stop, Does, unless, choose, centre_of, links_full}
+use Rattle.zb_model.specs.Rules.{Setting, Plan, Outcome, Stop, Does, refuse_if, choose, centre_of, links_full}
 use Rattle.zb_model.specs.Commands.{take_link_key, take_row, take_command}
 use Rattle.zb_model.specs.Answer.{comes_to, changes, reason_of, refusal_of, Counting, may_seal, out_of, answer_by, counting_of, plan_of, answer, answered}
 use Rattle.law_recovery.specs.Answering.{after_task, frame_of}
@@ -14,7 +14,7 @@ use Rattle.law_recovery.proofs.Candidates.{one_candidate}
 use Rattle.law_key_exchange.specs.CommandFrames.{NetFrame, net_term, sealed_content, LinkFrameInRange, DeliversCommands}
 use Rattle.law_key_exchange.specs.Exchanging.{Seals, net_frame, offer, offer_bytes, StationsInRange, NwkInRange, ApsInRange}
 use Rattle.law_key_exchange.specs.Meeting.{AreDeclared, HasNetwork, IsJoined, IsOffered}
-use Rattle.law_key_exchange.specs.Obstacles.{or_else, when, why_not_heard, why_not_opened, why_key_in_use, why_not_kept}
+use Rattle.law_key_exchange.specs.Obstacles.{or_else, obstacle_if, why_not_heard, why_not_opened, why_key_in_use, why_not_kept}
 use Rattle.law_key_exchange.proofs.Baring.{bare, bare_link, bare_after, moved_all}
 use Rattle.law_key_exchange.proofs.Judged.{IsHeard, IsOpened, plan_at, plan_opened, both_terms, heard_with, delivered_sealed, refused_at, refused_opened, free_at, free_opened, or_first, or_second, when_none}
 use Rattle.law_key_exchange.proofs.Keeping.{keeps_network, links_of, state_of, offer_comes, offer_tried, no_row, not_its_key}
@@ -50,7 +50,7 @@ keeps_by : (tools : Tools) (c m : Setting) (t : NodeState) (f : NetFrame) (k : S
     → (full : Bool) (o : Option LinkKey) → links_full t ≡ full → other_user t (centre_of m.stations) key ≡ o
     → take_command tools m t draw (heard_with tools f (offer c m k key) row) (TransportLink key m.me.eui c.me.eui)
     ≡ keeps (centre_of m.stations) key full o
-unfolding take_command take_link_key take_row unless choose
+unfolding take_command take_link_key take_row refuse_if choose
 keeps_by tools c m t f k row key draw d state here other none fresh true o x y =
     let from : nat_eq c.me.eui (centre_of m.stations) ≡ true =
     eq-eqb c.me.eui (centre_of m.stations) (sym d.network.centre_known) in
@@ -65,7 +65,7 @@ keeps_by tools c m t f k row key draw d state here other none fresh false None x
     rw (d.network.member_role, from, self m.me.eui, here, other, none, fresh, x, y, state) refl
 
 keep_reason : (centre : ℕ) (key : Bytes) (full : Bool) (o : Option LinkKey) → reason_of (keeps centre key full o)
-    ≡ or_else (when full RowsFull) (why_key_in_use o)
+    ≡ or_else (obstacle_if full RowsFull) (why_key_in_use o)
 keep_reason centre key true o = refl
 keep_reason centre key false (Some other) = refl
 keep_reason centre key false None = refl
@@ -148,7 +148,7 @@ kept_moves centre key = Row centre key Unverified ∷ Became Offered ∷ []
 keeps_so : (c : Setting) (t : NodeState) (key : Bytes) → why_not_kept t c.me.eui key ≡ None → keeps_now c t key
     ≡ Does (kept_moves c.me.eui key) None
 keeps_so c t key e =
-    let first = when (links_full t) RowsFull in
+    let first = obstacle_if (links_full t) RowsFull in
     let second = why_key_in_use (other_user t c.me.eui key) in
     ap (λ b. keeps c.me.eui key b (other_user t c.me.eui key))
     (when_none (links_full t) RowsFull (or_first first second e)) ∙ ap (keeps c.me.eui key false)

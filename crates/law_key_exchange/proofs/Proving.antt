@@ -5,7 +5,7 @@ use Rattle.zb_model.specs.Fits.{keeps_rules}
 use Rattle.zb_model.specs.Frames.{clear_command}
 use Rattle.zb_model.specs.State.{NetKey, LinkKey, NodeState, same_key, is_centre, has_link, is_link, is_live_of, is_unverified, is_told, is_live, at_link, dropped_link, revived, with_link, moved, may_use, active_row, usable_active, current, offered, next_counter}
 use Rattle.zb_model.specs.Tools.{Tools, verify_hash}
-use Rattle.zb_model.specs.Rules.{Setting, Plan, Outcome, Stop, Does, Secret, Clear, sends, unless, found_or, choose, centre_of, short_of, spent, both_spent}
+use Rattle.zb_model.specs.Rules.{Setting, Plan, Outcome, Stop, Does, Secret, Clear, sends, refuse_if, found_or, choose, centre_of, short_of, spent, both_spent}
 use Rattle.zb_model.specs.OwnEvents.{member_timer, verify_key}
 use Rattle.zb_model.specs.Commands.{take_verify, take_command}
 use Rattle.zb_model.specs.Answer.{Answer, comes_to, changes, moves_of, reason_of, refusal_of, answer_by, counting_of, plan_of, answer, answered}
@@ -16,7 +16,7 @@ use Rattle.law_recovery.proofs.Asking.{by_outcome}
 use Rattle.law_key_exchange.specs.CommandFrames.{NetFrame, net_term, clear_content, clear_bytes, sealed_bytes, ClearInRange, DeliversCommands}
 use Rattle.law_key_exchange.specs.Exchanging.{Seals, net_frame, proof_bytes, seals_now, Confirms, StationsInRange, NwkInRange}
 use Rattle.law_key_exchange.specs.Meeting.{AreDeclared, HasNetwork, HasOffer, HasProved, IsOffered}
-use Rattle.law_key_exchange.specs.Obstacles.{or_else, when, why_not_heard, why_not_sealed, why_not_sealed_at_nwk}
+use Rattle.law_key_exchange.specs.Obstacles.{or_else, obstacle_if, why_not_heard, why_not_sealed, why_not_sealed_at_nwk}
 use Rattle.law_key_exchange.proofs.Baring.{bare, bare_link, bare_after, moved_all}
 use Rattle.law_key_exchange.proofs.Quiet.{quiet, quiet_after}
 use Rattle.law_key_exchange.proofs.Rows.{may_use_of, is_current, found_test, not_verified, has_offer}
@@ -33,7 +33,7 @@ shows tools m false key = Does [] (sends 0 true (Clear clear_command (VerifyKey 
 
 shows_by : (tools : Tools) (m : Setting) (t : NodeState) (row : LinkKey) (b : Bool) → offered t (centre_of m.stations)
     ≡ Some row → spent Nwk t ≡ b → verify_key tools m t ≡ shows tools m b row.key
-unfolding verify_key found_or unless
+unfolding verify_key found_or refuse_if
 shows_by tools m t row true e f = rw (e, f) refl
 shows_by tools m t row false e f = rw (e, f) refl
 
@@ -51,7 +51,7 @@ proof_answer tools c m t key sequence link d j b e =
     ∙ shows_by tools m t j.keys.offer b (ap (offered t) d.network.centre_known ∙ j.keys.is_offered) e)
 
 proof_reason : (tools : Tools) (m : Setting) (t : NodeState) (key : Bytes) (b : Bool)
-    → (by_outcome tools m t (shows tools m b key)).refusal ≡ when b CounterSpent
+    → (by_outcome tools m t (shows tools m b key)).refusal ≡ obstacle_if b CounterSpent
 unfolding answer_by
 proof_reason tools m t key true = refl
 proof_reason tools m t key false = refl
@@ -141,14 +141,14 @@ confirms_by : (tools : Tools) (c m : Setting) (s : NodeState) (f : NetFrame) (ro
     → same_key (verify_hash tools offer.key) hash ≡ true → is_live s m.me.eui ≡ true → (b : Bool) → both_spent s ≡ b
     → take_command tools c s draw (heard_open tools f (VerifyKey 4 m.me.eui hash)) (VerifyKey 4 m.me.eui hash)
     ≡ confirms c m.me.eui row offer b
-unfolding take_command take_verify unless choose found_or
+unfolding take_command take_verify refuse_if choose found_or
 confirms_by tools c m s f row offer hash draw role source here there good live true x =
     rw (role, eq-eqb m.me.eui f.source (sym source), live, there, x) refl
 confirms_by tools c m s f row offer hash draw role source here there good live false x =
     rw (role, eq-eqb m.me.eui f.source (sym source), live, there, x, here, good) refl
 
 confirm_reason : (c : Setting) (device : ℕ) (row offer : LinkKey) (b : Bool)
-    → reason_of (confirms c device row offer b) ≡ when b CounterSpent
+    → reason_of (confirms c device row offer b) ≡ obstacle_if b CounterSpent
 confirm_reason c device row offer true = refl
 confirm_reason c device row offer false = refl
 

@@ -8,7 +8,7 @@ use Rattle.zb_model.specs.Record.{attribute_byte}
 use Rattle.zb_model.specs.State.{greatest_counter, NetKey, LinkKey, NodeState, new_link, same_key, is_centre, has_net, has_link, is_link, is_known, is_told, may_use, active_row, usable_active, current, offered, next_counter}
 use Rattle.zb_model.specs.Fits.{keeps_rules}
 use Rattle.zb_model.specs.Tools.{Tools}
-use Rattle.zb_model.specs.Rules.{Setting, Plan, Outcome, Stop, Does, Secret, sends, unless, found_or, centre_of, short_of, both_spent, links_full, unless_held}
+use Rattle.zb_model.specs.Rules.{Setting, Plan, Outcome, Stop, Does, Secret, sends, refuse_if, found_or, centre_of, short_of, both_spent, links_full, unless_held}
 use Rattle.zb_model.specs.OwnEvents.{member_timer, request_key, own}
 use Rattle.zb_model.specs.Commands.{take_request, take_command}
 use Rattle.zb_model.specs.Judging.{candidates}
@@ -21,7 +21,7 @@ use Rattle.law_recovery.proofs.Candidates.{one_candidate}
 use Rattle.law_key_exchange.specs.CommandFrames.{NetFrame, net_term, sealed_content, sealed_bytes, NetFrameInRange, LinkFrameInRange, DeliversCommands}
 use Rattle.law_key_exchange.specs.Exchanging.{Seals, net_frame, request, request_bytes, seals_now, Offers, StationsInRange, NwkInRange, ApsInRange}
 use Rattle.law_key_exchange.specs.Meeting.{AreDeclared, HasNetwork, HasLink, IsJoined}
-use Rattle.law_key_exchange.specs.Obstacles.{or_else, when, why_not_heard, why_not_opened, why_not_sealed, why_not_offered}
+use Rattle.law_key_exchange.specs.Obstacles.{or_else, obstacle_if, why_not_heard, why_not_opened, why_not_sealed, why_not_offered}
 use Rattle.law_key_exchange.proofs.Baring.{bare, bare_link, bare_after, moved_all}
 use Rattle.law_key_exchange.proofs.Rows.{may_use_of}
 use Rattle.law_key_exchange.proofs.Sending.{sealed_out}
@@ -42,7 +42,7 @@ asks false link = Does [] (sends 0 true (Secret ForData link RequestLink))
 
 asks_by : (m : Setting) (t : NodeState) (row : LinkKey) (b : Bool) → current t (centre_of m.stations) ≡ Some row
     → both_spent t ≡ b → request_key m t ≡ asks b row.key
-unfolding request_key found_or unless
+unfolding request_key found_or refuse_if
 asks_by m t row true e f = rw (e, f) refl
 asks_by m t row false e f = rw (e, f) refl
 
@@ -65,7 +65,7 @@ request_answer tools c m t key sequence link d j b e =
     ∙ asks_by m t j.keys.row b (ap (current t) d.network.centre_known ∙ j.keys.is_current) e)
 
 request_reason : (tools : Tools) (m : Setting) (t : NodeState) (link : Bytes) (b : Bool)
-    → (by_outcome tools m t (asks b link)).refusal ≡ when b CounterSpent
+    → (by_outcome tools m t (asks b link)).refusal ≡ obstacle_if b CounterSpent
 unfolding answer_by
 request_reason tools m t link true = refl
 request_reason tools m t link false = refl
@@ -161,7 +161,7 @@ offers_by : (tools : Tools) (c m : Setting) (s : NodeState) (f : NetFrame) (k : 
     (draw : Option Bytes) → is_centre c.me.role ≡ true → current s m.me.eui ≡ Some row → offered s m.me.eui ≡ None
     → (full : Bool) (o : Option Bytes) (b : Bool) → links_full s ≡ full → unless_held s draw ≡ o → both_spent s ≡ b
     → take_command tools c s draw (heard_with tools f (request m k) row) RequestLink ≡ offers c m.me.eui row full o b
-unfolding take_command take_request unless found_or
+unfolding take_command take_request refuse_if found_or
 offers_by tools c m s f k row draw role here none true o b x y z =
     rw (role, here, same_key_of row.key row.key refl, none, x) refl
 offers_by tools c m s f k row draw role here none false None b x y z =
@@ -207,7 +207,7 @@ request_plan tools delivers c m s k draw d st rn ra h l one =
 
 offer_reason : (c : Setting) (device : ℕ) (row : LinkKey) (full : Bool) (o : Option Bytes) (b : Bool)
     → reason_of (offers c device row full o b)
-    ≡ or_else (when full RowsFull) (or_else (when (is_none o) NoDraw) (when b CounterSpent))
+    ≡ or_else (obstacle_if full RowsFull) (or_else (obstacle_if (is_none o) NoDraw) (obstacle_if b CounterSpent))
 offer_reason c device row true o b = refl
 offer_reason c device row false None b = refl
 offer_reason c device row false (Some key) true = refl
@@ -313,9 +313,9 @@ pub record CanOffer (s : NodeState) (draw : Option Bytes) : Type 0 where
 
 pub offers_of : (s : NodeState) (draw : Option Bytes) → why_not_offered s draw ≡ None → CanOffer s draw
 offers_of s draw e =
-    let first = when (links_full s) RowsFull in
-    let second = when (is_none (unless_held s draw)) NoDraw in
-    let third = when (both_spent s) CounterSpent in
+    let first = obstacle_if (links_full s) RowsFull in
+    let second = obstacle_if (is_none (unless_held s draw)) NoDraw in
+    let third = obstacle_if (both_spent s) CounterSpent in
     let more = or_second first (or_else second third) e in
     record {
       draws = draws_by s draw (when_none (is_none (unless_held s draw)) NoDraw (or_first second third more));

@@ -11,18 +11,18 @@ abbrev pub or_else : Option Reason → Option Reason → Option Reason
 or_else None rest = rest
 or_else (Some reason) rest = Some reason
 
-abbrev pub when : Bool → Reason → Option Reason
-when true reason = Some reason
-when false reason = None
+abbrev pub obstacle_if : Bool → Reason → Option Reason
+obstacle_if true reason = Some reason
+obstacle_if false reason = None
 
 -- a floor is above the counter
 abbrev pub why_stale : ℕ → ℕ → Option Reason
-why_stale counter floor = when (nat_lt counter floor) (Stale floor)
+why_stale counter floor = obstacle_if (nat_lt counter floor) (Stale floor)
 
 -- Why a frame of a sender isn't taken under a network key: its floor is above the counter; floors of 64 others stand.
 unfoldable pub why_not_heard : NetKey → ℕ → ℕ → Option Reason
 why_not_heard row source counter =
-    or_else (why_stale counter (sender_floor source row).kept) (when (senders_full source counter row) RowsFull)
+    or_else (why_stale counter (sender_floor source row).kept) (obstacle_if (senders_full source counter row) RowsFull)
 
 -- Why a frame isn't taken under a link key: its floor is above the counter.
 unfoldable pub why_not_opened : LinkKey → ℕ → Option Reason
@@ -30,15 +30,15 @@ why_not_opened row counter = why_stale counter row.kept
 
 -- Why nothing is sent: a counter at its end. What is sealed at NWK alone needs one counter.
 abbrev pub why_not_sealed : NodeState → Option Reason
-why_not_sealed s = when (both_spent s) CounterSpent
+why_not_sealed s = obstacle_if (both_spent s) CounterSpent
 
 abbrev pub why_not_sealed_at_nwk : NodeState → Option Reason
-why_not_sealed_at_nwk s = when (spent Nwk s) CounterSpent
+why_not_sealed_at_nwk s = obstacle_if (spent Nwk s) CounterSpent
 
 -- Why the centre offers no key: its link rows are full; no key is left to be drawn; a counter stands at its end.
 abbrev pub why_not_offered : NodeState → Option Bytes → Option Reason
 why_not_offered s draw =
-    or_else (when (links_full s) RowsFull) (or_else (when (is_none (unless_held s draw)) NoDraw) (why_not_sealed s))
+    or_else (obstacle_if (links_full s) RowsFull) (or_else (obstacle_if (is_none (unless_held s draw)) NoDraw) (why_not_sealed s))
 
 -- Why the device takes no offer: its link rows are full; another partner has that key.
 abbrev pub why_key_in_use : Option LinkKey → Option Reason
@@ -46,7 +46,7 @@ why_key_in_use None = None
 why_key_in_use (Some other) = Some (KeyInUse other.partner)
 
 abbrev pub why_not_kept : NodeState → ℕ → Bytes → Option Reason
-why_not_kept t centre key = or_else (when (links_full t) RowsFull) (why_key_in_use (other_user t centre key))
+why_not_kept t centre key = or_else (obstacle_if (links_full t) RowsFull) (why_key_in_use (other_user t centre key))
 
 -- ---- event by event
 

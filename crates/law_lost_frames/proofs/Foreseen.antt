@@ -17,7 +17,7 @@ use Rattle.law_change_fits.proofs.Tests.{both, filter_shorter}
 use Rattle.law_key_exchange.specs.CommandFrames.{DeliversCommands, IsCarried, sealed_content}
 use Rattle.law_key_exchange.specs.Exchanging.{Seals, net_frame, offer, offer_bytes, request, request_bytes, seals_now}
 use Rattle.law_key_exchange.specs.Meeting.{HasNetwork, IsSteady}
-use Rattle.law_key_exchange.specs.Obstacles.{in_row, or_else, when, why_no_confirmation, why_no_offer, why_no_proof, why_not_confirmed, why_not_heard, why_not_kept, why_not_offered, why_not_opened, why_not_sealed, why_offer_not_kept, why_unheard}
+use Rattle.law_key_exchange.specs.Obstacles.{in_row, or_else, obstacle_if, why_no_confirmation, why_no_offer, why_no_proof, why_not_confirmed, why_not_heard, why_not_kept, why_not_offered, why_not_opened, why_not_sealed, why_offer_not_kept, why_unheard}
 use Rattle.law_key_exchange.proofs.Counting.{GoesOn, KeepsOn, keep_counts, offer_counts, request_counts, request_edits, request_quiet}
 use Rattle.law_key_exchange.proofs.Judged.{or_first}
 use Rattle.law_key_exchange.proofs.Laws.{found_net}
@@ -55,7 +55,7 @@ unfolding both_spent
 sealed_free s e f = rw (e, f) refl
 
 proof_free : (s : NodeState) → spent Nwk s ≡ false → why_no_proof s ≡ None
-proof_free s e = ap (λ b. when b CounterSpent) e
+proof_free s e = ap (λ b. obstacle_if b CounterSpent) e
 
 -- ---- a sender that was heard has room, and its next frame isn't stale
 
@@ -334,7 +334,7 @@ held tools delivers opens w x c d k fit b =
 
 stale_free : (counter : ℕ) (row : LinkKey) → row.kept ≤ counter → why_not_opened row counter ≡ None
 unfolding why_not_opened
-stale_free counter row le = ap (λ b. when b (Stale row.kept)) (le-ltb counter row.kept le)
+stale_free counter row le = ap (λ b. obstacle_if b (Stale row.kept)) (le-ltb counter row.kept le)
 
 both_none : (a b : Option Reason) → a ≡ None → b ≡ None → or_else a b ≡ None
 both_none a b e f = ap (λ o. or_else o b) e ∙ f

@@ -12,7 +12,7 @@ use Rattle.law_answer_storable.specs.Storing.{OpensAsJudged}
 use Rattle.law_key_exchange.specs.CommandFrames.{DeliversCommands, LinkFrame, LinkFrameInRange, NetFrame}
 use Rattle.law_key_exchange.specs.Exchanging.{Seals, ApsInRange, NwkInRange, StationsInRange, confirmation, confirmation_bytes, net_frame, offer, offer_bytes, request_bytes}
 use Rattle.law_key_exchange.specs.Meeting.{AreDeclared, HasNetwork, IsJoined, IsOffered, IsSteady}
-use Rattle.law_key_exchange.specs.Obstacles.{or_else, when, why_key_in_use, why_not_heard, why_not_kept, why_not_opened}
+use Rattle.law_key_exchange.specs.Obstacles.{or_else, obstacle_if, why_key_in_use, why_not_heard, why_not_kept, why_not_opened}
 use Rattle.law_key_exchange.proofs.Confirming.{confirm_refused}
 use Rattle.law_key_exchange.proofs.Counting.{GoesOn, offer_counts, request_quiet}
 use Rattle.law_key_exchange.proofs.CountingAnswers.{again_counts, confirmed_again_counts, confirmed_counts}
@@ -112,7 +112,7 @@ floors_kept t u sender key sequence most e h f = record {
 
 -- ---- why the device refuses an answer
 
-kept_other : (b : Bool) (o : Option LinkKey) (v : ℕ) → or_else (when b RowsFull) (why_key_in_use o) ≡ Some (Stale v)
+kept_other : (b : Bool) (o : Option LinkKey) (v : ℕ) → or_else (obstacle_if b RowsFull) (why_key_in_use o) ≡ Some (Stale v)
     → ⊥
 kept_other true o v e = absurd (cc)
 kept_other false (Some other) v e = absurd (cc)

@@ -10,7 +10,7 @@ use Rattle.zb_model.specs.Tools.{Tools}
 use Rattle.law_answer_storable.specs.Storing.{OpensAsJudged}
 use Rattle.law_key_exchange.specs.CommandFrames.{IsCarried, IsUnsealed, LinkFrame, NetFrame, sealed_bytes, sealed_content}
 use Rattle.law_key_exchange.specs.Meeting.{HasNetwork, IsSteady}
-use Rattle.law_key_exchange.specs.Obstacles.{in_row, or_else, when, why_not_heard, why_not_opened}
+use Rattle.law_key_exchange.specs.Obstacles.{in_row, or_else, obstacle_if, why_not_heard, why_not_opened}
 use Rattle.law_key_exchange.proofs.Judged.{IsHeard}
 use Rattle.law_key_exchange.proofs.Steady.{steady_after}
 use Rattle.law_recovery.specs.Answering.{after_task}
@@ -38,9 +38,9 @@ late_so net row source nwk aps v rest other e =
     floor = (sender_floor source net).kept
 
     by_tests : (a b t : Bool)
-        → or_else (or_else (when a (Stale floor)) (when b RowsFull)) (or_else (when t (Stale row.kept)) rest)
+        → or_else (or_else (obstacle_if a (Stale floor)) (obstacle_if b RowsFull)) (or_else (obstacle_if t (Stale row.kept)) rest)
         ≡ Some (Stale v)
-        → (a ≡ true) ⊎ ((or_else (when a (Stale floor)) (when b RowsFull) ≡ None) × (t ≡ true))
+        → (a ≡ true) ⊎ ((or_else (obstacle_if a (Stale floor)) (obstacle_if b RowsFull) ≡ None) × (t ≡ true))
     by_tests true b t f = inl refl
     by_tests false true t f = absurd (cc)
     by_tests false false true f = inr (refl, refl)

@@ -10,14 +10,14 @@ use Rattle.zb_model.specs.Judging.{senders_full}
 use Rattle.zb_model.specs.OwnEvents.{member_timer, verify_key}
 use Rattle.zb_model.specs.Play.{Schedule, Deliver, Own, setting_of, supply}
 use Rattle.zb_model.specs.Readings.{air, state_of}
-use Rattle.zb_model.specs.Rules.{Setting, Clear, Does, Outcome, centre_of, found_or, links_full, sends, spent, both_spent, unless, unless_held}
+use Rattle.zb_model.specs.Rules.{Setting, Clear, Does, Outcome, centre_of, found_or, links_full, sends, spent, both_spent, refuse_if, unless_held}
 use Rattle.zb_model.specs.State.{NetKey, LinkKey, NodeState, active_row, applied_all, at_net, current, may_use, next_at, next_counter, offered, sender_floor, after_sealing, usable_active, usable_of}
 use Rattle.zb_model.specs.Tools.{Tools, verify_hash}
 use Rattle.law_answer_storable.specs.Storing.{OpensAsJudged}
 use Rattle.law_key_exchange.specs.CommandFrames.{DeliversCommands, IsCarried, IsUnsealed, sealed_content, clear_content}
 use Rattle.law_key_exchange.specs.Exchanging.{Seals, ApsInRange, NwkInRange, StationsInRange, net_frame, proof_bytes, request, request_bytes, seals_now}
 use Rattle.law_key_exchange.specs.Meeting.{AreDeclared, HasBoth, HasNetwork, IsOffered, IsSteady}
-use Rattle.law_key_exchange.specs.Obstacles.{in_row, or_else, when, why_no_offer_again, why_no_proof, why_not_heard, why_not_offered, why_not_opened, why_not_sealed}
+use Rattle.law_key_exchange.specs.Obstacles.{in_row, or_else, obstacle_if, why_no_offer_again, why_no_proof, why_not_heard, why_not_offered, why_not_opened, why_not_sealed}
 use Rattle.law_key_exchange.proofs.Again.{again_refused, confirm_again_refused}
 use Rattle.law_key_exchange.proofs.Calm.{sealed_next}
 use Rattle.law_key_exchange.proofs.Counting.{GoesOn, request_counts}
@@ -55,18 +55,18 @@ late_proof net source nwk v rest other e =
     floor : ℕ
     floor = (sender_floor source net).kept
 
-    by_tests : (a b : Bool) → or_else (or_else (when a (Stale floor)) (when b RowsFull)) rest ≡ Some (Stale v)
+    by_tests : (a b : Bool) → or_else (or_else (obstacle_if a (Stale floor)) (obstacle_if b RowsFull)) rest ≡ Some (Stale v)
         → a ≡ true
     by_tests true b f = refl
     by_tests false true f = absurd (cc)
     by_tests false false f = absurd (other f)
 
-sealed_other : (b : Bool) (v : ℕ) → when b CounterSpent ≡ Some (Stale v) → ⊥
+sealed_other : (b : Bool) (v : ℕ) → obstacle_if b CounterSpent ≡ Some (Stale v) → ⊥
 sealed_other true v e = absurd (cc)
 sealed_other false v e = absurd (cc)
 
 offered_other : (a b t : Bool) (v : ℕ)
-    → or_else (when a RowsFull) (or_else (when b NoDraw) (when t CounterSpent)) ≡ Some (Stale v) → ⊥
+    → or_else (obstacle_if a RowsFull) (or_else (obstacle_if b NoDraw) (obstacle_if t CounterSpent)) ≡ Some (Stale v) → ⊥
 offered_other true b t v e = absurd (cc)
 offered_other false true t v e = absurd (cc)
 offered_other false false true v e = absurd (cc)
@@ -84,7 +84,7 @@ offered_timer tools m t net may active state = rw (may, active, state) refl
 
 shows_by : (tools : Tools) (m : Setting) (t : NodeState) (row : LinkKey) → offered t (centre_of m.stations) ≡ Some row
     → spent Nwk t ≡ false → verify_key tools m t ≡ shows_now tools m row.key
-unfolding verify_key found_or unless
+unfolding verify_key found_or refuse_if
 shows_by tools m t row e f = rw (e, f) refl
 
 proves : (tools : Tools) (c m : Setting) (t : NodeState) (key : Bytes) (sequence : ℕ) (link : Bytes) → AreDeclared c m

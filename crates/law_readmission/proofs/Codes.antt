@@ -4,7 +4,7 @@ use Rattle.std.specs.List.{AllByRecursion, list_any}
 use Rattle.std.proofs.lemmas.Bool.{false≢true}
 use Rattle.zb_model.specs.Data.{Bytes, Attribute, Provisional, WrongState, RowsFull, Row, Live, DoProvision}
 use Rattle.zb_model.specs.Record.{attribute_byte}
-use Rattle.zb_model.specs.Rules.{Setting, Does, unless, links_full}
+use Rattle.zb_model.specs.Rules.{Setting, Does, refuse_if, links_full}
 use Rattle.zb_model.specs.OwnEvents.{own, provision}
 use Rattle.zb_model.specs.State.{LinkKey, NodeState, same_key, is_centre, is_unverified, is_live_of, is_link, has_link, is_live, is_told, at_link, revived, new_link, with_link, with_told, told_as, current, offered, other_user, applied, applied_all, next_counter}
 use Rattle.zb_model.specs.Tools.{Tools}
@@ -15,7 +15,7 @@ use Rattle.law_recovery.specs.Answering.{after_task}
 use Rattle.law_recovery.proofs.Asking.{by_outcome}
 use Rattle.law_recovery.proofs.Once.{find_map}
 use Rattle.law_key_exchange.specs.Meeting.{HasLink}
-use Rattle.law_key_exchange.specs.Obstacles.{or_else, when, why_key_in_use}
+use Rattle.law_key_exchange.specs.Obstacles.{or_else, obstacle_if, why_key_in_use}
 use Rattle.law_key_exchange.proofs.Baring.{bare_net}
 use Rattle.law_key_exchange.proofs.Judged.{or_first, or_second, when_none}
 use Rattle.law_key_exchange.proofs.Rows.{found_last, found_such, is_current, is_offer}
@@ -34,8 +34,8 @@ provision_reason : (tools : Tools) (c : Setting) (s : NodeState) (device : ℕ) 
     (other : Option LinkKey) → is_live s device ≡ live → (not (has_link device key s.links) && links_full s) ≡ full
     → other_user s device key ≡ other
     → (by_outcome tools c s (provision s device key)).refusal
-    ≡ or_else (when live WrongState) (or_else (when full RowsFull) (why_key_in_use other))
-unfolding answer_by provision unless
+    ≡ or_else (obstacle_if live WrongState) (or_else (obstacle_if full RowsFull) (why_key_in_use other))
+unfolding answer_by provision refuse_if
 provision_reason tools c s device key true full other x y z = rw x refl
 provision_reason tools c s device key false true other x y z = rw (x, y) refl
 provision_reason tools c s device key false false (Some row) x y z = rw (x, y, z) refl
@@ -56,9 +56,9 @@ entered_links device key told links = with_told device false (with_link device k
 
 rule_then : (s : NodeState) (device : ℕ) (key : Bytes) (full : Bool) (other : Option LinkKey) → is_live s device
     ≡ false → (not (has_link device key s.links) && links_full s) ≡ full → other_user s device key ≡ other
-    → or_else (when full RowsFull) (why_key_in_use other) ≡ None
+    → or_else (obstacle_if full RowsFull) (why_key_in_use other) ≡ None
     → provision s device key ≡ Does (Row device key Provisional ∷ Live device ∷ []) None
-unfolding provision unless
+unfolding provision refuse_if
 rule_then s device key true other x y z e = absurd (false≢true (sym (ap is_some e)))
 rule_then s device key false (Some row) x y z e = absurd (false≢true (sym (ap is_some e)))
 rule_then s device key false None x y z e = rw (x, y, z) refl
@@ -99,13 +99,13 @@ pub entered : (tools : Tools) (c : Setting) (s : NodeState) (device : ℕ) (key 
     ≡ record s { links = entered_links device key (is_told s device) s.links }
 unfolding after_task why_not_entered why_no_row
 entered tools c s device key role e =
-    let rest = or_else (when (not (has_link device key s.links) && links_full s) RowsFull)
+    let rest = or_else (obstacle_if (not (has_link device key s.links) && links_full s) RowsFull)
     (why_key_in_use (other_user s device key)) in
-    let gone = when_none (is_live s device) WrongState (or_first (when (is_live s device) WrongState) rest e) in
+    let gone = when_none (is_live s device) WrongState (or_first (obstacle_if (is_live s device) WrongState) rest e) in
     ap (λ a. answered a s)
     (provision_answer tools c s device key role ∙ ap (by_outcome tools c s)
     (rule_then s device key (not (has_link device key s.links) && links_full s) (other_user s device key) gone refl
-    refl (or_second (when (is_live s device) WrongState) rest e)))
+    refl (or_second (obstacle_if (is_live s device) WrongState) rest e)))
     ∙ entered_so tools c s device key (none_there s device key gone)
 
 pub not_live_of : (s : NodeState) (device : ℕ) (key : Bytes) → why_not_entered s device key ≡ None → is_live s device
@@ -113,7 +113,7 @@ pub not_live_of : (s : NodeState) (device : ℕ) (key : Bytes) → why_not_enter
 unfolding why_not_entered
 not_live_of s device key e =
     when_none (is_live s device) WrongState
-    (or_first (when (is_live s device) WrongState) (why_no_row s device key) e)
+    (or_first (obstacle_if (is_live s device) WrongState) (why_no_row s device key) e)
 
 -- ---- which row is found
 

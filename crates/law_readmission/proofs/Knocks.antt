@@ -17,7 +17,7 @@ use Rattle.law_recovery.specs.Answering.{after_task}
 use Rattle.law_recovery.proofs.Asking.{by_outcome}
 use Rattle.law_recovery.proofs.Knocking.{knocks}
 use Rattle.law_recovery.proofs.Once.{map_map}
-use Rattle.law_key_exchange.specs.Obstacles.{when}
+use Rattle.law_key_exchange.specs.Obstacles.{obstacle_if}
 use Rattle.law_key_exchange.proofs.Rows.{any_found, found_such, found_test, is_current, is_offer}
 use Rattle.law_readmission.specs.Entering.{HasKnocked, why_no_knock}
 use Rattle.law_readmission.proofs.Codes.{none_found}
@@ -32,7 +32,7 @@ unfolding answer plan_of own
 knock_answer tools m t role = rw role refl
 
 knock_reason : (tools : Tools) (m : Setting) (t : NodeState) (o : Option LinkKey) → code_row t (centre_of m.stations)
-    ≡ o → (by_outcome tools m t (knock m t)).refusal ≡ when (is_none o) NoKey
+    ≡ o → (by_outcome tools m t (knock m t)).refusal ≡ obstacle_if (is_none o) NoKey
 unfolding answer_by knock found_or
 knock_reason tools m t None e = rw e refl
 knock_reason tools m t (Some row) e = rw e refl

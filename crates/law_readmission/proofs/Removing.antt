@@ -3,7 +3,7 @@ use Rattle.std.proofs.Common.{◌≡◌, ℕ, ◌+◌, Bool, true, false, not, �
 use Rattle.std.specs.List.{list_any}
 use Rattle.zb_model.specs.Data.{Bytes, Nwk, Aps, Term, AtEvent, NotMember, RowsFull, Move, Removed, DoRemove}
 use Rattle.zb_model.specs.Fits.{most_links}
-use Rattle.zb_model.specs.Rules.{Setting, Leaving, Sending, Does, unless, sends, short_of, spent, drop_link, drop_partner, links_full}
+use Rattle.zb_model.specs.Rules.{Setting, Leaving, Sending, Does, refuse_if, sends, short_of, spent, drop_link, drop_partner, links_full}
 use Rattle.zb_model.specs.OwnEvents.{own, remove_device, tell_leave, tell_parent}
 use Rattle.zb_model.specs.State.{NetKey, LinkKey, NodeState, same_key, is_centre, is_live_of, has_link, is_live, may_use, current, other_user, next_at, moved, applied, applied_all, after_sealing, active_row, next_counter}
 use Rattle.zb_model.specs.Tools.{Tools}
@@ -12,7 +12,7 @@ use Rattle.law_recovery.specs.Answering.{after_task}
 use Rattle.law_recovery.proofs.Asking.{by_outcome}
 use Rattle.law_recovery.proofs.Changing.{IsMild, mild_if, reserves, reserved_so, applied_then}
 use Rattle.law_recovery.proofs.Once.{find_map}
-use Rattle.law_key_exchange.specs.Obstacles.{or_else, when, why_key_in_use}
+use Rattle.law_key_exchange.specs.Obstacles.{or_else, obstacle_if, why_key_in_use}
 use Rattle.law_key_exchange.proofs.Baring.{bare_net}
 use Rattle.law_key_exchange.proofs.Rows.{may_use_of, same_network}
 use Rattle.law_readmission.specs.Entering.{IsRemoved, KeepsNetwork, why_no_row, why_not_removed}
@@ -26,8 +26,8 @@ unfolding answer plan_of own
 remove_answer tools c s device via role = rw role refl
 
 remove_reason : (tools : Tools) (c : Setting) (s : NodeState) (device via : ℕ) (b : Bool) → is_live s device ≡ b
-    → (by_outcome tools c s (remove_device c s device via)).refusal ≡ when (not b) NotMember
-unfolding answer_by remove_device unless
+    → (by_outcome tools c s (remove_device c s device via)).refusal ≡ obstacle_if (not b) NotMember
+unfolding answer_by remove_device refuse_if
 remove_reason tools c s device via true e = rw e refl
 remove_reason tools c s device via false e = rw e refl
 
@@ -150,7 +150,7 @@ rule_then : (tools : Tools) (c : Setting) (s : NodeState) (device via : ℕ) →
     → (send : Option Sending) → (if nat_eq via c.me.eui then tell_leave c s device
     else tell_parent c s device via (current s via)) ≡ send → remove_device c s device via
     ≡ Does (drop_partner s device ++ Removed device ∷ []) send
-unfolding remove_device unless
+unfolding remove_device refuse_if
 rule_then tools c s device via live send e = rw live (ap (Does (drop_partner s device ++ Removed device ∷ [])) e)
 
 pub dropped : (tools : Tools) (c : Setting) (s : NodeState) (device via : ℕ) → is_centre c.me.role ≡ true
@@ -204,10 +204,10 @@ same_room s u device d key =
     let user =
     ap (λ l. why_key_in_use (find (λ (r : LinkKey). same_key r.key key && not (nat_eq r.partner device)) l)) d.links
     ∙ same_user device key rows s.links in
-    ap (λ b. or_else (when (not b && links_full u) RowsFull) (why_key_in_use (other_user u device key))) has
-    ∙ ap (λ b. or_else (when (not (has_link device key s.links) && b) RowsFull)
+    ap (λ b. or_else (obstacle_if (not b && links_full u) RowsFull) (why_key_in_use (other_user u device key))) has
+    ∙ ap (λ b. or_else (obstacle_if (not (has_link device key s.links) && b) RowsFull)
     (why_key_in_use (other_user u device key))) full
-    ∙ ap (or_else (when (not (has_link device key s.links) && links_full s) RowsFull)) user
+    ∙ ap (or_else (obstacle_if (not (has_link device key s.links) && links_full s) RowsFull)) user
 
 pub removes : (tools : Tools) (c : Setting) (s : NodeState) (device via : ℕ) → is_centre c.me.role ≡ true
     → is_live s device ≡ true → IsRemoved s (after_task tools c s (DoRemove device via)) device

@@ -5,27 +5,27 @@ use Rattle.zb_model.specs.Data.{Bytes, Aps, Knocked, Reason, NoKey, NotMember, W
 use Rattle.zb_model.specs.Rules.{links_full}
 use Rattle.zb_model.specs.State.{LinkKey, NodeState, code_row, current, has_link, is_live, is_verified, next_counter, offered, other_user}
 use Rattle.law_key_exchange.specs.Meeting.{HasBoth, HasLink, HasNetwork, HasOffer, HasProved, IsConfirmed, IsJoined, IsOffered}
-use Rattle.law_key_exchange.specs.Obstacles.{or_else, when, why_key_in_use}
+use Rattle.law_key_exchange.specs.Obstacles.{or_else, obstacle_if, why_key_in_use}
 
 -- ---- the obstacles
 
 -- why a device isn't removed: it isn't live
 unfoldable pub why_not_removed : NodeState → ℕ → Option Reason
-why_not_removed s device = when (not (is_live s device)) NotMember
+why_not_removed s device = obstacle_if (not (is_live s device)) NotMember
 
 -- Why no row is there for a code: none has its key, and the rows are full; another device has that key.
 unfoldable pub why_no_row : NodeState → ℕ → Bytes → Option Reason
 why_no_row s device key =
-    or_else (when (not (has_link device key s.links) && links_full s) RowsFull)
+    or_else (obstacle_if (not (has_link device key s.links) && links_full s) RowsFull)
     (why_key_in_use (other_user s device key))
 
 -- why a code isn't entered: its device is live, or no row is there for it
 unfoldable pub why_not_entered : NodeState → ℕ → Bytes → Option Reason
-why_not_entered s device key = or_else (when (is_live s device) WrongState) (why_no_row s device key)
+why_not_entered s device key = or_else (obstacle_if (is_live s device) WrongState) (why_no_row s device key)
 
 -- why a device doesn't knock: it has no install code's key
 unfoldable pub why_no_knock : NodeState → ℕ → Option Reason
-why_no_knock t centre = when (is_none (code_row t centre)) NoKey
+why_no_knock t centre = obstacle_if (is_none (code_row t centre)) NoKey
 
 -- ---- what the events leave
 

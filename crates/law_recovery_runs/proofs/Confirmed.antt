@@ -15,7 +15,7 @@ use Rattle.law_answer_storable.specs.Storing.{OpensAsJudged}
 use Rattle.law_key_exchange.specs.CommandFrames.{DeliversCommands}
 use Rattle.law_key_exchange.specs.Exchanging.{Seals, seals_now, request_bytes, offer_bytes, proof_bytes, confirmation_bytes, NwkInRange, ApsInRange}
 use Rattle.law_key_exchange.specs.Meeting.{HasLink, HasNetwork, HasOffer, HasProved, IsConfirmed, IsJoined, IsOffered, IsSteady}
-use Rattle.law_key_exchange.specs.Obstacles.{or_else, when, in_row, why_unheard, why_not_opened, why_not_sealed, why_no_confirmation, why_no_offer, why_no_proof, why_no_request, why_not_confirmed, why_offer_not_kept}
+use Rattle.law_key_exchange.specs.Obstacles.{or_else, obstacle_if, in_row, why_unheard, why_not_opened, why_not_sealed, why_no_confirmation, why_no_offer, why_no_proof, why_no_request, why_not_confirmed, why_offer_not_kept}
 use Rattle.law_key_exchange.proofs.Joining.{child_bare, is_joined}
 use Rattle.law_key_exchange.proofs.Judged.{or_second, when_none}
 use Rattle.law_key_exchange.proofs.Keeping.{link_left, network_left, one_of}
@@ -150,8 +150,8 @@ unfolding why_no_offer
 offer_free s device k draw e =
     let first = why_unheard s device k in
     let second = in_row (current s device) (λ row. why_not_opened row k.aps) in
-    let third = when (links_full s) RowsFull in
-    let fourth = when (is_none (unless_held s draw)) NoDraw in
+    let third = obstacle_if (links_full s) RowsFull in
+    let fourth = obstacle_if (is_none (unless_held s draw)) NoDraw in
     let last = why_not_sealed s in
     let rest = or_else third (or_else fourth last) in
     or_second fourth last

@@ -5,7 +5,7 @@ use Rattle.zb_model.specs.Fits.{keeps_rules}
 use Rattle.zb_model.specs.Frames.{plain_frame, nwk_header}
 use Rattle.zb_model.specs.State.{NetKey, LinkKey, NodeState, next_counter}
 use Rattle.zb_model.specs.Tools.{Tools}
-use Rattle.zb_model.specs.Rules.{Setting, Plan, Outcome, Does, Relayed, sends, unless, centre_of, short_of, is_declared}
+use Rattle.zb_model.specs.Rules.{Setting, Plan, Outcome, Does, Relayed, sends, refuse_if, centre_of, short_of, is_declared}
 use Rattle.zb_model.specs.Commands.{take_tunnel, take_command}
 use Rattle.zb_model.specs.Answer.{Counting, comes_to, part_of, may_seal, out_of, refusal_of, answer_by, counting_of, plan_of, answer}
 use Rattle.law_recovery.specs.Answering.{after_task, frame_of}
@@ -34,7 +34,7 @@ relays_by : (tools : Tools) (c r m : Setting) (t : NodeState) (k : Seals) (f : K
     → AreRouted c r m → f.device ≡ m.me.eui
     → take_command tools r t draw (heard_open tools (net_frame c r k) (tunnel tools f)) (tunnel tools f)
     ≡ relays tools r f
-unfolding take_command take_tunnel unless
+unfolding take_command take_tunnel refuse_if
 relays_by tools c r m t k f draw d to =
     let from : nat_eq c.me.eui (centre_of r.stations) ≡ true =
     eq-eqb c.me.eui (centre_of r.stations) (sym d.router.network.centre_known) in

@@ -6,7 +6,7 @@ use Rattle.zb_model.specs.Fits.{keeps_rules}
 use Rattle.zb_model.specs.Frames.{secured_frame, nwk_term, aps_term, sealed_command, clear_command, low_byte}
 use Rattle.zb_model.specs.State.{NetKey, LinkKey, NodeState, is_centre, may_use, active_row, usable_active, current, next_counter}
 use Rattle.zb_model.specs.Tools.{Tools}
-use Rattle.zb_model.specs.Rules.{Setting, Plan, Outcome, Stop, Does, Secret, Tunnelled, sends, unless, found_or, choose, centre_of, short_of, acts_as_router, in_rejoining, both_spent}
+use Rattle.zb_model.specs.Rules.{Setting, Plan, Outcome, Stop, Does, Secret, Tunnelled, sends, refuse_if, found_or, choose, centre_of, short_of, acts_as_router, in_rejoining, both_spent}
 use Rattle.zb_model.specs.OwnEvents.{child_of_router, own}
 use Rattle.zb_model.specs.Commands.{take_update, take_command}
 use Rattle.zb_model.specs.Answer.{Answer, Counting, comes_to, changes, moves_of, part_of, may_seal, out_of, reason_of, refusal_of, answer_by, counting_of, plan_of, answer, answered}
@@ -17,7 +17,7 @@ use Rattle.law_recovery.proofs.Candidates.{one_candidate}
 use Rattle.law_key_exchange.specs.CommandFrames.{net_term, sealed_content, sealed_bytes, clear_bytes}
 use Rattle.law_key_exchange.specs.Exchanging.{Seals, net_frame, seals_now, StationsInRange, NwkInRange, ApsInRange}
 use Rattle.law_key_exchange.specs.Meeting.{HasNetwork, HasLink}
-use Rattle.law_key_exchange.specs.Obstacles.{or_else, in_row, when, why_not_heard, why_not_opened, why_not_sealed}
+use Rattle.law_key_exchange.specs.Obstacles.{or_else, in_row, obstacle_if, why_not_heard, why_not_opened, why_not_sealed}
 use Rattle.law_key_exchange.proofs.Baring.{bare, bare_after}
 use Rattle.law_key_exchange.proofs.Judged.{IsOpened, plan_at, plan_opened, both_terms, heard_with, delivered_sealed, refused_at, refused_opened, free_at, free_opened, or_first, or_second, when_none}
 use Rattle.law_key_exchange.proofs.Quiet.{quiet, quiet_after}
@@ -41,7 +41,7 @@ reports device short false link = Does [] (sends 0 true (Secret ForData link (Up
 reports_by : (r : Setting) (t : NodeState) (child : ℕ) (net : NetKey) (row : LinkKey) (b : Bool) → may_use t ≡ true
     → active_row t ≡ Some net → in_rejoining t.state ≡ false → current t (centre_of r.stations) ≡ Some row
     → both_spent t ≡ b → child_of_router r t child false ≡ reports child (short_of r child) b row.key
-unfolding child_of_router found_or unless usable_active
+unfolding child_of_router found_or refuse_if usable_active
 reports_by r t child net row true may active stays here e = rw (may, active, stays, here, e) refl
 reports_by r t child net row false may active stays here e = rw (may, active, stays, here, e) refl
 
@@ -56,7 +56,7 @@ report_answer tools c r m t key sequence link d j b e =
     j.stays (ap (current t) d.router.network.centre_known ∙ j.keys.is_current) e)
 
 report_reason : (tools : Tools) (r : Setting) (t : NodeState) (device short : ℕ) (link : Bytes) (b : Bool)
-    → (by_outcome tools r t (reports device short b link)).refusal ≡ when b CounterSpent
+    → (by_outcome tools r t (reports device short b link)).refusal ≡ obstacle_if b CounterSpent
 unfolding answer_by
 report_reason tools r t device short link true = refl
 report_reason tools r t device short link false = refl
@@ -144,13 +144,13 @@ answers_by : (tools : Tools) (c r m : Setting) (s : NodeState) (k : Seals) (link
     → (o : Option LinkKey) (b : Bool) → current s m.me.eui ≡ o → both_spent s ≡ b
     → take_command tools c s draw (heard_with tools (net_frame r c k) (report r m k) link)
     (UpdateDevice m.me.eui m.me.short joins_now) ≡ answers c r.me.eui m.me.eui net o b
-unfolding take_command take_update unless choose found_or
+unfolding take_command take_update refuse_if choose found_or
 answers_by tools c r m s k link net draw role acts active None b x y = rw (role, acts, active, x) refl
 answers_by tools c r m s k link net draw role acts active (Some row) true x y = rw (role, acts, active, x, y) refl
 answers_by tools c r m s k link net draw role acts active (Some row) false x y = rw (role, acts, active, x, y) refl
 
 answer_reason : (c : Setting) (router device : ℕ) (net : NetKey) (o : Option LinkKey) (b : Bool)
-    → reason_of (answers c router device net o b) ≡ or_else (when (is_none o) NotMember) (when b CounterSpent)
+    → reason_of (answers c router device net o b) ≡ or_else (obstacle_if (is_none o) NotMember) (obstacle_if b CounterSpent)
 answer_reason c router device net None b = refl
 answer_reason c router device net (Some row) true = refl
 answer_reason c router device net (Some row) false = refl
@@ -201,10 +201,10 @@ why_is : (s : NodeState) (router device : ℕ) (k : Seals) (h : HasNetwork s k.k
     → why_no_tunnel s router device k
     ≡ or_else (why_not_heard h.found router k.nwk)
     (or_else (why_not_opened l.row k.aps)
-    (or_else (when (is_none (current s device)) NotMember) (why_not_sealed s)))
+    (or_else (obstacle_if (is_none (current s device)) NotMember) (why_not_sealed s)))
 unfolding why_no_tunnel
 why_is s router device k h l =
-    let rest = or_else (when (is_none (current s device)) NotMember) (why_not_sealed s) in
+    let rest = or_else (obstacle_if (is_none (current s device)) NotMember) (why_not_sealed s) in
     ap (λ o. or_else (in_row o (λ row. why_not_heard row router k.nwk))
     (or_else (in_row (current s router) (λ row. why_not_opened row k.aps)) rest)) h.is_found
     ∙ ap (λ o. or_else (why_not_heard h.found router k.nwk)
@@ -259,7 +259,7 @@ tunnel_plan tools delivers c r m s k net row draw d sr sm rn ra rules active her
     let e = sym (why_is s r.me.eui m.me.eui k h l) ∙ none in
     let first = why_not_heard h.found r.me.eui k.nwk in
     let second = why_not_opened l.row k.aps in
-    let third = when (is_none (current s m.me.eui)) NotMember in
+    let third = obstacle_if (is_none (current s m.me.eui)) NotMember in
     let fourth = why_not_sealed s in
     let more = or_second first (or_else second (or_else third fourth)) e in
     let unspent = when_none (both_spent s) CounterSpent
@@ -279,7 +279,7 @@ unspent_of s router device k h l none =
     let e = sym (why_is s router device k h l) ∙ none in
     let first = why_not_heard h.found router k.nwk in
     let second = why_not_opened l.row k.aps in
-    let third = when (is_none (current s device)) NotMember in
+    let third = obstacle_if (is_none (current s device)) NotMember in
     let fourth = why_not_sealed s in
     when_none (both_spent s) CounterSpent
     (or_second third fourth

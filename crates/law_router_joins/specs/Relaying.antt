@@ -7,7 +7,7 @@ use Rattle.zb_model.specs.Rules.{Setting, acts_as_router, in_rejoining, is_decla
 use Rattle.zb_model.specs.State.{NodeState, current}
 use Rattle.law_key_exchange.specs.Exchanging.{Seals}
 use Rattle.law_key_exchange.specs.Meeting.{AreDeclared, HasLink, HasNetwork}
-use Rattle.law_key_exchange.specs.Obstacles.{in_row, or_else, when, why_not_opened, why_not_sealed, why_unheard}
+use Rattle.law_key_exchange.specs.Obstacles.{in_row, or_else, obstacle_if, why_not_opened, why_not_sealed, why_unheard}
 
 -- The settings of a centre, a router and a device: both are of the centre's network, each knows the addresses of the
 -- others, and these differ.
@@ -39,7 +39,7 @@ unfoldable pub why_no_tunnel : NodeState → ℕ → ℕ → Seals → Option Re
 why_no_tunnel s router device k =
     or_else (why_unheard s router k)
     (or_else (in_row (current s router) (λ row. why_not_opened row k.aps))
-    (or_else (when (is_none (current s device)) NotMember) (why_not_sealed s)))
+    (or_else (obstacle_if (is_none (current s device)) NotMember) (why_not_sealed s)))
 
 -- why the router doesn't relay a Tunnel: it isn't heard
 abbrev pub why_not_relayed : NodeState → ℕ → Seals → Option Reason
