@@ -10,7 +10,7 @@ use Rattle.zb_model.specs.Tools.{Tools}
 use Rattle.zb_model_real.specs.Terms.{model_term}
 use Rattle.zb_trace.specs.declared.line.Line.{Line}
 use Rattle.zb_trace.specs.declared.line.Line.TheVariants as line
-use Rattle.law_line_texts.specs.Plain.{plain, plains}
+use Rattle.law_audit_text.specs.Plain.{plain, plains}
 use Rattle.law_audit_text.proofs.Plain.{plains_snoc, plains_length, flat_plain, fold_plain}
 
 -- ---- names

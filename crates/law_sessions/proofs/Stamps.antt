@@ -10,9 +10,9 @@ use Rattle.law_sessions.proofs.SessionLemmas.{sessions_apart}
 use Rattle.zb_centre_store.specs.Standing.{found_on}
 use Rattle.zb_live.specs.Events.{task_for}
 use Rattle.zb_live.specs.Living.{Found, Living, done, fresh, setting_of}
-use Rattle.zb_live_line.specs.Grammar.{meaning_of}
-use Rattle.zb_live_line.specs.Said.{Sentence, Quiet, Founds, Introduces, Logs, Opens, Happens, Lists, BacksUp}
-use Rattle.zb_live_line.specs.declared.cause.Cause.{Cause}
+use Rattle.zb_live.specs.Grammar.{meaning_of}
+use Rattle.zb_live.specs.Said.{Sentence, Quiet, Founds, Introduces, Logs, Opens, Happens, Lists, BacksUp}
+use Rattle.zb_live.specs.declared.cause.Cause.{Cause}
 use Rattle.zb_model.specs.Answer.{Counting, answer, answer_by, counting_of, framed, may_seal, nothing_out, out_of, part_of, plan_of, sending_of, sent}
 use Rattle.zb_model.specs.Claims.{AreApart, nonce, stamp}
 use Rattle.zb_model.specs.Data.{Bytes, Label, ForData, ForNetwork, ForTransport, ForLoad, Layer, Nwk, Aps, Task, Term}

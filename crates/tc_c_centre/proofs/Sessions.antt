@@ -12,10 +12,10 @@ use Rattle.zb_disk.specs.Memory.{Medium, fresh as disk_of, memory_view}
 use Rattle.zb_disk.specs.MemoryLaws.{image_seen}
 use Rattle.zb_live.specs.Alive.{CrashLeaves}
 use Rattle.zb_live.specs.Living.{fresh, served}
-use Rattle.zb_live_serve.specs.Moments.{Input, input_of}
-use Rattle.zb_live_serve.specs.Serving.{Ended, Lives}
-use Rattle.zb_live_serve.specs.WholeLines.{whole_lines}
-use Rattle.zb_live_serve.specs.declared.fault.LiveFault.TheVariants as live
+use Rattle.zb_live.specs.Moments.{Input, input_of}
+use Rattle.zb_live.specs.Serving.{Ended, Lives}
+use Rattle.zb_live.specs.WholeLines.{whole_lines}
+use Rattle.zb_live.specs.declared.fault.LiveFault.TheVariants as live
 
 lines_done : (text old : List ℕ) (rest : Input) (new : Medium) (answer : Written)
     → Lives in_memory (input_of (Some text) 0) (disk_of old) unwritten (Ok tt) rest new answer

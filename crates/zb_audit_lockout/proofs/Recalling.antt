@@ -32,7 +32,7 @@ use Rattle.zb_trace_watch.specs.Sets.{is_carried, is_node, node_has}
 use Rattle.zb_trace_watch.specs.Standing.{FindKeys, bytes_of, carries, is_that}
 use Rattle.zb_trace_watch.proofs.Effects.{carried_is}
 use Rattle.zb_trace_watch.proofs.Truth.{itself_number, itself, same_bytes, same_number, same_truth, turned_number}
-use Rattle.zb_carried_keys.specs.Carrying.{carried}
+use Rattle.zb_seal.specs.Carrying.{carried}
 
 -- A fact more is known.
 pub recalls_next : (tools : Tools) (names : List Bytes) (b new : Before) (f : Fact) (rest : List Fact) (h : List Line)

@@ -13,8 +13,8 @@ use Rattle.zb_core.specs.CorePlans.{CorePlan}
 use Rattle.zb_host.specs.declared.outcome.Outcome.{Outcome}
 use Rattle.zb_live.specs.Lines.{AreOfCentre, frame_bytes, outcome_lines, refused_lines}
 use Rattle.zb_live.specs.Shown.{Prints, event_lines, has_key, is_shown, is_written, shown_text}
-use Rattle.zb_live_line.specs.declared.line.Log.{Log}
-use Rattle.zb_live_line.specs.declared.line.Log.TheVariants.{All, NoKeys}
+use Rattle.zb_live.specs.declared.line.Log.{Log}
+use Rattle.zb_live.specs.declared.line.Log.TheVariants.{All, NoKeys}
 use Rattle.zb_model.specs.Answer.{Answer}
 use Rattle.zb_model.specs.Data as model
 use Rattle.zb_model.specs.Data.{Bytes, Edit, Reserve, Floor, Start, Moved, Draw, DropNet, DropLink, Install, Active, Row, Pair, Became, Live, Removed, Roll, Told, Untold, Station}

@@ -9,9 +9,9 @@ use Rattle.zb_model.specs.Tools.{sealing_key as model_key}
 use Rattle.zb_cmd.specs.Spelling.{command}
 use Rattle.zb_cmd.specs.declared.command.Command.{Command}
 use Rattle.zb_cmd.specs.declared.command.Command.TheVariants as cmd
-use Rattle.zb_carried_keys.specs.Keys.{sealing_key}
-use Rattle.zb_carried_keys.specs.Wire.{wire}
-use Rattle.zb_carried_keys.specs.Term.{Term}
+use Rattle.zb_seal.specs.Keys.{sealing_key}
+use Rattle.zb_seal.specs.Wire.{wire}
+use Rattle.zb_seal.specs.declared.term.Term.{Term}
 use Rattle.zb_model_real.specs.Readers.{model_command}
 use Rattle.zb_model_real.specs.Real.{real, command_for}
 use Rattle.zb_model_real.specs.Terms.{term_of, layer_of, label_of, model_label, model_term}

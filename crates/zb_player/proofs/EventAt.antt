@@ -23,7 +23,7 @@ use Rattle.zb_player_events.specs.Nodes.{has_children, model_task, suits}
 use Rattle.zb_node_types.specs.Changes.{model_role}
 use Rattle.zb_player.specs.Playing.{FitsRun, IsEventAt}
 use Rattle.law_run_steps.specs.Steps.{is_of}
-use Rattle.law_run_swaps.specs.Swaps.{node_of}
+use Rattle.law_run_steps.specs.Swaps.{node_of}
 use Rattle.zb_player.proofs.Named.{adopts, found_at, joins, named_from, of_family, of_partners}
 use Rattle.zb_player.proofs.Seating.{setting_at, stations_differ}
 use Rattle.zb_sched.specs.Judge as judge

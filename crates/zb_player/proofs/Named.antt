@@ -14,7 +14,7 @@ use Rattle.zb_model.specs.Data.{Bytes, Station}
 use Rattle.zb_model.specs.Play as play
 use Rattle.law_schedules.specs.Schedules.{station_for}
 use Rattle.law_run_steps.specs.Steps.{is_of}
-use Rattle.law_run_swaps.specs.Swaps.{node_of}
+use Rattle.law_run_steps.specs.Swaps.{node_of}
 use Rattle.zb_player_events.specs.Nodes.{model_task}
 use Rattle.zb_sched.specs.Judge as judge
 use Rattle.zb_sched.specs.Judge.{are_child_and_parent, are_partners, has_its_nodes, is_joiner, is_parent, role_named}

@@ -9,7 +9,7 @@ use Rattle.zb_base.specs.declared.address.Eui.{Eui}
 use Rattle.zb_base.specs.declared.key.Key.{Key}
 use Rattle.zb_base.specs.declared.label.Layer.{Layer}
 use Rattle.zb_base.specs.declared.label.Layer.TheVariants as layer
-use Rattle.zb_carried_keys.specs.Carrying as carrying
+use Rattle.zb_seal.specs.Carrying as carrying
 use Rattle.zb_node_types.specs.Changes.{model_layer}
 use Rattle.zb_base.specs.declared.state.Attribute.{Attribute}
 use Rattle.zb_cmd.specs.Reading.{command_of}

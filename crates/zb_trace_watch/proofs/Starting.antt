@@ -8,7 +8,7 @@ use Rattle.zb_aps.specs.Reading.{frame_of}
 use Rattle.zb_aps.specs.declared.auxiliary.ApsAux.{ApsAux}
 use Rattle.zb_aps.specs.declared.fault.ApsError.{ApsError}
 use Rattle.zb_aps.specs.declared.frame.ApsFrame.{ApsFrame}
-use Rattle.zb_carried_keys.specs.Carrying as carrying
+use Rattle.zb_seal.specs.Carrying as carrying
 use Rattle.zb_cmd.specs.Reading.{command_of}
 use Rattle.zb_cmd.specs.declared.command.Command.{Command}
 use Rattle.zb_cmd.specs.declared.command.Command.TheVariants as command
