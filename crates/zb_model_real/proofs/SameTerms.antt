@@ -43,16 +43,7 @@ same_key label.Load base = refl
 
 command-back : (c : Command) → command_for (model_command c) ≡ c
 command-back (cmd.TransportNetwork key sequence destination source) = refl
-command-back (cmd.TransportApplication key partner initiator) = refl
-command-back (cmd.TransportLink key destination source) = refl
-command-back (cmd.Update device short status) = refl
-command-back (cmd.Remove target) = refl
-command-back (cmd.RequestApplication partner) = refl
-command-back cmd.RequestLink = refl
-command-back (cmd.Switch sequence) = refl
-command-back (cmd.Tunnel destination inner) = refl
-command-back (cmd.Verify kind source hash) = refl
-command-back (cmd.Confirm status kind destination) = refl
+command-back _ = refl
 
 pub same_spelling : (c : Command) → real.spelled (model_command c) ≡ command c
 unfolding real
