@@ -156,10 +156,40 @@ stands : (w : Schedule) → Setting w → (h g : List Line) → IsBehind w h g �
     → ConfirmLine real (centre_of (stations w)) h m
     → is_confirmable (printed (stations w) h) (line_for (stations w) m) ≡ true
 unfolding is_confirmable line_for
+stands w set h g behind (log.Declared p) is claim = refl
+stands w set h g behind (log.GivenNet j key sequence) is claim = refl
+stands w set h g behind (log.GivenLink j partner key) is claim = refl
+stands w set h g behind (log.Counter j l limit) is claim = refl
+stands w set h g behind (log.Commit event j) is claim = refl
+stands w set h g behind (log.Accept event j t) is claim = refl
+stands w set h g behind (log.Refuse event j at why) is claim = refl
 stands w set h g behind (log.Seal event n t) is claim = seal_stands w set h g behind event n t is claim
     (confirmed (term_of t)) refl
+stands w set h g behind (log.Forge event t) is claim = refl
+stands w set h g behind (log.Send event from frame bytes) is claim = refl
+stands w set h g behind (log.Inject event frame bytes) is claim = refl
+stands w set h g behind (log.Stopped event j) is claim = refl
+stands w set h g behind (log.DownReset event j) is claim = refl
+stands w set h g behind (log.DownDisk event j) is claim = refl
+stands w set h g behind (log.Boot event j) is claim = refl
+stands w set h g behind (log.Dump event j bytes) is claim = refl
+stands w set h g behind (log.End events seals accepts refusals ideal private) is claim = refl
+stands w set h g behind (log.Changed event j (model.Reserve l limit)) is claim = refl
+stands w set h g behind (log.Changed event j (model.Floor l k from value)) is claim = refl
+stands w set h g behind (log.Changed event j (model.Start k value)) is claim = refl
 stands w set h g behind (log.Changed event j (model.Moved (model.Draw key))) is claim = refl
-stands _ _ _ _ _ _ _ _ = refl
+stands w set h g behind (log.Changed event j (model.Moved (model.DropNet key))) is claim = refl
+stands w set h g behind (log.Changed event j (model.Moved (model.DropLink partner key))) is claim = refl
+stands w set h g behind (log.Changed event j (model.Moved (model.Install key sequence))) is claim = refl
+stands w set h g behind (log.Changed event j (model.Moved (model.Active key))) is claim = refl
+stands w set h g behind (log.Changed event j (model.Moved (model.Row partner key attribute))) is claim = refl
+stands w set h g behind (log.Changed event j (model.Moved (model.Pair first second key))) is claim = refl
+stands w set h g behind (log.Changed event j (model.Moved (model.Became state))) is claim = refl
+stands w set h g behind (log.Changed event j (model.Moved (model.Live device))) is claim = refl
+stands w set h g behind (log.Changed event j (model.Moved (model.Removed device))) is claim = refl
+stands w set h g behind (log.Changed event j (model.Moved (model.Roll sending))) is claim = refl
+stands w set h g behind (log.Changed event j (model.Moved (model.Told device))) is claim = refl
+stands w set h g behind (log.Changed event j (model.Moved (model.Untold device))) is claim = refl
 
 -- ---- along the run
 

@@ -80,8 +80,38 @@ NotDeclared _ = Unit {0}
 pub declares_none : (known ks : List Station) (m : Line) → NotDeclared m → declares ks (line_for known m) ≡ ks
 unfolding declares line_for
 declares_none known ks (log.Declared p) plain = absurd plain
+declares_none known ks (log.GivenNet j key sequence) plain = refl
+declares_none known ks (log.GivenLink j partner key) plain = refl
+declares_none known ks (log.Counter j l limit) plain = refl
+declares_none known ks (log.Commit event j) plain = refl
+declares_none known ks (log.Accept event j t) plain = refl
+declares_none known ks (log.Refuse event j at why) plain = refl
+declares_none known ks (log.Seal event j t) plain = refl
+declares_none known ks (log.Forge event t) plain = refl
+declares_none known ks (log.Send event from frame bytes) plain = refl
+declares_none known ks (log.Inject event frame bytes) plain = refl
+declares_none known ks (log.Stopped event j) plain = refl
+declares_none known ks (log.DownReset event j) plain = refl
+declares_none known ks (log.DownDisk event j) plain = refl
+declares_none known ks (log.Boot event j) plain = refl
+declares_none known ks (log.Dump event j bytes) plain = refl
+declares_none known ks (log.End events seals accepts refusals ideal private) plain = refl
+declares_none known ks (log.Changed event j (model.Reserve l limit)) plain = refl
+declares_none known ks (log.Changed event j (model.Floor l k from value)) plain = refl
+declares_none known ks (log.Changed event j (model.Start k value)) plain = refl
 declares_none known ks (log.Changed event j (model.Moved (model.Draw key))) plain = refl
-declares_none _ _ _ _ = refl
+declares_none known ks (log.Changed event j (model.Moved (model.DropNet key))) plain = refl
+declares_none known ks (log.Changed event j (model.Moved (model.DropLink partner key))) plain = refl
+declares_none known ks (log.Changed event j (model.Moved (model.Install key sequence))) plain = refl
+declares_none known ks (log.Changed event j (model.Moved (model.Active key))) plain = refl
+declares_none known ks (log.Changed event j (model.Moved (model.Row partner key attribute))) plain = refl
+declares_none known ks (log.Changed event j (model.Moved (model.Pair first second key))) plain = refl
+declares_none known ks (log.Changed event j (model.Moved (model.Became state))) plain = refl
+declares_none known ks (log.Changed event j (model.Moved (model.Live device))) plain = refl
+declares_none known ks (log.Changed event j (model.Moved (model.Removed device))) plain = refl
+declares_none known ks (log.Changed event j (model.Moved (model.Roll sending))) plain = refl
+declares_none known ks (log.Changed event j (model.Moved (model.Told device))) plain = refl
+declares_none known ks (log.Changed event j (model.Moved (model.Untold device))) plain = refl
 
 pub declares_no_more : (known ks : List Station) (g : List Line) → AllByRecursion NotDeclared g
     → fold declares ks (printed known g) ≡ ks

@@ -64,8 +64,39 @@ number_or n (Some e) = e
 
 is_one : (g : List Printed) (l : Printed) (e : ℕ) → event_of l ≡ Some e → is_no_end g l ≡ true
 unfolding event_of
+is_one g (line.Node x0 x1 x2 x3 x4 x5) e is = refl
+is_one g (line.GivenNet x0 x1 x2) e is = refl
+is_one g (line.GivenLink x0 x1 x2) e is = refl
+is_one g (line.Counter x0 x1 x2) e is = refl
+is_one g (line.Reserve x0 x1 x2 x3) e is = refl
+is_one g (line.Floor x0 x1 x2 x3 x4 x5) e is = refl
+is_one g (line.Draw x0 x1) e is = refl
+is_one g (line.DropNet x0 x1 x2) e is = refl
+is_one g (line.DropLink x0 x1 x2 x3) e is = refl
+is_one g (line.Install x0 x1 x2 x3) e is = refl
+is_one g (line.Active x0 x1 x2) e is = refl
+is_one g (line.Start x0 x1 x2 x3) e is = refl
+is_one g (line.Row x0 x1 x2 x3 x4) e is = refl
+is_one g (line.Pair x0 x1 x2 x3 x4) e is = refl
+is_one g (line.State x0 x1 x2) e is = refl
+is_one g (line.Live x0 x1) e is = refl
+is_one g (line.Removed x0 x1) e is = refl
+is_one g (line.Roll x0 x1 x2) e is = refl
+is_one g (line.Told x0 x1) e is = refl
+is_one g (line.Untold x0 x1) e is = refl
+is_one g (line.Commit x0 x1) e is = refl
+is_one g (line.Accept x0 x1 x2) e is = refl
+is_one g (line.Refuse x0 x1 x2) e is = refl
+is_one g (line.Seal x0 x1 x2) e is = refl
+is_one g (line.Forge x0 x1) e is = refl
+is_one g (line.Send x0 x1 x2 x3) e is = refl
+is_one g (line.Inject x0 x1 x2) e is = refl
+is_one g (line.Stopped x0 x1) e is = refl
+is_one g (line.DownReset x0 x1) e is = refl
+is_one g (line.DownDisk x0 x1) e is = refl
+is_one g (line.Boot x0 x1) e is = refl
+is_one g (line.Dump x0 x1 x2) e is = refl
 is_one g (line.End x0 x1 x2 x3 x4 x5) e is = absurd (subst IsNothing is tt)
-is_one _ _ _ _ = refl
 
 no_end_before : (known : List Station) (most : ℕ) (h ms : List Line) → AllByRecursion (IsWithin known most) ms
     → Passes is_no_end known h ms

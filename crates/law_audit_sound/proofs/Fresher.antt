@@ -73,9 +73,39 @@ ApartFrom _ ms = Unit {0}
 alike_not : (known : List Station) (event n : ℕ) (t : Term) (ms : List Line) (m : Line)
     → ApartFrom m (log.Seal event n t ∷ ms) → seals_alike (term_of t) (line_for known m) ≡ false
 unfolding line_for sealed_terms
+alike_not known event n t ms (log.Declared p) all = refl
+alike_not known event n t ms (log.GivenNet j key sequence) all = refl
+alike_not known event n t ms (log.GivenLink j partner key) all = refl
+alike_not known event n t ms (log.Counter j l limit) all = refl
+alike_not known event n t ms (log.Commit e j) all = refl
+alike_not known event n t ms (log.Accept e j u) all = refl
+alike_not known event n t ms (log.Refuse e j at why) all = refl
 alike_not known event n t ms (log.Seal e j u) all = unlike u t all.0
+alike_not known event n t ms (log.Forge e u) all = refl
+alike_not known event n t ms (log.Send e from frame bytes) all = refl
+alike_not known event n t ms (log.Inject e frame bytes) all = refl
+alike_not known event n t ms (log.Stopped e j) all = refl
+alike_not known event n t ms (log.DownReset e j) all = refl
+alike_not known event n t ms (log.DownDisk e j) all = refl
+alike_not known event n t ms (log.Boot e j) all = refl
+alike_not known event n t ms (log.Dump e j bytes) all = refl
+alike_not known event n t ms (log.End events seals accepts refusals ideal private) all = refl
+alike_not known event n t ms (log.Changed e j (model.Reserve l limit)) all = refl
+alike_not known event n t ms (log.Changed e j (model.Floor l k from value)) all = refl
+alike_not known event n t ms (log.Changed e j (model.Start k value)) all = refl
 alike_not known event n t ms (log.Changed e j (model.Moved (model.Draw key))) all = refl
-alike_not _ _ _ _ _ _ _ = refl
+alike_not known event n t ms (log.Changed e j (model.Moved (model.DropNet key))) all = refl
+alike_not known event n t ms (log.Changed e j (model.Moved (model.DropLink partner key))) all = refl
+alike_not known event n t ms (log.Changed e j (model.Moved (model.Install key sequence))) all = refl
+alike_not known event n t ms (log.Changed e j (model.Moved (model.Active key))) all = refl
+alike_not known event n t ms (log.Changed e j (model.Moved (model.Row partner key attribute))) all = refl
+alike_not known event n t ms (log.Changed e j (model.Moved (model.Pair first second key))) all = refl
+alike_not known event n t ms (log.Changed e j (model.Moved (model.Became state))) all = refl
+alike_not known event n t ms (log.Changed e j (model.Moved (model.Live device))) all = refl
+alike_not known event n t ms (log.Changed e j (model.Moved (model.Removed device))) all = refl
+alike_not known event n t ms (log.Changed e j (model.Moved (model.Roll sending))) all = refl
+alike_not known event n t ms (log.Changed e j (model.Moved (model.Told device))) all = refl
+alike_not known event n t ms (log.Changed e j (model.Moved (model.Untold device))) all = refl
 
 abbrev Behind : List Line → Line → Type 0
 Behind ms m = ApartFrom m ms
@@ -91,9 +121,39 @@ none_alike known event n t ms (m ∷ h) all =
 line_fresh : (known : List Station) (h : List Line) (m : Line) (ms : List Line) → AllByRecursion (Behind (m ∷ ms)) h
     → is_fresh (printed known h) (line_for known m) ≡ true
 unfolding is_fresh line_for
+line_fresh known h (log.Declared p) ms all = refl
+line_fresh known h (log.GivenNet j key sequence) ms all = refl
+line_fresh known h (log.GivenLink j partner key) ms all = refl
+line_fresh known h (log.Counter j l limit) ms all = refl
+line_fresh known h (log.Commit event j) ms all = refl
+line_fresh known h (log.Accept event j t) ms all = refl
+line_fresh known h (log.Refuse event j at why) ms all = refl
 line_fresh known h (log.Seal event j t) ms all = ap not (none_alike known event j t ms h all)
+line_fresh known h (log.Forge event t) ms all = refl
+line_fresh known h (log.Send event from frame bytes) ms all = refl
+line_fresh known h (log.Inject event frame bytes) ms all = refl
+line_fresh known h (log.Stopped event j) ms all = refl
+line_fresh known h (log.DownReset event j) ms all = refl
+line_fresh known h (log.DownDisk event j) ms all = refl
+line_fresh known h (log.Boot event j) ms all = refl
+line_fresh known h (log.Dump event j bytes) ms all = refl
+line_fresh known h (log.End events seals accepts refusals ideal private) ms all = refl
+line_fresh known h (log.Changed event j (model.Reserve l limit)) ms all = refl
+line_fresh known h (log.Changed event j (model.Floor l k from value)) ms all = refl
+line_fresh known h (log.Changed event j (model.Start k value)) ms all = refl
 line_fresh known h (log.Changed event j (model.Moved (model.Draw key))) ms all = refl
-line_fresh _ _ _ _ _ = refl
+line_fresh known h (log.Changed event j (model.Moved (model.DropNet key))) ms all = refl
+line_fresh known h (log.Changed event j (model.Moved (model.DropLink partner key))) ms all = refl
+line_fresh known h (log.Changed event j (model.Moved (model.Install key sequence))) ms all = refl
+line_fresh known h (log.Changed event j (model.Moved (model.Active key))) ms all = refl
+line_fresh known h (log.Changed event j (model.Moved (model.Row partner key attribute))) ms all = refl
+line_fresh known h (log.Changed event j (model.Moved (model.Pair first second key))) ms all = refl
+line_fresh known h (log.Changed event j (model.Moved (model.Became state))) ms all = refl
+line_fresh known h (log.Changed event j (model.Moved (model.Live device))) ms all = refl
+line_fresh known h (log.Changed event j (model.Moved (model.Removed device))) ms all = refl
+line_fresh known h (log.Changed event j (model.Moved (model.Roll sending))) ms all = refl
+line_fresh known h (log.Changed event j (model.Moved (model.Told device))) ms all = refl
+line_fresh known h (log.Changed event j (model.Moved (model.Untold device))) ms all = refl
 
 -- ---- along lines
 
@@ -107,9 +167,39 @@ unfolding sealed_terms
 drop_first P m ms all = all_right P (sealed_in m) (sealed_terms ms) all
 
 less_behind : (l m : Line) (ms : List Line) → ApartFrom l (m ∷ ms) → ApartFrom l ms
+less_behind (log.Declared p) m ms all = tt
+less_behind (log.GivenNet j key sequence) m ms all = tt
+less_behind (log.GivenLink j partner key) m ms all = tt
+less_behind (log.Counter j l limit) m ms all = tt
+less_behind (log.Commit event j) m ms all = tt
+less_behind (log.Accept event j u) m ms all = tt
+less_behind (log.Refuse event j at why) m ms all = tt
 less_behind (log.Seal event j u) m ms all = drop_first (Apart u) m ms all
+less_behind (log.Forge event u) m ms all = tt
+less_behind (log.Send event from frame bytes) m ms all = tt
+less_behind (log.Inject event frame bytes) m ms all = tt
+less_behind (log.Stopped event j) m ms all = tt
+less_behind (log.DownReset event j) m ms all = tt
+less_behind (log.DownDisk event j) m ms all = tt
+less_behind (log.Boot event j) m ms all = tt
+less_behind (log.Dump event j bytes) m ms all = tt
+less_behind (log.End events seals accepts refusals ideal private) m ms all = tt
+less_behind (log.Changed event j (model.Reserve l limit)) m ms all = tt
+less_behind (log.Changed event j (model.Floor l k from value)) m ms all = tt
+less_behind (log.Changed event j (model.Start k value)) m ms all = tt
 less_behind (log.Changed event j (model.Moved (model.Draw key))) m ms all = tt
-less_behind _ _ _ _ = tt
+less_behind (log.Changed event j (model.Moved (model.DropNet key))) m ms all = tt
+less_behind (log.Changed event j (model.Moved (model.DropLink partner key))) m ms all = tt
+less_behind (log.Changed event j (model.Moved (model.Install key sequence))) m ms all = tt
+less_behind (log.Changed event j (model.Moved (model.Active key))) m ms all = tt
+less_behind (log.Changed event j (model.Moved (model.Row partner key attribute))) m ms all = tt
+less_behind (log.Changed event j (model.Moved (model.Pair first second key))) m ms all = tt
+less_behind (log.Changed event j (model.Moved (model.Became state))) m ms all = tt
+less_behind (log.Changed event j (model.Moved (model.Live device))) m ms all = tt
+less_behind (log.Changed event j (model.Moved (model.Removed device))) m ms all = tt
+less_behind (log.Changed event j (model.Moved (model.Roll sending))) m ms all = tt
+less_behind (log.Changed event j (model.Moved (model.Told device))) m ms all = tt
+less_behind (log.Changed event j (model.Moved (model.Untold device))) m ms all = tt
 
 all_less : (h : List Line) (m : Line) (ms : List Line) → AllByRecursion (Behind (m ∷ ms)) h
     → AllByRecursion (Behind ms) h

@@ -129,8 +129,22 @@ tail_in known number n a tail m i = in_group known m (stored_lines number n a ++
 no_counter : (known : List Station) (number n : ℕ) (name : Bytes) (layer : Layer) (key : Bytes) (sender : ℕ)
     (e : Edit) → accepted_in name layer key sender (line_for known (log.Changed number n e)) ≡ []
 unfolding line_for
+no_counter known number n name layer key sender (model.Reserve l limit) = refl
+no_counter known number n name layer key sender (model.Floor l k from value) = refl
+no_counter known number n name layer key sender (model.Start k value) = refl
 no_counter known number n name layer key sender (model.Moved (model.Draw k)) = refl
-no_counter _ _ _ _ _ _ _ _ = refl
+no_counter known number n name layer key sender (model.Moved (model.DropNet k)) = refl
+no_counter known number n name layer key sender (model.Moved (model.DropLink partner k)) = refl
+no_counter known number n name layer key sender (model.Moved (model.Install k sequence)) = refl
+no_counter known number n name layer key sender (model.Moved (model.Active k)) = refl
+no_counter known number n name layer key sender (model.Moved (model.Row partner k attribute)) = refl
+no_counter known number n name layer key sender (model.Moved (model.Pair first second k)) = refl
+no_counter known number n name layer key sender (model.Moved (model.Became s)) = refl
+no_counter known number n name layer key sender (model.Moved (model.Live device)) = refl
+no_counter known number n name layer key sender (model.Moved (model.Removed device)) = refl
+no_counter known number n name layer key sender (model.Moved (model.Roll sending)) = refl
+no_counter known number n name layer key sender (model.Moved (model.Told device)) = refl
+no_counter known number n name layer key sender (model.Moved (model.Untold device)) = refl
 
 changes_pass : (test : ℕ → Bool) (known : List Station) (number n : ℕ) (name : Bytes) (layer : Layer) (key : Bytes)
     (sender : ℕ) (es : List Edit) → AllByRecursion (CountersPass test known name layer key sender)

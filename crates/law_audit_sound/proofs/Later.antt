@@ -70,9 +70,39 @@ bars_not : (known : List Station) → AreNamed known → (n event : ℕ) (t : Te
     → (m : Line) → IsOfNodes known m → OnceFrom m (log.Accept event n t ∷ ms)
     → bars (name_of known n) (term_of t) (line_for known m) ≡ false
 unfolding bars line_for
+bars_not known fits n event t ms its (log.Declared p) is once = refl
+bars_not known fits n event t ms its (log.GivenNet j key sequence) is once = refl
+bars_not known fits n event t ms its (log.GivenLink j partner key) is once = refl
+bars_not known fits n event t ms its (log.Counter j l limit) is once = refl
+bars_not known fits n event t ms its (log.Commit e j) is once = refl
 bars_not known fits n event t ms its (log.Accept e j u) is once = unbarred known fits j n u t is its once.0
+bars_not known fits n event t ms its (log.Refuse e j at why) is once = refl
+bars_not known fits n event t ms its (log.Seal e j u) is once = refl
+bars_not known fits n event t ms its (log.Forge e u) is once = refl
+bars_not known fits n event t ms its (log.Send e from frame bytes) is once = refl
+bars_not known fits n event t ms its (log.Inject e frame bytes) is once = refl
+bars_not known fits n event t ms its (log.Stopped e j) is once = refl
+bars_not known fits n event t ms its (log.DownReset e j) is once = refl
+bars_not known fits n event t ms its (log.DownDisk e j) is once = refl
+bars_not known fits n event t ms its (log.Boot e j) is once = refl
+bars_not known fits n event t ms its (log.Dump e j bytes) is once = refl
+bars_not known fits n event t ms its (log.End events seals accepts refusals ideal private) is once = refl
+bars_not known fits n event t ms its (log.Changed e j (model.Reserve l limit)) is once = refl
+bars_not known fits n event t ms its (log.Changed e j (model.Floor l k from value)) is once = refl
+bars_not known fits n event t ms its (log.Changed e j (model.Start k value)) is once = refl
 bars_not known fits n event t ms its (log.Changed e j (model.Moved (model.Draw key))) is once = refl
-bars_not _ _ _ _ _ _ _ _ _ _ = refl
+bars_not known fits n event t ms its (log.Changed e j (model.Moved (model.DropNet key))) is once = refl
+bars_not known fits n event t ms its (log.Changed e j (model.Moved (model.DropLink partner key))) is once = refl
+bars_not known fits n event t ms its (log.Changed e j (model.Moved (model.Install key sequence))) is once = refl
+bars_not known fits n event t ms its (log.Changed e j (model.Moved (model.Active key))) is once = refl
+bars_not known fits n event t ms its (log.Changed e j (model.Moved (model.Row partner key attribute))) is once = refl
+bars_not known fits n event t ms its (log.Changed e j (model.Moved (model.Pair first second key))) is once = refl
+bars_not known fits n event t ms its (log.Changed e j (model.Moved (model.Became state))) is once = refl
+bars_not known fits n event t ms its (log.Changed e j (model.Moved (model.Live device))) is once = refl
+bars_not known fits n event t ms its (log.Changed e j (model.Moved (model.Removed device))) is once = refl
+bars_not known fits n event t ms its (log.Changed e j (model.Moved (model.Roll sending))) is once = refl
+bars_not known fits n event t ms its (log.Changed e j (model.Moved (model.Told device))) is once = refl
+bars_not known fits n event t ms its (log.Changed e j (model.Moved (model.Untold device))) is once = refl
 
 abbrev Behind : List Line → Line → Type 0
 Behind ms m = OnceFrom m ms
@@ -91,16 +121,76 @@ line_later : (known : List Station) → AreNamed known → (h : List Line) → A
     → (m : Line) (ms : List Line) → IsOfNodes known m → AllByRecursion (Behind (m ∷ ms)) h
     → is_later (printed known h) (line_for known m) ≡ true
 unfolding is_later line_for
+line_later known fits h of (log.Declared p) ms is all = refl
+line_later known fits h of (log.GivenNet j key sequence) ms is all = refl
+line_later known fits h of (log.GivenLink j partner key) ms is all = refl
+line_later known fits h of (log.Counter j l limit) ms is all = refl
+line_later known fits h of (log.Commit event j) ms is all = refl
 line_later known fits h of (log.Accept event j t) ms is all = ap not (none_bars known fits j event t ms is h of all)
+line_later known fits h of (log.Refuse event j at why) ms is all = refl
+line_later known fits h of (log.Seal event j t) ms is all = refl
+line_later known fits h of (log.Forge event t) ms is all = refl
+line_later known fits h of (log.Send event from frame bytes) ms is all = refl
+line_later known fits h of (log.Inject event frame bytes) ms is all = refl
+line_later known fits h of (log.Stopped event j) ms is all = refl
+line_later known fits h of (log.DownReset event j) ms is all = refl
+line_later known fits h of (log.DownDisk event j) ms is all = refl
+line_later known fits h of (log.Boot event j) ms is all = refl
+line_later known fits h of (log.Dump event j bytes) ms is all = refl
+line_later known fits h of (log.End events seals accepts refusals ideal private) ms is all = refl
+line_later known fits h of (log.Changed event j (model.Reserve l limit)) ms is all = refl
+line_later known fits h of (log.Changed event j (model.Floor l k from value)) ms is all = refl
+line_later known fits h of (log.Changed event j (model.Start k value)) ms is all = refl
 line_later known fits h of (log.Changed event j (model.Moved (model.Draw key))) ms is all = refl
-line_later _ _ _ _ _ _ _ _ = refl
+line_later known fits h of (log.Changed event j (model.Moved (model.DropNet key))) ms is all = refl
+line_later known fits h of (log.Changed event j (model.Moved (model.DropLink partner key))) ms is all = refl
+line_later known fits h of (log.Changed event j (model.Moved (model.Install key sequence))) ms is all = refl
+line_later known fits h of (log.Changed event j (model.Moved (model.Active key))) ms is all = refl
+line_later known fits h of (log.Changed event j (model.Moved (model.Row partner key attribute))) ms is all = refl
+line_later known fits h of (log.Changed event j (model.Moved (model.Pair first second key))) ms is all = refl
+line_later known fits h of (log.Changed event j (model.Moved (model.Became state))) ms is all = refl
+line_later known fits h of (log.Changed event j (model.Moved (model.Live device))) ms is all = refl
+line_later known fits h of (log.Changed event j (model.Moved (model.Removed device))) ms is all = refl
+line_later known fits h of (log.Changed event j (model.Moved (model.Roll sending))) ms is all = refl
+line_later known fits h of (log.Changed event j (model.Moved (model.Told device))) ms is all = refl
+line_later known fits h of (log.Changed event j (model.Moved (model.Untold device))) ms is all = refl
 
 -- ---- along lines
 
 less_behind : (l m : Line) (ms : List Line) → OnceFrom l (m ∷ ms) → OnceFrom l ms
+less_behind (log.Declared p) m ms once = tt
+less_behind (log.GivenNet j key sequence) m ms once = tt
+less_behind (log.GivenLink j partner key) m ms once = tt
+less_behind (log.Counter j l limit) m ms once = tt
+less_behind (log.Commit event j) m ms once = tt
 less_behind (log.Accept event j t) m ms once = once.1
+less_behind (log.Refuse event j at why) m ms once = tt
+less_behind (log.Seal event j t) m ms once = tt
+less_behind (log.Forge event t) m ms once = tt
+less_behind (log.Send event from frame bytes) m ms once = tt
+less_behind (log.Inject event frame bytes) m ms once = tt
+less_behind (log.Stopped event j) m ms once = tt
+less_behind (log.DownReset event j) m ms once = tt
+less_behind (log.DownDisk event j) m ms once = tt
+less_behind (log.Boot event j) m ms once = tt
+less_behind (log.Dump event j bytes) m ms once = tt
+less_behind (log.End events seals accepts refusals ideal private) m ms once = tt
+less_behind (log.Changed event j (model.Reserve l limit)) m ms once = tt
+less_behind (log.Changed event j (model.Floor l k from value)) m ms once = tt
+less_behind (log.Changed event j (model.Start k value)) m ms once = tt
 less_behind (log.Changed event j (model.Moved (model.Draw key))) m ms once = tt
-less_behind _ _ _ _ = tt
+less_behind (log.Changed event j (model.Moved (model.DropNet key))) m ms once = tt
+less_behind (log.Changed event j (model.Moved (model.DropLink partner key))) m ms once = tt
+less_behind (log.Changed event j (model.Moved (model.Install key sequence))) m ms once = tt
+less_behind (log.Changed event j (model.Moved (model.Active key))) m ms once = tt
+less_behind (log.Changed event j (model.Moved (model.Row partner key attribute))) m ms once = tt
+less_behind (log.Changed event j (model.Moved (model.Pair first second key))) m ms once = tt
+less_behind (log.Changed event j (model.Moved (model.Became state))) m ms once = tt
+less_behind (log.Changed event j (model.Moved (model.Live device))) m ms once = tt
+less_behind (log.Changed event j (model.Moved (model.Removed device))) m ms once = tt
+less_behind (log.Changed event j (model.Moved (model.Roll sending))) m ms once = tt
+less_behind (log.Changed event j (model.Moved (model.Told device))) m ms once = tt
+less_behind (log.Changed event j (model.Moved (model.Untold device))) m ms once = tt
 
 all_less : (h : List Line) (m : Line) (ms : List Line) → AllByRecursion (Behind (m ∷ ms)) h
     → AllByRecursion (Behind ms) h

@@ -55,8 +55,22 @@ not_there key q s e =
 
 change_lively : (h : List Line) (number n : ℕ) (e : Edit) → fits e (state_of h n) ≡ true
     → IsLively h (Changed number n e)
+change_lively h number n (Reserve layer limit) fit = tt
+change_lively h number n (Floor layer key sender value) fit = tt
+change_lively h number n (Start key value) fit = tt
+change_lively h number n (Moved (Draw key)) fit = tt
+change_lively h number n (Moved (DropNet key)) fit = tt
+change_lively h number n (Moved (DropLink partner key)) fit = tt
 change_lively h number n (Moved (Install key q)) fit = not_there key q (state_of h n) fit
-change_lively _ _ _ _ _ = tt
+change_lively h number n (Moved (Active key)) fit = tt
+change_lively h number n (Moved (Row partner key attribute)) fit = tt
+change_lively h number n (Moved (Pair first second key)) fit = tt
+change_lively h number n (Moved (Became state)) fit = tt
+change_lively h number n (Moved (Live device)) fit = tt
+change_lively h number n (Moved (Removed device)) fit = tt
+change_lively h number n (Moved (Roll sending)) fit = tt
+change_lively h number n (Moved (Told device)) fit = tt
+change_lively h number n (Moved (Untold device)) fit = tt
 
 all_parts : (e : Edit) (es : List Edit) (s : NodeState) → all_fit (e ∷ es) s ≡ true → (fits e s ≡ true)
     × (all_fit es (applied e s) ≡ true)
@@ -201,7 +215,10 @@ both_of_node P Q R f (PowerOn n) p q = f n p q
 both_of_node P Q R f (ShowRecord n) p q = f n p q
 both_of_node P Q R f (ArmStop n calls torn) p q = f n p q
 both_of_node P Q R f (ArmFail n call) p q = f n p q
-both_of_node _ _ _ _ _ _ _ = tt
+both_of_node P Q R f (InjectBytes bytes) p q = tt
+both_of_node P Q R f (ForgeNet to from source key sequence counter content) p q = tt
+both_of_node P Q R f (ForgeNetAps to from source key sequence counter label base aps_counter command) p q = tt
+both_of_node P Q R f (ForgeOpen to from source label base aps_counter command) p q = tt
 
 abbrev Before : (NodeState → Setting → ℕ → Type 0) → Schedule → List Line → Event → Type 0
 Before P w h event = OfNode (λ n. P (state_of h n) (setting_of w n) n) event

@@ -142,10 +142,20 @@ dropped k key (r ∷ rs) =
 move_lives : (e n : ℕ) (m : Move) (key : Bytes) (s : NodeState) (h : List Line) → state_of h n ≡ s
     → IsLively h (Changed e n (Moved m)) → has_live key (moved m s).nets
     ≡ lives_in key (has_live key s.nets) (Changed e n (Moved m))
+move_lives e n (Draw k) key s h is fits = refl
 move_lives e n (DropNet k) key s h is fits = dropped k key s.nets
+move_lives e n (DropLink p k) key s h is fits = refl
 move_lives e n (Install k q) key s h is fits = installed (new_net k q) refl key s.nets (has_net k s.nets)
     (ap (λ (x : NodeState). has_net k x.nets) (sym is) ∙ fits)
-move_lives _ _ _ _ _ _ _ _ = refl
+move_lives e n (Active k) key s h is fits = refl
+move_lives e n (Row p k a) key s h is fits = refl
+move_lives e n (Pair a b k) key s h is fits = refl
+move_lives e n (Became t) key s h is fits = refl
+move_lives e n (Live d) key s h is fits = refl
+move_lives e n (Removed d) key s h is fits = refl
+move_lives e n (Roll b) key s h is fits = refl
+move_lives e n (Told d) key s h is fits = refl
+move_lives e n (Untold d) key s h is fits = refl
 
 edit_lives : (e n : ℕ) (edit : Edit) (key : Bytes) (s : NodeState) (h : List Line) → state_of h n ≡ s
     → IsLively h (Changed e n edit) → has_live key (applied edit s).nets
@@ -183,14 +193,25 @@ declared_lives Aps v key s = refl
 own_lives : (l : Line) (key : Bytes) (s : NodeState) (h : List Line) → state_of h (speaker l) ≡ s → IsLively h l
     → has_live key (after l s).nets ≡ lives_in key (has_live key s.nets) l
 unfolding after speaker after_accepting after_sealing after_boot with_given_net with_given_link
+own_lives (Declared p) key s h is fits = refl
 own_lives (GivenNet n k q) key s h is fits = installed (given_net s.declared k q) refl key s.nets (has_net k s.nets)
     (ap (λ (x : NodeState). has_net k x.nets) (sym is) ∙ fits)
+own_lives (GivenLink n p k) key s h is fits = refl
 own_lives (Counter n layer v) key s h is fits = declared_lives layer v key s
 own_lives (Changed e n edit) key s h is fits = edit_lives e n edit key s h is fits
+own_lives (Commit e n) key s h is fits = refl
 own_lives (Accept e n t) key s h is fits = heard_lives t.layer t.base t.source t.counter key s
+own_lives (Refuse e n place reason) key s h is fits = refl
 own_lives (Seal e n t) key s h is fits = sealed_lives t.layer t key s
+own_lives (Forge e t) key s h is fits = refl
+own_lives (Send e n frame bytes) key s h is fits = refl
+own_lives (Inject e frame bytes) key s h is fits = refl
+own_lives (Stopped e n) key s h is fits = refl
+own_lives (DownReset e n) key s h is fits = refl
+own_lives (DownDisk e n) key s h is fits = refl
 own_lives (Boot e n) key s h is fits = left booted_net (record { key = λ r. refl; live = λ r. refl }) key s.nets
-own_lives _ _ _ _ _ _ = refl
+own_lives (Dump e n bytes) key s h is fits = refl
+own_lives (End events seals accepts refusals ideal private) key s h is fits = refl
 
 -- ---- along lines
 

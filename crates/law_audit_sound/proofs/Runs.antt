@@ -138,11 +138,40 @@ AllOf known h = AllByRecursion (IsOfNodes known) h
 started_line : (known : List Station) (n : ℕ) → TellsApart known n → (key : Bytes) (m : log.Line) → IsOfNodes known m
     → read.starts_key (name_of known n) key (line_for known m) ≡ counted.starts_key n key m
 unfolding line_for
+started_line known n apart key (log.Declared p) is = refl
 started_line known n apart key (log.GivenNet j k sequence) is = ap (λ b. b && bytes_eq k key) (apart j is)
+started_line known n apart key (log.GivenLink j partner k) is = refl
+started_line known n apart key (log.Counter j l limit) is = refl
+started_line known n apart key (log.Commit event j) is = refl
+started_line known n apart key (log.Accept event j t) is = refl
+started_line known n apart key (log.Refuse event j at why) is = refl
+started_line known n apart key (log.Seal event j t) is = refl
+started_line known n apart key (log.Forge event t) is = refl
+started_line known n apart key (log.Send event from frame bytes) is = refl
+started_line known n apart key (log.Inject event frame bytes) is = refl
+started_line known n apart key (log.Stopped event j) is = refl
+started_line known n apart key (log.DownReset event j) is = refl
+started_line known n apart key (log.DownDisk event j) is = refl
+started_line known n apart key (log.Boot event j) is = refl
+started_line known n apart key (log.Dump event j bytes) is = refl
+started_line known n apart key (log.End events seals accepts refusals ideal private) is = refl
+started_line known n apart key (log.Changed event j (model.Reserve l limit)) is = refl
+started_line known n apart key (log.Changed event j (model.Floor l k from value)) is = refl
 started_line known n apart key (log.Changed event j (model.Start k value)) is =
     ap (λ b. b && bytes_eq k key) (apart j is.0)
 started_line known n apart key (log.Changed event j (model.Moved (model.Draw k))) is = refl
-started_line _ _ _ _ _ _ = refl
+started_line known n apart key (log.Changed event j (model.Moved (model.DropNet k))) is = refl
+started_line known n apart key (log.Changed event j (model.Moved (model.DropLink partner k))) is = refl
+started_line known n apart key (log.Changed event j (model.Moved (model.Install k sequence))) is = refl
+started_line known n apart key (log.Changed event j (model.Moved (model.Active k))) is = refl
+started_line known n apart key (log.Changed event j (model.Moved (model.Row partner k attribute))) is = refl
+started_line known n apart key (log.Changed event j (model.Moved (model.Pair first second k))) is = refl
+started_line known n apart key (log.Changed event j (model.Moved (model.Became s))) is = refl
+started_line known n apart key (log.Changed event j (model.Moved (model.Live device))) is = refl
+started_line known n apart key (log.Changed event j (model.Moved (model.Removed device))) is = refl
+started_line known n apart key (log.Changed event j (model.Moved (model.Roll sending))) is = refl
+started_line known n apart key (log.Changed event j (model.Moved (model.Told device))) is = refl
+started_line known n apart key (log.Changed event j (model.Moved (model.Untold device))) is = refl
 
 started_same : (known : List Station) (n : ℕ) → TellsApart known n → (key : Bytes) (h : List log.Line) → AllOf known h
     → read.has_started (printed known h) (name_of known n) key ≡ counted.has_started h n key

@@ -240,9 +240,40 @@ never_so true false counter = refl
 never_so false b counter = refl
 
 never : (name : Bytes) (l : Line) → read.sealed_in name (layer_of model.Nwk) None l ≡ None
+never name (line.Node called r eui short out_block in_block) = refl
+never name (line.GivenNet node key sequence) = refl
+never name (line.GivenLink node partner key) = refl
+never name (line.Counter node l limit) = refl
+never name (line.Reserve event node l limit) = refl
+never name (line.Floor event node l key sender value) = refl
+never name (line.Draw event key) = refl
+never name (line.DropNet event node key) = refl
+never name (line.DropLink event node partner key) = refl
+never name (line.Install event node key sequence) = refl
+never name (line.Active event node key) = refl
+never name (line.Start event node key value) = refl
+never name (line.Row event node partner key a) = refl
+never name (line.Pair event node first second key) = refl
+never name (line.State event node s) = refl
+never name (line.Live event device) = refl
+never name (line.Removed event device) = refl
+never name (line.Roll event node r) = refl
+never name (line.Told event device) = refl
+never name (line.Untold event device) = refl
+never name (line.Commit event node) = refl
+never name (line.Accept event node t) = refl
+never name (line.Refuse event node r) = refl
 never name (line.Seal event node t) =
     never_so (bytes_eq node.bytes name) (read.same_layer t.layer (layer_of model.Nwk)) t.counter
-never _ _ = refl
+never name (line.Forge event t) = refl
+never name (line.Send event node frame bytes) = refl
+never name (line.Inject event frame bytes) = refl
+never name (line.Stopped event node) = refl
+never name (line.DownReset event node) = refl
+never name (line.DownDisk event node) = refl
+never name (line.Boot event node) = refl
+never name (line.Dump event node bytes) = refl
+never name (line.End events seals accepts refusals ideal private) = refl
 
 pub no_key : (name : Bytes) (run : List Line) → read.last (read.sealed_in name (layer_of model.Nwk) None) run ≡ None
 unfolding read.last

@@ -62,8 +62,13 @@ removed_line known _ = refl
 
 network_line : (known : List Station) (m : log.Line) → audit.network_in (line_for known m) ≡ secrets.network_in m
 unfolding line_for
+network_line known (log.GivenNet n key sequence) = refl
+network_line known (log.GivenLink n partner key) = refl
 network_line known (log.Changed event n (model.Moved (model.Draw key))) = refl
-network_line _ _ = refl
+network_line known (log.Changed event n (model.Moved (model.Row partner key model.Provisional))) = refl
+network_line known (log.Changed event n (model.Moved (model.Row partner key model.Unverified))) = refl
+network_line known (log.Changed event n (model.Moved (model.Row partner key model.Verified))) = refl
+network_line known _ = refl
 
 drawn_line : (known : List Station) (m : log.Line) → lockout.drawn_in (line_for known m) ≡ claims.drawn_in m
 unfolding line_for

@@ -51,18 +51,39 @@ spoken ws = again (name_in (name_said ws)) (said [] ws)
 again_plain : (l : Line) → again (name_in (name_said (words l))) (logged [] l) ≡ plain l
 again_plain (line.Node name r eui short out_block in_block) =
     ap (λ x. line.Node (bare name) x eui short out_block in_block) (role_same r)
+again_plain (line.GivenNet node key sequence) = refl
+again_plain (line.GivenLink node partner key) = refl
 again_plain (line.Counter node l limit) = ap (λ x. line.Counter (bare node) x limit) (layer_same l)
 again_plain (line.Reserve event node l limit) = ap (λ x. line.Reserve event (bare node) x limit) (layer_same l)
 again_plain (line.Floor event node l key sender value) = ap (λ x. line.Floor event (bare node) x key sender value)
     (layer_same l)
+again_plain (line.Draw event key) = refl
+again_plain (line.DropNet event node key) = refl
+again_plain (line.DropLink event node partner key) = refl
+again_plain (line.Install event node key sequence) = refl
+again_plain (line.Active event node key) = refl
+again_plain (line.Start event node key value) = refl
 again_plain (line.Row event node partner key a) = ap (λ x. line.Row event (bare node) partner key x) (attribute_same a)
+again_plain (line.Pair event node first second key) = refl
 again_plain (line.State event node s) = ap (λ x. line.State event (bare node) x) (state_same s)
+again_plain (line.Live event device) = refl
+again_plain (line.Removed event device) = refl
 again_plain (line.Roll event node r) = ap (λ x. line.Roll event (bare node) x) (rollover_same r)
+again_plain (line.Told event device) = refl
+again_plain (line.Untold event device) = refl
+again_plain (line.Commit event node) = refl
 again_plain (line.Accept event node t) = ap (λ x. line.Accept event (bare node) x) (term_same t)
 again_plain (line.Refuse event node r) = ap (λ x. line.Refuse event (bare node) x) (refusal_same r)
 again_plain (line.Seal event node t) = ap (λ x. line.Seal event (bare node) x) (term_same t)
 again_plain (line.Forge event t) = ap (λ x. line.Forge event x) (term_same t)
-again_plain _ = refl
+again_plain (line.Send event node frame bytes) = refl
+again_plain (line.Inject event frame bytes) = refl
+again_plain (line.Stopped event node) = refl
+again_plain (line.DownReset event node) = refl
+again_plain (line.DownDisk event node) = refl
+again_plain (line.Boot event node) = refl
+again_plain (line.Dump event node bytes) = refl
+again_plain (line.End events seals accepts refusals ideal private) = refl
 
 spoken_plain : (l : Line) → spoken (words l) ≡ plain l
 unfolding spoken

@@ -48,8 +48,11 @@ acts tools opens w x c d met = device_acts tools opens w x c d DoTimer (Own d Do
     (own-up tools w x.lines x.disks x.number d DoTimer met.device_ready.up)
 
 pub under_way : (far : Far) (t : NodeState) → Sends far t → IsUnderWay far
+under_way Asking t none = tt
+under_way Offering t none = tt
+under_way Proving t none = tt
+under_way Proved t none = tt
 under_way Done t none = absurd (cc)
-under_way _ _ _ = tt
 
 -- the device as the timer leaves it
 pub still : (tools : Tools) (w : Schedule) (c d : ℕ) (t : NodeState) (k : Keys) (far : Far)

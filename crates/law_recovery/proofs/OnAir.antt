@@ -52,7 +52,10 @@ told_same : (far : Far) (tools : Tools) (w : Schedule) (c d : ℕ) (k : Keys) (s
     → told_bytes far tools w c d k (centre_seals far s k)
     ≡ told_bytes (unanswered_from far) tools w c d k (centre_seals (unanswered_from far) s k)
 told_same Asking tools w c d k s = refl
-told_same _ _ _ _ _ _ _ = refl
+told_same Offering tools w c d k s = refl
+told_same Proving tools w c d k s = refl
+told_same Proved tools w c d k s = refl
+told_same Done tools w c d k s = refl
 
 pub centre_sends : (tools : Tools) → DeliversCommands tools → (w : Schedule) (x : Front) (c d : ℕ) (k : Keys)
     (far : Far) (frame : ℕ) (sealed : NodeState) → KeysFit k → HaveKept w x c d k far

@@ -233,12 +233,18 @@ down_by tools delivers opens w z c d k Done s draw floor nwk aps turns fit block
     links = absurd so
 
 answered_then : (far : Far) (t : NodeState) → Sends far t → IsAnswered (unanswered_from far)
+answered_then Asking t sends = tt
+answered_then Offering t sends = tt
+answered_then Proving t sends = tt
+answered_then Proved t sends = tt
 answered_then Done t sends = absurd (cc)
-answered_then _ _ _ = tt
 
 same_key_then : (far : Far) (k : Keys) → answer_key (unanswered_from far) k ≡ answer_key far k
 same_key_then Asking k = refl
-same_key_then _ _ = refl
+same_key_then Offering k = refl
+same_key_then Proving k = refl
+same_key_then Proved k = refl
+same_key_then Done k = refl
 
 -- ---- one turn
 

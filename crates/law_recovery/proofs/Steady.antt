@@ -16,8 +16,12 @@ by_move _ s = refl
 
 by_edit : (e : Edit) (s : NodeState) → (applied e s).role ≡ s.role
 unfolding applied
+by_edit (Reserve Nwk limit) s = refl
+by_edit (Reserve Aps limit) s = refl
+by_edit (Floor Nwk key sender value) s = refl
+by_edit (Floor Aps key sender value) s = refl
+by_edit (Start key value) s = refl
 by_edit (Moved m) s = by_move m s
-by_edit _ _ = refl
 
 by_edits : (es : List Edit) (s : NodeState) → (applied_all es s).role ≡ s.role
 unfolding applied_all

@@ -171,8 +171,11 @@ refused_by : (tools : Tools) (e : State) (t : NodeState) (f : KeyFrame) (own : L
     → refusal_of (plan_by tools f own b (outcome_by e t f o has full))
     ≡ (if b then Some (Stale own.kept)
     else why_old o (if has then None else (if full then Some KeysFull else None)))
+refused_by tools e t f own true o has full = refl
 refused_by tools e t f own false (Some place) has full = refl
-refused_by _ _ _ _ _ _ _ _ _ = refl
+refused_by tools e t f own false None true full = refl
+refused_by tools e t f own false None false true = refl
+refused_by tools e t f own false None false false = refl
 
 pub refuses_key : (tools : Tools) (m : Setting) (g e : State) (t : NodeState) (f : KeyFrame) (own : LinkKey)
     (draw : Option Bytes) → Facts tools m g e t f own

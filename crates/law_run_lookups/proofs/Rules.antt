@@ -43,11 +43,14 @@ ch s false a b f g = g
 
 may-by : (a b c d e : Bool) → (a ≡ true → (b ≡ true) × (c ≡ false)) → (d ≡ true → e ≡ false)
     → ((not a || (b && not c)) && (not d || not e)) ≡ true
+may-by false b c false e f g = refl
+may-by false b c true false f g = refl
 may-by false b c true true f g = absurd (false≢true (sym (g refl)))
+may-by true true false false e f g = refl
+may-by true true false true false f g = refl
 may-by true true false true true f g = absurd (false≢true (sym (g refl)))
 may-by true true true d e f g = absurd (false≢true (sym (f refl).1))
 may-by true false c d e f g = absurd (false≢true (f refl).0)
-may-by _ _ _ _ _ _ _ = refl
 
 may : (s : NodeState) (send : Option Sending) → (seals_at Nwk send ≡ true → Awake s × (spent Nwk s ≡ false))
     → (seals_at Aps send ≡ true → spent Aps s ≡ false) → may_seal s send ≡ true

@@ -132,7 +132,11 @@ left_setting tools w h x number (play.Reset n) =
 left_setting tools w h x number (play.PowerOn n) =
     if_setting x.up (refused_turn x number n WrongState) (boot_turn x number n) x.setting refl
     (boot_setting x number n)
-left_setting _ _ _ _ _ _ = refl
+left_setting tools w h x number (play.ShowRecord n) = refl
+left_setting tools w h x number (play.ArmStop n calls torn) = refl
+left_setting tools w h x number (play.ArmFail n call) = refl
+left_setting tools w h x number (play.InjectBytes bytes) = refl
+left_setting tools w h x number (play.ForgeNet to from source key sequence counter content) = refl
 left_setting tools w h x number (play.ForgeNetAps to from source key sequence counter label base aps_counter
     command) = refl
 left_setting tools w h x number (play.ForgeOpen to from source label base aps_counter command) = refl
@@ -342,7 +346,10 @@ other_node n q (play.PowerOn m) is other = other_eqb m n q is other
 other_node n q (play.ShowRecord m) is other = other_eqb m n q is other
 other_node n q (play.ArmStop m calls torn) is other = other_eqb m n q is other
 other_node n q (play.ArmFail m call) is other = other_eqb m n q is other
-other_node _ _ _ _ _ = refl
+other_node n q (play.InjectBytes bytes) is other = refl
+other_node n q (play.ForgeNet to from source key sequence counter content) is other = refl
+other_node n q (play.ForgeNetAps to from source key sequence counter label base aps_counter command) is other = refl
+other_node n q (play.ForgeOpen to from source label base aps_counter command) is other = refl
 
 -- ---- an event of the outside
 

@@ -68,7 +68,10 @@ of_none (play.PowerOn m) q e = absurd (cc)
 of_none (play.ShowRecord m) q e = absurd (cc)
 of_none (play.ArmStop m calls torn) q e = absurd (cc)
 of_none (play.ArmFail m call) q e = absurd (cc)
-of_none _ _ _ = refl
+of_none (play.InjectBytes bytes) q e = refl
+of_none (play.ForgeNet to from source key sequence counter content) q e = refl
+of_none (play.ForgeNetAps to from source key sequence counter label base aps_counter command) q e = refl
+of_none (play.ForgeOpen to from source label base aps_counter command) q e = refl
 
 -- ---- one event
 

@@ -59,20 +59,40 @@ centre_is w n one named is =
 -- ---- changes
 
 of_the_centre : (known : List Station) (n : ℕ) (e : Edit) → the_centre known ≡ n → IsOfCentre known n e
+of_the_centre known n (Reserve l limit) c = tt
+of_the_centre known n (Floor l key from value) c = tt
+of_the_centre known n (Start key value) c = tt
 of_the_centre known n (Moved (Draw key)) c = c
+of_the_centre known n (Moved (DropNet key)) c = tt
+of_the_centre known n (Moved (DropLink p key)) c = tt
+of_the_centre known n (Moved (Install key q)) c = tt
+of_the_centre known n (Moved (Active key)) c = tt
+of_the_centre known n (Moved (Row p key t)) c = tt
+of_the_centre known n (Moved (Pair u v key)) c = tt
+of_the_centre known n (Moved (Became g)) c = tt
 of_the_centre known n (Moved (Live d)) c = c
 of_the_centre known n (Moved (Removed d)) c = c
+of_the_centre known n (Moved (Roll b)) c = tt
 of_the_centre known n (Moved (Told d)) c = c
 of_the_centre known n (Moved (Untold d)) c = c
-of_the_centre _ _ _ _ = tt
 
 of_another : (known : List Station) (n : ℕ) (e : Edit) → is_of_the_centre e ≡ false → IsOfCentre known n e
+of_another known n (Reserve l limit) c = tt
+of_another known n (Floor l key from value) c = tt
+of_another known n (Start key value) c = tt
 of_another known n (Moved (Draw key)) c = absurd (false≢true (sym c))
+of_another known n (Moved (DropNet key)) c = tt
+of_another known n (Moved (DropLink p key)) c = tt
+of_another known n (Moved (Install key q)) c = tt
+of_another known n (Moved (Active key)) c = tt
+of_another known n (Moved (Row p key t)) c = tt
+of_another known n (Moved (Pair u v key)) c = tt
+of_another known n (Moved (Became g)) c = tt
 of_another known n (Moved (Live d)) c = absurd (false≢true (sym c))
 of_another known n (Moved (Removed d)) c = absurd (false≢true (sym c))
+of_another known n (Moved (Roll b)) c = tt
 of_another known n (Moved (Told d)) c = absurd (false≢true (sym c))
 of_another known n (Moved (Untold d)) c = absurd (false≢true (sym c))
-of_another _ _ _ _ = tt
 
 all_of_the_centre : (known : List Station) (n : ℕ) (es : List Edit) → the_centre known ≡ n
     → AllByRecursion (IsOfCentre known n) es

@@ -101,7 +101,13 @@ never_living base (Some key) place k was = refl
 
 pub split_or : (a b e : Bool) → ((a && e) || (b && e)) ≡ ((b || a) && e)
 split_or true true true = refl
-split_or _ _ _ = refl
+split_or true false true = refl
+split_or false true true = refl
+split_or false false true = refl
+split_or true true false = refl
+split_or true false false = refl
+split_or false true false = refl
+split_or false false false = refl
 
 module _ (tools : Tools) (names : List Bytes) (known : List Station) (who : Who) where
   stated_held : (l : Line) → IsSpeaker who names known l → (d : ℕ) (k : Bytes)
@@ -137,7 +143,12 @@ module _ (tools : Tools) (names : List Bytes) (known : List Station) (who : Who)
     where
       paired : (a b e : Bool) → ((a && e) || (b && e)) ≡ ((a || b) && e)
       paired true true true = refl
-      paired _ _ _ = refl
+      paired true false true = refl
+      paired false b true = refl
+      paired true true false = refl
+      paired true false false = refl
+      paired false true false = refl
+      paired false false false = refl
   stated_held (line.Seal event node t) is d k = never_held t.base (carried t) d k
   stated_held (line.Forge event t) is d k = never_held t.base (carried t) d k
   stated_held _ is d k = refl
@@ -204,11 +215,19 @@ module _ (tools : Tools) (names : List Bytes) (known : List Station) (who : Who)
 
   comes_alive : (was a b : Bool) → (was || (a && b)) ≡ (if a && b then true else was)
   comes_alive true true true = refl
-  comes_alive _ _ _ = refl
+  comes_alive false true true = refl
+  comes_alive true false b = refl
+  comes_alive false false b = refl
+  comes_alive true true false = refl
+  comes_alive false true false = refl
 
   dies : (was a b : Bool) → (was && not (a && b)) ≡ (if a && b then false else was)
   dies true true true = refl
-  dies _ _ _ = refl
+  dies false true true = refl
+  dies true false b = refl
+  dies false false b = refl
+  dies true true false = refl
+  dies false true false = refl
 
   stated_live : (l : Line) → IsSpeaker who names known l → (name : Bytes) (place : ℕ) → place_in names name
       ≡ Some place → (k : Bytes) (was : Bool)

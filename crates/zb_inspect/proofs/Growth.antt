@@ -36,8 +36,11 @@ kept_as : (o now also : Option Key) → now ≡ also → Kept o now → Kept o a
 kept_as o now also e kept = subst (Kept o) e kept
 
 carries_kept : (number : ℕ) (fresh : List Key) (x : Finding) → Kept (carries x) (carries (tried number fresh x))
+carries_kept number fresh Malformed = tt
+carries_kept number fresh NotSecured = tt
+carries_kept number fresh NoSource = tt
+carries_kept number fresh (Closed s source) = tt
 carries_kept number fresh (Opened key term) = same_kept (carried term)
-carries_kept _ _ _ = tt
 
 aps_kept : (known : ℕ) (keys : List Key) (given : Option Eui) (bytes : List ℕ) → known ≤ length keys
     → Kept (carries (found_aps (take known keys) given bytes)) (carries (found_aps keys given bytes))
