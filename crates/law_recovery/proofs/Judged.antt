@@ -237,7 +237,8 @@ pub when_none : (b : Bool) (r : Reason) → obstacle_if b r ≡ None → b ≡ f
 when_none true r e = absurd (false≢true (sym (ap is_some e)))
 when_none false r e = refl
 
-free_heard : (floor : ℕ) (rest : Plan) (stale full : Bool) → or_else (obstacle_if stale (Stale floor)) (obstacle_if full RowsFull)
+free_heard : (floor : ℕ) (rest : Plan) (stale full : Bool)
+    → or_else (obstacle_if stale (Stale floor)) (obstacle_if full RowsFull)
     ≡ None → plan_heard stale full floor rest ≡ rest
 free_heard floor rest true full e = absurd (false≢true (sym (ap is_some e)))
 free_heard floor rest false true e = absurd (false≢true (sym (ap is_some e)))

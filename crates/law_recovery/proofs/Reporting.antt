@@ -150,7 +150,8 @@ answers_by tools c r m s k link net draw role acts active (Some row) true x y = 
 answers_by tools c r m s k link net draw role acts active (Some row) false x y = rw (role, acts, active, x, y) refl
 
 answer_reason : (c : Setting) (router device : ℕ) (net : NetKey) (o : Option LinkKey) (b : Bool)
-    → reason_of (answers c router device net o b) ≡ or_else (obstacle_if (is_none o) NotMember) (obstacle_if b CounterSpent)
+    → reason_of (answers c router device net o b)
+    ≡ or_else (obstacle_if (is_none o) NotMember) (obstacle_if b CounterSpent)
 answer_reason c router device net None b = refl
 answer_reason c router device net (Some row) true = refl
 answer_reason c router device net (Some row) false = refl

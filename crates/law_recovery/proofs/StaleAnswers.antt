@@ -112,7 +112,8 @@ floors_kept t u sender key sequence most e h f = record {
 
 -- ---- why the device refuses an answer
 
-kept_other : (b : Bool) (o : Option LinkKey) (v : ℕ) → or_else (obstacle_if b RowsFull) (why_key_in_use o) ≡ Some (Stale v)
+kept_other : (b : Bool) (o : Option LinkKey) (v : ℕ)
+    → or_else (obstacle_if b RowsFull) (why_key_in_use o) ≡ Some (Stale v)
     → ⊥
 kept_other true o v e = absurd (cc)
 kept_other false (Some other) v e = absurd (cc)

@@ -38,7 +38,8 @@ late_so net row source nwk aps v rest other e =
     floor = (sender_floor source net).kept
 
     by_tests : (a b t : Bool)
-        → or_else (or_else (obstacle_if a (Stale floor)) (obstacle_if b RowsFull)) (or_else (obstacle_if t (Stale row.kept)) rest)
+        → or_else (or_else (obstacle_if a (Stale floor)) (obstacle_if b RowsFull))
+        (or_else (obstacle_if t (Stale row.kept)) rest)
         ≡ Some (Stale v)
         → (a ≡ true) ⊎ ((or_else (obstacle_if a (Stale floor)) (obstacle_if b RowsFull) ≡ None) × (t ≡ true))
     by_tests true b t f = inl refl

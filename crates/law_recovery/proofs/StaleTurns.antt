@@ -55,7 +55,8 @@ late_proof net source nwk v rest other e =
     floor : ℕ
     floor = (sender_floor source net).kept
 
-    by_tests : (a b : Bool) → or_else (or_else (obstacle_if a (Stale floor)) (obstacle_if b RowsFull)) rest ≡ Some (Stale v)
+    by_tests : (a b : Bool)
+        → or_else (or_else (obstacle_if a (Stale floor)) (obstacle_if b RowsFull)) rest ≡ Some (Stale v)
         → a ≡ true
     by_tests true b f = refl
     by_tests false true f = absurd (cc)
@@ -66,7 +67,8 @@ sealed_other true v e = absurd (cc)
 sealed_other false v e = absurd (cc)
 
 offered_other : (a b t : Bool) (v : ℕ)
-    → or_else (obstacle_if a RowsFull) (or_else (obstacle_if b NoDraw) (obstacle_if t CounterSpent)) ≡ Some (Stale v) → ⊥
+    → or_else (obstacle_if a RowsFull) (or_else (obstacle_if b NoDraw) (obstacle_if t CounterSpent)) ≡ Some (Stale v)
+    → ⊥
 offered_other true b t v e = absurd (cc)
 offered_other false true t v e = absurd (cc)
 offered_other false false true v e = absurd (cc)

@@ -38,7 +38,8 @@ why_not_sealed_at_nwk s = obstacle_if (spent Nwk s) CounterSpent
 -- Why the centre offers no key: its link rows are full; no key is left to be drawn; a counter stands at its end.
 abbrev pub why_not_offered : NodeState → Option Bytes → Option Reason
 why_not_offered s draw =
-    or_else (obstacle_if (links_full s) RowsFull) (or_else (obstacle_if (is_none (unless_held s draw)) NoDraw) (why_not_sealed s))
+    or_else (obstacle_if (links_full s) RowsFull)
+    (or_else (obstacle_if (is_none (unless_held s draw)) NoDraw) (why_not_sealed s))
 
 -- Why the device takes no offer: its link rows are full; another partner has that key.
 abbrev pub why_key_in_use : Option LinkKey → Option Reason

@@ -257,7 +257,8 @@ net-key-fits c s m key sequence destination source =
     un _ [] s _ _ _ (λ e. tt)
     (old-fits s key (dropped_at 0 key s.nets) _ (ch _ [] s (has_net key s.nets) _ _ tt (un _ [] s _ _ _ (λ e. tt) tt)))
 
-used-fits : (s : NodeState) (o : Option LinkKey) (rest : Outcome) → Takes [] s rest → Takes [] s (refuse_if_used o rest)
+used-fits : (s : NodeState) (o : Option LinkKey) (rest : Outcome)
+    → Takes [] s rest → Takes [] s (refuse_if_used o rest)
 used-fits s None rest f = f
 used-fits s (Some r) rest f = tt
 

@@ -12,8 +12,8 @@ use zb_base::{Failed, NoMemory};
 /// A disk whose bytes are those of a file. It tells nothing of content.
 ///
 /// The file is opened at first use, for this process alone. If it is missing or empty it reads as empty, and the first
-/// write makes it. After a failed sync every call fails: what the disk has is known only when the file is opened again.
-/// A sync fails if the path no longer names the file.
+/// write makes it. After a failed sync every call fails: what the disk has is known only when the file is opened
+/// again. A sync fails if the path no longer names the file.
 #[derive(Drop)]
 pub struct FileDisk<'a, T: StoreFiles + AllocGlobal + Drop> {
     rt: &'a T,
