@@ -1,19 +1,19 @@
 //! A disk over a file.
-ghost use Rattle.std.specs.Prelude.{◌≡◌, ◌≤◌, IfOk};
+ghost use Rattle.std.specs.Prelude.{◌≡◌, ◌≤◌, IfOk, None};
 ghost use Rattle.std.proofs.Common.{rules};
 ghost use Rattle.zb_base.specs.Outside.{risen};
-ghost use Rattle.zb_disk.specs.File.{file_tells, file_view};
+ghost use Rattle.zb_disk.specs.File.{file_fault, file_tells, file_view, first_of};
 
-use crate::{Disk, StoreFiles};
+use crate::{Disk, FileCall, FileFault, StoreFiles};
 use std::fs::OpenFile;
 use std::io::{self, ErrorKind, Read, Seek, SeekFrom, Write};
 use zb_base::{Failed, NoMemory};
 
 /// A disk whose bytes are those of a file. It tells nothing of content.
 ///
-/// The file is opened at first use, for this process alone. Where it is missing or empty it reads as empty, and is
-/// made by the first write. After a failed sync every call fails: what the disk has is known only when the file is
-/// opened anew.
+/// The file is opened at first use, for this process alone. If it is missing or empty it reads as empty, and the first
+/// write makes it. After a failed sync every call fails: what the disk has is known only when the file is opened again.
+/// A sync fails if the path no longer names the file.
 #[derive(Drop)]
 pub struct FileDisk<'a, T: StoreFiles + AllocGlobal + Drop> {
     rt: &'a T,
@@ -29,6 +29,8 @@ pub struct FileDisk<'a, T: StoreFiles + AllocGlobal + Drop> {
     pub calls: u64,
     /// The number of calls that failed.
     pub faults: u64,
+    /// What failed first, if any call did.
+    pub first_fault: Option<FileFault>,
 }
 
 impl<'a, T: StoreFiles + AllocGlobal + Drop> FileDisk<'a, T> {
@@ -39,6 +41,7 @@ impl<'a, T: StoreFiles + AllocGlobal + Drop> FileDisk<'a, T> {
     pub fn new(rt: &'a T, path: &str) -> Result<FileDisk<'a, T>, NoMemory>
         ensures calls { IfOk result (λ d. d.calls ≡ 0) }
         ensures faults { IfOk result (λ d. d.faults ≡ 0) }
+        ensures first_fault { IfOk result (λ d. d.first_fault ≡ None) }
     {
         Ok(FileDisk {
             rt,
@@ -49,10 +52,11 @@ impl<'a, T: StoreFiles + AllocGlobal + Drop> FileDisk<'a, T> {
             is_lost: false,
             calls: 0,
             faults: 0,
+            first_fault: None,
         })
     }
 
-    // Takes the file out, which is opened at first use; None where it is missing or empty. Each call puts it back.
+    // Takes the file out, which is opened at first use; None if it is missing or empty. Each call puts it back.
     fn take_file(&mut self) -> io::Result<Option<T::File>>
         ensures calls { self.new.calls ≡ self.old.calls }
         ensures faults { self.new.faults ≡ self.old.faults }
@@ -71,7 +75,7 @@ impl<'a, T: StoreFiles + AllocGlobal + Drop> FileDisk<'a, T> {
         Ok(found)
     }
 
-    // Takes the file out for a write, which makes it where it is missing or empty.
+    // Takes the file out for a write, which makes it if it is missing or empty.
     fn take_or_make(&mut self) -> io::Result<T::File>
         ensures calls { self.new.calls ≡ self.old.calls }
         ensures faults { self.new.faults ≡ self.old.faults }
@@ -85,12 +89,13 @@ impl<'a, T: StoreFiles + AllocGlobal + Drop> FileDisk<'a, T> {
         Ok(file)
     }
 
-    // Syncs the file, and the folder of a new one. After a failure the disk is lost.
+    // Syncs the file, and the folder of a new one, if the path still names it. After a failure the disk is lost.
     fn sync_file(&mut self, file: T::File) -> io::Result<()>
         ensures calls { self.new.calls ≡ self.old.calls }
         ensures faults { self.new.faults ≡ self.old.faults }
     {
         self.is_lost = true;
+        self.rt.check_named(self.path.as_str(), &file)?;
         file.sync_all()?;
         if self.is_new {
             self.rt.sync_folder(self.path.as_str())?;
@@ -101,13 +106,17 @@ impl<'a, T: StoreFiles + AllocGlobal + Drop> FileDisk<'a, T> {
         Ok(())
     }
 
-    // Counts a call that failed.
-    fn fail(&mut self) -> Failed
+    // Counts a call that failed, and keeps why the first one did.
+    fn fail(&mut self, call: FileCall, error: &io::Error) -> Failed
         ensures calls { self.new.calls ≡ self.old.calls }
         ensures faults { self.new.faults ≡ risen self.old.faults 1 }
         ensures later { self.old.faults ≤ self.new.faults }
+        ensures kept { self.new.first_fault ≡ first_of self.old.first_fault (file_fault call error.now) }
     {
         self.faults = self.faults.saturating_add(1);
+        if self.first_fault.is_none() {
+            self.first_fault = Some(FileFault::new(call, error));
+        }
         Failed
     }
 }
@@ -157,10 +166,10 @@ impl<'a, T: StoreFiles + AllocGlobal + Drop> Disk for FileDisk<'a, T> {
                 self.file = Some(file);
                 match size {
                     Ok(size) => Ok(size),
-                    Err(_) => Err(self.fail()),
+                    Err(error) => Err(self.fail(FileCall::Size, &error)),
                 }
             }
-            Err(_) => Err(self.fail()),
+            Err(error) => Err(self.fail(FileCall::Open, &error)),
         }
     }
 
@@ -175,23 +184,24 @@ impl<'a, T: StoreFiles + AllocGlobal + Drop> Disk for FileDisk<'a, T> {
                 self.file = Some(file);
                 match done {
                     Ok(()) => Ok(()),
-                    Err(_) => Err(self.fail()),
+                    Err(error) => Err(self.fail(FileCall::Read, &error)),
                 }
             }
-            Err(_) => Err(self.fail()),
+            Err(error) => Err(self.fail(FileCall::Open, &error)),
         }
     }
 
     fn write(&mut self, at: u64, bytes: &[u8]) -> Result<(), Failed> {
         self.calls = self.calls.saturating_add(1);
-        let Ok(mut file) = self.take_or_make() else {
-            return Err(self.fail());
+        let mut file = match self.take_or_make() {
+            Ok(file) => file,
+            Err(error) => return Err(self.fail(FileCall::Open, &error)),
         };
         let done = write_file(&mut file, at, bytes);
         self.file = Some(file);
         match done {
             Ok(()) => Ok(()),
-            Err(_) => Err(self.fail()),
+            Err(error) => Err(self.fail(FileCall::Write, &error)),
         }
     }
 
@@ -204,7 +214,7 @@ impl<'a, T: StoreFiles + AllocGlobal + Drop> Disk for FileDisk<'a, T> {
         };
         match synced {
             Ok(()) => Ok(()),
-            Err(_) => Err(self.fail()),
+            Err(error) => Err(self.fail(FileCall::Sync, &error)),
         }
     }
 }

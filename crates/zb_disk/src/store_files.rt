@@ -36,6 +36,12 @@ pub trait StoreFiles: Files {
     /// file was made, or it was left empty.
     fn make_store(&self, path: &str) -> io::Result<Self::File>;
 
+    /// Checks that a path still names an open file, and not another one or none.
+    ///
+    /// # Errors
+    /// `NotFound` if it doesn't, and those of the system's calls.
+    fn check_named(&self, path: &str, file: &Self::File) -> io::Result<()>;
+
     /// Syncs the folder in which a path lies, so that the name of a new file is on the disk.
     ///
     /// # Errors
@@ -76,6 +82,14 @@ impl StoreFiles for HostRuntime {
                 Err(error)
             }
         }
+    }
+
+    fn check_named(&self, path: &str, file: &File) -> io::Result<()> {
+        let (found, named) = (file.metadata()?, fs::metadata(self, path)?);
+        if !found.is_file() || found.dev() != named.dev() || found.ino() != named.ino() {
+            return Err(io::Error::from(ErrorKind::NotFound));
+        }
+        Ok(())
     }
 
     fn sync_folder(&self, path: &str) -> io::Result<()> {
@@ -138,10 +152,7 @@ fn opened(rt: &HostRuntime, path: &str) -> io::Result<File> {
 /// Locks an open file, and looks that the path names it then: who made it may have deleted it before.
 fn taken(rt: &HostRuntime, path: &str, file: File) -> io::Result<File> {
     let file = locked(file)?;
-    let (found, named) = (file.metadata()?, fs::metadata(rt, path)?);
-    if !found.is_file() || found.dev() != named.dev() || found.ino() != named.ino() {
-        return Err(io::Error::from(ErrorKind::NotFound));
-    }
+    rt.check_named(path, &file)?;
     Ok(file)
 }
 
