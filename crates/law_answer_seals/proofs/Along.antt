@@ -93,13 +93,10 @@ module _ (P : NodeState → Term → Type 0) (tools : Tools) (c : Setting) (to n
   part_along : (body : Body) → (has_aps_seal body ≡ true → OfAps P c aps s)
       → SealsAlong P s (part_of tools c.me.eui to nwk aps body).seals
   unfolding part_of
-  part_along (Saying bytes) g = tt
-  part_along (Clear control command) g = tt
   part_along (Secret label key command) g = (g refl sealed_command label key (tools.spelled command), tt)
   part_along (Tunnelled device key command) g = (g refl sealed_command ForTransport key (tools.spelled command), tt)
   part_along (Telling key bytes) g = (g refl (data_front sealed_data) ForData key bytes, tt)
-  part_along Leaving g = tt
-  part_along (Relayed bytes) g = tt
+  part_along _ _ = tt
 
   both_along : (body : Body) → (has_aps_seal body ≡ true → OfAps P c aps s) → (r : NetKey) → OfNwk P c nwk s r
       → (control : ℕ) (bytes : Bytes)

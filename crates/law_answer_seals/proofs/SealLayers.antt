@@ -12,13 +12,10 @@ use Rattle.law_answer_seals.proofs.Along.{active_is, sending_at}
 module _ (tools : Tools) (c : Setting) (to nwk aps : ℕ) (s : NodeState) where
   part_kinds : (body : Body) → AreSeals c s (part_of tools c.me.eui to nwk aps body).seals
   unfolding part_of
-  part_kinds (Saying bytes) = tt
-  part_kinds (Clear control command) = tt
   part_kinds (Secret label key command) = inl (record { layer_is = refl; source_is = refl })
   part_kinds (Tunnelled device key command) = inl (record { layer_is = refl; source_is = refl })
   part_kinds (Telling key bytes) = inl (record { layer_is = refl; source_is = refl })
-  part_kinds Leaving = tt
-  part_kinds (Relayed bytes) = tt
+  part_kinds _ = tt
 
   both_kinds : (body : Body) → (t : Term) → IsNwkSeal c s t
       → AreSeals c s ((part_of tools c.me.eui to nwk aps body).seals ++ t ∷ [])

@@ -125,27 +125,22 @@ marked_bare partner told rs = swapped (is_live_of partner) (told_as told) bare_l
 
 pub moved_bare : (m : Move) (s : NodeState) → bare (moved m s) ≡ moved m (bare s)
 unfolding bare
-moved_bare (Draw key) s = refl
 moved_bare (DropNet key) s =
     with_nets (bare s) _ _
     (swapped (λ (r : NetKey). same_key r.key key) dropped_net bare_net (λ r. refl) (λ r. refl) s.nets)
 moved_bare (DropLink partner key) s =
     with_links (bare s) _ _ (swapped (is_link partner key) dropped_link bare_link (λ r. refl) (λ r. refl) s.links)
 moved_bare (Install key sequence) s = with_nets (bare s) _ _ (installed_bare key sequence s.nets)
-moved_bare (Active key) s = refl
 moved_bare (Row partner key attribute) s =
     with_links (bare s) _ _
     (linked_bare partner key attribute (is_told s partner) s.links ∙ ap
     (λ b. with_link partner key attribute b (map bare_link s.links)) (sym (told_bare s partner)))
-moved_bare (Pair first second key) s = refl
-moved_bare (Became state) s = refl
 moved_bare (Live device) s = with_links (bare s) _ _ (marked_bare device false s.links)
-moved_bare (Removed device) s = refl
 moved_bare (Roll true) s = with_links (bare (record s { sending = true })) _ _
     (all_swapped (told_as false) bare_link (λ r. refl) s.links)
-moved_bare (Roll false) s = refl
 moved_bare (Told device) s = with_links (bare s) _ _ (marked_bare device true s.links)
 moved_bare (Untold device) s = with_links (bare s) _ _ (marked_bare device false s.links)
+moved_bare _ _ = refl
 
 -- what a move asks
 
@@ -173,19 +168,15 @@ so_many (r ∷ rs) = by_test r.live (so_many rs)
 
 pub may_bare : (m : Move) (s : NodeState) → may_move m (bare s) ≡ may_move m s
 unfolding bare pair_of
-may_bare (Draw key) s = refl
 may_bare (DropNet key) s = net_bare key s
 may_bare (DropLink partner key) s = any_map (λ (r : LinkKey). is_link partner key r && r.live) bare_link s.links
 may_bare (Install key sequence) s = ap not (any_map (λ (r : NetKey). same_key r.key key) bare_net s.nets)
 may_bare (Active key) s = net_bare key s
-may_bare (Row partner key attribute) s = refl
-may_bare (Pair first second key) s = refl
-may_bare (Became state) s = refl
 may_bare (Live device) s = ap (λ b. is_centre s.role && b) (live_bare s device)
 may_bare (Removed device) s = ap (λ b. is_centre s.role && not b) (live_bare s device)
-may_bare (Roll sending) s = refl
 may_bare (Told device) s = ap (λ b. is_centre s.role && b) (live_bare s device)
 may_bare (Untold device) s = ap (λ b. is_centre s.role && b) (live_bare s device)
+may_bare _ _ = refl
 
 row_leaves_bare : (partner : ℕ) (key : Bytes) (attribute : Attribute) (s : NodeState)
     → move_leaves (Row partner key attribute) (bare s) ≡ move_leaves (Row partner key attribute) s

@@ -7,7 +7,7 @@ use Rattle.zb_model.specs.State.{NodeState, new_node, usable_of, usable_nets, se
 use Rattle.zb_model.specs.Fits.{rows_have_room, keys_differ, at_most_two_live, active_is_live, partners_agree, links_are_marked, floors_are_kept, limits_are_started, role_is_kept, pairs_are_kept, keeps_rules, fits, all_fit}
 use Rattle.zb_model.specs.Record.{edit_bytes, payload}
 use Rattle.zb_model.specs.Tools.{Tools, NwkShown, NwkAuxiliary, Unknown, Other}
-use Rattle.zb_model.specs.Rules.{Setting, found_or, unless, centre_of, station_of, drop_others}
+use Rattle.zb_model.specs.Rules.{Setting, found_or, refuse_if, centre_of, station_of, drop_others}
 use Rattle.zb_model.specs.OwnEvents.{knock, own}
 use Rattle.zb_model.specs.Judging.{need, reject, judge_net, judge_nwk}
 use Rattle.zb_model.specs.Answer.{may_seal, reserve_of, stored_floor, floor_of, counting_of, edits_of, answer_by, plan_of, answer, out_of}
@@ -139,7 +139,7 @@ unfolding keeps_rules rows_have_room keys_differ at_most_two_live active_is_live
 centre_keeps_the_rules = refl
 
 role_of_another : all_fit (answer one_frame (setting Device 1) centre DoKnock).edits centre ≡ false
-unfolding answer answer_by plan_of own knock found_or unless code_row centre_of drop_others counting_of edits_of
+unfolding answer answer_by plan_of own knock found_or refuse_if code_row centre_of drop_others counting_of edits_of
     reserve_of floor_of may_seal out_of next_counter stored_limit active_row all_fit fits applied keeps_rules
     rows_have_room keys_differ at_most_two_live active_is_live partners_agree links_are_marked floors_are_kept
     limits_are_started role_is_kept pairs_are_kept

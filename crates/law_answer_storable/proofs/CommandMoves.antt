@@ -7,7 +7,7 @@ use Rattle.zb_model.specs.State.{NetKey, LinkKey, PairKey, NodeState, same_key, 
 use Rattle.zb_model.specs.Fits.{live_net, row_is_live, most_links}
 use Rattle.zb_model.specs.Tools.{Tools}
 use Rattle.zb_model.specs.Rules.{Outcome, Does, Setting, centre_of, waits_for_key, nets_full, links_full, pairs_full, unless_held, drop_link, drop_row, drop_partner, both_spent}
-use Rattle.zb_model.specs.Commands.{Heard, is_member, dropped_at, unless_old, activates, joined_state, activate, take_net_key, unless_used, take_row, take_link_key, take_app_key, take_switch, take_confirm, take_remove, take_tunnel, take_update, under_current, answer_request, take_request, lesser, greater, answer_pair, take_app_request, take_verify, take_command, take_leave}
+use Rattle.zb_model.specs.Commands.{Heard, is_member, dropped_at, refuse_if_old, activates, joined_state, activate, take_net_key, refuse_if_used, take_row, take_link_key, take_app_key, take_switch, take_confirm, take_remove, take_tunnel, take_update, under_current, answer_request, take_request, lesser, greater, answer_pair, take_app_request, take_verify, take_command, take_leave}
 use Rattle.law_change_fits.proofs.Tests.{both}
 use Rattle.law_change_fits.proofs.Parts.{Rules, same_key_of}
 use Rattle.law_answer_storable.proofs.Lists.{found_test, found_any, found_none, any_reverse}
@@ -43,7 +43,7 @@ live_or_dropped place key (r ∷ rs) none there = by_tests (same_key r.key key) 
     by_tests false c is none there later = later none there
 
 after_old : (s : NodeState) (key : Bytes) (o : Option ℕ) (rest : Outcome) → (o ≡ None → Fitting s rest)
-    → Fitting s (unless_old s key o rest)
+    → Fitting s (refuse_if_old s key o rest)
 after_old s key None rest k = k refl
 after_old s key (Some place) rest k = stopped s _
 
@@ -86,7 +86,7 @@ taken s partner key moves k few =
     (λ room. by_user (other_user s partner key) refl room)
   where
     by_user : (o : Option LinkKey) → other_user s partner key ≡ o
-        → (not (has_link partner key s.links) && links_full s) ≡ false → Fitting s (unless_used o (Does moves None))
+        → (not (has_link partner key s.links) && links_full s) ≡ false → Fitting s (refuse_if_used o (Does moves None))
     by_user None e room = record { fit = k (room_asked partner key s room e); few = few }
     by_user (Some other) e room = stopped s _
 

@@ -3,7 +3,7 @@
 use Rattle.std.proofs.Common.{◌≡◌, ◌≤◌, [], length, refl, arith, Bool, true, false, Option, Some, None}
 use Rattle.zb_model.specs.Data.{Reason}
 use Rattle.zb_model.specs.State.{NodeState}
-use Rattle.zb_model.specs.Rules.{Sending, Outcome, Stop, Does, unless, found_or, choose}
+use Rattle.zb_model.specs.Rules.{Sending, Outcome, Stop, Does, refuse_if, found_or, choose}
 use Rattle.zb_model.specs.Answer.{moves_of}
 use Rattle.law_answer_storable.proofs.Moves.{moves_fit}
 
@@ -18,8 +18,8 @@ pub no_moves : (s : NodeState) (send : Option Sending) → Fitting s (Does [] se
 no_moves s send = record { fit = refl; few = omega arith }
 
 pub after_unless : (s : NodeState) (bad : Bool) (reason : Reason) (rest : Outcome) → (bad ≡ false → Fitting s rest)
-    → Fitting s (unless bad reason rest)
-unfolding unless
+    → Fitting s (refuse_if bad reason rest)
+unfolding refuse_if
 after_unless s true reason rest k = stopped s reason
 after_unless s false reason rest k = k refl
 

@@ -159,10 +159,7 @@ provision_new_fits s device key part away room None unused =
       where
         tests : (a b c d : Bool) → (a && b) ≡ false → ((b && c) && (a && d)) ≡ false
         tests true true c d e = absurd (cc)
-        tests true false c d e = refl
-        tests false true true d e = refl
-        tests false true false d e = refl
-        tests false false c d e = refl
+        tests _ _ _ _ _ = refl
 
 provision_fits : (s : NodeState) (device : ℕ) (key : Bytes) → is_centre s.role ≡ true
     → Fitting s (provision s device key)

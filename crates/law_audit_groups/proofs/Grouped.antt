@@ -28,22 +28,8 @@ AllIn known e ms = AllByRecursion (In known e) ms
 
 in_change : (known : List Station) (e n : ℕ) (edit : Edit) → In known e (Changed e n edit)
 unfolding event_of line_for
-in_change known e n (model.Reserve l limit) = refl
-in_change known e n (model.Floor l k from value) = refl
-in_change known e n (model.Start k value) = refl
 in_change known e n (model.Moved (model.Draw key)) = refl
-in_change known e n (model.Moved (model.DropNet key)) = refl
-in_change known e n (model.Moved (model.DropLink partner key)) = refl
-in_change known e n (model.Moved (model.Install key sequence)) = refl
-in_change known e n (model.Moved (model.Active key)) = refl
-in_change known e n (model.Moved (model.Row partner key attribute)) = refl
-in_change known e n (model.Moved (model.Pair first second key)) = refl
-in_change known e n (model.Moved (model.Became state)) = refl
-in_change known e n (model.Moved (model.Live device)) = refl
-in_change known e n (model.Moved (model.Removed device)) = refl
-in_change known e n (model.Moved (model.Roll sending)) = refl
-in_change known e n (model.Moved (model.Told device)) = refl
-in_change known e n (model.Moved (model.Untold device)) = refl
+in_change _ _ _ _ = refl
 
 in_changes : (known : List Station) (e n : ℕ) (es : List Edit) → AllIn known e (map (Changed e n) es)
 in_changes known e n [] = tt

@@ -8,8 +8,8 @@ use Rattle.zb_audit.specs.declared.fault.AuditFault.{AuditFault}
 use Rattle.zb_audit.specs.declared.fault.AuditFault.TheVariants.{Broken, NoMemory}
 use Rattle.zb_audit.specs.declared.fault.BadLine.{BadLine}
 use Rattle.zb_audit.specs.declared.fault.Verdict.{Verdict}
-use Rattle.law_audit_end.proofs.Endings.{accepts_same, seals_same}
-use Rattle.law_audit_names.specs.Agreeing.{WordsSame}
+use Rattle.law_audit_sound.proofs.Endings.{accepts_same, seals_same}
+use Rattle.law_audit_sound.specs.Agreeing.{WordsSame}
 use Rattle.law_audit_groups.specs.Printing.{printed}
 use Rattle.zb_audit_names.specs.Secrets as secrets
 use Rattle.zb_model.specs.Data.{Bytes, Term}

@@ -6,13 +6,13 @@ use Rattle.zb_audit.specs.Failing.{failing, head}
 use Rattle.zb_audit.specs.Faults.{by, first_fault, sooner, unlocked}
 use Rattle.zb_audit.specs.Nonces.{is_fresh}
 use Rattle.zb_audit.specs.Taking.{is_later}
-use Rattle.law_audit_nonces.proofs.Fresher.{keeps_first}
-use Rattle.law_audit_nonces.proofs.Later.{keeps_second}
-use Rattle.law_audit_confirms.proofs.Confirmable.{keeps_third}
-use Rattle.law_audit_counters.proofs.Runs.{keeps_fourth}
-use Rattle.law_audit_end.proofs.Endings.{keeps_sixth}
-use Rattle.law_audit_lockout.proofs.Fifth.{keeps_fifth}
-use Rattle.law_audit_names.proofs.Run.{run_read_same}
+use Rattle.law_audit_sound.proofs.Fresher.{keeps_first}
+use Rattle.law_audit_sound.proofs.Later.{keeps_second}
+use Rattle.law_audit_sound.proofs.Confirmable.{keeps_third}
+use Rattle.law_audit_sound.proofs.Runs.{keeps_fourth}
+use Rattle.law_audit_sound.proofs.Endings.{keeps_sixth}
+use Rattle.law_audit_sound.proofs.Fifth.{keeps_fifth}
+use Rattle.law_audit_sound.proofs.Run.{run_read_same}
 use Rattle.zb_model.specs.Transcript.{transcript}
 use Rattle.law_run.proofs.Basics.{append-nil'}
 use Rattle.law_run.specs.Commanding.{ShowsKeys}

@@ -1,1 +1,10 @@
 pub mod Sound
+pub mod Reading
+pub mod Agreeing
+pub mod Keeping
+pub mod CountersKeeping
+pub mod Fronts
+pub mod Beginnings
+pub mod LockoutKeeping
+pub mod ConfirmsKeeping
+pub mod EndKeeping

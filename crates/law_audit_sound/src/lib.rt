@@ -2,6 +2,14 @@
 //! the contracts of functions that do nothing; docs/THEOREMS.md says them in words.
 #![tactic(auto)]
 
+mod confirms;
+mod counters;
+mod end;
+mod lockout;
+mod names;
+mod nonces;
+mod readings;
+
 ghost use Rattle.std.specs.Prelude.{◌≡◌, Ok};
 ghost use Rattle.law_schedules.specs.Schedules.{schedule_of};
 ghost use Rattle.zb_sched.specs.Reading.{schedule_in};
@@ -9,8 +17,18 @@ ghost use Rattle.zb_sched.specs.Schedules.{Schedule};
 ghost use Rattle.zb_sched.specs.Valid.{IsSchedule};
 ghost use Rattle.law_audit_sound.specs.Sound.{IsSound};
 
+pub use confirms::runs_keep_the_third_claim;
+pub use counters::runs_keep_the_fourth_claim;
+pub use end::runs_keep_the_sixth_claim;
 use law_real_runs::frames_show_their_own_keys;
 use law_schedules::texts_read_as_schedules;
+pub use lockout::{
+    fronts_of_locked_lines_are_locked, groups_of_a_run_begin_with_their_events,
+    runs_keep_the_fifth_claim,
+};
+pub use names::a_run_is_read_by_names_as_by_addresses;
+pub use nonces::{runs_keep_the_first_claim, runs_keep_the_second_claim};
+pub use readings::readings_of_a_run_are_its_states;
 
 /// States that no line of the run of a schedule is bad, with real frames, whatever happens in it.
 ///

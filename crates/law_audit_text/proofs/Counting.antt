@@ -12,7 +12,7 @@ use Rattle.zb_seal.specs.declared.term.Term.{Term}
 use Rattle.zb_trace.specs.declared.line.Line.{Line}
 use Rattle.zb_trace.specs.declared.line.Line.TheVariants as line
 use Rattle.law_audit_text.proofs.Knowing.{declared_plain}
-use Rattle.law_line_texts.specs.Plain.{plain, plains}
+use Rattle.law_audit_text.specs.Plain.{plain, plains}
 use Rattle.law_audit_text.proofs.Plain.{plains_append, plains_snoc, plains_length, any_plain, flat_plain, fold_plain}
 
 -- ---- groups

@@ -18,8 +18,8 @@ use Rattle.zb_trace.specs.declared.line.Line.TheVariants as line
 use Rattle.law_audit_text.proofs.Counting.{event_plain, uncounted_plain}
 use Rattle.law_audit_text.proofs.Knowing.{declared_plain, declares_plain, ideal_plain, private_plain}
 use Rattle.law_audit_text.proofs.Locking.{unlocked_plain}
-use Rattle.law_line_texts.specs.Plain.{plain, plains}
-use Rattle.law_line_texts.proofs.Spoken.{same_plains}
+use Rattle.law_audit_text.specs.Plain.{plain, plains}
+use Rattle.law_audit_text.proofs.Spoken.{same_plains}
 use Rattle.law_audit_text.proofs.Plain.{plains_snoc, plains_length, any_plain, fold_plain}
 use Rattle.law_audit_text.specs.Alike.{AreJudgedAlike, HaveSameWords}
 

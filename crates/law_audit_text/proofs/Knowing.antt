@@ -10,7 +10,7 @@ use Rattle.zb_model.specs.Tools.{Tools}
 use Rattle.zb_model_real.specs.Terms.{model_term}
 use Rattle.zb_trace.specs.declared.line.Line.{Line}
 use Rattle.zb_trace.specs.declared.line.Line.TheVariants as line
-use Rattle.law_line_texts.specs.Plain.{plain, plains}
+use Rattle.law_audit_text.specs.Plain.{plain, plains}
 use Rattle.law_audit_text.proofs.Plain.{plains_snoc, plains_length, flat_plain, fold_plain}
 
 -- ---- names
@@ -41,20 +41,11 @@ removed_line _ = refl
 
 network_line : (l : Line) → network_in (plain l) ≡ network_in l
 network_line (line.GivenNet node key sequence) = refl
-network_line (line.GivenLink node partner key) = refl
-network_line (line.Draw event key) = refl
-network_line (line.Row event node partner key attribute.Provisional) = refl
-network_line (line.Row event node partner key attribute.Unverified) = refl
-network_line (line.Row event node partner key attribute.Verified) = refl
 network_line _ = refl
 
 held_line : (d : ℕ) (known : List Station) (l : Line) → held_by d known (plain l) ≡ held_by d known l
 held_line d known (line.GivenNet node key sequence) = refl
-held_line d known (line.GivenLink node partner key) = refl
-held_line d known (line.Install event node key sequence) = refl
-held_line d known (line.Row event node partner key a) = refl
-held_line d known (line.Pair event node first second key) = refl
-held_line d known _ = refl
+held_line _ _ _ = refl
 
 code_line : (n : Bytes) (l : Line) → code_in n (plain l) ≡ code_in n l
 code_line n (line.GivenLink node partner key) = refl

@@ -3,3 +3,5 @@ pub mod Knowing
 pub mod Counting
 pub mod Locking
 pub mod Judging
+pub mod Spoken
+mod Fixed

@@ -15,7 +15,7 @@ use Rattle.zb_trace.specs.declared.line.Line.{Line}
 use Rattle.zb_trace.specs.declared.line.Line.TheVariants as line
 use Rattle.law_audit_text.proofs.Counting.{flats_plain, groups_plain}
 use Rattle.law_audit_text.proofs.Knowing.{along_plain, declared_plain, ever_plain, exposed_plain, forged_plain, ideal_plain, known_plain, private_plain}
-use Rattle.law_line_texts.specs.Plain.{plain, plains}
+use Rattle.law_audit_text.specs.Plain.{plain, plains}
 use Rattle.law_audit_text.proofs.Plain.{plains_append, plains_snoc, plains_length, flat_plain, fold_plain}
 
 -- ---- before a group

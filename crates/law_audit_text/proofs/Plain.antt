@@ -1,7 +1,7 @@
 -- What an audit folds, collects and tests over lines whose names leave no room unused.
 use Rattle.std.proofs.Common.{◌≡◌, suc, Bool, ◌||◌, List, [], ◌∷◌, ◌++◌, flat_map, fold, length, refl, ap, ◌∙◌}
 use Rattle.std.specs.List.{list_any}
-use Rattle.law_line_texts.specs.Plain.{plain, plains}
+use Rattle.law_audit_text.specs.Plain.{plain, plains}
 use Rattle.zb_trace.specs.declared.line.Line.{Line}
 
 pub plains_snoc : (h : List Line) (l : Line) → plains h ++ plain l ∷ [] ≡ plains (h ++ l ∷ [])

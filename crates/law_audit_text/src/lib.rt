@@ -2,10 +2,14 @@
 //! docs/THEOREMS.md says it in words.
 #![tactic(auto)]
 
+mod line_texts;
+
 ghost use Rattle.std.specs.Prelude.{List};
 ghost use Rattle.law_audit_text.specs.Alike.{AreJudgedAlike, HaveSameWords};
 ghost use Rattle.zb_model.specs.Tools.{Tools};
 ghost use Rattle.zb_trace.specs.declared.line.Line.{Line};
+
+pub use line_texts::a_text_fixes_its_lines;
 
 /// States that lines with the same words are judged alike, whoever wrote them.
 ///

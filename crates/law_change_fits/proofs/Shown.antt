@@ -78,10 +78,8 @@ lives_shown (r ∷ rs) = at_test r.live (lives_shown rs)
 move_shown : (m : Move) (s : NodeState) → (may_move m (shown s) && move_leaves m (shown s))
     ≡ (may_move m s && move_leaves m s)
 unfolding shown is_live pair_of
-move_shown (Draw key) s = refl
 move_shown (DropNet key) s = ap (λ b. b && move_leaves (DropNet key) s)
     (ap row_is_live (found_shown key s.nets) ∙ live_shown (net_of key s))
-move_shown (DropLink partner key) s = refl
 move_shown (Install key sequence) s =
     ap (λ b. not b
     && (nat_lt (length (map shown_net s.nets)) 256
@@ -92,14 +90,7 @@ move_shown (Install key sequence) s =
     (length-map s.nets shown_net)
     ∙ ap (λ n. not (has_net key s.nets) && (nat_lt (length s.nets) 256 && nat_lt n 2)) (lives_shown s.nets)
 move_shown (Active key) s = ap (λ b. b && true) (ap row_is_live (found_shown key s.nets) ∙ live_shown (net_of key s))
-move_shown (Row partner key attribute) s = refl
-move_shown (Pair first second key) s = refl
-move_shown (Became state) s = refl
-move_shown (Live device) s = refl
-move_shown (Removed device) s = refl
-move_shown (Roll sending) s = refl
-move_shown (Told device) s = refl
-move_shown (Untold device) s = refl
+move_shown _ _ = refl
 
 change_shown : (e : Edit) (s : NodeState) → (may_change e (shown s) && leaves_rules e (shown s))
     ≡ (may_change e s && leaves_rules e s)

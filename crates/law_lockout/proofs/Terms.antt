@@ -133,22 +133,19 @@ layers_same Aps Nwk is = cc
 layers_same Aps Aps is = refl
 
 labels_same : (a b : Label) → same_label a b ≡ true → a ≡ b
-labels_same model.ForData model.ForData is = refl
 labels_same model.ForData model.ForNetwork is = cc
 labels_same model.ForData model.ForTransport is = cc
 labels_same model.ForData model.ForLoad is = cc
 labels_same model.ForNetwork model.ForData is = cc
-labels_same model.ForNetwork model.ForNetwork is = refl
 labels_same model.ForNetwork model.ForTransport is = cc
 labels_same model.ForNetwork model.ForLoad is = cc
 labels_same model.ForTransport model.ForData is = cc
 labels_same model.ForTransport model.ForNetwork is = cc
-labels_same model.ForTransport model.ForTransport is = refl
 labels_same model.ForTransport model.ForLoad is = cc
 labels_same model.ForLoad model.ForData is = cc
 labels_same model.ForLoad model.ForNetwork is = cc
 labels_same model.ForLoad model.ForTransport is = cc
-labels_same model.ForLoad model.ForLoad is = refl
+labels_same _ _ _ = refl
 
 abbrev termed : Layer → Bytes → Label → ℕ → ℕ → ℕ → Bytes → Bytes → Term
 termed layer base label source counter control header content =

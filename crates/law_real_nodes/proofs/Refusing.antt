@@ -8,7 +8,7 @@ use Rattle.zb_model.specs.Data.{Bytes, State, Joined, Offered, Became, Gone, NoK
 use Rattle.zb_model.specs.Lines.{Line}
 use Rattle.zb_model.specs.State.{NetKey, LinkKey, PairKey, NodeState, is_centre, is_live_of, active_row, usable_active, usable_of, newest, current, offered, is_live, pair_of}
 use Rattle.zb_model.specs.Tools.{Tools, NwkShown, NwkAuxiliary, ApsShown, ApsAuxiliary, LeaveShown, Leave, Other, NoCommand}
-use Rattle.zb_model.specs.Rules.{Outcome, Stop, Does, Plan, Setting, unless, found_or, choose, centre_of, is_declared}
+use Rattle.zb_model.specs.Rules.{Outcome, Stop, Does, Plan, Setting, refuse_if, found_or, choose, centre_of, is_declared}
 use Rattle.zb_model.specs.OwnEvents.{request_key, verify_key, timer_in, member_timer, is_waiting, least, next_member, centre_timer, switch_over, share}
 use Rattle.zb_model.specs.Commands.{Heard, row_is, is_verified_row, labelled, under_current, proves, verified_current, take_confirm, answer_request, take_request, answer_pair, take_app_request, take_verify, take_leave}
 use Rattle.zb_model.specs.Judging.{Verdict, Not, Good, reject, need, senders_full, judge_net, Carrier, carrier, judge_security, judge_nwk, payload_of, candidates, chosen_row, aps_source, Unsealed, judge_aps}
@@ -21,8 +21,8 @@ use Rattle.law_real_nodes.specs.Refusing.{RefusedFor, why_timer, why_rollover, w
 -- The steps of a rule
 
 un : (R : Reason → Type 0) (bad : Bool) (reason : Reason) (rest : Outcome) → (bad ≡ true → R reason)
-    → (bad ≡ false → RefusedFor R rest) → RefusedFor R (unless bad reason rest)
-unfolding unless
+    → (bad ≡ false → RefusedFor R rest) → RefusedFor R (refuse_if bad reason rest)
+unfolding refuse_if
 un R true reason rest k f = k refl
 un R false reason rest k f = f refl
 
@@ -382,7 +382,7 @@ part-fair tools c s d f nwk (Some a) = by-fair tools c s d f nwk a a.auxiliary
 
 leave-fair : (c : Setting) (term : Term) (options : ℕ)
     → FairPlan (comes_to (term ∷ []) AtNwk (take_leave c term options))
-unfolding take_leave unless
+unfolding take_leave refuse_if
 leave-fair c term options = by-test _
   where
     by-test : (b : Bool) → FairPlan (comes_to (term ∷ []) AtNwk (cond b (Stop Policy) (Does (Became Gone ∷ []) None)))

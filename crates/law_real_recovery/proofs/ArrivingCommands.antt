@@ -32,7 +32,7 @@ use Rattle.zb_seal.specs.Keys.{sealing_key}
 use Rattle.zb_seal.specs.Opening.{IsApsTerm, IsNwkTerm}
 use Rattle.zb_seal.specs.Wire.{nonce, sealed_term, wire}
 use Rattle.zb_seal.specs.declared.term.Term.{Term}
-use Rattle.law_key_exchange.specs.CommandFrames.{NetFrame, LinkFrame, net_term, link_term, sealed_content, clear_content, NetFrameInRange, SealedInRange, ClearInRange, IsCarried, IsUnsealed, IsRead, DeliversCommands}
+use Rattle.law_recovery.specs.CommandFrames.{NetFrame, LinkFrame, net_term, link_term, sealed_content, clear_content, NetFrameInRange, SealedInRange, ClearInRange, IsCarried, IsUnsealed, IsRead, DeliversCommands}
 use Rattle.law_run_text.proofs.Ciphers.{crypted_length}
 
 -- ---- commands

@@ -10,9 +10,9 @@ use Rattle.zb_model.specs.Data.{Bytes, UpdateDevice}
 use Rattle.zb_model_real.specs.Readers.{command_shown}
 use Rattle.zb_model_real.specs.Real.{real, command_for}
 use Rattle.zb_seal.specs.Wire.{wire}
-use Rattle.law_key_exchange.specs.CommandFrames.{LinkFrame, clear_content, sealed_content}
+use Rattle.law_recovery.specs.CommandFrames.{LinkFrame, clear_content, sealed_content}
 use Rattle.law_recovery.specs.KeyFrames.{KeyFrame, KeyFrameInRange}
-use Rattle.law_router_joins.specs.RouterFrames.{DeliversRelays, ReportInRange, joins_now, reporting, tunnel}
+use Rattle.law_recovery.specs.RouterFrames.{DeliversRelays, ReportInRange, joins_now, reporting, tunnel}
 use Rattle.law_real_recovery.proofs.Arriving.{air_frame, air-spells, own_term, wire-length}
 use Rattle.law_real_recovery.proofs.ArrivingCommands.{IsSpelled, arrives, carried, clear_short, content-length, read_clear}
 

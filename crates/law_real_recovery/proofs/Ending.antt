@@ -14,8 +14,8 @@ use Rattle.zb_model.specs.Transcript.{run_lines, transcript}
 use Rattle.law_recovery.specs.KeyFrames.{KeyFrameInRange}
 use Rattle.law_recovery.specs.Rejoining.{AreLinked, answer_frame}
 use Rattle.law_recovery.proofs.Taking.{unspent_of}
-use Rattle.law_recovery_runs.specs.Fronts.{CanRejoin, EndsRejoined, Front, after_event, after_events, rejoin_events}
-use Rattle.law_recovery_runs.proofs.Exchanged.{rejoined}
+use Rattle.law_recovery.specs.Fronts.{CanRejoin, EndsRejoined, Front, after_event, after_events, rejoin_events}
+use Rattle.law_recovery.proofs.Exchanged.{rejoined}
 use Rattle.law_real_nodes.proofs.Euis.{different}
 use Rattle.law_real_nodes.proofs.Opening.{opens_as_judged}
 use Rattle.law_run.specs.Events.{BeforeEach}

@@ -13,13 +13,13 @@ use Rattle.zb_model.specs.Readings.{state_of, draws_used}
 use Rattle.zb_model.specs.Rules.{is_declared, station_of}
 use Rattle.zb_model.specs.Schedules.{Names}
 use Rattle.zb_model.specs.State.{is_centre}
-use Rattle.law_key_exchange.specs.Exchanging.{StationsInRange}
-use Rattle.law_key_exchange.specs.Meeting.{AreDeclared, IsSteady}
+use Rattle.law_recovery.specs.Exchanging.{StationsInRange}
+use Rattle.law_recovery.specs.Meeting.{AreDeclared, IsSteady}
 use Rattle.law_recovery.proofs.Once.{find_map}
-use Rattle.law_recovery_runs.specs.Fronts.{Front, after_event, after_events}
-use Rattle.law_recovery_runs.specs.KeyExchange.{AreMet, EndsConfirmed, HaveJoined, KeysInRange, NothingStops, exchange_events}
-use Rattle.law_recovery_runs.proofs.Confirmed.{exchanged}
-use Rattle.law_recovery_runs.proofs.Exchanged.{left-by}
+use Rattle.law_recovery.specs.Fronts.{Front, after_event, after_events}
+use Rattle.law_recovery.specs.KeyExchange.{AreMet, EndsConfirmed, HaveJoined, KeysInRange, NothingStops, exchange_events}
+use Rattle.law_recovery.proofs.Confirmed.{exchanged}
+use Rattle.law_recovery.proofs.Exchanged.{left-by}
 use Rattle.law_real_nodes.proofs.Euis.{different}
 use Rattle.law_real_nodes.proofs.Opening.{opens_as_judged}
 use Rattle.law_run.specs.Events.{BeforeEach}

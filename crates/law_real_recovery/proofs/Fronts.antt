@@ -8,12 +8,12 @@ use Rattle.zb_model.specs.Readings.{state_of}
 use Rattle.zb_model.specs.Schedules as model_schedules
 use Rattle.zb_model.specs.Schedules.{IsMember, Names}
 use Rattle.zb_model.specs.State.{is_centre}
-use Rattle.law_key_exchange.specs.Meeting.{IsSteady}
-use Rattle.law_lost_frames.proofs.Acting.{steady_event}
+use Rattle.law_recovery.specs.Meeting.{IsSteady}
+use Rattle.law_recovery.proofs.Acting.{steady_event}
 use Rattle.law_real_nodes.proofs.Euis.{different}
 use Rattle.law_real_nodes.proofs.Opening.{opens_as_judged}
-use Rattle.law_recovery_runs.specs.Fronts.{Front, IsReady, after_event, after_events}
-use Rattle.law_recovery_runs.specs.KeyExchange.{AreMet}
+use Rattle.law_recovery.specs.Fronts.{Front, IsReady, after_event, after_events}
+use Rattle.law_recovery.specs.KeyExchange.{AreMet}
 use Rattle.law_run.proofs.Judged.{all-in}
 use Rattle.law_schedules.specs.Schedules.{schedule_of}
 use Rattle.law_schedules.proofs.Meets.{is_schedule}

@@ -8,16 +8,16 @@ use Rattle.zb_model.specs.Lines.{Line}
 use Rattle.zb_model.specs.Play.{Event, Own, setting_of, start}
 use Rattle.zb_model.specs.Readings.{state_of}
 use Rattle.zb_model.specs.State.{greatest_counter, is_centre, next_counter}
-use Rattle.law_key_exchange.specs.Meeting.{IsSteady}
+use Rattle.law_recovery.specs.Meeting.{IsSteady}
 use Rattle.law_recovery.specs.Joining.{AreIntroduced}
 use Rattle.law_recovery.specs.KeyFrames.{KeyFrameInRange}
 use Rattle.law_recovery.specs.Rejoining.{answer_frame}
 use Rattle.law_recovery.proofs.Taking.{unspent_of}
-use Rattle.law_recovery_runs.specs.Fronts.{Front, after_event, after_events}
-use Rattle.law_recovery_runs.specs.KeyExchange.{AreMet, EndsConfirmed, IsNew, NothingStops, joined_front, joining_events}
-use Rattle.law_recovery_runs.specs.Joining.{CanJoin}
-use Rattle.law_recovery_runs.proofs.Confirmed.{joined_and_exchanged}
-use Rattle.law_recovery_runs.proofs.Exchanged.{left-by, turned}
+use Rattle.law_recovery.specs.Fronts.{Front, after_event, after_events}
+use Rattle.law_recovery.specs.KeyExchange.{AreMet, EndsConfirmed, IsNew, NothingStops, joined_front, joining_events}
+use Rattle.law_recovery.specs.RunsJoining.{CanJoin}
+use Rattle.law_recovery.proofs.Confirmed.{joined_and_exchanged}
+use Rattle.law_recovery.proofs.Exchanged.{left-by, turned}
 use Rattle.law_real_nodes.proofs.Euis.{different}
 use Rattle.law_real_nodes.proofs.Opening.{opens_as_judged}
 use Rattle.law_run.specs.Events.{BeforeEach}

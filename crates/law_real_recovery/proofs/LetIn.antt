@@ -9,12 +9,12 @@ use Rattle.zb_model.specs.Play as model
 use Rattle.zb_model.specs.Play.{Event, Own, setting_of, start}
 use Rattle.zb_model.specs.Readings.{state_of}
 use Rattle.zb_model.specs.State.{LinkKey, code_row, is_centre, is_live}
-use Rattle.law_key_exchange.specs.Meeting.{IsSteady}
-use Rattle.law_recovery_runs.specs.Fronts.{Front, after_event, after_events}
-use Rattle.law_recovery_runs.specs.KeyExchange.{AreMet, EndsConfirmed, KeysInRange, NothingStops, joined_front, joining_events}
-use Rattle.law_recovery_runs.proofs.Exchanged.{left-by, turned}
-use Rattle.law_readmission.specs.Readmitting.{CanReadmit, entry_events, knocked_front, readmission_events}
-use Rattle.law_readmission.proofs.Readmitted.{readmitted}
+use Rattle.law_recovery.specs.Meeting.{IsSteady}
+use Rattle.law_recovery.specs.Fronts.{Front, after_event, after_events}
+use Rattle.law_recovery.specs.KeyExchange.{AreMet, EndsConfirmed, KeysInRange, NothingStops, joined_front, joining_events}
+use Rattle.law_recovery.proofs.Exchanged.{left-by, turned}
+use Rattle.law_recovery.specs.Readmitting.{CanReadmit, entry_events, knocked_front, readmission_events}
+use Rattle.law_recovery.proofs.Readmitted.{readmitted}
 use Rattle.law_real_nodes.proofs.Euis.{different}
 use Rattle.law_real_nodes.proofs.Opening.{opens_as_judged}
 use Rattle.law_run.specs.Events.{BeforeEach}

@@ -8,23 +8,23 @@ use Rattle.zb_model.specs.Play as model
 use Rattle.zb_model.specs.Play.{Event, setting_of}
 use Rattle.zb_model.specs.Readings.{state_of}
 use Rattle.zb_model.specs.Tools.{Tools}
-use Rattle.law_lost_frames.specs.Rounds.{CameFromCentre, RejoinsLater, after_rounds}
-use Rattle.law_lost_frames.specs.Stages.{AreFree, HaveCome, Keys}
-use Rattle.law_lost_frames.specs.Stale.{AreAnswersStale, AreStale, CameFromDevice, CameFromTheCentre}
-use Rattle.law_lost_frames.specs.Stops.{AreInOrder, Happening, Timer, Hearing, Taking, Repelling, Idle, after_happening, after_happenings, kept_far_all}
-use Rattle.law_lost_frames.specs.Turns.{Far, Asking, Done, Turn, Unheard, Unanswered, Answered, Refused, Elsewhere, after_turn, after_turns, far_after_all, turn_events}
-use Rattle.law_lost_frames.proofs.Floors.{floor_at_most}
-use Rattle.law_lost_frames.proofs.Halting.{happenings_confirm}
-use Rattle.law_lost_frames.proofs.Rounds.{rounds_end}
-use Rattle.law_lost_frames.proofs.Sending.{KeysFit}
-use Rattle.law_lost_frames.proofs.StaleAnswers.{stale_answers_are_fewer}
-use Rattle.law_lost_frames.proofs.StaleTurns.{stale_turns_are_fewer}
-use Rattle.law_lost_frames.proofs.Turning.{turns_confirm}
+use Rattle.law_recovery.specs.Rounds.{CameFromCentre, RejoinsLater, after_rounds}
+use Rattle.law_recovery.specs.Stages.{AreFree, HaveCome, Keys}
+use Rattle.law_recovery.specs.Stale.{AreAnswersStale, AreStale, CameFromDevice, CameFromTheCentre}
+use Rattle.law_recovery.specs.Stops.{AreInOrder, Happening, Timer, Hearing, Taking, Repelling, Idle, after_happening, after_happenings, kept_far_all}
+use Rattle.law_recovery.specs.Turns.{Far, Asking, Done, Turn, Unheard, Unanswered, Answered, Refused, Elsewhere, after_turn, after_turns, far_after_all, turn_events}
+use Rattle.law_recovery.proofs.Floors.{floor_at_most}
+use Rattle.law_recovery.proofs.Halting.{happenings_confirm}
+use Rattle.law_recovery.proofs.Rounds.{rounds_end}
+use Rattle.law_recovery.proofs.LostSending.{KeysFit}
+use Rattle.law_recovery.proofs.StaleAnswers.{stale_answers_are_fewer}
+use Rattle.law_recovery.proofs.StaleTurns.{stale_turns_are_fewer}
+use Rattle.law_recovery.proofs.Turning.{turns_confirm}
 use Rattle.law_real_nodes.proofs.Euis.{different}
 use Rattle.law_real_nodes.proofs.Opening.{opens_as_judged}
 use Rattle.law_recovery.proofs.Taking.{unspent_of}
-use Rattle.law_recovery_runs.specs.Fronts.{EndsRejoined, Front, IsReady, after_event, after_events, rejoin_events}
-use Rattle.law_recovery_runs.specs.KeyExchange.{EndsConfirmed}
+use Rattle.law_recovery.specs.Fronts.{EndsRejoined, Front, IsReady, after_event, after_events, rejoin_events}
+use Rattle.law_recovery.specs.KeyExchange.{EndsConfirmed}
 use Rattle.law_run_ranges.specs.Ranges.{LineInRange}
 use Rattle.law_run_ranges.proofs.Runs.{in_range}
 use Rattle.law_run_text.proofs.Schedules.{schedule_in_range}

@@ -11,14 +11,14 @@ use Rattle.zb_model.specs.Readings.{air, state_of}
 use Rattle.zb_model.specs.Rules.{acts_as_router, is_declared, is_router, short_of}
 use Rattle.zb_model.specs.Schedules.{Names}
 use Rattle.zb_model.specs.State.{is_centre}
-use Rattle.law_key_exchange.specs.Meeting.{IsSteady}
+use Rattle.law_recovery.specs.Meeting.{IsSteady}
 use Rattle.law_recovery.proofs.Once.{find_map}
-use Rattle.law_recovery_runs.specs.Fronts.{Front, after_event, after_events}
-use Rattle.law_recovery_runs.specs.KeyExchange.{EndsConfirmed, KeysInRange, NothingStops, exchange_events}
-use Rattle.law_recovery_runs.proofs.Exchanged.{left-by, turned}
-use Rattle.law_router_joins.specs.Relaying.{AreRouted}
-use Rattle.law_router_joins.specs.Routed.{MayJoinThrough, RouteIsFree, routed_events, routed_front, routed_joining_events}
-use Rattle.law_router_joins.proofs.Through.{routed_and_exchanged}
+use Rattle.law_recovery.specs.Fronts.{Front, after_event, after_events}
+use Rattle.law_recovery.specs.KeyExchange.{EndsConfirmed, KeysInRange, NothingStops, exchange_events}
+use Rattle.law_recovery.proofs.Exchanged.{left-by, turned}
+use Rattle.law_recovery.specs.Relaying.{AreRouted}
+use Rattle.law_recovery.specs.Routed.{MayJoinThrough, RouteIsFree, routed_events, routed_front, routed_joining_events}
+use Rattle.law_recovery.proofs.Through.{routed_and_exchanged}
 use Rattle.law_real_nodes.proofs.Euis.{different}
 use Rattle.law_real_nodes.proofs.Opening.{opens_as_judged}
 use Rattle.law_run.specs.Events.{BeforeEach}

@@ -6,11 +6,11 @@ use Rattle.zb_model.specs.Play.{Schedule, setting_of}
 use Rattle.zb_model.specs.Readings.{state_of}
 use Rattle.zb_model.specs.Schedules.{Names}
 use Rattle.zb_model.specs.State.{has_net, is_centre, next_counter, offered}
-use Rattle.law_key_exchange.specs.Meeting.{HasNetwork}
+use Rattle.law_recovery.specs.Meeting.{HasNetwork}
 use Rattle.law_recovery.specs.Joining.{AreIntroduced}
 use Rattle.law_recovery.specs.Rejoining.{why_not_sent, why_not_taken}
-use Rattle.law_recovery_runs.specs.Fronts.{Front, IsReady}
-use Rattle.law_recovery_runs.specs.KeyExchange.{HaveJoined}
+use Rattle.law_recovery.specs.Fronts.{Front, IsReady}
+use Rattle.law_recovery.specs.KeyExchange.{HaveJoined}
 
 -- The centre c of a schedule and a device d of it have power, and nothing is armed on their disks. The device has
 -- joined with the centre's network key and a link key that both have.

@@ -7,11 +7,11 @@ use Rattle.zb_model.specs.Readings.{state_of}
 use Rattle.zb_model.specs.Rules.{spent}
 use Rattle.zb_model.specs.Schedules.{Names}
 use Rattle.zb_model.specs.State.{LinkKey, code_row, is_centre, next_counter}
-use Rattle.law_key_exchange.specs.Meeting.{HasNetwork}
-use Rattle.law_readmission.specs.Entering.{why_no_row}
-use Rattle.law_readmission.specs.Knowing.{MeetsKey}
+use Rattle.law_recovery.specs.Meeting.{HasNetwork}
+use Rattle.law_recovery.specs.Entering.{why_no_row}
+use Rattle.law_recovery.specs.Knowing.{MeetsKey}
 use Rattle.law_recovery.specs.Rejoining.{why_not_taken}
-use Rattle.law_recovery_runs.specs.Fronts.{Front, IsReady}
+use Rattle.law_recovery.specs.Fronts.{Front, IsReady}
 
 -- The centre c of a schedule and a device d of it have power, and nothing is armed on their disks. The device has the
 -- key of its code, which is entered; the centre has a network key, which is new to the device, or which it knows.

@@ -8,13 +8,13 @@ use Rattle.zb_model.specs.Readings.{state_of}
 use Rattle.zb_model.specs.Schedules.{Names}
 use Rattle.zb_model.specs.State.{greatest_counter, is_centre, next_counter}
 use Rattle.zb_model.specs.Tools.{Tools}
-use Rattle.law_key_exchange.specs.Meeting.{HasNetwork}
-use Rattle.law_lost_frames.specs.Stages.{Keys, DeviceIs, CentreHas}
-use Rattle.law_lost_frames.specs.Stops.{Happening, happening_event}
-use Rattle.law_lost_frames.specs.Turns.{Far, Turn, after_turn, turn_events}
+use Rattle.law_recovery.specs.Meeting.{HasNetwork}
+use Rattle.law_recovery.specs.Stages.{Keys, DeviceIs, CentreHas}
+use Rattle.law_recovery.specs.Stops.{Happening, happening_event}
+use Rattle.law_recovery.specs.Turns.{Far, Turn, after_turn, turn_events}
 use Rattle.law_recovery.specs.Rejoining.{AreLinked, may_rejoin, why_no_room, why_not_sent, why_old}
-use Rattle.law_recovery_runs.specs.Fronts.{Front, IsReady, after_events, rejoin_events}
-use Rattle.law_recovery_runs.specs.KeyExchange.{KeysInRange, eui_of}
+use Rattle.law_recovery.specs.Fronts.{Front, IsReady, after_events, rejoin_events}
+use Rattle.law_recovery.specs.KeyExchange.{KeysInRange, eui_of}
 
 -- the events of turns of the exchange of link keys, each from the front that is reached then
 abbrev pub turns_events : Tools → Schedule → ℕ → ℕ → Front → List Turn → List Event

@@ -7,12 +7,12 @@ use Rattle.zb_model.specs.Readings.{state_of}
 use Rattle.zb_model.specs.Rules.{is_router}
 use Rattle.zb_model.specs.Schedules.{Names}
 use Rattle.zb_model.specs.State.{is_centre}
-use Rattle.law_key_exchange.specs.Meeting.{HasLink, HasNetwork}
-use Rattle.law_readmission.specs.Knowing.{MeetsKey}
+use Rattle.law_recovery.specs.Meeting.{HasLink, HasNetwork}
+use Rattle.law_recovery.specs.Knowing.{MeetsKey}
 use Rattle.law_recovery.specs.Joining.{AreIntroduced}
-use Rattle.law_recovery_runs.specs.Fronts.{Front, IsReady}
-use Rattle.law_recovery_runs.specs.KeyExchange.{eui_of}
-use Rattle.law_router_joins.specs.Relaying.{IsRouting}
+use Rattle.law_recovery.specs.Fronts.{Front, IsReady}
+use Rattle.law_recovery.specs.KeyExchange.{eui_of}
+use Rattle.law_recovery.specs.Relaying.{IsRouting}
 
 -- The centre c of a schedule, a router r of it that is a member, and a device d of it that knocked have power, and
 -- nothing is armed on their disks. The centre and the device have the link key of the device's code, and none is

@@ -6,7 +6,7 @@ use Rattle.zb_model.specs.Readings.{state_of}
 use Rattle.zb_model.specs.Schedules.{Names}
 use Rattle.zb_model.specs.State.{is_centre, next_counter}
 use Rattle.law_recovery.specs.Rejoining.{AreLinked, may_rejoin, why_not_sent, why_not_taken}
-use Rattle.law_recovery_runs.specs.Fronts.{Front, IsReady}
+use Rattle.law_recovery.specs.Fronts.{Front, IsReady}
 
 -- the front of a run after its start lines
 abbrev pub first_front : Schedule → Front

@@ -3,26 +3,26 @@
 #![tactic(auto)]
 
 ghost use Rattle.std.specs.Prelude.{◌≡◌, ◌<◌, ℕ, suc, ◌++◌, true, false, List};
-ghost use Rattle.law_key_exchange.specs.CommandFrames.{DeliversCommands};
-ghost use Rattle.law_lost_frames.specs.Rounds.{CameFromCentre};
-ghost use Rattle.law_lost_frames.specs.Stages.{AreFree, Keys};
-ghost use Rattle.law_lost_frames.specs.Stale.{AreAnswersStale, AreStale, CameFromDevice, CameFromTheCentre};
-ghost use Rattle.law_lost_frames.specs.Stops.{AreInOrder, Happening, kept_far_all};
-ghost use Rattle.law_lost_frames.specs.Turns.{Asking, Done, Far, Turn, far_after_all};
+ghost use Rattle.law_recovery.specs.CommandFrames.{DeliversCommands};
+ghost use Rattle.law_recovery.specs.Rounds.{CameFromCentre};
+ghost use Rattle.law_recovery.specs.Stages.{AreFree, Keys};
+ghost use Rattle.law_recovery.specs.Stale.{AreAnswersStale, AreStale, CameFromDevice, CameFromTheCentre};
+ghost use Rattle.law_recovery.specs.Stops.{AreInOrder, Happening, kept_far_all};
+ghost use Rattle.law_recovery.specs.Turns.{Asking, Done, Far, Turn, far_after_all};
 ghost use Rattle.law_recovery.specs.KeyFrames.{DeliversKeys};
 ghost use Rattle.law_recovery.specs.Rejoining.{AreOfOneNetwork};
-ghost use Rattle.law_readmission.specs.Readmitting.{knocked_front, readmission_events};
+ghost use Rattle.law_recovery.specs.Readmitting.{knocked_front, readmission_events};
 ghost use Rattle.law_real_recovery.specs.Exchanging.{MayExchange, MayJoin};
 ghost use Rattle.law_real_recovery.specs.Readmitting.{MayReadmit};
 ghost use Rattle.law_real_recovery.specs.Repeating.{MayGoOn, MayRejoinLater, happening_events};
 ghost use Rattle.law_real_recovery.specs.Repeating.{round_events, turns_events};
 ghost use Rattle.law_real_recovery.specs.Routing.{MayRoute};
 ghost use Rattle.law_real_recovery.specs.Texts.{MayRejoin, first_front};
-ghost use Rattle.law_recovery_runs.specs.Fronts.{EndsRejoined, IsReady, after_events, rejoin_events};
-ghost use Rattle.law_recovery_runs.specs.KeyExchange.{EndsConfirmed, NothingStops, exchange_events, joined_front};
-ghost use Rattle.law_recovery_runs.specs.KeyExchange.{joining_events};
-ghost use Rattle.law_router_joins.specs.Routed.{RouteIsFree, routed_front, routed_joining_events};
-ghost use Rattle.law_router_joins.specs.RouterFrames.{DeliversRelays};
+ghost use Rattle.law_recovery.specs.Fronts.{EndsRejoined, IsReady, after_events, rejoin_events};
+ghost use Rattle.law_recovery.specs.KeyExchange.{EndsConfirmed, NothingStops, exchange_events, joined_front};
+ghost use Rattle.law_recovery.specs.KeyExchange.{joining_events};
+ghost use Rattle.law_recovery.specs.Routed.{RouteIsFree, routed_front, routed_joining_events};
+ghost use Rattle.law_recovery.specs.RouterFrames.{DeliversRelays};
 ghost use Rattle.law_schedules.specs.Schedules.{schedule_of};
 ghost use Rattle.zb_model.specs.Data.{Bytes};
 ghost use Rattle.zb_model.specs.Play.{Event, setting_of};

@@ -105,17 +105,8 @@ verify-none cut bytes =
 
 -- what was read is shown, where no bytes are left
 known-none : (c : Command) → NoConfirm c → IsNone (Known (model_command c))
-known-none (TransportNetwork k q d s) n = tt
-known-none (TransportApplication k p i) n = tt
-known-none (TransportLink k d s) n = tt
-known-none (Update d a s) n = tt
-known-none (Remove t) n = tt
-known-none (RequestApplication p) n = tt
-known-none RequestLink n = tt
-known-none (Switch q) n = tt
-known-none (Tunnel d i) n = tt
-known-none (Verify k s h) n = tt
 known-none (Confirm s k d) n = n
+known-none _ _ = tt
 
 error-none : (e : CmdError) → IsNone (command_shown (Err e))
 error-none (fault.Unknown id) = tt

@@ -11,7 +11,7 @@ use Rattle.zb_aps.specs.declared.fault.ApsError.TheVariants.{TooLong, Short, Fra
 use Rattle.zb_aps.specs.declared.frame.ApsFrame.{ApsFrame}
 use Rattle.zb_aps.specs.declared.header.ApsHeader.{ApsHeader}
 use Rattle.zb_aps.specs.declared.header.Extended.{Extended}
-use Rattle.zb_carried_keys.specs.Carrying.{is_command}
+use Rattle.zb_seal.specs.Carrying.{is_command}
 use Rattle.zb_cursor.specs.Reading.{follow, byte_at, number_at, optional_at, insist, body_and_mic_at}
 use Rattle.zb_cursor.specs.Spelling.{bit}
 use Rattle.law_run.specs.Commanding.{IsClearControl}

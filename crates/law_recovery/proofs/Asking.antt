@@ -3,7 +3,7 @@ use Rattle.std.proofs.Common.{◌≡◌, ℕ, Bool, true, false, not, ◌||◌, 
 use Rattle.std.specs.Prelude.{is_none}
 use Rattle.std.proofs.lemmas.Bool.{false≢true}
 use Rattle.zb_model.specs.Data.{Nwk, Aps, State, Fresh, Knocked, Joined, Offered, Confirmed, Rejoining, Gone, ForTransport, AtEvent, NoKey, NotMember, WrongState, CounterSpent, Became, DoRejoin, HasChild, TransportNet}
-use Rattle.zb_model.specs.Rules.{Setting, Outcome, Does, Stop, Secret, unless, found_or, sends, short_of, spent, has_joined, in_rejoining}
+use Rattle.zb_model.specs.Rules.{Setting, Outcome, Does, Stop, Secret, refuse_if, found_or, sends, short_of, spent, has_joined, in_rejoining}
 use Rattle.zb_model.specs.OwnEvents.{rejoin, child_of_centre, own}
 use Rattle.zb_model.specs.State.{NetKey, LinkKey, NodeState, is_centre, active_row, current, next_counter, applied, applied_all}
 use Rattle.zb_model.specs.Tools.{Tools}
@@ -25,7 +25,7 @@ rejoin_answer tools m t o role e = rw role (ap (by_outcome tools m t) e)
 
 rejoin_rule : (t : NodeState) → rejoin t ≡ (if has_joined t.state then Does (Became Rejoining ∷ []) None
     else Stop WrongState)
-unfolding rejoin unless
+unfolding rejoin refuse_if
 rejoin_rule t = by_test (has_joined t.state)
   where
     by_test : (b : Bool) → (if not b then Stop WrongState else Does (Became Rejoining ∷ []) None)
@@ -86,7 +86,7 @@ child_refused : (tools : Tools) (c : Setting) (s : NodeState) (device : ℕ) (n 
     → (by_outcome tools c s (child_of_centre c s device)).refusal
     ≡ (if is_none n then Some NoKey
     else (if is_none l then Some NotMember else (if b then Some CounterSpent else None)))
-unfolding answer_by child_of_centre found_or unless
+unfolding answer_by child_of_centre found_or refuse_if
 child_refused tools c s device None l b x y z = rw x refl
 child_refused tools c s device (Some net) None b x y z = rw (x, y) refl
 child_refused tools c s device (Some net) (Some row) true x y z = rw (x, y, z) refl
@@ -101,7 +101,7 @@ refuses tools c s device rejoin role =
 
 pub child_rule : (c : Setting) (s : NodeState) (device : ℕ) (net : NetKey) (row : LinkKey) → active_row s ≡ Some net
     → current s device ≡ Some row → spent Aps s ≡ false → child_of_centre c s device ≡ child_does c device net row
-unfolding child_of_centre found_or unless
+unfolding child_of_centre found_or refuse_if
 child_rule c s device net row x y z = rw (x, y, z) refl
 
 child_frame : (tools : Tools) (c : Setting) (s : NodeState) (device : ℕ) (net : NetKey) (row : LinkKey) → spent Aps s
@@ -162,14 +162,14 @@ idle_fields tools c s k o e =
     ∙ ap (λ ms. fold fields_by (fields s) (flat_map (move_edits k) (filter (changes s) ms))) e
 
 pub child_idle : (c : Setting) (s : NodeState) (device : ℕ) → moves_of (child_of_centre c s device) ≡ []
-unfolding child_of_centre found_or unless
+unfolding child_of_centre found_or refuse_if
 child_idle c s device = by_net (active_row s) (current s device) (spent Aps s)
   where
     by_net : (n : Option NetKey) (l : Option LinkKey) (b : Bool)
         → moves_of
         (found_or n NoKey
         (λ net. found_or l NotMember
-        (λ row. unless b CounterSpent
+        (λ row. refuse_if b CounterSpent
         (Does []
         (sends (short_of c device) false
         (Secret ForTransport row.key (TransportNet net.key net.sequence device c.me.eui))))))) ≡ []

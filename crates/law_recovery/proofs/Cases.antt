@@ -3,7 +3,7 @@
 use Rattle.std.specs.Prelude.{◌≡◌, ℕ, true, false, [], ◌∷◌, ◌++◌, replicate, Some, None, refl}
 use Rattle.zb_model.specs.Commands.{Heard, take_net_key}
 use Rattle.zb_model.specs.Data.{Bytes, Role, Centre, Device, Confirmed, Verified, ForTransport, Station, DropNet, Install, Moved, NoKey, NotMember, CounterSpent, Stale, KeyOld, KeysFull}
-use Rattle.zb_model.specs.Rules.{Setting, Does, unless, choose, centre_of, spent, drop_old}
+use Rattle.zb_model.specs.Rules.{Setting, Does, refuse_if, choose, centre_of, spent, drop_old}
 use Rattle.zb_model.specs.State.{greatest_counter, NetKey, LinkKey, NodeState, new_node, active_row, current, next_counter, applied, applied_all}
 use Rattle.law_recovery.specs.Rejoining.{why_not_sent, why_not_taken}
 use Rattle.law_recovery.specs.Rollovers.{each_once, untold}
@@ -86,7 +86,7 @@ from_centre = record { sender = 1; label = Some ForTransport; row = Some (link 1
 
 told_of_the_third : take_net_key setting member from_centre (key 3) 3 2 1
     ≡ Does (DropNet (key 2) ∷ Install (key 3) 3 ∷ []) None
-unfolding take_net_key unless choose centre_of drop_old
+unfolding take_net_key refuse_if choose centre_of drop_old
 told_of_the_third = refl
 
 abbrev missed : NodeState

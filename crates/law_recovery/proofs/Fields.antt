@@ -37,12 +37,8 @@ by_move _ s = refl
 
 by_edit : (e : Edit) (s : NodeState) → fields (applied e s) ≡ fields_by (fields s) e
 unfolding applied
-by_edit (Reserve Nwk limit) s = refl
-by_edit (Reserve Aps limit) s = refl
-by_edit (Floor Nwk key sender value) s = refl
-by_edit (Floor Aps key sender value) s = refl
-by_edit (Start key value) s = refl
 by_edit (Moved m) s = by_move m s
+by_edit _ _ = refl
 
 by_edits : (es : List Edit) (s : NodeState) → fields (applied_all es s) ≡ fold fields_by (fields s) es
 unfolding applied_all

@@ -59,13 +59,8 @@ ends_knocked : (t : NodeState) (k : Counting) (g : State) → t.state ≡ g
     → fold fields_by (fields t)
     (flat_map (move_edits k) (if not (nat_eq (state_byte g) (state_byte Knocked)) then Became Knocked ∷ [] else []))
     ≡ knocked t
-ends_knocked t k Fresh e = refl
 ends_knocked t k Knocked e = ap (λ (g : State). record { active = t.active; state = g; sending = t.sending }) e
-ends_knocked t k Joined e = refl
-ends_knocked t k Offered e = refl
-ends_knocked t k Confirmed e = refl
-ends_knocked t k Rejoining e = refl
-ends_knocked t k Gone e = refl
+ends_knocked _ _ _ _ = refl
 
 knock_fields : (tools : Tools) (m : Setting) (t : NodeState) (k : Counting) (row : LinkKey)
     → fields

@@ -8,7 +8,7 @@ use Rattle.zb_model.specs.Data.{Bytes, Nwk, Aps, Told, Active, Roll, Moved, Labe
 use Rattle.zb_model.specs.Frames.{secured_frame, clear_broadcast, to_all, nwk_term, aps_term, sealed_command}
 use Rattle.zb_model.specs.State.{greatest_counter, NetKey, LinkKey, NodeState, same_key, is_centre, is_live_of, is_unverified, is_active_key, next_at, with_told, told_as, applied, applied_all, after_sealing, active_row, newest, current, is_live, next_of, next_counter}
 use Rattle.zb_model.specs.Tools.{Tools}
-use Rattle.zb_model.specs.Rules.{Setting, Outcome, Does, Stop, Sending, Secret, Clear, unless, found_or, choose, sends, short_of, spent, both_spent}
+use Rattle.zb_model.specs.Rules.{Setting, Outcome, Does, Stop, Sending, Secret, Clear, refuse_if, found_or, choose, sends, short_of, spent, both_spent}
 use Rattle.zb_model.specs.OwnEvents.{is_waiting, least, next_member, is_unfinished, centre_timer, switch_over, own}
 use Rattle.zb_model.specs.Answer.{Answer, Counting, changes, move_edits, start_edit, comes_to, part_of, may_seal, out_of, edits_of, answer_by, counting_of, plan_of, answer, answered}
 use Rattle.law_recovery.specs.Answering.{after_task, IsRefused}
@@ -324,7 +324,7 @@ timer_rule : (tools : Tools) (c : Setting) (s : NodeState) (base new : NetKey) (
     → own tools c s DoTimer
     ≡ (if b then Stop CounterSpent
     else Does (Told d ∷ []) (both_layers (short_of c d) row.key (TransportNet new.key new.sequence d c.me.eui)))
-unfolding own centre_timer unless found_or
+unfolding own centre_timer refuse_if found_or
 timer_rule tools c s base new d row role e on next f g b spent_is = rw (role, e, next, f, g, spent_is, on) refl
 
 -- what the timer looks up
@@ -429,7 +429,7 @@ switch_rule : (tools : Tools) (c : Setting) (s : NodeState) (base new : NetKey) 
     ≡ (if b then Stop CounterSpent
     else Does (Active new.key ∷ Roll false ∷ [])
     (sends to_all true (Clear clear_broadcast (SwitchKey new.sequence))))
-unfolding own switch_over is_unfinished unless found_or choose
+unfolding own switch_over is_unfinished refuse_if found_or choose
 switch_rule tools c s base new role e on next f b spent_is = rw (role, e, next, f, spent_is, on) refl
 
 switched_fields : (tools : Tools) (c : Setting) (s : NodeState) (k : Counting) (key : Bytes) (send : Option Sending)

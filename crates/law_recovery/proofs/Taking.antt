@@ -6,7 +6,7 @@ use Rattle.std.specs.Prelude.{is_none}
 use Rattle.std.proofs.lemmas.Slice.Eq.{bytes_eq-Decides}
 use Rattle.zb_model.specs.Data.{Bytes, Nwk, Aps, State, Joined, Confirmed, Rejoining, ForTransport, Term, AtAps, CounterMax, NoKey, NotMember, CounterSpent, Stale, KeyOld, KeysFull, Move, Install, Active, Became, Edit, Floor, Moved, DoRejoin, HasChild, Received}
 use Rattle.zb_model.specs.Fits.{keeps_rules, active_is_live, live_net}
-use Rattle.zb_model.specs.Rules.{Setting, Plan, Outcome, Does, Stop, unless, choose, centre_of, spent, nets_full, drop_old, first_drop, waits_for_key}
+use Rattle.zb_model.specs.Rules.{Setting, Plan, Outcome, Does, Stop, refuse_if, choose, centre_of, spent, nets_full, drop_old, first_drop, waits_for_key}
 use Rattle.zb_model.specs.State.{applied_all, greatest_counter, NetKey, LinkKey, NodeState, is_centre, active_row, is_verified, is_active_key, has_net, current, offered, next_counter, live_nets}
 use Rattle.zb_model.specs.Tools.{Tools, NwkShown, ApsAuxiliary}
 use Rattle.zb_model.specs.Judging.{Good, reject, need, judge_nwk, Unsealed, judge_aps, candidates}
@@ -103,7 +103,7 @@ taken_so : (m : Setting) (g e : State) (t : NodeState) (tools : Tools) (f : KeyF
     ≡ full
     → take_net_key m (in_state g t) (heard f tools own) f.key f.sequence f.device f.centre
     ≡ outcome_by e t f o has full
-unfolding take_net_key unless choose current offered drop_old
+unfolding take_net_key refuse_if choose current offered drop_old
 taken_so m g e t tools f own w role is_from is_to at good none (Some place) has full x y z =
     rw (role, is_from, self (centre_of m.stations), is_to, self m.me.eui, x) refl
 taken_so m g e t tools f own w role is_from is_to at good none None true full x y z =
@@ -171,11 +171,8 @@ refused_by : (tools : Tools) (e : State) (t : NodeState) (f : KeyFrame) (own : L
     → refusal_of (plan_by tools f own b (outcome_by e t f o has full))
     ≡ (if b then Some (Stale own.kept)
     else why_old o (if has then None else (if full then Some KeysFull else None)))
-refused_by tools e t f own true o has full = refl
 refused_by tools e t f own false (Some place) has full = refl
-refused_by tools e t f own false None true full = refl
-refused_by tools e t f own false None false true = refl
-refused_by tools e t f own false None false false = refl
+refused_by _ _ _ _ _ _ _ _ _ = refl
 
 pub refuses_key : (tools : Tools) (m : Setting) (g e : State) (t : NodeState) (f : KeyFrame) (own : LinkKey)
     (draw : Option Bytes) → Facts tools m g e t f own

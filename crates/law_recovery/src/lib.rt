@@ -2,6 +2,12 @@
 //! with an empty body; docs/THEOREMS.md says it in words.
 #![tactic(auto)]
 
+mod key_exchange;
+mod lost_frames;
+mod readmission;
+mod router_joins;
+mod runs;
+
 ghost use Rattle.std.specs.Prelude.{◌≡◌, ℕ, ◌<◌, ◌≤◌, ◌+◌, true, false, if◌then◌else◌, length, nat_lt};
 ghost use Rattle.std.specs.Prelude.{Bool, Option, Some, None, is_none, is_some};
 ghost use Rattle.law_answer_storable.specs.Storing.{OpensAsJudged};
@@ -20,6 +26,35 @@ ghost use Rattle.zb_model.specs.Fits.{keeps_rules, live_net};
 ghost use Rattle.zb_model.specs.Rules.{Setting, centre_of, has_joined};
 ghost use Rattle.zb_model.specs.State.{LinkKey, NodeState, code_row, greatest_counter, is_centre, next_counter};
 ghost use Rattle.zb_model.specs.Tools.{Tools};
+
+pub use key_exchange::{
+    a_device_is_confirmed, a_device_joins_for_the_exchange, a_device_proves_its_key,
+    a_joined_device_asks_for_a_link_key, a_joined_device_keeps_an_offered_key,
+    an_answer_leaves_a_node_steady, the_centre_confirms_a_proved_key,
+    the_centre_confirms_its_key_again, the_centre_offers_a_link_key,
+    the_centre_offers_its_key_again,
+};
+pub use lost_frames::{
+    a_frame_that_comes_twice_is_stale, a_lost_frame_costs_a_repeat,
+    a_lost_network_key_is_sent_again, a_stop_costs_a_repeat, a_stop_leaves_an_exchange,
+    floors_are_less_than_a_block_above, frames_of_the_exchange_are_on_the_air,
+    obstacles_are_seen_at_the_first_front, stale_answers_are_fewer_than_a_block,
+    stale_rounds_are_fewer_than_a_block, stale_turns_are_fewer_than_a_block,
+};
+pub use readmission::{
+    a_device_is_readmitted_in_a_run, a_device_joins_with_a_key_that_it_meets,
+    a_device_knocks_for_its_code, the_centre_enters_a_code, the_centre_removes_a_device,
+    what_is_refused_leaves_an_exchange,
+};
+pub use router_joins::{
+    a_device_joins_through_a_router_in_a_run, a_device_takes_a_relayed_key,
+    a_router_relays_a_network_key, a_router_reports_its_child, the_centre_answers_a_report,
+};
+pub use runs::{
+    a_boot_makes_a_node_ready, a_device_is_confirmed_in_a_run,
+    a_device_joins_and_is_confirmed_in_a_run, a_device_joins_in_a_run, a_member_rejoins_in_a_run,
+    a_rollover_ends_in_a_run,
+};
 
 /// States that a rollover ends after one timer for each device that isn't told, and one switch.
 ///

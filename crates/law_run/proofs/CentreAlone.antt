@@ -34,9 +34,6 @@ outcome-member c s task (Stop reason) e f = tt
 outcome-member c s task (Does moves sending) e f = of-member c s task moves e f.deed
 
 of-each : (x : Edit) → OfMemberEdit x → OfEachNode x
-of-each (Reserve l v) a = tt
-of-each (Floor l k p v) a = tt
-of-each (Start k v) a = tt
 of-each (Moved (Draw k)) a = a
 of-each (Moved (Pair u v k)) a = a
 of-each (Moved (Live d)) a = a
@@ -44,12 +41,7 @@ of-each (Moved (Removed d)) a = a
 of-each (Moved (Roll b)) a = a
 of-each (Moved (Told d)) a = a
 of-each (Moved (Untold d)) a = a
-of-each (Moved (DropNet k)) a = tt
-of-each (Moved (DropLink p k)) a = tt
-of-each (Moved (Install k q)) a = tt
-of-each (Moved (Active k)) a = tt
-of-each (Moved (Row p k t)) a = tt
-of-each (Moved (Became g)) a = tt
+of-each _ _ = tt
 
 each-edit : (es : List Edit) → AllByRecursion OfMemberEdit es → AllByRecursion OfEachNode es
 each-edit [] a = tt

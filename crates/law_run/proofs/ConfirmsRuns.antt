@@ -341,15 +341,12 @@ BodyClaim c n h _ = Unit {0}
 part-claim : (tools : Tools) → SpellsConfirm tools → (c n me to nwk aps : ℕ) (h : List Line) (body : Body)
     → BodyClaim c n h body → AllByRecursion (Claim tools c n h) (part_of tools me to nwk aps body).seals
 unfolding part_of
-part-claim tools spells c n me to nwk aps h (Saying bytes) k = tt
-part-claim tools spells c n me to nwk aps h (Clear control model_command) k = tt
 part-claim tools spells c n me to nwk aps h (Secret label key model_command) k =
     (command-claim tools spells c n h label key model_command me aps k, tt)
 part-claim tools spells c n me to nwk aps h (Tunnelled device key model_command) k =
     (command-claim tools spells c n h ForTransport key model_command me aps k, tt)
 part-claim tools spells c n me to nwk aps h (Telling key bytes) k = ((λ d q. absurd (false≢true q.1)), tt)
-part-claim tools spells c n me to nwk aps h Leaving k = tt
-part-claim tools spells c n me to nwk aps h (Relayed bytes) k = tt
+part-claim _ _ _ _ _ _ _ _ _ _ _ = tt
 
 framed-claim : (tools : Tools) → SpellsConfirm tools → (c : ℕ) (x : Setting) (n to nwk aps : ℕ) (h : List Line)
     (secured : Bool) (row : Option NetKey) (body : Body) → BodyClaim c n h body
@@ -479,10 +476,7 @@ body-confirmed number n c h x k p a f draw secured (Secret label key model_comma
 body-confirmed number n c h x k p a f draw secured (Tunnelled device key model_command) q rest calm =
     command-confirmed number n c h x k p a f draw key model_command q rest calm
 body-confirmed number n c h x k p a f draw secured (Saying bytes) q rest calm = tt
-body-confirmed number n c h x k p a f draw secured (Clear control model_command) q rest calm = tt
-body-confirmed number n c h x k p a f draw secured (Telling key bytes) q rest calm = tt
-body-confirmed number n c h x k p a f draw secured Leaving q rest calm = tt
-body-confirmed number n c h x k p a f draw secured (Relayed bytes) q rest calm = tt
+body-confirmed _ _ _ _ _ _ _ _ _ _ _ _ _ _ _ = tt
 
 send-confirmed : (number n c : ℕ) (h : List Line) (x : Setting) (k : Counting) (p : Plan) (a : Answer)
     → Facts number n c h x k p a → (draw : Option Bytes) (send : Option Sending)
@@ -724,10 +718,8 @@ groups-claims tools opens spells w i one h disks number (event ∷ events) named
 begins-calm : (l : Line) → Beginning l → Calm l
 unfolding Beginning Calm
 begins-calm (Declared p) b = tt
-begins-calm (GivenNet n key q) b = tt
-begins-calm (GivenLink n p key) b = tt
-begins-calm (Counter n layer v) b = tt
 begins-calm _ b = absurd b
+begins-calm _ _ = tt
 
 no-rows : (c : ℕ) → Firm [] c
 unfolding Firm state_of In

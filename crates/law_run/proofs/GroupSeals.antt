@@ -168,8 +168,6 @@ part-fits : (tools : Tools) (me n to nwk aps : ℕ) → Facts me n nwk aps → (
     → (has_aps_seal body ≡ true → (aps < greatest_counter) × ApsGives aps (state_of h n))
     → SealsFit h number n (part_of tools me to nwk aps body).seals
 unfolding part_of
-part-fits tools me n to nwk aps f h number (Saying bytes) g = tt
-part-fits tools me n to nwk aps f h number (Clear control command) g = tt
 part-fits tools me n to nwk aps f h number (Secret label key command) g =
     one-fits me n nwk aps f h number (Rattle.zb_model.specs.Frames.sealed_command) label key (tools.spelled command)
     ((g refl).0) ((g refl).1)
@@ -180,21 +178,17 @@ part-fits tools me n to nwk aps f h number (Telling key bytes) g =
     one-fits me n nwk aps f h number
     (Rattle.zb_model.specs.Frames.data_front Rattle.zb_model.specs.Frames.sealed_data) ForData key bytes ((g refl).0)
     ((g refl).1)
-part-fits tools me n to nwk aps f h number Leaving g = tt
-part-fits tools me n to nwk aps f h number (Relayed bytes) g = tt
+part-fits _ _ _ _ _ _ _ _ _ _ _ = tt
 
 -- an APS seal leaves the network rows
 part-keeps : (tools : Tools) (me to nwk aps number n : ℕ) (P : NetKey → Type 0) (key : Bytes) (body : Body)
     → AllByRecursion (λ l. (s : NodeState) → On P key s.nets → On P key (after l s).nets)
     (map (Seal number n) (part_of tools me to nwk aps body).seals)
 unfolding part_of after after_sealing
-part-keeps tools me to nwk aps number n P key (Saying bytes) = tt
-part-keeps tools me to nwk aps number n P key (Clear control command) = tt
 part-keeps tools me to nwk aps number n P key (Secret label k command) = (λ s p. p, tt)
 part-keeps tools me to nwk aps number n P key (Tunnelled device k command) = (λ s p. p, tt)
 part-keeps tools me to nwk aps number n P key (Telling k bytes) = (λ s p. p, tt)
-part-keeps tools me to nwk aps number n P key Leaving = tt
-part-keeps tools me to nwk aps number n P key (Relayed bytes) = tt
+part-keeps _ _ _ _ _ _ _ _ _ _ = tt
 
 seals-append : (number n : ℕ) (ts us : List Term) → map (Seal number n) (ts ++ us) ≡ map (Seal number n) ts
     ++ map (Seal number n) us

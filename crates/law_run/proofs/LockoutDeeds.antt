@@ -11,9 +11,9 @@ use Rattle.zb_model.specs.Answer.{comes_to, heard_clear, heard_sealed, nwk_comma
 use Rattle.law_run.specs.Opening.{Opens}
 use Rattle.zb_model.specs.Secrets.{key_in}
 use Rattle.zb_model.specs.Frames.{clear_command, clear_broadcast}
-use Rattle.zb_model.specs.Rules.{Body, Saying, Clear, Secret, Tunnelled, Telling, Leaving, Relayed, Sending, Outcome, Stop, Does, Setting, Plan, unless, found_or, choose, sends, centre_of, short_of, is_declared, is_router, spent, both_spent, waits_for_key, unless_held, drop_link, drop_row, drop_partner, drop_others, drop_old, first_drop}
+use Rattle.zb_model.specs.Rules.{Body, Saying, Clear, Secret, Tunnelled, Telling, Leaving, Relayed, Sending, Outcome, Stop, Does, Setting, Plan, refuse_if, found_or, choose, sends, centre_of, short_of, is_declared, is_router, spent, both_spent, waits_for_key, unless_held, drop_link, drop_row, drop_partner, drop_others, drop_old, first_drop}
 use Rattle.zb_model.specs.OwnEvents.{say, knock, rejoin, request_key, verify_key, timer_in, member_timer, ask, tell, report_child, child_of_router, child_of_centre, next_member, centre_timer, provision_new, provision, tell_leave, tell_parent, remove_device, roll, switch_over, again, share, own_at_centre, own_at_member, own}
-use Rattle.zb_model.specs.Commands.{Heard, is_clear, names_eui, is_member, take_net_key, unless_old, dropped_at, activates, activate, joined_state, unless_used, take_row, take_link_key, take_app_key, take_switch, take_confirm, take_remove, take_tunnel, take_update, answer_request, take_request, answer_pair, lesser, greater, take_app_request, verified_current, take_verify, take_command, take_leave}
+use Rattle.zb_model.specs.Commands.{Heard, is_clear, names_eui, is_member, take_net_key, refuse_if_old, dropped_at, activates, activate, joined_state, refuse_if_used, take_row, take_link_key, take_app_key, take_switch, take_confirm, take_remove, take_tunnel, take_update, answer_request, take_request, answer_pair, lesser, greater, take_app_request, verified_current, take_verify, take_command, take_leave}
 use Rattle.law_run.proofs.Judged.{OnGood, reject-good, need-good, In, found-element, in-reverse}
 
 -- Rows
@@ -209,8 +209,8 @@ OutcomeFits c s task (Does moves sending) = Done c s task moves sending
 -- The steps of a rule
 
 pub by-unless : (c : Setting) (s : NodeState) (task : Task) (bad : Bool) (reason : Rattle.zb_model.specs.Data.Reason)
-    (rest : Outcome) → (bad ≡ false → OutcomeFits c s task rest) → OutcomeFits c s task (unless bad reason rest)
-unfolding unless
+    (rest : Outcome) → (bad ≡ false → OutcomeFits c s task rest) → OutcomeFits c s task (refuse_if bad reason rest)
+unfolding refuse_if
 by-unless c s task true reason rest k = tt
 by-unless c s task false reason rest k = k refl
 
@@ -668,7 +668,7 @@ old-member s more a =
     by-test false = a
 
 by-old : (c : Setting) (s : NodeState) (task : Task) (key : Bytes) (o : Option ℕ) (rest : Outcome)
-    → OutcomeFits c s task rest → OutcomeFits c s task (unless_old s key o rest)
+    → OutcomeFits c s task rest → OutcomeFits c s task (refuse_if_old s key o rest)
 by-old c s task key None rest f = f
 by-old c s task key (Some place) rest f = tt
 
@@ -717,7 +717,7 @@ net-key-fits c s task m key sequence destination source =
     (waits_for_key s.state)))))))
 
 by-used : (c : Setting) (s : NodeState) (task : Task) (o : Option LinkKey) (rest : Outcome)
-    → OutcomeFits c s task rest → OutcomeFits c s task (unless_used o rest)
+    → OutcomeFits c s task rest → OutcomeFits c s task (refuse_if_used o rest)
 by-used c s task None rest f = f
 by-used c s task (Some r) rest f = tt
 

@@ -321,15 +321,12 @@ command-carries x shows h label key command me aps c k e = c k (shows.spelled co
 part-carries : (x : Case) → ShowsKeys x.tools → (h : List Line) (me to nwk aps : ℕ) (secured : Bool) (body : Body)
     → BodyCarries x h secured body → AllByRecursion (Carries x h) (part_of x.tools me to nwk aps body).seals
 unfolding part_of carried
-part-carries x shows h me to nwk aps secured (Saying bytes) c = tt
-part-carries x shows h me to nwk aps secured (Clear control command) c = tt
 part-carries x shows h me to nwk aps secured (Secret label key command) c =
     (command-carries x shows h label key command me aps c, tt)
 part-carries x shows h me to nwk aps secured (Tunnelled device key command) c =
     (command-carries x shows h ForTransport key command me aps c, tt)
 part-carries x shows h me to nwk aps secured (Telling key bytes) c = ((λ k e. absurd (no-key k e)), tt)
-part-carries x shows h me to nwk aps secured Leaving c = tt
-part-carries x shows h me to nwk aps secured (Relayed bytes) c = tt
+part-carries _ _ _ _ _ _ _ _ _ _ = tt
 
 -- a NWK term of a node's own carries nothing
 

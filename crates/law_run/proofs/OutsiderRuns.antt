@@ -596,18 +596,14 @@ begins-earlier _ b = absurd b
 begins-quiet : (l : Line) → Beginning l → Quiet l
 unfolding Beginning Quiet
 begins-quiet (Declared p) b = tt
-begins-quiet (GivenNet n key q) b = tt
-begins-quiet (GivenLink n p key) b = tt
-begins-quiet (Counter n layer v) b = tt
 begins-quiet _ b = absurd b
+begins-quiet _ _ = tt
 
 begins-plain : (l : Line) → Beginning l → NoAccept l
 unfolding Beginning NoAccept
 begins-plain (Declared p) b = tt
-begins-plain (GivenNet n key q) b = tt
-begins-plain (GivenLink n p key) b = tt
-begins-plain (Counter n layer v) b = tt
 begins-plain _ b = absurd b
+begins-plain _ _ = tt
 
 start-bad : (tools : Tools) (w : Schedule) → Bad tools (start w)
 start-bad tools w = record {

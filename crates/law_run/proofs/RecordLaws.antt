@@ -67,12 +67,7 @@ role-again Device = refl
 state-again : (g : State) → state_of_byte (state_byte g) ≡ Some g
 unfolding state_of_byte
 state-again Fresh = refl
-state-again Knocked = refl
-state-again Joined = refl
-state-again Offered = refl
-state-again Confirmed = refl
-state-again Rejoining = refl
-state-again Gone = refl
+state-again _ = refl
 
 attribute-again : (t : Attribute) → attribute_of_byte (attribute_byte t) ≡ Some t
 unfolding attribute_of_byte
@@ -95,13 +90,7 @@ two-flags-again true true = refl
 three-flags-again : (a b c : Bool) → three_flags (worth 1 a + (worth 2 b + worth 4 c)) ≡ Some (a, b, c)
 unfolding three_flags
 three-flags-again false false false = refl
-three-flags-again true false false = refl
-three-flags-again false true false = refl
-three-flags-again true true false = refl
-three-flags-again false false true = refl
-three-flags-again true false true = refl
-three-flags-again false true true = refl
-three-flags-again true true true = refl
+three-flags-again _ _ _ = refl
 
 many-again : {A B : Type 0} (read : Taking B) (spell : A → Bytes) (view : A → B) (Fits : A → Type 0)
     → ((x : A) (rest : Bytes) → Fits x → read (spell x ++ rest) ≡ Some (view x, rest))

@@ -63,10 +63,8 @@ starts-small _ s = absurd s
 
 starts-quiet : (h : List Line) (l : Line) → Starts l → SpentLine h l
 starts-quiet h (Declared p) s = tt
-starts-quiet h (GivenNet n key sequence) s = tt
-starts-quiet h (GivenLink n partner key) s = tt
-starts-quiet h (Counter n layer v) s = tt
 starts-quiet h _ s = absurd s
+starts-quiet _ _ _ = tt
 
 all-starts-small : (ls : List Line) → AllByRecursion Starts ls → AllByRecursion LineSmall ls
 all-starts-small [] a = tt

@@ -81,15 +81,12 @@ mild-same : (e : Edit) → Mild e → (layer : Layer) (s : NodeState) → next_c
     ≡ next_counter layer s
 unfolding next_counter applied active_row
 mild-same (Reserve Nwk v) m Nwk s = reserve-next v s.active s.active s
-mild-same (Reserve Nwk v) m Aps s = refl
 mild-same (Reserve Aps v) m Nwk s = same-active s.active s (applied (Reserve Aps v) s) refl
-mild-same (Reserve Aps v) m Aps s = refl
 mild-same (Floor Nwk k p v) m Nwk s = active-next (net_floor p v) (λ r. refl) (λ r. refl) k s.active s
-mild-same (Floor Nwk k p v) m Aps s = refl
 mild-same (Floor Aps k p v) m Nwk s = same-active s.active s (applied (Floor Aps k p v) s) refl
-mild-same (Floor Aps k p v) m Aps s = refl
 mild-same (Start k v) m layer s = absurd m
 mild-same (Moved x) m layer s = absurd m
+mild-same _ _ _ _ = refl
 
 heard-same : (of : Layer) (k : Bytes) (sender counter : ℕ) (layer : Layer) (s : NodeState)
     → next_counter layer (after_hearing of k sender counter s) ≡ next_counter layer s

@@ -227,7 +227,6 @@ may_same (Reserve Nwk limit) s =
     ∙ ap (λ (b : Bool). b && nat_le (limit_of s.declared (option_map booted_net (active_row s))) limit)
     (some_same (active_row s))
     ∙ ap (λ (n : ℕ). is_some (active_row s) && nat_le n limit) (counter_same s.declared (active_row s))
-may_same (Reserve Aps limit) s = refl
 may_same (Floor Nwk key sender value) s =
     ap (λ (b : Bool). b && nat_le (net_stored sender (net_of key (after_boot s))) value) (live_found key s)
     ∙ ap (λ (o : Option NetKey). live_net key s && nat_le (net_stored sender o) value) (net_found key s)
@@ -243,20 +242,16 @@ may_same (Start key value) s =
     (any_net (λ (r : NetKey). same_key r.key key) (λ r. refl) s.nets)
     ∙ ap (λ (o : Option NetKey). has_net key s.nets && nat_le (net_limit o) value) (net_found key s)
     ∙ ap (λ (n : ℕ). has_net key s.nets && nat_le n value) (limit_same (net_of key s))
-may_same (Moved (Draw key)) s = refl
 may_same (Moved (DropNet key)) s = live_found key s
 may_same (Moved (DropLink partner key)) s = any_live_link partner key s.links
 may_same (Moved (Install key sequence)) s =
     ap (λ (b : Bool). not b) (any_net (λ (r : NetKey). same_key r.key key) (λ r. refl) s.nets)
 may_same (Moved (Active key)) s = live_found key s
-may_same (Moved (Row partner key attribute)) s = refl
-may_same (Moved (Pair first second key)) s = refl
-may_same (Moved (Became state)) s = refl
 may_same (Moved (Live device)) s = rw (device_same s device) refl
 may_same (Moved (Removed device)) s = rw (device_same s device) refl
-may_same (Moved (Roll sending)) s = refl
 may_same (Moved (Told device)) s = rw (device_same s device) refl
 may_same (Moved (Untold device)) s = rw (device_same s device) refl
+may_same _ _ = refl
 
 both_same : (e : Edit) (s : NodeState) → (may_change e (after_boot s) && keeps_rules (applied e (after_boot s)))
     ≡ (may_change e s && keeps_rules (applied e s))

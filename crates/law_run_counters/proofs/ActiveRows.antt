@@ -33,13 +33,9 @@ from s t e same active a found = same a ∙ active a (sym e ∙ found)
 
 mild-active : (e : Edit) → IsReserve e ⊎ IsFloor e → (s : NodeState) → (applied e s).active ≡ s.active
 unfolding applied
-mild-active (Reserve Nwk v) q s = refl
-mild-active (Reserve Aps v) q s = refl
-mild-active (Floor Nwk k p v) q s = refl
-mild-active (Floor Aps k p v) q s = refl
-mild-active (Start k v) q s = refl
 mild-active (Moved m) (inl q) s = absurd q
 mild-active (Moved m) (inr q) s = absurd q
+mild-active _ _ _ = refl
 
 mild-rows : (e : Edit) → IsReserve e ⊎ IsFloor e → (s : NodeState) → ActiveStarted s → (key : Bytes)
     → started key (applied e s).nets ≡ started key s.nets
@@ -70,18 +66,7 @@ mild-all (e ∷ es) a s active = and-before s (applied e s) (applied_all es (app
 moved-active : (m : Move) → NoActive m → (s : NodeState) → (applied (Moved m) s).active ≡ s.active
 unfolding applied
 moved-active (Active key) n s = absurd n
-moved-active (Draw k) n s = refl
-moved-active (DropNet k) n s = refl
-moved-active (DropLink p k) n s = refl
-moved-active (Install k q) n s = refl
-moved-active (Row p k t) n s = refl
-moved-active (Pair x y k) n s = refl
-moved-active (Became g) n s = refl
-moved-active (Live d) n s = refl
-moved-active (Removed d) n s = refl
-moved-active (Roll b) n s = refl
-moved-active (Told d) n s = refl
-moved-active (Untold d) n s = refl
+moved-active _ _ _ = refl
 
 moved-rows : (m : Move) (s : NodeState) (key : Bytes) → started key (applied (Moved m) s).nets ≡ started key s.nets
 unfolding applied

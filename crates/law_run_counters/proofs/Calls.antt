@@ -28,23 +28,15 @@ body-calls-net : (due : List Line) (tools : Tools) (me to nwk aps : ℕ) (body :
     → flat_map (Calls Nwk due) (part_of tools me to nwk aps body).seals ≡ []
 unfolding part_of
 body-calls-net due tools me to nwk aps (Saying bytes) = refl
-body-calls-net due tools me to nwk aps (Clear control command) = refl
-body-calls-net due tools me to nwk aps (Secret label key command) = refl
-body-calls-net due tools me to nwk aps (Tunnelled device key command) = refl
-body-calls-net due tools me to nwk aps (Telling key bytes) = refl
-body-calls-net due tools me to nwk aps Leaving = refl
-body-calls-net due tools me to nwk aps (Relayed bytes) = refl
+body-calls-net _ _ _ _ _ _ _ = refl
 
 body-calls-aps : (due : List Line) (tools : Tools) (me to nwk aps : ℕ) (body : Body)
     → flat_map (Calls Aps due) (part_of tools me to nwk aps body).seals ≡ cond (has_aps_seal body) due []
 unfolding part_of
-body-calls-aps due tools me to nwk aps (Saying bytes) = refl
-body-calls-aps due tools me to nwk aps (Clear control command) = refl
 body-calls-aps due tools me to nwk aps (Secret label key command) = append-nil' due
 body-calls-aps due tools me to nwk aps (Tunnelled device key command) = append-nil' due
 body-calls-aps due tools me to nwk aps (Telling key bytes) = append-nil' due
-body-calls-aps due tools me to nwk aps Leaving = refl
-body-calls-aps due tools me to nwk aps (Relayed bytes) = refl
+body-calls-aps _ _ _ _ _ _ _ = refl
 
 -- the layers at which a body is sealed in a frame
 abbrev sealed_at_layer : Layer → Bool → Body → Bool

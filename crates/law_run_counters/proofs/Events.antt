@@ -203,13 +203,7 @@ event-same tools opens w h disks number (RollOver n) k bridged i = task-same too
     (DoRoll (supply w h)) k bridged i
 event-same tools opens w h disks number (Deliver frame n) k bridged i = deliver-same tools opens w h disks number n
     (frame_at h frame) k bridged i
-event-same tools opens w h disks number (Reset n) k bridged i = refl
-event-same tools opens w h disks number (PowerOn n) k bridged i = refl
-event-same tools opens w h disks number (ShowRecord n) k bridged i = refl
-event-same tools opens w h disks number (ArmStop n calls torn) k bridged i = refl
-event-same tools opens w h disks number (ArmFail n call) k bridged i = refl
-event-same tools opens w h disks number (InjectBytes bytes) k bridged i = refl
-event-same tools opens w h disks number (ForgeNet to from source key sequence counter content) k bridged i = refl
+event-same _ _ _ _ _ _ _ _ _ _ = refl
 event-same tools opens w h disks number
     (ForgeNetAps to from source key sequence counter label base aps_counter command) k bridged i = refl
 event-same tools opens w h disks number (ForgeOpen to from source label base aps_counter command) k bridged i = refl

@@ -88,10 +88,8 @@ fallen-plain (FailAt call) number n = (tt, tt)
 starts-plain : (l : Line) → IsStart l → NoFloor l
 unfolding IsStart NoFloor
 starts-plain (Declared p) b = tt
-starts-plain (GivenNet n key q) b = tt
-starts-plain (GivenLink n p key) b = tt
-starts-plain (Counter n layer v) b = tt
 starts-plain _ b = absurd b
+starts-plain _ _ = tt
 
 -- The changes of an answer
 

@@ -163,13 +163,10 @@ Taken h number n ts = AllByRecursion (TakesCounter h) (map (Seal number n) ts)
 part-takes : (h : List Line) (number n : ℕ) (tools : Tools) (me to nwk aps : ℕ) (body : Body) → aps
     ≡ next_counter Aps (state_of h n) → Taken h number n (part_of tools me to nwk aps body).seals
 unfolding part_of
-part-takes h number n tools me to nwk aps (Saying bytes) e = tt
-part-takes h number n tools me to nwk aps (Clear control command) e = tt
 part-takes h number n tools me to nwk aps (Secret label key command) e = ((e, tt), tt)
 part-takes h number n tools me to nwk aps (Tunnelled device key command) e = ((e, tt), tt)
 part-takes h number n tools me to nwk aps (Telling key bytes) e = ((e, tt), tt)
-part-takes h number n tools me to nwk aps Leaving e = tt
-part-takes h number n tools me to nwk aps (Relayed bytes) e = tt
+part-takes _ _ _ _ _ _ _ _ _ _ = tt
 
 active-by : (o : Option Bytes) (s : NodeState) (r : NetKey) → net_of_active o s ≡ Some r → o ≡ Some r.key
 active-by None s r e = absurd (none-some r e)
@@ -312,26 +309,20 @@ part-taken h number n tools me to nwk aps (Relayed bytes) t e = absurd (false≢
 part-aps : (tools : Tools) (me to nwk a b : ℕ) (body : Body) → (has_aps_seal body ≡ true → a ≡ b)
     → part_of tools me to nwk a body ≡ part_of tools me to nwk b body
 unfolding part_of
-part-aps tools me to nwk a b (Saying bytes) k = refl
-part-aps tools me to nwk a b (Clear control command) k = refl
 part-aps tools me to nwk a b (Secret label key command) k =
     ap (λ x. part_of tools me to nwk x (Secret label key command)) (k refl)
 part-aps tools me to nwk a b (Tunnelled device key command) k =
     ap (λ x. part_of tools me to nwk x (Tunnelled device key command)) (k refl)
 part-aps tools me to nwk a b (Telling key bytes) k = ap (λ x. part_of tools me to nwk x (Telling key bytes)) (k refl)
-part-aps tools me to nwk a b Leaving k = refl
-part-aps tools me to nwk a b (Relayed bytes) k = refl
+part-aps _ _ _ _ _ _ _ _ = refl
 
 part-nwk : (tools : Tools) (me to a b aps : ℕ) (body : Body) → NeedsNoNwk body → part_of tools me to a aps body
     ≡ part_of tools me to b aps body
 unfolding part_of
 part-nwk tools me to a b aps (Saying bytes) k = absurd k
 part-nwk tools me to a b aps (Clear control command) k = absurd k
-part-nwk tools me to a b aps (Secret label key command) k = refl
 part-nwk tools me to a b aps (Tunnelled device key command) k = absurd k
-part-nwk tools me to a b aps (Telling key bytes) k = refl
-part-nwk tools me to a b aps Leaving k = refl
-part-nwk tools me to a b aps (Relayed bytes) k = refl
+part-nwk _ _ _ _ _ _ _ _ = refl
 
 framed-same : (h : List Line) (number n : ℕ) (tools : Tools) (c : Setting) (to nwk aps nwk' aps' : ℕ) (secured : Bool)
     (row : Option NetKey) (body : Body) → next_counter Nwk (state_of h n) ≡ nwk' → next_counter Aps (state_of h n)

@@ -5,10 +5,10 @@ use Rattle.std.specs.List.{AllByRecursion, list_any}
 use Rattle.zb_model.specs.Data.{Bytes, Nwk, ForData, State, Joined, Offered, Term, Move, Draw, DropNet, DropLink, Install, Active, Row, Pair, Became, Live, Removed, Roll, Told, Untold, Reason, Task, SayTo, TellTo, DoKnock, DoRejoin, DoTimer, AskFor, HasChild, DoProvision, DoRemove, DoRoll, DoSwitch, DoAgain, DoShare, Received, Command, TransportNet, TransportApp, TransportLink, UpdateDevice, RemoveDevice, RequestApp, RequestLink, SwitchKey, Tunnel, VerifyKey, ConfirmKey}
 use Rattle.zb_model.specs.State.{NetKey, LinkKey, PairKey, NodeState, same_key, has_net, at_net, new_net, dropped_net, live_nets, active_row, newest, live_of, is_centre, is_live_of, current, offered, other_user, pair_of, is_active_key}
 use Rattle.zb_model.specs.Tools.{Tools, CommandShown, Known, Unknown, Broken, LeaveShown, Leave, Other, NoCommand, NwkShown, ApsShown, ApsAuxiliary}
-use Rattle.zb_model.specs.Rules.{Body, Saying, Clear, Secret, Tunnelled, Telling, Leaving, Relayed, Sending, Outcome, Stop, Does, Plan, Setting, unless, found_or, choose, sends, short_of, spent, both_spent, drop_link, drop_partner, drop_others, drop_row, drop_old, first_drop, waits_for_key}
+use Rattle.zb_model.specs.Rules.{Body, Saying, Clear, Secret, Tunnelled, Telling, Leaving, Relayed, Sending, Outcome, Stop, Does, Plan, Setting, refuse_if, found_or, choose, sends, short_of, spent, both_spent, drop_link, drop_partner, drop_others, drop_row, drop_old, first_drop, waits_for_key}
 use Rattle.zb_model.specs.OwnEvents.{say, knock, rejoin, request_key, verify_key, timer_in, member_timer, ask, tell, report_child, child_of_router, child_of_centre, centre_timer, provision_new, provision, tell_leave, tell_parent, remove_device, roll, switch_over, again, share, own_at_centre, own_at_member, own}
 use Rattle.zb_model.specs.Judging.{Verdict, Not, Good, Carrier, Unsealed}
-use Rattle.zb_model.specs.Commands.{Heard, unless_old, activates, activate, joined_state, dropped_at, take_net_key, unless_used, take_row, take_link_key, take_app_key, take_switch, take_confirm, take_remove, take_tunnel, take_update, answer_request, take_request, answer_pair, take_app_request, take_verify, take_command, take_leave}
+use Rattle.zb_model.specs.Commands.{Heard, refuse_if_old, activates, activate, joined_state, dropped_at, take_net_key, refuse_if_used, take_row, take_link_key, take_app_key, take_switch, take_confirm, take_remove, take_tunnel, take_update, answer_request, take_request, answer_pair, take_app_request, take_verify, take_command, take_leave}
 use Rattle.zb_model.specs.Answer.{plan_of, received_as, net_part, aps_part, by_security, sealed_part, clear_part, aps_command, nwk_command, heard_clear, heard_sealed}
 use Rattle.law_run.proofs.Basics.{same_key-refl}
 use Rattle.law_run.proofs.FreshLines.{all-append}
@@ -175,8 +175,8 @@ abbrev pub Fits : NodeState → Outcome → Type 0
 Fits s (Stop reason) = Unit {0}
 Fits s (Does moves send) = MovesFit s.nets moves × Shown send
 
-un : (s : NodeState) (b : Bool) (reason : Reason) (rest : Outcome) → Fits s rest → Fits s (unless b reason rest)
-unfolding unless
+un : (s : NodeState) (b : Bool) (reason : Reason) (rest : Outcome) → Fits s rest → Fits s (refuse_if b reason rest)
+unfolding refuse_if
 un s true reason rest f = tt
 un s false reason rest f = f
 
@@ -344,7 +344,7 @@ own-fits tools c s task = either-fits s (is_centre c.me.role) (own_at_centre c s
 -- Commands
 
 unless-old-fits : (s : NodeState) (key : Bytes) (o : Option ℕ) (rest : Outcome) → Fits s rest
-    → Fits s (unless_old s key o rest)
+    → Fits s (refuse_if_old s key o rest)
 unless-old-fits s key None rest f = f
 unless-old-fits s key (Some place) rest f = tt
 
@@ -355,7 +355,7 @@ net-key-fits c s m key q destination source = un s _ _ _ (unless-old-fits s key 
     (λ e. (activate-fits c s key s.nets e, tt))
     (λ e. un s _ _ _ (old-fits s (Install key q ∷ activate c s key) (install-fits c s key q) s.nets, tt))))
 
-unless-used-fits : (s : NodeState) (o : Option LinkKey) (rest : Outcome) → Fits s rest → Fits s (unless_used o rest)
+unless-used-fits : (s : NodeState) (o : Option LinkKey) (rest : Outcome) → Fits s rest → Fits s (refuse_if_used o rest)
 unless-used-fits s None rest f = f
 unless-used-fits s (Some other) rest f = tt
 

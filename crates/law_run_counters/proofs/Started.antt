@@ -237,19 +237,9 @@ stays : (a b : Bool) → a ≡ b → a ≡ (b || false)
 stays a b e = e ∙ or-nothing b
 
 pub started-moved : (key : Bytes) (m : Move) (s : NodeState) → started key (moved m s).nets ≡ started key s.nets
-started-moved key (Draw k) s = refl
 started-moved key (DropNet k) s = started-at dropped_net (plain-row dropped_net (λ r. refl) (λ r. refl)) key k s.nets
-started-moved key (DropLink p k) s = refl
 started-moved key (Install k q) s = new-by (has_net k s.nets) (new_net k q) refl key s.nets
-started-moved key (Active k) s = refl
-started-moved key (Row p k t) s = refl
-started-moved key (Pair x y k) s = refl
-started-moved key (Became g) s = refl
-started-moved key (Live d) s = refl
-started-moved key (Removed d) s = refl
-started-moved key (Roll b) s = refl
-started-moved key (Told d) s = refl
-started-moved key (Untold d) s = refl
+started-moved _ _ _ = refl
 
 started-applied : (key : Bytes) (number n : ℕ) (e : Edit) (s : NodeState) → StartFits (Changed number n e) s
     → started key (applied e s).nets ≡ (started key s.nets || starting key (Changed number n e))

@@ -4,7 +4,7 @@ use Rattle.std.proofs.Common.{◌≡◌, ℕ, Bool, true, false, cond, List, [],
 use Rattle.zb_model.specs.Data.{Bytes, Layer, Term, Place, AtAps, Reason, CounterSpent, Move, Command, Received}
 use Rattle.zb_model.specs.State.{NodeState, usable_of}
 use Rattle.zb_model.specs.Tools.{Tools, NwkShown, NwkAuxiliary, ApsShown, ApsAuxiliary, CommandShown, Known, Unknown, Broken, LeaveShown, Leave, Other, NoCommand}
-use Rattle.zb_model.specs.Rules.{Outcome, Stop, Does, Plan, Setting, unless}
+use Rattle.zb_model.specs.Rules.{Outcome, Stop, Does, Plan, Setting, refuse_if}
 use Rattle.zb_model.specs.Judging.{Verdict, Not, Good, reject, need, judge_net, Carrier, carrier, judge_security, judge_nwk, payload_of, candidates, chosen_row, aps_source, Unsealed, judge_aps}
 use Rattle.zb_model.specs.Answer.{comes_to, heard_clear, heard_sealed, nwk_command, aps_command, sealed_part, by_security, aps_part, net_part, received_as, plan_of, reason_of, refusal_of, sending_of}
 use Rattle.zb_model.specs.Commands.{Heard, take_command, take_leave}
@@ -128,7 +128,7 @@ part-fits tools c s d f nwk None = tt
 part-fits tools c s d f nwk (Some a) = by-fits tools c s d f nwk a a.auxiliary
 
 leave-fits : (c : Setting) (s : NodeState) (term : Term) (options : ℕ) → Fits None s (take_leave c term options)
-unfolding take_leave unless
+unfolding take_leave refuse_if
 leave-fits c s term options = by-test _
   where
     by-test : (b : Bool)

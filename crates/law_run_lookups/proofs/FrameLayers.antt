@@ -5,9 +5,9 @@ use Rattle.std.proofs.lemmas.Bool.{false≢true, or_cases}
 use Rattle.zb_model.specs.Data.{Bytes, Layer, Nwk, Aps, State, Joined, Offered, Reason, CounterSpent, Policy, Move, Command, TransportNet, TransportApp, TransportLink, UpdateDevice, RemoveDevice, RequestApp, RequestLink, SwitchKey, Tunnel, VerifyKey, ConfirmKey, Task, SayTo, TellTo, DoKnock, DoRejoin, DoTimer, AskFor, HasChild, DoProvision, DoRemove, DoRoll, DoSwitch, DoAgain, DoShare}
 use Rattle.zb_model.specs.State.{greatest_counter, LinkKey, PairKey, NodeState, is_centre, is_live_of, has_net, active_row, usable_active, newest, current, offered, other_user, pair_of, next_counter}
 use Rattle.zb_model.specs.Tools.{Tools}
-use Rattle.zb_model.specs.Rules.{Outcome, Stop, Does, Setting, Sending, Leaving, Secret, sends, unless, found_or, choose, centre_of, short_of, spent, both_spent, unless_held}
+use Rattle.zb_model.specs.Rules.{Outcome, Stop, Does, Setting, Sending, Leaving, Secret, sends, refuse_if, found_or, choose, centre_of, short_of, spent, both_spent, unless_held}
 use Rattle.zb_model.specs.OwnEvents.{say, knock, rejoin, request_key, verify_key, timer_in, member_timer, ask, tell, report_child, child_of_router, child_of_centre, next_member, centre_timer, provision_new, provision, tell_leave, tell_parent, remove_device, roll, switch_over, again, share, own_at_centre, own_at_member, own}
-use Rattle.zb_model.specs.Commands.{Heard, take_net_key, unless_old, dropped_at, unless_used, take_row, take_link_key, take_app_key, take_switch, take_confirm, take_remove, take_tunnel, take_update, answer_request, take_request, answer_pair, take_app_request, verified_current, take_verify, take_command}
+use Rattle.zb_model.specs.Commands.{Heard, take_net_key, refuse_if_old, dropped_at, refuse_if_used, take_row, take_link_key, take_app_key, take_switch, take_confirm, take_remove, take_tunnel, take_update, answer_request, take_request, answer_pair, take_app_request, verified_current, take_verify, take_command}
 use Rattle.zb_model.specs.Schedules.{is_for_role}
 use Rattle.law_run_lookups.specs.FrameLayers.{at_nwk, at_both, timer_layers, report_layers, centre_layers, member_layers, own_layers, command_layers, OneSpent, SealedAt}
 
@@ -22,8 +22,8 @@ Fits P layers s (Stop reason) = ReasonFits P layers s reason
 Fits P layers s (Does moves sending) = SealedAt layers sending
 
 un : (P : Type 0) (l : List Layer) (s : NodeState) (bad : Bool) (reason : Reason) (rest : Outcome)
-    → (bad ≡ true → ReasonFits P l s reason) → Fits P l s rest → Fits P l s (unless bad reason rest)
-unfolding unless
+    → (bad ≡ true → ReasonFits P l s reason) → Fits P l s rest → Fits P l s (refuse_if bad reason rest)
+unfolding refuse_if
 un P l s true reason rest k f = k refl
 un P l s false reason rest k f = f
 
@@ -53,15 +53,15 @@ either-end s e = by-case (or_cases (spent Nwk s) (spent Aps s) e)
     by-case (inr f) = inr (inl (at-end Aps s f))
 
 nwk : (P : Type 0) (s : NodeState) (rest : Outcome) → Fits P at_nwk s rest
-    → Fits P at_nwk s (unless (spent Nwk s) CounterSpent rest)
+    → Fits P at_nwk s (refuse_if (spent Nwk s) CounterSpent rest)
 nwk P s rest f = un P at_nwk s (spent Nwk s) CounterSpent rest (λ e. inl (at-end Nwk s e)) f
 
 aps : (P : Type 0) (s : NodeState) (rest : Outcome) → Fits P (Aps ∷ []) s rest
-    → Fits P (Aps ∷ []) s (unless (spent Aps s) CounterSpent rest)
+    → Fits P (Aps ∷ []) s (refuse_if (spent Aps s) CounterSpent rest)
 aps P s rest f = un P (Aps ∷ []) s (spent Aps s) CounterSpent rest (λ e. inl (at-end Aps s e)) f
 
 both : (P : Type 0) (s : NodeState) (rest : Outcome) → Fits P at_both s rest
-    → Fits P at_both s (unless (both_spent s) CounterSpent rest)
+    → Fits P at_both s (refuse_if (both_spent s) CounterSpent rest)
 both P s rest f = un P at_both s (both_spent s) CounterSpent rest (either-end s) f
 
 -- a node's own events
@@ -246,7 +246,7 @@ abbrev Takes : List Layer → NodeState → Outcome → Type 0
 Takes = Fits (Unit {0})
 
 old-fits : (s : NodeState) (key : Bytes) (o : Option ℕ) (rest : Outcome) → Takes [] s rest
-    → Takes [] s (unless_old s key o rest)
+    → Takes [] s (refuse_if_old s key o rest)
 old-fits s key None rest f = f
 old-fits s key (Some place) rest f = tt
 
@@ -257,7 +257,7 @@ net-key-fits c s m key sequence destination source =
     un _ [] s _ _ _ (λ e. tt)
     (old-fits s key (dropped_at 0 key s.nets) _ (ch _ [] s (has_net key s.nets) _ _ tt (un _ [] s _ _ _ (λ e. tt) tt)))
 
-used-fits : (s : NodeState) (o : Option LinkKey) (rest : Outcome) → Takes [] s rest → Takes [] s (unless_used o rest)
+used-fits : (s : NodeState) (o : Option LinkKey) (rest : Outcome) → Takes [] s rest → Takes [] s (refuse_if_used o rest)
 used-fits s None rest f = f
 used-fits s (Some r) rest f = tt
 

@@ -22,24 +22,8 @@ KeepsStateEdit _ = Unit {0}
 
 edit-state : (e : Edit) → KeepsStateEdit e → (s : NodeState) → (applied e s).state ≡ s.state
 unfolding applied
-edit-state (Reserve Nwk v) a s = refl
-edit-state (Reserve Aps v) a s = refl
-edit-state (Floor Nwk j p v) a s = refl
-edit-state (Floor Aps j p v) a s = refl
-edit-state (Start j v) a s = refl
 edit-state (Moved (Became g)) a s = absurd a
-edit-state (Moved (Draw j)) a s = refl
-edit-state (Moved (DropNet j)) a s = refl
-edit-state (Moved (DropLink p j)) a s = refl
-edit-state (Moved (Install j n)) a s = refl
-edit-state (Moved (Active j)) a s = refl
-edit-state (Moved (Row p j t)) a s = refl
-edit-state (Moved (Pair x y j)) a s = refl
-edit-state (Moved (Live d)) a s = refl
-edit-state (Moved (Removed d)) a s = refl
-edit-state (Moved (Roll b)) a s = refl
-edit-state (Moved (Told d)) a s = refl
-edit-state (Moved (Untold d)) a s = refl
+edit-state _ _ _ = refl
 
 pub edits-state : (es : List Edit) → AllByRecursion KeepsStateEdit es → (s : NodeState) → (applied_all es s).state
     ≡ s.state

@@ -4,10 +4,10 @@ use Rattle.zb_model.specs.Data.{Bytes, Nwk, Aps, State, Joined, Offered, Reason,
 use Rattle.zb_model.specs.State.{LinkKey, PairKey, NodeState, is_centre, is_live_of, has_net, active_row, usable_active, usable_of, newest, current, offered, other_user, pair_of}
 use Rattle.zb_model.specs.Tools.{Tools, NwkShown, NwkAuxiliary, ApsShown, ApsAuxiliary, CommandShown, Known, Unknown, Broken, LeaveShown, Leave, Other, NoCommand}
 use Rattle.zb_model.specs.Judging.{Verdict, Not, Good, reject, need, judge_net, Carrier, carrier, judge_security, judge_nwk, payload_of, candidates, chosen_row, aps_source, Unsealed, judge_aps}
-use Rattle.zb_model.specs.Rules.{Outcome, Stop, Does, Plan, Setting, unless, found_or, choose, centre_of, spent, both_spent, unless_held}
+use Rattle.zb_model.specs.Rules.{Outcome, Stop, Does, Plan, Setting, refuse_if, found_or, choose, centre_of, spent, both_spent, unless_held}
 use Rattle.zb_model.specs.Answer.{comes_to, heard_clear, heard_sealed, nwk_command, aps_command, clear_part, sealed_part, by_security, aps_part, net_part, received_as, plan_of}
 use Rattle.zb_model.specs.OwnEvents.{say, knock, rejoin, request_key, verify_key, timer_in, member_timer, ask, tell, report_child, child_of_router, child_of_centre, next_member, centre_timer, provision_new, provision, remove_device, roll, switch_over, again, share, own_at_centre, own_at_member, own}
-use Rattle.zb_model.specs.Commands.{Heard, take_net_key, unless_old, dropped_at, unless_used, take_row, take_link_key, take_app_key, take_switch, take_confirm, take_remove, take_tunnel, take_update, answer_request, take_request, answer_pair, take_app_request, verified_current, take_verify, take_command, take_leave}
+use Rattle.zb_model.specs.Commands.{Heard, take_net_key, refuse_if_old, dropped_at, refuse_if_used, take_row, take_link_key, take_app_key, take_switch, take_confirm, take_remove, take_tunnel, take_update, answer_request, take_request, answer_pair, take_app_request, verified_current, take_verify, take_command, take_leave}
 use Rattle.zb_model.specs.Lines.{Line}
 use Rattle.zb_model.specs.Play.{Schedule, setting_of, supply}
 use Rattle.zb_model.specs.Readings.{state_of}
@@ -23,8 +23,8 @@ Fits d s (Stop reason) = ReasonFits d s reason
 Fits d s (Does moves sending) = Unit {0}
 
 un : (d : Option Bytes) (s : NodeState) (bad : Bool) (reason : Reason) (rest : Outcome)
-    → (bad ≡ true → ReasonFits d s reason) → Fits d s rest → Fits d s (unless bad reason rest)
-unfolding unless
+    → (bad ≡ true → ReasonFits d s reason) → Fits d s rest → Fits d s (refuse_if bad reason rest)
+unfolding refuse_if
 un d s true reason rest k f = k refl
 un d s false reason rest k f = f
 
@@ -53,15 +53,15 @@ gd d s rest k = gd-by d s (unless_held s d) rest refl k
 
 -- the test of one counter, and of both
 nwk : (d : Option Bytes) (s : NodeState) (rest : Outcome) → Fits d s rest
-    → Fits d s (unless (spent Nwk s) CounterSpent rest)
+    → Fits d s (refuse_if (spent Nwk s) CounterSpent rest)
 nwk d s rest f = un d s (spent Nwk s) CounterSpent rest (λ e. tt) f
 
 aps : (d : Option Bytes) (s : NodeState) (rest : Outcome) → Fits d s rest
-    → Fits d s (unless (spent Aps s) CounterSpent rest)
+    → Fits d s (refuse_if (spent Aps s) CounterSpent rest)
 aps d s rest f = un d s (spent Aps s) CounterSpent rest (λ e. tt) f
 
 both : (d : Option Bytes) (s : NodeState) (rest : Outcome) → Fits d s rest
-    → Fits d s (unless (both_spent s) CounterSpent rest)
+    → Fits d s (refuse_if (both_spent s) CounterSpent rest)
 both d s rest f = un d s (both_spent s) CounterSpent rest (λ e. tt) f
 
 -- a node's own events
@@ -207,7 +207,7 @@ own-fits tools c s task = by-test (is_centre c.me.role)
 -- commands
 
 old-fits : (d : Option Bytes) (s : NodeState) (key : Bytes) (o : Option ℕ) (rest : Outcome) → Fits d s rest
-    → Fits d s (unless_old s key o rest)
+    → Fits d s (refuse_if_old s key o rest)
 old-fits d s key None rest f = f
 old-fits d s key (Some place) rest f = tt
 
@@ -219,7 +219,7 @@ net-key-fits c d s m key sequence destination source =
     (old-fits d s key (dropped_at 0 key s.nets) _ (ch d s (has_net key s.nets) _ _ tt (un d s _ _ _ (λ e. tt) tt)))
 
 used-fits : (d : Option Bytes) (s : NodeState) (o : Option LinkKey) (rest : Outcome) → Fits d s rest
-    → Fits d s (unless_used o rest)
+    → Fits d s (refuse_if_used o rest)
 used-fits d s None rest f = f
 used-fits d s (Some r) rest f = tt
 

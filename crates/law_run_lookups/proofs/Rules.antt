@@ -5,10 +5,10 @@ use Rattle.std.proofs.lemmas.Bool.{false≢true, and_parts}
 use Rattle.zb_model.specs.Data.{Bytes, Nwk, Aps, ForData, State, Joined, Offered, Reason, CounterSpent, Move, Install, Active, Became, Removed, Command, TransportNet, TransportApp, TransportLink, UpdateDevice, RemoveDevice, RequestApp, RequestLink, SwitchKey, Tunnel, VerifyKey, ConfirmKey, Task, SayTo, TellTo, DoKnock, DoRejoin, DoTimer, AskFor, HasChild, DoProvision, DoRemove, DoRoll, DoSwitch, DoAgain, DoShare, Term}
 use Rattle.zb_model.specs.State.{NetKey, LinkKey, PairKey, NodeState, same_key, is_centre, is_live_of, is_active_key, live_nets, has_net, net_of_active, active_row, usable_active, may_use, newest, current, offered, other_user, pair_of}
 use Rattle.zb_model.specs.Tools.{Tools}
-use Rattle.zb_model.specs.Rules.{Outcome, Stop, Does, Setting, Sending, Leaving, Secret, sends, unless, found_or, choose, centre_of, short_of, spent, both_spent, waits_for_key, unless_held, drop_link, drop_row, drop_partner, drop_others, drop_old, first_drop}
+use Rattle.zb_model.specs.Rules.{Outcome, Stop, Does, Setting, Sending, Leaving, Secret, sends, refuse_if, found_or, choose, centre_of, short_of, spent, both_spent, waits_for_key, unless_held, drop_link, drop_row, drop_partner, drop_others, drop_old, first_drop}
 use Rattle.zb_model.specs.Answer.{seals_at, may_seal}
 use Rattle.zb_model.specs.OwnEvents.{say, knock, rejoin, request_key, verify_key, timer_in, member_timer, ask, tell, report_child, child_of_router, child_of_centre, next_member, centre_timer, provision_new, provision, tell_leave, tell_parent, remove_device, roll, switch_over, again, share, own_at_centre, own_at_member, own}
-use Rattle.zb_model.specs.Commands.{Heard, labelled, take_net_key, unless_old, dropped_at, activate, activates, joined_state, unless_used, take_row, take_link_key, take_app_key, take_switch, take_confirm, take_remove, take_tunnel, take_update, answer_request, take_request, answer_pair, take_app_request, verified_current, take_verify, take_command, take_leave}
+use Rattle.zb_model.specs.Commands.{Heard, labelled, take_net_key, refuse_if_old, dropped_at, activate, activates, joined_state, refuse_if_used, take_row, take_link_key, take_app_key, take_switch, take_confirm, take_remove, take_tunnel, take_update, answer_request, take_request, answer_pair, take_app_request, verified_current, take_verify, take_command, take_leave}
 use Rattle.law_run_lookups.proofs.Waking.{Awake, Wakes, Leads}
 
 abbrev pub Fits : NodeState → Outcome → Type 0
@@ -17,14 +17,14 @@ Fits s (Does moves sending) = (is_some s.active ≡ false → Leads moves) × (m
 
 -- The steps of a rule
 
-un : (s : NodeState) (bad : Bool) (reason : Reason) (rest : Outcome) → Fits s rest → Fits s (unless bad reason rest)
-unfolding unless
+un : (s : NodeState) (bad : Bool) (reason : Reason) (rest : Outcome) → Fits s rest → Fits s (refuse_if bad reason rest)
+unfolding refuse_if
 un s true reason rest f = tt
 un s false reason rest f = f
 
 ue : (s : NodeState) (bad : Bool) (reason : Reason) (rest : Outcome) → (bad ≡ false → Fits s rest)
-    → Fits s (unless bad reason rest)
-unfolding unless
+    → Fits s (refuse_if bad reason rest)
+unfolding refuse_if
 ue s true reason rest f = tt
 ue s false reason rest f = f refl
 
@@ -43,14 +43,11 @@ ch s false a b f g = g
 
 may-by : (a b c d e : Bool) → (a ≡ true → (b ≡ true) × (c ≡ false)) → (d ≡ true → e ≡ false)
     → ((not a || (b && not c)) && (not d || not e)) ≡ true
-may-by false b c false e f g = refl
-may-by false b c true false f g = refl
 may-by false b c true true f g = absurd (false≢true (sym (g refl)))
-may-by true true false false e f g = refl
-may-by true true false true false f g = refl
 may-by true true false true true f g = absurd (false≢true (sym (g refl)))
 may-by true true true d e f g = absurd (false≢true (sym (f refl).1))
 may-by true false c d e f g = absurd (false≢true (f refl).0)
+may-by _ _ _ _ _ _ _ = refl
 
 may : (s : NodeState) (send : Option Sending) → (seals_at Nwk send ≡ true → Awake s × (spent Nwk s ≡ false))
     → (seals_at Aps send ≡ true → spent Aps s ≡ false) → may_seal s send ≡ true
@@ -90,7 +87,7 @@ needs a b e = and_parts a b (not-false (a && b) e)
 
 -- both counters
 bo : (s : NodeState) (rest : Outcome) → ((spent Nwk s ≡ false) × (spent Aps s ≡ false) → Fits s rest)
-    → Fits s (unless (both_spent s) CounterSpent rest)
+    → Fits s (refuse_if (both_spent s) CounterSpent rest)
 unfolding both_spent
 bo s rest f = ue s (spent Nwk s || spent Aps s) CounterSpent rest (λ e. f (neither (spent Nwk s) (spent Aps s) e))
 
@@ -366,7 +363,7 @@ data-awake c s m a b (inr f) e =
     (sym f.1 ∙ (and_parts (labelled ForData m.label) b (needs a (labelled ForData m.label && b) e).1).0))
 
 old-fits : (s : NodeState) (key : Bytes) (o : Option ℕ) (rest : Outcome) → Fits s rest
-    → Fits s (unless_old s key o rest)
+    → Fits s (refuse_if_old s key o rest)
 old-fits s key None rest f = f
 old-fits s key (Some place) rest f = tt
 
@@ -383,7 +380,7 @@ net-key-fits c s m key sequence destination source =
       may-none s,
     ))))
 
-used-fits : (s : NodeState) (o : Option LinkKey) (rest : Outcome) → Fits s rest → Fits s (unless_used o rest)
+used-fits : (s : NodeState) (o : Option LinkKey) (rest : Outcome) → Fits s rest → Fits s (refuse_if_used o rest)
 used-fits s None rest f = f
 used-fits s (Some r) rest f = tt
 

@@ -2,7 +2,7 @@
 use Rattle.std.proofs.Common.{◌≡◌, ℕ, ◌+◌, ◌≤◌, Bool, true, false, cond, not, ◌&&◌, nat_lt, List, [], ◌∷◌, length, Option, Some, None, IfSome, refl, sym, arith}
 use Rattle.std.specs.List.{AllByRecursion}
 use Rattle.std.proofs.lemmas.Bool.{false≢true}
-use Rattle.zb_model.specs.Commands.{Heard, labelled, under_current, dropped_at, unless_old, activates, joined_state, activate, take_net_key, unless_used, take_row, take_link_key, take_app_key, take_switch, take_confirm, take_remove, take_tunnel, take_update, send_link_key, answer_request, take_request, send_app_key, lesser, greater, answer_pair, take_app_request, send_confirm, verified_current, take_verify, take_command, take_leave}
+use Rattle.zb_model.specs.Commands.{Heard, labelled, under_current, dropped_at, refuse_if_old, activates, joined_state, activate, take_net_key, refuse_if_used, take_row, take_link_key, take_app_key, take_switch, take_confirm, take_remove, take_tunnel, take_update, send_link_key, answer_request, take_request, send_app_key, lesser, greater, answer_pair, take_app_request, send_confirm, verified_current, take_verify, take_command, take_leave}
 use Rattle.zb_model.specs.Data.{Bytes, Label, ForData, Term, Move, Active, Became, Draw, Install, Row, Pair, Unverified, Command, TransportNet, TransportApp, TransportLink, UpdateDevice, RemoveDevice, RequestApp, RequestLink, SwitchKey, Tunnel, VerifyKey, ConfirmKey}
 use Rattle.zb_model.specs.Rules.{Outcome, Setting, centre_of, unless_held, drop_row, drop_partner, drop_old, waits_for_key}
 use Rattle.zb_model.specs.State.{NetKey, LinkKey, PairKey, NodeState, same_key, is_verified, active_row, live_of, current, offered, other_user, pair_of}
@@ -42,7 +42,7 @@ dropped_in place key (r ∷ rs) le =
     (dropped_at (place + 1) key rs) (omega arith) (dropped_in (place + 1) key rs (omega arith))
 
 old_in : (s : NodeState) (key : Bytes) (o : Option ℕ) (rest : Outcome) → IfSome o IsCount → OutcomeInRange rest
-    → OutcomeInRange (unless_old s key o rest)
+    → OutcomeInRange (refuse_if_old s key o rest)
 old_in s key None rest is r = r
 old_in s key (Some place) rest is r = is
 
@@ -69,7 +69,7 @@ net_key_in c s m key sequence destination source few is k q =
     )))))
 
 used_in : (o : Option LinkKey) (rest : Outcome) → IfSome o LinkInRange → OutcomeInRange rest
-    → OutcomeInRange (unless_used o rest)
+    → OutcomeInRange (refuse_if_used o rest)
 used_in None rest is r = r
 used_in (Some other) rest is r = is.0
 

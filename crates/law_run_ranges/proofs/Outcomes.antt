@@ -3,7 +3,7 @@ use Rattle.std.proofs.Common.{◌≡◌, ◌≤◌, Bool, true, false, length, O
 use Rattle.std.specs.Prelude.{⊤}
 use Rattle.std.specs.List.{AllByRecursion}
 use Rattle.zb_model.specs.Data.{Station, Reason}
-use Rattle.zb_model.specs.Rules.{Body, Saying, Clear, Secret, Tunnelled, Telling, Leaving, Relayed, Sending, Outcome, Stop, Does, Setting, centre_of, unless, found_or, choose}
+use Rattle.zb_model.specs.Rules.{Body, Saying, Clear, Secret, Tunnelled, Telling, Leaving, Relayed, Sending, Outcome, Stop, Does, Setting, centre_of, refuse_if, found_or, choose}
 use Rattle.law_run_ranges.specs.Asking.{IsSmall, CommandInRange, IsPlain}
 use Rattle.law_run_ranges.specs.Ranges.{IsEui, IsByte, AreBytes, IsKey, MoveInRange, ReasonInRange}
 
@@ -33,8 +33,8 @@ abbrev pub SettingInRange : Setting → Type 0
 SettingInRange c = IsEui c.me.eui × IsEui (centre_of c.stations) × AllByRecursion StationHasEui c.stations
 
 pub unless_in : (b : Bool) (reason : Reason) (rest : Outcome) → ReasonInRange reason
-    → (b ≡ false → OutcomeInRange rest) → OutcomeInRange (unless b reason rest)
-unfolding unless
+    → (b ≡ false → OutcomeInRange rest) → OutcomeInRange (refuse_if b reason rest)
+unfolding refuse_if
 unless_in true reason rest r k = r
 unless_in false reason rest r k = k refl
 

@@ -375,25 +375,7 @@ unreserved_line layer (Changed n m (Reserve k v)) e = by_test (same_layer k laye
     by_test true is f = absurd (subst IsEmpty (sym f) tt)
     by_test false is f = is
 unreserved_line layer (Changed n m (Floor k key from v)) e = tt
-unreserved_line layer (Changed n m (Start k v)) e = tt
-unreserved_line layer (Changed n m (Moved move)) e = tt
-unreserved_line layer (Declared p) e = tt
-unreserved_line layer (GivenNet n k q) e = tt
-unreserved_line layer (GivenLink n p k) e = tt
-unreserved_line layer (Counter n l v) e = tt
-unreserved_line layer (Accept n m t) e = tt
-unreserved_line layer (Seal n m t) e = tt
-unreserved_line layer (Commit n m) e = tt
-unreserved_line layer (Refuse n m place reason) e = tt
-unreserved_line layer (Forge n t) e = tt
-unreserved_line layer (Send n m frame bytes) e = tt
-unreserved_line layer (Inject n frame bytes) e = tt
-unreserved_line layer (Stopped n m) e = tt
-unreserved_line layer (DownReset n m) e = tt
-unreserved_line layer (DownDisk n m) e = tt
-unreserved_line layer (Boot n m) e = tt
-unreserved_line layer (Dump n m bytes) e = tt
-unreserved_line layer (End events seals accepts refusals ideal private) e = tt
+unreserved_line _ _ _ = tt
 
 all_unreserved : (layer : Layer) (n : ℕ) (ls : List Line) → AllByRecursion (λ l. reserve_there layer l ≡ []) ls
     → AllOwn (Unreserved layer) n ls

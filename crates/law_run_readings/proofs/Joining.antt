@@ -74,14 +74,8 @@ unfolding after applied with_given_net with_given_link with_declared after_accep
 state_line (Declared p) s u = absurd u
 state_line (Accept e n t) s u = state_heard t.layer t.base t.source t.counter s
 state_line (Seal e n t) s u = state_sealed t.layer t s
-state_line (Counter n Nwk v) s u = refl
-state_line (Counter n Aps v) s u = refl
-state_line (Changed e n (Reserve Nwk v)) s u = refl
-state_line (Changed e n (Reserve Aps v)) s u = refl
-state_line (Changed e n (Floor Nwk k p v)) s u = refl
-state_line (Changed e n (Floor Aps k p v)) s u = refl
 state_line (Changed e n (Moved (Became state))) s u = refl
-state_line _ s u = refl
+state_line _ _ _ = refl
 
 pub joins_more : (h : List Line) (l : Line) (n : ℕ) → (nat_eq (speaker l) n ≡ true → Undeclared l) → Joins h n
     → Joins (h ++ l ∷ []) n

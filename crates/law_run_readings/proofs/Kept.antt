@@ -301,10 +301,8 @@ start_mute : (layer : Layer) (key : Bytes) (sender : ℕ) (l : Line) → IsStart
     → floor_in layer key sender l ≡ None
 unfolding IsStart
 start_mute layer key sender (Declared p) is = refl
-start_mute layer key sender (GivenNet n k q) is = refl
-start_mute layer key sender (GivenLink n p k) is = refl
-start_mute layer key sender (Counter n l v) is = refl
 start_mute layer key sender _ is = absurd is
+start_mute _ _ _ _ _ = refl
 
 start_boots : (l : Line) → IsStart l → NoBoot l
 unfolding IsStart

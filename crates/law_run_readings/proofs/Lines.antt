@@ -178,18 +178,7 @@ both_fit was (GivenLink n p k) s c f = c
 both_fit was (Counter n layer v) s c f = c
 both_fit was (Changed e n edit) s c f = c
 both_fit was (Seal e n t) s c f = f.fits
-both_fit was (Commit e n) s c f = tt
-both_fit was (Accept e n t) s c f = tt
-both_fit was (Refuse e n place reason) s c f = tt
-both_fit was (Forge e t) s c f = tt
-both_fit was (Send e n frame bytes) s c f = tt
-both_fit was (Inject e frame bytes) s c f = tt
-both_fit was (Stopped e n) s c f = tt
-both_fit was (DownReset e n) s c f = tt
-both_fit was (DownDisk e n) s c f = tt
-both_fit was (Boot e n) s c f = tt
-both_fit was (Dump e n bytes) s c f = tt
-both_fit was (End events seals accepts refusals ideal private) s c f = tt
+both_fit _ _ _ _ _ = tt
 
 abbrev pub FitsChanges : List (List Line) → ℕ → List Line → List Line → Type 0
 FitsChanges before n front [] = Unit {0}

@@ -199,20 +199,10 @@ active_kept v sender key (Some a) nets s =
 
 net_moved : (sender : ℕ) (key : Bytes) (m : Move) (s : NodeState) → AllSorted s.nets
     → net_memory sender (row_at key (moved m s).nets) ≡ net_memory sender (row_at key s.nets)
-net_moved sender key (Draw k) s all = refl
 net_moved sender key (DropNet k) s all =
     nets_at_kept dropped_net (plain_kept dropped_net (λ r. refl) (λ r. refl)) sender k key s.nets all
-net_moved sender key (DropLink p k) s all = refl
 net_moved sender key (Install k q) s all = more_kept (new_net k q) refl sender key s.nets
-net_moved sender key (Active k) s all = refl
-net_moved sender key (Row p k a) s all = refl
-net_moved sender key (Pair a b k) s all = refl
-net_moved sender key (Became g) s all = refl
-net_moved sender key (Live d) s all = refl
-net_moved sender key (Removed d) s all = refl
-net_moved sender key (Roll b) s all = refl
-net_moved sender key (Told d) s all = refl
-net_moved sender key (Untold d) s all = refl
+net_moved _ _ _ _ _ = refl
 
 net_applied : (sender : ℕ) (key : Bytes) (e : Edit) (s : NodeState) → AllSorted s.nets
     → net_memory sender (row_at key (applied e s).nets) ≡ net_memory sender (row_at key s.nets)
@@ -300,31 +290,22 @@ rolled_kept false p key links = refl
 
 link_moved : (p : ℕ) (key : Bytes) (m : Move) (s : NodeState)
     → link_memory (link_at p key (moved m s).links) ≡ link_memory (link_at p key s.links)
-link_moved p key (Draw k) s = refl
-link_moved p key (DropNet k) s = refl
 link_moved p key (DropLink q k) s = some_kept dropped_link (record { partner = λ r. refl; key = λ r. refl })
     (λ r. refl) (is_link q k) p key s.links
-link_moved p key (Install k q) s = refl
-link_moved p key (Active k) s = refl
 link_moved p key (Row q k a) s = with_link_kept q k a (is_told s q) p key s.links
-link_moved p key (Pair a b k) s = refl
-link_moved p key (Became g) s = refl
 link_moved p key (Live d) s = told_kept d false p key s.links
-link_moved p key (Removed d) s = refl
 link_moved p key (Roll b) s = rolled_kept b p key s.links
 link_moved p key (Told d) s = told_kept d true p key s.links
 link_moved p key (Untold d) s = told_kept d false p key s.links
+link_moved _ _ _ _ = refl
 
 link_applied : (p : ℕ) (key : Bytes) (e : Edit) (s : NodeState)
     → link_memory (link_at p key (applied e s).links) ≡ link_memory (link_at p key s.links)
 unfolding applied
-link_applied p key (Reserve Nwk v) s = refl
-link_applied p key (Reserve Aps v) s = refl
-link_applied p key (Floor Nwk k from v) s = refl
 link_applied p key (Floor Aps k from v) s = some_kept (link_floor v) (record { partner = λ r. refl; key = λ r. refl })
     (λ r. refl) (is_link from k) p key s.links
-link_applied p key (Start k v) s = refl
 link_applied p key (Moved m) s = link_moved p key m s
+link_applied _ _ _ _ = refl
 
 memory_applied : (layer : Layer) (key : Bytes) (sender : ℕ) (e : Edit) (s : NodeState) → Sound s
     → memory_at layer key sender (applied e s) ≡ memory_at layer key sender s

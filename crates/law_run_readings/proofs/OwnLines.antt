@@ -44,14 +44,8 @@ roll_line : (l : Line) (s : NodeState) → (after l s).sending ≡ rolls l s.sen
 unfolding after applied with_given_net with_given_link with_declared after_accepting after_sealing after_boot
 roll_line (Accept e n t) s = roll_heard t.layer t.base t.source t.counter s
 roll_line (Seal e n t) s = roll_sealed t.layer t s
-roll_line (Counter n Nwk v) s = refl
-roll_line (Counter n Aps v) s = refl
-roll_line (Changed e n (Reserve Nwk v)) s = refl
-roll_line (Changed e n (Reserve Aps v)) s = refl
-roll_line (Changed e n (Floor Nwk k p v)) s = refl
-roll_line (Changed e n (Floor Aps k p v)) s = refl
 roll_line (Changed e n (Moved (Roll sending))) s = refl
-roll_line _ s = refl
+roll_line _ _ = refl
 
 pub rolling_said : (h : List Line) (n : ℕ) → (state_of h n).sending ≡ said_own rolls false h n
 unfolding state_of
@@ -89,16 +83,13 @@ keys_line (Accept e n t) s = keys_heard t.layer t.base t.source t.counter s
 keys_line (Seal e n t) s = keys_sealed t.layer t s
 keys_line (GivenNet n key sequence) s = keys_more (given_net s.declared key sequence) s.nets
 keys_line (Counter n Nwk v) s = keys_same (declared_at v) (declared_key v) s.nets
-keys_line (Counter n Aps v) s = refl
 keys_line (Changed e n (Reserve Nwk v)) s = keys_active (reserved v) (λ r. refl) s.active s.nets
-keys_line (Changed e n (Reserve Aps v)) s = refl
 keys_line (Changed e n (Floor Nwk k p v)) s = keys_at (net_floor p v) (λ r. refl) k s.nets
-keys_line (Changed e n (Floor Aps k p v)) s = refl
 keys_line (Changed e n (Start k v)) s = keys_at (started_at v) (λ r. refl) k s.nets
 keys_line (Changed e n (Moved (DropNet k))) s = keys_at dropped_net (λ r. refl) k s.nets
 keys_line (Changed e n (Moved (Install k sequence))) s = keys_more (new_net k sequence) s.nets
 keys_line (Boot e n) s = keys_same booted_net (λ r. refl) s.nets
-keys_line _ s = refl
+keys_line _ _ = refl
 
 pub keys_said : (h : List Line) (n : ℕ) → keys_of (state_of h n) ≡ said_own names_key [] h n
 unfolding state_of
@@ -121,16 +112,13 @@ nets_line q (Accept e n t) s = nets_heard q t.layer t.base t.source t.counter s
 nets_line q (Seal e n t) s = nets_sealed q t.layer t s
 nets_line q (GivenNet n key sequence) s = live_more (given_net s.declared key sequence) q s.nets refl
 nets_line q (Counter n Nwk v) s = live_same (declared_at v) (declared_key v) (declared_live v) q s.nets
-nets_line q (Counter n Aps v) s = refl
 nets_line q (Changed e n (Reserve Nwk v)) s = live_active (reserved v) (λ r. refl) (λ r. refl) s.active q s.nets
-nets_line q (Changed e n (Reserve Aps v)) s = refl
 nets_line q (Changed e n (Floor Nwk k p v)) s = live_of_at (net_floor p v) (λ r. refl) (λ r. refl) k q s.nets
-nets_line q (Changed e n (Floor Aps k p v)) s = refl
 nets_line q (Changed e n (Start k v)) s = live_of_at (started_at v) (λ r. refl) (λ r. refl) k q s.nets
 nets_line q (Changed e n (Moved (DropNet k))) s = live_dropped k q s.nets
 nets_line q (Changed e n (Moved (Install k sequence))) s = live_more (new_net k sequence) q s.nets refl
 nets_line q (Boot e n) s = live_same booted_net (λ r. refl) (λ r. refl) q s.nets
-nets_line q _ s = refl
+nets_line _ _ _ = refl
 
 pub nets_said : (h : List Line) (n : ℕ) (key : Bytes) → net_of_state key (state_of h n)
     ≡ said_own (net_says key) None h n
@@ -167,11 +155,6 @@ unfolding after applied with_given_net with_given_link with_declared after_accep
 links_line p q (Accept e n t) s = links_heard p q t.layer t.base t.source t.counter s
 links_line p q (Seal e n t) s = links_sealed p q t.layer t s
 links_line p q (GivenLink n partner key) s = said_given partner key Provisional false p q s.links
-links_line p q (Counter n Nwk v) s = refl
-links_line p q (Counter n Aps v) s = refl
-links_line p q (Changed e n (Reserve Nwk v)) s = refl
-links_line p q (Changed e n (Reserve Aps v)) s = refl
-links_line p q (Changed e n (Floor Nwk k from v)) s = refl
 links_line p q (Changed e n (Floor Aps k from v)) s =
     at_said (link_floor v) (plain (link_floor v) (λ r. refl) (λ r. refl) (λ r. refl)) from k p q s.links
 links_line p q (Changed e n (Moved (DropLink partner key))) s = said_dropped partner key p q s.links
@@ -182,7 +165,7 @@ links_line p q (Changed e n (Moved (Told device))) s = with_told_said device tru
 links_line p q (Changed e n (Moved (Untold device))) s = with_told_said device false p q s.links
 links_line p q (Changed e n (Moved (Roll sending))) s = rolled p q sending s.links
 links_line p q (Boot e n) s = said_same booted_link (plain booted_link (λ r. refl) (λ r. refl) (λ r. refl)) p q s.links
-links_line p q _ s = refl
+links_line _ _ _ _ = refl
 
 pub links_said : (h : List Line) (n : ℕ) (partner : ℕ) (key : Bytes) → link_of_state partner key (state_of h n)
     ≡ said_own (link_says partner key) None h n
@@ -212,11 +195,6 @@ unfolding after applied with_given_net with_given_link with_declared after_accep
 rows_line (Accept e n t) s = names_heard t.layer t.base t.source t.counter s
 rows_line (Seal e n t) s = names_sealed t.layer t s
 rows_line (GivenLink n partner key) s = names_given partner key Provisional false s.links
-rows_line (Counter n Nwk v) s = refl
-rows_line (Counter n Aps v) s = refl
-rows_line (Changed e n (Reserve Nwk v)) s = refl
-rows_line (Changed e n (Reserve Aps v)) s = refl
-rows_line (Changed e n (Floor Nwk k from v)) s = refl
 rows_line (Changed e n (Floor Aps k from v)) s =
     names_at (link_floor v) (keeps (link_floor v) (λ r. refl) (λ r. refl)) from k s.links
 rows_line (Changed e n (Moved (DropLink partner key))) s = names_at dropped_link dropped_keeps partner key s.links
@@ -227,7 +205,7 @@ rows_line (Changed e n (Moved (Told device))) s = names_told device true s.links
 rows_line (Changed e n (Moved (Untold device))) s = names_told device false s.links
 rows_line (Changed e n (Moved (Roll sending))) s = names_rolled sending s.links
 rows_line (Boot e n) s = names_same booted_link (keeps booted_link (λ r. refl) (λ r. refl)) s.links
-rows_line _ s = refl
+rows_line _ _ = refl
 
 pub rows_said : (h : List Line) (n : ℕ) → rows_of (state_of h n) ≡ said_own names_row [] h n
 unfolding state_of

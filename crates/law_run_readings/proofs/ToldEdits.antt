@@ -35,12 +35,8 @@ moved_role _ s = refl
 
 applied_role : (e : Edit) (s : NodeState) → (applied e s).role ≡ s.role
 unfolding applied
-applied_role (Reserve Nwk v) s = refl
-applied_role (Reserve Aps v) s = refl
-applied_role (Floor Nwk k p v) s = refl
-applied_role (Floor Aps k p v) s = refl
-applied_role (Start k v) s = refl
 applied_role (Moved m) s = moved_role m s
+applied_role _ _ = refl
 
 role_after : (b : Bool) (e : Edit) (s : NodeState) → is_centre s.role ≡ b → is_centre (applied e s).role ≡ b
 role_after b e s c = ap is_centre (applied_role e s) ∙ c
@@ -156,12 +152,9 @@ any_floors test same p k v (r ∷ rs) =
 any_mere_one : (test : LinkKey → Bool) → ((v : ℕ) (r : LinkKey) → test (link_floor v r) ≡ test r) → (e : Edit)
     → Mere e → (s : NodeState) → list_any test (applied e s).links ≡ list_any test s.links
 unfolding applied
-any_mere_one test same (Reserve Nwk v) a s = refl
-any_mere_one test same (Reserve Aps v) a s = refl
-any_mere_one test same (Floor Nwk k p v) a s = refl
 any_mere_one test same (Floor Aps k p v) a s = any_floors test same p k v s.links
-any_mere_one test same (Start k v) a s = refl
 any_mere_one test same (Moved m) a s = absurd a
+any_mere_one _ _ _ _ _ = refl
 
 any_mere : (test : LinkKey → Bool) → ((v : ℕ) (r : LinkKey) → test (link_floor v r) ≡ test r) → (es : List Edit)
     → AllByRecursion Mere es → (s : NodeState) → list_any test (applied_all es s).links ≡ list_any test s.links

@@ -121,10 +121,8 @@ start_line _ s is none = absurd is
 start_says : (d : ℕ) (l : Line) (x : Bool) → IsStart l → tells d l x ≡ x
 unfolding IsStart
 start_says d (Declared p) x is = refl
-start_says d (GivenNet n k q) x is = refl
-start_says d (GivenLink n p k) x is = refl
-start_says d (Counter n layer v) x is = refl
 start_says d _ x is = absurd is
+start_says _ _ _ _ = refl
 
 starts_tell : (h ls : List Line) (n : ℕ) → AllByRecursion IsStart ls → NoneTold (state_of h n)
     → ((d : ℕ) → told h n d ≡ false) → NoneTold (state_of (h ++ ls) n) × ((d : ℕ) → told (h ++ ls) n d ≡ false)

@@ -6,3 +6,5 @@ pub mod Others
 pub mod Starts
 pub mod Members
 pub mod Centre
+pub mod Turns
+pub mod Unswapped

@@ -6,9 +6,9 @@ use Rattle.zb_model.specs.Data.{Bytes, Offered, Confirmed, Unverified, Verified,
 use Rattle.zb_model.specs.State.{NetKey, LinkKey, NodeState, is_centre, is_live_of, is_active_key, live_nets, has_net, active_row, live_of, current, offered, other_user}
 use Rattle.zb_model.specs.Tools.{Tools, NwkShown, ApsShown, ApsAuxiliary, CommandShown, Known, Unknown, Broken, LeaveShown, Leave, Other, NoCommand}
 use Rattle.zb_model.specs.Judging.{Verdict, Not, Good, Carrier, judge_nwk, payload_of, Unsealed, judge_aps}
-use Rattle.zb_model.specs.Rules.{Outcome, Stop, Does, Plan, Setting, unless, found_or, choose, centre_of, waits_for_key, drop_link, drop_row, drop_partner, drop_old, first_drop}
+use Rattle.zb_model.specs.Rules.{Outcome, Stop, Does, Plan, Setting, refuse_if, refuse_unless, found_or, choose, centre_of, waits_for_key, drop_link, drop_row, drop_partner, drop_old, first_drop}
 use Rattle.zb_model.specs.OwnEvents.{own}
-use Rattle.zb_model.specs.Commands.{Heard, unless_old, dropped_at, activates, activate, joined_state, unless_used, take_net_key, take_row, take_link_key, take_app_key, take_switch, take_confirm, take_remove, take_tunnel, take_update, take_request, take_app_request, take_verify, take_command, take_leave}
+use Rattle.zb_model.specs.Commands.{Heard, refuse_if_old, dropped_at, activates, activate, joined_state, refuse_if_used, take_net_key, take_row, take_link_key, take_app_key, take_switch, take_confirm, take_remove, take_tunnel, take_update, take_request, take_app_request, take_verify, take_command, take_leave}
 use Rattle.zb_model.specs.Answer.{moves_of, comes_to, heard_clear, heard_sealed, nwk_command, aps_command, clear_part, sealed_part, by_security, aps_part, net_part, received_as, plan_of}
 use Rattle.law_run.proofs.FreshLines.{all-append}
 use Rattle.law_run.proofs.LockoutDeeds.{OfMember, Deed, member, nothing, quiet, verifies, rolls, offers, pairs, enters, removes, OutcomeFits, own-fits}
@@ -18,8 +18,8 @@ Members o = AllByRecursion OfMember (moves_of o)
 
 -- The steps of a rule
 
-unless-of : (bad : Bool) (reason : Reason) (rest : Outcome) → Members rest → Members (unless bad reason rest)
-unfolding unless
+unless-of : (bad : Bool) (reason : Reason) (rest : Outcome) → Members rest → Members (refuse_if bad reason rest)
+unfolding refuse_if
 unless-of true reason rest k = tt
 unless-of false reason rest k = k
 
@@ -35,18 +35,18 @@ choose-of true one other k j = k
 choose-of false one other k j = j
 
 old-of : (s : NodeState) (key : Bytes) (o : Option ℕ) (rest : Outcome) → Members rest
-    → Members (unless_old s key o rest)
+    → Members (refuse_if_old s key o rest)
 old-of s key None rest k = k
 old-of s key (Some place) rest k = tt
 
-used-of : (o : Option LinkKey) (rest : Outcome) → Members rest → Members (unless_used o rest)
+used-of : (o : Option LinkKey) (rest : Outcome) → Members rest → Members (refuse_if_used o rest)
 used-of None rest k = k
 used-of (Some r) rest k = tt
 
 -- who isn't the centre refuses what is for the centre
 centre-of : (c : Setting) (b : Bool) (reason : Reason) (rest : Outcome) → is_centre c.me.role ≡ false
-    → Members (unless (not (is_centre c.me.role && b)) reason rest)
-unfolding unless
+    → Members (refuse_unless (is_centre c.me.role && b) reason rest)
+unfolding refuse_if
 centre-of c b reason rest e = subst (λ t. Members (cond (not (t && b)) (Stop reason) rest)) (sym e) tt
 
 -- The lists of changes

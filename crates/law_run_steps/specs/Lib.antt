@@ -1,2 +1,4 @@
 pub mod Conditions
 pub mod Steps
+pub mod Turns
+pub mod Swaps

@@ -2,6 +2,8 @@
 //! empty body.
 #![tactic(auto)]
 
+mod swaps;
+
 ghost use Rattle.std.specs.List.{list_any};
 ghost use Rattle.std.specs.Prelude.{◌≡◌, ℕ, ◌+◌, ◌++◌, length, true, false, List, Some, None, [], ◌∷◌};
 ghost use Rattle.law_run_steps.specs.Conditions.{after_arming, after_reset, calls_by, condition_of};
@@ -24,6 +26,8 @@ ghost use Rattle.zb_model.specs.Rules.{Setting};
 ghost use Rattle.zb_model.specs.State.{NodeState, is_centre};
 ghost use Rattle.zb_model.specs.Tools.{Tools};
 ghost use Rattle.zb_model.specs.Transcript.{end_line, run_lines, transcript};
+
+pub use swaps::{a_boot_reads_the_new_disk, a_turn_is_the_step, without_swaps_a_run_is_the_models};
 
 /// States what an event that a node answers comes to.
 ///

@@ -6,3 +6,5 @@ pub mod Tools
 pub mod Schedules
 pub mod Wide
 pub mod Back
+pub mod Lines
+pub mod Words

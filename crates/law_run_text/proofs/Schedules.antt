@@ -155,10 +155,6 @@ module _ (ms : List Node) (all : AllByRecursion HasEui ms) where
       → EventInRange (event_for (map station_for ms) event)
   unfolding event_for
   event_in (Says name to bytes) f e = small_in bytes f.2.0 f.2.1
-  event_in (Delivers frame name) f e = tt
-  event_in (Ticks name) f e = tt
-  event_in (Knocks name) f e = tt
-  event_in (Rejoins name) f e = tt
   event_in (Asks name partner) f e =
       joins partner
       (second_of (not (bytes_eq name partner) && is_joiner (role_named name (map seated ms)))
@@ -167,8 +163,6 @@ module _ (ms : List Node) (all : AllByRecursion HasEui ms) where
   event_in (Adopts parent name rejoin) f e = child name parent e
   event_in (Provisions name code) f e = (joins name e, code_in code f.1)
   event_in (Removes name parent) f e = child name parent e
-  event_in Rolls f e = tt
-  event_in Switches f e = tt
   event_in (Repeats name) f e = joins name e
   event_in (Shares name partner) f e = (
     joins name
@@ -178,12 +172,8 @@ module _ (ms : List Node) (all : AllByRecursion HasEui ms) where
     joins partner
         (second_of (not (bytes_eq name partner) && is_joiner (role_named name (map seated ms)))
         (is_joiner (role_named partner (map seated ms))) e),
+  event_in _ _ _ = tt
   )
-  event_in (Resets name) f e = tt
-  event_in (Boots name) f e = tt
-  event_in (Dumps name) f e = tt
-  event_in (Stops name calls torn) f e = tt
-  event_in (Fails name call) f e = tt
   event_in (Injects bytes) f e = (from_index bytes f.2, f.1)
   event_in (ForgesNet to from source key sequence counter content) f e =
       (f.2.0, key_in key f.3, omega (arith, f.4), f.5, small_in content f.6.1 f.6.2)
@@ -191,6 +181,7 @@ module _ (ms : List Node) (all : AllByRecursion HasEui ms) where
       (f.2.0, key_in key f.3, omega (arith, f.4), f.5, key_in base f.6.1, f.6.2, small_in command f.6.3.1 f.6.3.2)
   event_in (ForgesOpen to from source label base aps_counter command) f e =
       (f.2.0, key_in base f.3.1, f.3.2, small_in command f.3.3.1 f.3.3.2)
+  event_in _ _ _ = tt
 
 events_in : (p : Schedule) (events : List Event) → AllByRecursion HasEui p.nodes
     → AllByRecursion (FitsSchedule p) events → AllByRecursion EventInRange (map (event_for (stations_for p)) events)

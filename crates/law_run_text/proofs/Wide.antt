@@ -5,9 +5,9 @@ use Rattle.zb_model.specs.Data.{Bytes, Term, Place, Reason, Down, Malformed, Not
 use Rattle.zb_model.specs.Lines as log
 use Rattle.zb_model.specs.Lines.{Line}
 use Rattle.zb_model.specs.Transcript.{transcript}
-use Rattle.law_run_lines.specs.Alone.{AreWide}
-use Rattle.law_run_lines.specs.Wide.{MayBe, IsWide}
-use Rattle.law_run_lines.proofs.Words.{stand_alone}
+use Rattle.law_run_text.specs.Alone.{AreWide}
+use Rattle.law_run_text.specs.Wide.{MayBe, IsWide}
+use Rattle.law_run_text.proofs.Words.{stand_alone}
 use Rattle.law_run_ranges.specs.Ranges.{IsCount, IsByte, IsKey, TermInRange, EditInRange, ReasonInRange, LineInRange}
 use Rattle.law_run_ranges.proofs.Runs.{in_range}
 use Rattle.zb_model_real.specs.Real.{real}

@@ -1,2 +1,5 @@
 pub mod Proper
 pub mod Back
+pub mod OfNodes
+pub mod Wide
+pub mod Alone

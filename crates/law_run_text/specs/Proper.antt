@@ -1,6 +1,6 @@
 -- The lines of a run with real frames.
 use Rattle.zb_model.specs.Play.{Schedule}
-use Rattle.law_run_lines.specs.Alone.{AreWide, StandAlone}
+use Rattle.law_run_text.specs.Alone.{AreWide, StandAlone}
 use Rattle.zb_model_real.specs.Real.{real}
 
 -- All numbers in them are in the ranges of their fields and all keys have 16 bytes; so they are proper, and their text

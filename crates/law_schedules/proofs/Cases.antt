@@ -9,7 +9,7 @@ use Rattle.zb_aes.specs.Field.{substitute, times}
 use Rattle.zb_base.specs.declared.label.Label.TheVariants as label
 use Rattle.zb_base.specs.declared.node.Role.TheVariants as role
 use Rattle.zb_install.specs.Code.{code_key, code_of}
-use Rattle.zb_crc.specs.Division.{added, divided, message_bits, remainder}
+use Rattle.zb_install.specs.Division.{added, divided, message_bits, remainder}
 use Rattle.zb_install.specs.Crc.{crc}
 use Rattle.zb_mmo.specs.Hash.{blocks_of, hash}
 use Rattle.zb_model.specs.Data.{Bytes, Role, Station, ForTransport, ForLoad, SayTo, TellTo, DoKnock, DoRejoin, DoTimer, AskFor, HasChild, DoProvision, DoRemove, DoSwitch, DoAgain, DoShare}

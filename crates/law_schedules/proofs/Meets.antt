@@ -165,10 +165,6 @@ event_names p is (Boots name) e = a_node p name e
 event_names p is (Dumps name) e = a_node p name e
 event_names p is (Stops name calls torn) e = a_node p name e
 event_names p is (Fails name call) e = a_node p name e
-event_names p is (Injects bytes) e = tt
-event_names p is (ForgesNet to from source key sequence counter content) e = tt
-event_names p is (ForgesBoth to from source key sequence counter label base aps_counter command) e = tt
-event_names p is (ForgesOpen to from source label base aps_counter command) e = tt
 event_names p is (Asks name partner) e =
     a_joiner p name
     (joiner_of_two (not (bytes_eq name partner)) (is_joiner (role_named partner (map seated p.nodes)))
@@ -178,6 +174,7 @@ event_names p is (Tells name partner bytes) e =
     a_joiner p name
     (joiner_of_two (not (bytes_eq name partner)) (is_joiner (role_named partner (map seated p.nodes)))
     (role_named name (map seated p.nodes)) e)
+event_names _ _ _ _ = tt
 
 is_member : (m : Node) → FitsNode m → IsMember (node_for m)
 is_member m f =
@@ -301,7 +298,6 @@ event_roles : (p : Schedule) → sched.IsSchedule p → (event : Event) → has_
     → SuitsRole (schedule_of p) (event_for (stations_for p) event)
 unfolding event_for
 event_roles p is (Says name to bytes) e = refl
-event_roles p is (Delivers frame name) e = tt
 event_roles p is (Ticks name) e = refl
 event_roles p is (Knocks name) e = joiner_role p is name e
 event_roles p is (Rejoins name) e = joiner_role p is name e
@@ -311,15 +307,6 @@ event_roles p is (Repeats name) e = centre_role p is
 event_roles p is Rolls e = centre_role p is
 event_roles p is Switches e = centre_role p is
 event_roles p is (Removes name parent) e = centre_role p is
-event_roles p is (Resets name) e = tt
-event_roles p is (Boots name) e = tt
-event_roles p is (Dumps name) e = tt
-event_roles p is (Stops name calls torn) e = tt
-event_roles p is (Fails name call) e = tt
-event_roles p is (Injects bytes) e = tt
-event_roles p is (ForgesNet to from source key sequence counter content) e = tt
-event_roles p is (ForgesBoth to from source key sequence counter label base aps_counter command) e = tt
-event_roles p is (ForgesOpen to from source label base aps_counter command) e = tt
 event_roles p is (Asks name partner) e =
     joiner_role p is name
     (joiner_of_two (not (bytes_eq name partner)) (is_joiner (role_named partner (map seated p.nodes)))
@@ -329,33 +316,13 @@ event_roles p is (Tells name partner bytes) e =
     joiner_role p is name
     (joiner_of_two (not (bytes_eq name partner)) (is_joiner (role_named partner (map seated p.nodes)))
     (role_named name (map seated p.nodes)) e)
+event_roles _ _ _ _ = tt
 
 -- a call that fails is at least the first
 event_calls : (p : Schedule) (event : Event) → FitsEvent event → CountsCalls (event_for (stations_for p) event)
 unfolding event_for
-event_calls p (Says name to bytes) f = tt
-event_calls p (Delivers frame name) f = tt
-event_calls p (Ticks name) f = tt
-event_calls p (Knocks name) f = tt
-event_calls p (Rejoins name) f = tt
-event_calls p (Adopts parent name rejoin) f = tt
-event_calls p (Provisions name code) f = tt
-event_calls p (Repeats name) f = tt
-event_calls p Rolls f = tt
-event_calls p Switches f = tt
-event_calls p (Removes name parent) f = tt
-event_calls p (Resets name) f = tt
-event_calls p (Boots name) f = tt
-event_calls p (Dumps name) f = tt
-event_calls p (Stops name calls torn) f = tt
 event_calls p (Fails name call) f = f.1
-event_calls p (Injects bytes) f = tt
-event_calls p (ForgesNet to from source key sequence counter content) f = tt
-event_calls p (ForgesBoth to from source key sequence counter label base aps_counter command) f = tt
-event_calls p (ForgesOpen to from source label base aps_counter command) f = tt
-event_calls p (Asks name partner) f = tt
-event_calls p (Shares name partner) f = tt
-event_calls p (Tells name partner bytes) f = tt
+event_calls _ _ _ = tt
 
 pub is_schedule : (p : Schedule) → sched.IsSchedule p → IsSchedule (schedule_of p)
 unfolding schedule_of
@@ -529,28 +496,7 @@ event_enters : (p : Schedule) → sched.IsSchedule p → (event : Event) → Fit
     → EntersOwn (schedule_of p) (event_for (stations_for p) event)
 unfolding event_for
 event_enters p is (Provisions name code) f = enters p is name code f.1 f.2
-event_enters p is (Says name to bytes) f = tt
-event_enters p is (Delivers frame name) f = tt
-event_enters p is (Ticks name) f = tt
-event_enters p is (Knocks name) f = tt
-event_enters p is (Rejoins name) f = tt
-event_enters p is (Adopts parent name rejoin) f = tt
-event_enters p is (Repeats name) f = tt
-event_enters p is Rolls f = tt
-event_enters p is Switches f = tt
-event_enters p is (Removes name parent) f = tt
-event_enters p is (Resets name) f = tt
-event_enters p is (Boots name) f = tt
-event_enters p is (Dumps name) f = tt
-event_enters p is (Stops name calls torn) f = tt
-event_enters p is (Fails name call) f = tt
-event_enters p is (Injects bytes) f = tt
-event_enters p is (ForgesNet to from source key sequence counter content) f = tt
-event_enters p is (ForgesBoth to from source key sequence counter label base aps_counter command) f = tt
-event_enters p is (ForgesOpen to from source label base aps_counter command) f = tt
-event_enters p is (Asks name partner) f = tt
-event_enters p is (Shares name partner) f = tt
-event_enters p is (Tells name partner bytes) f = tt
+event_enters _ _ _ _ = tt
 
 pub keys_apart : (p : Schedule) → sched.IsSchedule p → KeysApart (schedule_of p)
 unfolding schedule_of

@@ -17,3 +17,4 @@ mod LineWidths
 mod RuledSessions
 mod OnDisk
 mod Offered
+mod RunLemmas

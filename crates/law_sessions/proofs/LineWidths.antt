@@ -13,8 +13,8 @@ use Rattle.zb_base.specs.declared.node.Role.{Role}
 use Rattle.zb_aes.proofs.Lengths.{length-enciphered}
 use Rattle.zb_aes.proofs.Xored.{length-xored}
 use Rattle.zb_aes.specs.Block.{enciphered}
-use Rattle.zb_live_line.specs.Grammar.{again_of, child_of, deliver_of, draw_of, event_at, header_at, log_of, meaning_of, own_line, roll_of, say_of, scripted_in, share_of}
-use Rattle.zb_live_line.specs.Said.{Event, Delivers, Rolls, Ticks, Switches, Repeats, Shares, Sentence, Quiet, Founds, Introduces, Logs, Opens, Happens}
+use Rattle.zb_live.specs.Grammar.{again_of, child_of, deliver_of, draw_of, event_at, header_at, log_of, meaning_of, own_line, roll_of, say_of, scripted_in, share_of}
+use Rattle.zb_live.specs.Said.{Event, Delivers, Rolls, Ticks, Switches, Repeats, Shares, Sentence, Quiet, Founds, Introduces, Logs, Opens, Happens}
 use Rattle.zb_mmo.specs.Hash.{blocks_of, hash, mixed, padded}
 use Rattle.zb_sched_line.specs.Grammar.{◌>>=◌, is_quiet, is_real_eui, kept, name_alone, or_else, real_eui_of, rejoin_of, two_names}
 use Rattle.zb_sched_line.specs.Grammar as schedule_line
@@ -23,7 +23,7 @@ use Rattle.zb_script.specs.Grammar as script
 use Rattle.zb_script.specs.Said as said
 use Rattle.zb_text.specs.Fields.{eui_of, key_of, name_of, short_of}
 use Rattle.zb_text.specs.Hexadecimal.{bytes_of, fixed_of}
-use Rattle.zb_live_line.specs.declared.line.Log.TheVariants.{All, NoKeys}
+use Rattle.zb_live.specs.declared.line.Log.TheVariants.{All, NoKeys}
 use Rattle.zb_text.specs.Words.{field, first_of, nothing, words}
 
 -- ---- addresses and keys

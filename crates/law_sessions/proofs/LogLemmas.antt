@@ -9,10 +9,10 @@ use Rattle.law_sessions.proofs.PlainLines.{both_parts, plain, plain_lines}
 use Rattle.zb_live.specs.Events.{task_for}
 use Rattle.zb_live.specs.Living.{Found, Living, counted, declared, done, fresh, happened, next, on_header, on_meaning, on_open, on_stage, opened, refused, served, setting_of}
 use Rattle.zb_live.specs.Shown.{event_lines}
-use Rattle.zb_live_line.specs.Grammar.{meaning_of}
-use Rattle.zb_live_line.specs.Said.{Sentence, Quiet, Founds, Introduces, Logs, Opens, Happens, Lists, BacksUp}
-use Rattle.zb_live_line.specs.declared.cause.Cause.{Cause}
-use Rattle.zb_live_line.specs.declared.cause.Cause.TheVariants as cause
+use Rattle.zb_live.specs.Grammar.{meaning_of}
+use Rattle.zb_live.specs.Said.{Sentence, Quiet, Founds, Introduces, Logs, Opens, Happens, Lists, BacksUp}
+use Rattle.zb_live.specs.declared.cause.Cause.{Cause}
+use Rattle.zb_live.specs.declared.cause.Cause.TheVariants as cause
 use Rattle.zb_model.specs.Answer.{Answer, answer}
 use Rattle.zb_model.specs.Data.{Bytes, Task}
 use Rattle.zb_model.specs.Lines.{Line, Boot, DownReset}

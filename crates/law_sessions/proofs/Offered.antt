@@ -6,7 +6,7 @@ use Rattle.zb_model.specs.Answer.{answer, answer_by, aps_command, aps_part, by_s
 use Rattle.zb_model.specs.Commands.{Heard, answer_pair, answer_request, greater, is_verified_row, lesser, send_app_key, send_link_key, take_app_request, take_command, take_request, under_current}
 use Rattle.zb_model.specs.Data.{AtAps, Bytes, Command, ConfirmKey, CounterSpent, Draw, NoDraw, NotMember, Pair, Policy, Reason, Received, RemoveDevice, RequestApp, RequestLink, Row, RowsFull, SwitchKey, Term, TransportApp, TransportLink, TransportNet, Tunnel, Unverified, UpdateDevice, VerifyKey, WrongState}
 use Rattle.zb_model.specs.Judging.{Carrier, Good, Not, Unsealed, Verdict, judge_aps, judge_nwk, payload_of}
-use Rattle.zb_model.specs.Rules.{Outcome, Plan, Setting, both_spent, found_or, links_full, pairs_full, unless, unless_held}
+use Rattle.zb_model.specs.Rules.{Outcome, Plan, Setting, both_spent, found_or, links_full, pairs_full, refuse_if, refuse_unless, unless_held}
 use Rattle.zb_model.specs.State.{LinkKey, NodeState, PairKey as PairRow, current, is_centre, is_live, offered, pair_of}
 use Rattle.zb_model.specs.Tools.{ApsAuxiliary, ApsShown, Broken, CommandShown, Known, NwkShown, Tools, Unknown}
 
@@ -15,8 +15,8 @@ abbrev Same : Option Bytes → Bytes → (Option Bytes → Outcome) → Type 0
 Same d key f = IsUndrawn (f d) → f (Some key) ≡ f d
 
 same_unless : (d : Option Bytes) (key : Bytes) (bad : Bool) (reason : Reason) (f : Option Bytes → Outcome)
-    → Same d key f → Same d key (λ x. unless bad reason (f x))
-unfolding unless
+    → Same d key f → Same d key (λ x. refuse_if bad reason (f x))
+unfolding refuse_if
 same_unless d key true reason f k = λ u. refl
 same_unless d key false reason f k = k
 
@@ -36,9 +36,9 @@ same_drawn key None p rest free k u = absurd u
 same_drawn key (Some j) p rest free k u = ap (λ q. found_or q NoDraw rest) free ∙ k j u
 
 -- a draw comes only where the counters aren't spent
-same_spent : (b : Bool) (x y : Outcome) → (IsUndrawn x → ⊥) → IsUndrawn (unless b CounterSpent x)
-    → unless b CounterSpent y ≡ unless b CounterSpent x
-unfolding unless
+same_spent : (b : Bool) (x y : Outcome) → (IsUndrawn x → ⊥) → IsUndrawn (refuse_if b CounterSpent x)
+    → refuse_if b CounterSpent y ≡ refuse_if b CounterSpent x
+unfolding refuse_if
 same_spent true x y never u = refl
 same_spent false x y never u = absurd (never u)
 
@@ -54,7 +54,7 @@ request_same c s device d key row None free =
     sent j = send_link_key c s device j (Draw j ∷ Row device j Unverified ∷ []) row
 
     rest : Bytes → Outcome
-    rest j = unless (both_spent s) CounterSpent (sent j)
+    rest j = refuse_if (both_spent s) CounterSpent (sent j)
 
 pair_same : (c : Setting) (s : NodeState) (device partner : ℕ) (d : Option Bytes) (key : Bytes) (row : LinkKey)
     (o : Option PairRow) → IsFree s key → Same d key (λ x. answer_pair c s device partner x row o)
@@ -69,7 +69,7 @@ pair_same c s device partner d key row None free =
         (Draw j ∷ Pair (lesser device partner) (greater device partner) j ∷ []) row
 
     rest : Bytes → Outcome
-    rest j = unless (both_spent s) CounterSpent (sent j)
+    rest j = refuse_if (both_spent s) CounterSpent (sent j)
 
 -- ---- the commands
 
@@ -91,10 +91,10 @@ app_same c s d key m partner free =
     same_unless d key
     (not (is_centre c.me.role && (under_current s m && not (nat_eq partner m.sender || nat_eq partner c.me.eui))))
     Policy
-    (λ x. unless (not (is_live s partner)) NotMember (unless unverified WrongState (found_or (current s m.sender)
+    (λ x. refuse_unless (is_live s partner) NotMember (refuse_if unverified WrongState (found_or (current s m.sender)
     Policy (λ row. answer_pair c s m.sender partner x row (pair_of s m.sender partner)))))
     (same_unless d key (not (is_live s partner)) NotMember
-    (λ x. unless unverified WrongState (found_or (current s m.sender) Policy
+    (λ x. refuse_if unverified WrongState (found_or (current s m.sender) Policy
     (λ row. answer_pair c s m.sender partner x row (pair_of s m.sender partner))))
     (same_unless d key unverified WrongState
     (λ x. found_or (current s m.sender) Policy

@@ -20,10 +20,10 @@ use Rattle.zb_centre_store.specs.Standing.{found_on, found_store, found_tables}
 use Rattle.zb_centre_store.specs.declared.fault.AdminFault.TheVariants.{BadStore}
 use Rattle.zb_live.specs.Events.{provided, task_for, with_node}
 use Rattle.zb_live.specs.Living.{Found, Living, counted, declared, done, first_station, fresh, happened, next, on_header, on_meaning, on_open, on_stage, opened, refused, served, setting_of, station}
-use Rattle.zb_live_line.specs.Grammar.{meaning_of}
-use Rattle.zb_live_line.specs.Said.{Event, Delivers, Adopts, Ticks, Says, Provisions, Removes, Rolls, Switches, Repeats, Shares, Sentence, Quiet, Founds, Introduces, Logs, Opens, Happens, Lists, BacksUp}
-use Rattle.zb_live_line.specs.declared.cause.Cause.{Cause}
-use Rattle.zb_live_line.specs.declared.cause.Cause.TheVariants as cause
+use Rattle.zb_live.specs.Grammar.{meaning_of}
+use Rattle.zb_live.specs.Said.{Event, Delivers, Adopts, Ticks, Says, Provisions, Removes, Rolls, Switches, Repeats, Shares, Sentence, Quiet, Founds, Introduces, Logs, Opens, Happens, Lists, BacksUp}
+use Rattle.zb_live.specs.declared.cause.Cause.{Cause}
+use Rattle.zb_live.specs.declared.cause.Cause.TheVariants as cause
 use Rattle.zb_model.specs.Answer.{Answer, accepted_all, answer, answered, sealed_all}
 use Rattle.zb_model.specs.Data.{Bytes, Centre, Layer, Nwk, Aps, Station, Task, Term}
 use Rattle.zb_model.specs.Fits.{all_apart}

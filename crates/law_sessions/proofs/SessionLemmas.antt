@@ -13,10 +13,10 @@ use Rattle.zb_centre_store.specs.Standing.{found_on, found_store, found_tables}
 use Rattle.zb_centre_store.specs.declared.fault.AdminFault.TheVariants.{BadStore}
 use Rattle.zb_live.specs.Events.{task_for}
 use Rattle.zb_live.specs.Living.{Found, Living, counted, declared, done, first_station, fresh, happened, next, on_header, on_meaning, on_open, on_stage, opened, refused, served, setting_of}
-use Rattle.zb_live_line.specs.Grammar.{meaning_of}
-use Rattle.zb_live_line.specs.Said.{Sentence, Quiet, Founds, Introduces, Logs, Opens, Happens, Lists, BacksUp}
-use Rattle.zb_live_line.specs.declared.cause.Cause.{Cause}
-use Rattle.zb_live_line.specs.declared.cause.Cause.TheVariants as cause
+use Rattle.zb_live.specs.Grammar.{meaning_of}
+use Rattle.zb_live.specs.Said.{Sentence, Quiet, Founds, Introduces, Logs, Opens, Happens, Lists, BacksUp}
+use Rattle.zb_live.specs.declared.cause.Cause.{Cause}
+use Rattle.zb_live.specs.declared.cause.Cause.TheVariants as cause
 use Rattle.zb_model.specs.Data.{Bytes, Centre, Task, Term}
 use Rattle.zb_model.specs.State.{NodeState}
 use Rattle.zb_model_real.specs.Real.{real}
@@ -30,8 +30,8 @@ use Rattle.zb_script.specs.Scripts as script
 use Rattle.zb_script.specs.Scripts.{Script}
 use Rattle.zb_script.specs.declared.error.ScriptCause.{ScriptCause}
 use Rattle.zb_script.specs.declared.error.ScriptCause.TheVariants.{Syntax, DuplicateNode, Block, TooMany}
-use Rattle.zb_skip.specs.Freshness.{HasUsed}
-use Rattle.zb_skip.specs.Skipping.{skipped}
+use Rattle.zb_centre_store.specs.Freshness.{HasUsed}
+use Rattle.zb_centre_store.specs.Skipping.{skipped}
 use Rattle.zb_store.specs.Layout.{Standing, stands}
 use Rattle.zb_stored_tables.specs.Stored.{behind, is_of_other, state_behind, state_given, version_in}
 

@@ -10,9 +10,9 @@ use Rattle.law_sessions.proofs.SessionLemmas.{sessions_apart}
 use Rattle.zb_centre_store.specs.Standing.{found_on}
 use Rattle.zb_live.specs.Events.{task_for}
 use Rattle.zb_live.specs.Living.{Found, Living, done, fresh, setting_of}
-use Rattle.zb_live_line.specs.Grammar.{meaning_of}
-use Rattle.zb_live_line.specs.Said.{Sentence, Quiet, Founds, Introduces, Logs, Opens, Happens, Lists, BacksUp}
-use Rattle.zb_live_line.specs.declared.cause.Cause.{Cause}
+use Rattle.zb_live.specs.Grammar.{meaning_of}
+use Rattle.zb_live.specs.Said.{Sentence, Quiet, Founds, Introduces, Logs, Opens, Happens, Lists, BacksUp}
+use Rattle.zb_live.specs.declared.cause.Cause.{Cause}
 use Rattle.zb_model.specs.Answer.{Counting, answer, answer_by, counting_of, framed, may_seal, nothing_out, out_of, part_of, plan_of, sending_of, sent}
 use Rattle.zb_model.specs.Claims.{AreApart, nonce, stamp}
 use Rattle.zb_model.specs.Data.{Bytes, Label, ForData, ForNetwork, ForTransport, ForLoad, Layer, Nwk, Aps, Task, Term}
@@ -59,13 +59,10 @@ all_two P Q R k (x ∷ xs) a b = (k x a.0 b.0, all_two P Q R k xs a.1 b.1)
 part_formed : (tools : Tools) (me to nwk aps : ℕ) (body : Body)
     → AllByRecursion IsFormed (part_of tools me to nwk aps body).seals
 unfolding part_of
-part_formed tools me to nwk aps (Saying bytes) = tt
-part_formed tools me to nwk aps (Clear control command) = tt
 part_formed tools me to nwk aps (Secret label key command) = (other_control label, tt)
 part_formed tools me to nwk aps (Tunnelled device key command) = (other_control ForTransport, tt)
 part_formed tools me to nwk aps (Telling key bytes) = (other_control ForData, tt)
-part_formed tools me to nwk aps Leaving = tt
-part_formed tools me to nwk aps (Relayed bytes) = tt
+part_formed _ _ _ _ _ _ = tt
 
 framed_formed : (tools : Tools) (c : Setting) (to nwk aps : ℕ) (secured : Bool) (row : Option NetKey) (body : Body)
     → AllByRecursion IsFormed (framed tools c to nwk secured row (part_of tools c.me.eui to nwk aps body)).seals
@@ -117,16 +114,8 @@ event_form network s (Err why) = tt
 
 meaning_form : (network : Script) (o : Option NodeState) (m : Option Sentence)
     → AllByRecursion HasForm (meaning_seals network o m)
-meaning_form network None m = tt
-meaning_form network (Some s) None = tt
-meaning_form network (Some s) (Some Quiet) = tt
-meaning_form network (Some s) (Some (Founds name eui out_block in_block)) = tt
-meaning_form network (Some s) (Some (Introduces name role eui short)) = tt
-meaning_form network (Some s) (Some (Logs log)) = tt
-meaning_form network (Some s) (Some Opens) = tt
 meaning_form network (Some s) (Some (Happens event)) = event_form network s (task_for network.stations event)
-meaning_form network (Some s) (Some Lists) = tt
-meaning_form network (Some s) (Some BacksUp) = tt
+meaning_form _ _ _ = tt
 
 line_form : (line : Bytes) (v : Living) → AllByRecursion HasForm (line_seals line v)
 unfolding line_seals

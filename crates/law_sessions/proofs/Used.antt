@@ -19,8 +19,8 @@ use Rattle.zb_model.specs.Readings.{after}
 use Rattle.zb_model.specs.Rules.{Setting}
 use Rattle.zb_model.specs.State.{NetKey, NodeState, after_accepting, after_boot, after_sealing, applied, applied_all, booted_net, next_at, sealed_at, shown, shown_net, stored_limit}
 use Rattle.zb_model.specs.Tools.{Tools}
-use Rattle.zb_skip.specs.Freshness.{HasUsed, IsAbove}
-use Rattle.zb_skip.specs.Skipping.{counted_from, skipped, skipped_limit, skipped_net}
+use Rattle.zb_centre_store.specs.Freshness.{HasUsed, IsAbove}
+use Rattle.zb_centre_store.specs.Skipping.{counted_from, skipped, skipped_limit, skipped_net}
 use Rattle.zb_stored_tables.proofs.CoreValues.{answered_tables}
 
 -- ---- a counter below that of a row

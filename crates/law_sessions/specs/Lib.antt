@@ -3,3 +3,4 @@ pub mod Hubs
 pub mod Logs
 pub mod Making
 pub mod Offers
+pub mod Runs

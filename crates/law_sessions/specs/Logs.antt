@@ -8,9 +8,9 @@ use Rattle.zb_centre_store.specs.Standing.{found_on}
 use Rattle.zb_live.specs.Events.{task_for}
 use Rattle.zb_live.specs.Living.{Found, Living, answer_to, done, fresh, next, served, setting_of}
 use Rattle.zb_live.specs.Shown.{event_lines}
-use Rattle.zb_live_line.specs.Grammar.{meaning_of}
-use Rattle.zb_live_line.specs.Said.{Sentence, Happens}
-use Rattle.zb_live_line.specs.declared.cause.Cause.{Cause}
+use Rattle.zb_live.specs.Grammar.{meaning_of}
+use Rattle.zb_live.specs.Said.{Sentence, Happens}
+use Rattle.zb_live.specs.declared.cause.Cause.{Cause}
 use Rattle.zb_model.specs.Claims.{Confirms, Fresh, Lawful, Once}
 use Rattle.zb_model.specs.Data.{Bytes, Task}
 use Rattle.zb_model.specs.Lines.{Line, Boot, DownReset}

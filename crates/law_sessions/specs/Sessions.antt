@@ -4,9 +4,9 @@ use Rattle.std.specs.List.{AllByRecursion}
 use Rattle.zb_centre_store.specs.Standing.{StandsAs, found_on}
 use Rattle.zb_live.specs.Events.{task_for}
 use Rattle.zb_live.specs.Living.{Found, Living, done, fresh, served, setting_of}
-use Rattle.zb_live_line.specs.Grammar.{meaning_of}
-use Rattle.zb_live_line.specs.Said.{Sentence, Happens}
-use Rattle.zb_live_line.specs.declared.cause.Cause.{Cause}
+use Rattle.zb_live.specs.Grammar.{meaning_of}
+use Rattle.zb_live.specs.Said.{Sentence, Happens}
+use Rattle.zb_live.specs.declared.cause.Cause.{Cause}
 use Rattle.zb_model.specs.Answer.{answer}
 use Rattle.zb_model.specs.Data.{Bytes, Layer, Nwk, Aps, Task, Term}
 use Rattle.zb_model.specs.State.{NodeState, after_boot, net_of, shown}

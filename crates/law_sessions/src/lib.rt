@@ -2,6 +2,8 @@
 //! function with an empty body.
 #![tactic(auto)]
 
+mod admin_runs;
+
 ghost use Rattle.std.specs.Prelude.{◌≡◌, ℕ, true, is_some, map, List, [], Option, Some, Ok};
 ghost use Rattle.law_run.specs.Commanding.{OneCentre};
 ghost use Rattle.law_sessions.specs.Hubs.{without_numbers};
@@ -22,10 +24,13 @@ ghost use Rattle.zb_model.specs.Data.{Bytes, Received};
 ghost use Rattle.zb_model.specs.State.{NodeState, after_boot, shown};
 ghost use Rattle.zb_model_real.specs.Real.{real};
 ghost use Rattle.zb_script.specs.Scripts.{Script};
-ghost use Rattle.zb_skip.specs.Freshness.{HasUsed};
-ghost use Rattle.zb_skip.specs.Skipping.{skipped};
+ghost use Rattle.zb_centre_store.specs.Freshness.{HasUsed};
+ghost use Rattle.zb_centre_store.specs.Skipping.{skipped};
 ghost use Rattle.zb_stored_tables.specs.Stored.{IsKept};
 
+pub use admin_runs::{
+    no_counter_comes_twice_in_all_runs, no_counter_of_admin_comes_again_after_a_restore,
+};
 use law_real_runs::only_confirmations_read_as_such;
 use zb_keys::start_lines_give_the_first_state;
 

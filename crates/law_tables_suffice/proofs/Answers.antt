@@ -58,18 +58,7 @@ floor_same c s (t ∷ ts) layer live = rw (floor_for_same c s t live.0, floor_sa
 changes_same : (s : NodeState) (m : Move) → changes (shown s) m ≡ changes s m
 unfolding shown
 changes_same s (Draw key) = refl
-changes_same s (DropNet key) = refl
-changes_same s (DropLink partner key) = refl
-changes_same s (Install key sequence) = refl
-changes_same s (Active key) = refl
-changes_same s (Row partner key attribute) = refl
-changes_same s (Pair first second key) = refl
-changes_same s (Became state) = refl
-changes_same s (Live device) = refl
-changes_same s (Removed device) = refl
-changes_same s (Roll sending) = refl
-changes_same s (Told device) = refl
-changes_same s (Untold device) = refl
+changes_same _ _ = refl
 
 made_same : (s : NodeState) (ms : List Move) → filter (changes (shown s)) ms ≡ filter (changes s) ms
 made_same s ms = each_test (changes (shown s)) (changes s) (changes_same s) ms
@@ -118,19 +107,8 @@ record AreAlike (k j : Counting) : Type 0 where
   start : k.start ≡ j.start
 
 moves_alike : (k j : Counting) → AreAlike k j → (m : Move) → move_edits k m ≡ move_edits j m
-moves_alike k j same (Draw key) = refl
-moves_alike k j same (DropNet key) = refl
-moves_alike k j same (DropLink partner key) = refl
-moves_alike k j same (Install key sequence) = refl
 moves_alike k j same (Active key) = rw same.start refl
-moves_alike k j same (Row partner key attribute) = refl
-moves_alike k j same (Pair first second key) = refl
-moves_alike k j same (Became state) = refl
-moves_alike k j same (Live device) = refl
-moves_alike k j same (Removed device) = refl
-moves_alike k j same (Roll sending) = refl
-moves_alike k j same (Told device) = refl
-moves_alike k j same (Untold device) = refl
+moves_alike _ _ _ _ = refl
 
 edits_alike : (k j : Counting) → AreAlike k j → (s : NodeState) (p : Plan) → edits_of (shown s) k p ≡ edits_of s j p
 unfolding edits_of

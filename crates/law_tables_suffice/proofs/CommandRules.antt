@@ -3,7 +3,7 @@ use Rattle.std.proofs.Common.{◌≡◌, ℕ, [], refl, ap, true, not, ◌&&◌,
 use Rattle.zb_model.specs.Data.{Bytes, Nwk, NoKey, NotMember, CounterSpent, Policy, Command, TransportNet, TransportApp, TransportLink, UpdateDevice, RemoveDevice, RequestApp, RequestLink, SwitchKey, Tunnel, VerifyKey, ConfirmKey}
 use Rattle.zb_model.specs.State.{NodeState, NetKey, LinkKey, PairKey, shown, is_centre, active_row, current, offered, is_live, other_user, pair_of}
 use Rattle.zb_model.specs.Tools.{Tools}
-use Rattle.zb_model.specs.Rules.{Outcome, Does, Tunnelled, Setting, unless, found_or, sends, short_of, both_spent, drop_partner}
+use Rattle.zb_model.specs.Rules.{Outcome, Does, Tunnelled, Setting, refuse_if, refuse_unless, found_or, sends, short_of, both_spent, drop_partner}
 use Rattle.zb_model.specs.Commands.{Heard, eui_of, under_current, take_net_key, take_row, take_link_key, take_app_key, take_switch, take_confirm, take_remove, take_tunnel, take_update, answer_request, take_request, answer_pair, take_app_request, take_verify, take_command}
 use Rattle.law_tables_suffice.proofs.Questions.{has_same, dropped_same, live_of_same, spent_same, both_spent_same, full_same, held_same, drop_old_same}
 use Rattle.law_tables_suffice.proofs.OwnRules.{in_active, each_found}
@@ -52,7 +52,7 @@ update_same c s m device status = rw (both_spent_same s, found_shown) refl
     rest : NetKey → Outcome
     rest net =
         found_or (current s device) NotMember (λ row.
-        unless (both_spent s) CounterSpent (
+        refuse_if (both_spent s) CounterSpent (
         Does []
         (sends (short_of c (eui_of m.nwk_source)) true
         (Tunnelled device row.key (TransportNet net.key net.sequence device c.me.eui)))))
@@ -70,7 +70,7 @@ request_same : (c : Setting) (s : NodeState) (m : Heard) (draw : Option Bytes) �
     ≡ take_request c s m draw
 unfolding shown take_request current offered
 request_same c s m draw =
-    ap (unless (not (is_centre c.me.role && under_current s m)) Policy)
+    ap (refuse_unless (is_centre c.me.role && under_current s m) Policy)
     (each_found (current s m.sender) Policy _ _ (λ row. request_by c s m.sender draw row (offered s m.sender)))
 
 pair_by : (c : Setting) (s : NodeState) (device partner : ℕ) (draw : Option Bytes) (row : LinkKey)

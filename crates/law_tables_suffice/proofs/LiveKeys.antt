@@ -233,15 +233,4 @@ unfolding plan_of
 accepts_live tools opens c s differ (Received bytes draw) =
     received_live tools opens c s draw (judge_nwk tools c s bytes) (nwk_live tools opens c s differ bytes)
 accepts_live tools opens c s differ (SayTo to bytes) = tt
-accepts_live tools opens c s differ (TellTo partner bytes) = tt
-accepts_live tools opens c s differ DoKnock = tt
-accepts_live tools opens c s differ DoRejoin = tt
-accepts_live tools opens c s differ DoTimer = tt
-accepts_live tools opens c s differ (AskFor partner) = tt
-accepts_live tools opens c s differ (HasChild child rejoin) = tt
-accepts_live tools opens c s differ (DoProvision device key) = tt
-accepts_live tools opens c s differ (DoRemove device via) = tt
-accepts_live tools opens c s differ (DoRoll draw) = tt
-accepts_live tools opens c s differ DoSwitch = tt
-accepts_live tools opens c s differ (DoAgain device) = tt
-accepts_live tools opens c s differ (DoShare device partner) = tt
+accepts_live _ _ _ _ _ _ = tt

@@ -53,13 +53,9 @@ verify_key_same tools c s = rw (spent_same Nwk s) refl
 
 timer_in_same : (state : State) (tools : Tools) (c : Setting) (s : NodeState) → timer_in state tools c (shown s)
     ≡ timer_in state tools c s
-timer_in_same Fresh tools c s = refl
-timer_in_same Knocked tools c s = refl
 timer_in_same Joined tools c s = request_key_same c s
 timer_in_same Offered tools c s = verify_key_same tools c s
-timer_in_same Confirmed tools c s = refl
-timer_in_same Rejoining tools c s = refl
-timer_in_same Gone tools c s = refl
+timer_in_same _ _ _ _ = refl
 
 member_timer_same : (tools : Tools) (c : Setting) (s : NodeState) → member_timer tools c (shown s)
     ≡ member_timer tools c s
@@ -146,11 +142,7 @@ centre_same c s (DoRoll draw) = roll_same s draw
 centre_same c s DoSwitch = switch_same s
 centre_same c s (DoAgain device) = again_same s device
 centre_same c s (DoShare device partner) = share_same c s device partner
-centre_same c s (TellTo partner bytes) = refl
-centre_same c s DoKnock = refl
-centre_same c s DoRejoin = refl
-centre_same c s (AskFor partner) = refl
-centre_same c s (Received bytes draw) = refl
+centre_same _ _ _ = refl
 
 member_same : (tools : Tools) (c : Setting) (s : NodeState) (task : Task) → own_at_member tools c (shown s) task
     ≡ own_at_member tools c s task
@@ -161,13 +153,7 @@ member_same tools c s DoRejoin = rejoin_same s
 member_same tools c s DoTimer = member_timer_same tools c s
 member_same tools c s (AskFor partner) = ask_same c s partner
 member_same tools c s (HasChild child rejoin) = child_same c s child rejoin
-member_same tools c s (DoProvision device key) = refl
-member_same tools c s (DoRemove device via) = refl
-member_same tools c s (DoRoll draw) = refl
-member_same tools c s DoSwitch = refl
-member_same tools c s (DoAgain device) = refl
-member_same tools c s (DoShare device partner) = refl
-member_same tools c s (Received bytes draw) = refl
+member_same _ _ _ _ = refl
 
 pub own_same : (tools : Tools) (c : Setting) (s : NodeState) (task : Task) → own tools c (shown s) task
     ≡ own tools c s task

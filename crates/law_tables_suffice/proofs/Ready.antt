@@ -77,27 +77,12 @@ with_node {C} w i n named k = by_found (find (has_eui n) w.nodes) refl (found_go
 
 moved_role : (m : Move) (s : NodeState) → (moved m s).role ≡ s.role
 moved_role (Draw key) s = refl
-moved_role (DropNet key) s = refl
-moved_role (DropLink partner key) s = refl
-moved_role (Install key sequence) s = refl
-moved_role (Active key) s = refl
-moved_role (Row partner key attribute) s = refl
-moved_role (Pair first second key) s = refl
-moved_role (Became state) s = refl
-moved_role (Live device) s = refl
-moved_role (Removed device) s = refl
-moved_role (Roll sending) s = refl
-moved_role (Told device) s = refl
-moved_role (Untold device) s = refl
+moved_role _ _ = refl
 
 change_role : (e : Edit) (s : NodeState) → (applied e s).role ≡ s.role
 unfolding applied
-change_role (Reserve Nwk limit) s = refl
-change_role (Reserve Aps limit) s = refl
-change_role (Floor Nwk key sender value) s = refl
-change_role (Floor Aps key sender value) s = refl
-change_role (Start key value) s = refl
 change_role (Moved m) s = moved_role m s
+change_role _ _ = refl
 
 applied_role : (es : List Edit) (s : NodeState) → (applied_all es s).role ≡ s.role
 unfolding applied_all
@@ -138,10 +123,7 @@ of_node P w each (PowerOn n) named = each n named
 of_node P w each (ShowRecord n) named = each n named
 of_node P w each (ArmStop n calls torn) named = each n named
 of_node P w each (ArmFail n call) named = each n named
-of_node P w each (InjectBytes bytes) named = tt
-of_node P w each (ForgeNet to from source key sequence counter content) named = tt
-of_node P w each (ForgeNetAps to from source key sequence counter label base aps_counter command) named = tt
-of_node P w each (ForgeOpen to from source label base aps_counter command) named = tt
+of_node _ _ _ _ _ = tt
 
 nodes_along : (P : NodeState → Setting → ℕ → Type 0) (tools : Tools) (w : Schedule) → IsSchedule w
     → (J : ℕ → NodeState → Type 0) → IsKept tools w (NamesNode w) (IfNamed w J) → AllKeep (IfNamed w J) (start w)

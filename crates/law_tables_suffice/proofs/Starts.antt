@@ -315,18 +315,13 @@ keys_ruled : (role : Role) (centre : ℕ) (network : Option (Bytes × ℕ)) (cod
     → keeps_rules (with_code centre code (with_network network (new_node role))) ≡ true
 unfolding keeps_rules rows_have_room keys_differ at_most_two_live active_is_live partners_agree links_are_marked
     floors_are_kept limits_are_started role_is_kept pairs_are_kept with_given_net with_given_link
-keys_ruled Centre centre None None = refl
-keys_ruled Router centre None None = refl
-keys_ruled Device centre None None = refl
-keys_ruled Centre centre None (Some key) = refl
-keys_ruled Router centre None (Some key) = refl
-keys_ruled Device centre None (Some key) = refl
 keys_ruled Centre centre (Some given) None = rw (same_key_of given.0 given.0 refl) refl
 keys_ruled Router centre (Some given) None = rw (same_key_of given.0 given.0 refl) refl
 keys_ruled Device centre (Some given) None = rw (same_key_of given.0 given.0 refl) refl
 keys_ruled Centre centre (Some given) (Some key) = rw (same_key_of given.0 given.0 refl) refl
 keys_ruled Router centre (Some given) (Some key) = rw (same_key_of given.0 given.0 refl) refl
 keys_ruled Device centre (Some given) (Some key) = rw (same_key_of given.0 given.0 refl) refl
+keys_ruled _ _ _ _ = refl
 
 pub first_ruled : (centre : ℕ) (m : Node) → keeps_rules (first_state centre m) ≡ true
 first_ruled centre m =

@@ -12,10 +12,10 @@ use Rattle.zb_disk.specs.Memory.{Medium, fresh as disk_of, memory_view}
 use Rattle.zb_disk.specs.MemoryLaws.{image_seen}
 use Rattle.zb_live.specs.Alive.{CrashLeaves}
 use Rattle.zb_live.specs.Living.{fresh, served}
-use Rattle.zb_live_serve.specs.Moments.{Input, input_of}
-use Rattle.zb_live_serve.specs.Serving.{Ended, Lives}
-use Rattle.zb_live_serve.specs.WholeLines.{whole_lines}
-use Rattle.zb_live_serve.specs.declared.fault.LiveFault.TheVariants as live
+use Rattle.zb_live.specs.Moments.{Input, input_of}
+use Rattle.zb_live.specs.Serving.{Ended, Lives}
+use Rattle.zb_live.specs.WholeLines.{whole_lines}
+use Rattle.zb_live.specs.declared.fault.LiveFault.TheVariants as live
 
 lines_done : (text old : List ℕ) (rest : Input) (new : Medium) (answer : Written)
     → Lives in_memory (input_of (Some text) 0) (disk_of old) unwritten (Ok tt) rest new answer
@@ -39,14 +39,11 @@ of_lines : (text old : List ℕ) (rest : Input) (ended : Ended) (new : Medium) (
     → Lives in_memory (input_of (Some text) 0) (disk_of old) unwritten ended rest new answer
     → IsOfLines text old (made_of_lines ended new answer)
 of_lines text old rest (Ok tt) new answer lives = lines_done text old rest new answer lives
-of_lines text old rest (Err live.Read) new answer lives = tt
 of_lines text old rest (Err live.TooLong) new answer lives = lives.faults text refl
-of_lines text old rest (Err live.Write) new answer lives = tt
-of_lines text old rest (Err live.Disk) new answer lives = tt
 of_lines text old rest (Err live.NoStore) new answer lives = lives.faults refl
 of_lines text old rest (Err (live.BadStore at)) new answer lives = lives.faults refl
 of_lines text old rest (Err live.Worn) new answer lives = (new, answer, record { rest = rest; lives = lives })
-of_lines text old rest (Err live.NoMemory) new answer lives = tt
+of_lines _ _ _ _ _ _ _ = tt
 
 pub lines_served : (text old : List ℕ) (input : Supply) (rest : Input) (disk new : Medium) (before answer : Written)
     (ended : Ended) (made : Result Made CallFault)

@@ -10,11 +10,11 @@ use Rattle.zb_centre_store.specs.declared.fault.AdminFault.TheVariants as store
 use Rattle.zb_disk.specs.Memory.{Medium, fresh as disk_of, memory_view}
 use Rattle.zb_live.specs.Alive.{CrashLeaves}
 use Rattle.zb_live.specs.Living.{fresh, served}
-use Rattle.zb_live_serve.specs.Feeding.{BeginsLong}
-use Rattle.zb_live_serve.specs.Moments.{Input, input_of}
-use Rattle.zb_live_serve.specs.Serving.{Ended, Lives}
-use Rattle.zb_live_serve.specs.WholeLines.{whole_lines}
-use Rattle.zb_live_serve.specs.declared.fault.LiveFault.TheVariants as live
+use Rattle.zb_live.specs.Feeding.{BeginsLong}
+use Rattle.zb_live.specs.Moments.{Input, input_of}
+use Rattle.zb_live.specs.Serving.{Ended, Lives}
+use Rattle.zb_live.specs.WholeLines.{whole_lines}
+use Rattle.zb_live.specs.declared.fault.LiveFault.TheVariants as live
 
 -- The lines were served over a store in memory, from the store's bytes on, to this end.
 pub record EndsLines (text old : List ℕ) (ended : Ended) (new : Medium) (answer : Written) : Type 0 where

@@ -9,7 +9,7 @@ use crate::outside::{Answer, StoreBytes};
 use crate::used::{Served, TcUsed, fit, hand_out, is_ready, tell};
 use std::alloc::Global;
 use zb_base::MemSource;
-use zb_live_serve::{LiveFault, live};
+use zb_live::{LiveFault, live};
 
 // Returns what lines that ended so have made.
 fn made_of_lines(

@@ -1,6 +1,6 @@
 //! What standard error says to people when a session doesn't end well. Standard output has the exact words for
 //! programs.
-use zb_live_process::Status;
+use crate::status::Status;
 
 /// The words of the command line, and what a session is.
 const USAGE: &str = "\

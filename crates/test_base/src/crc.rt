@@ -1,5 +1,5 @@
 //! Published remainders.
-use zb_crc::divide;
+use zb_install::divide;
 
 // The check values of the catalogue of CRCs over the nine digits: begun with zeros (KERMIT), and begun and ended with
 // ones (X-25).

@@ -15,8 +15,14 @@ mod counting;
 #[cfg(test)]
 mod crc;
 #[cfg(test)]
+mod disks;
+#[cfg(test)]
 mod hash;
 #[cfg(test)]
 mod install_codes;
 #[cfg(test)]
+mod records;
+#[cfg(test)]
 mod seals;
+#[cfg(test)]
+mod stores;

@@ -2,9 +2,8 @@
 
 use std::process::Abort;
 use zb_base::{Eui, Frame, Key, Label, Layer};
-use zb_carried_keys::carried;
 use zb_cursor::frame_from;
-use zb_seal::{OpenError, Term, open_aps, open_nwk, wire};
+use zb_seal::{OpenError, Term, carried, open_aps, open_nwk, wire};
 
 const NETWORK_KEY: Key = Key([
     0x00, 0x01, 0x02, 0x03, 0x04, 0x05, 0x06, 0x07, 0x08, 0x09, 0x0A, 0x0B, 0x0C, 0x0D, 0x0E, 0x0F,

@@ -7,7 +7,7 @@ use Rattle.zb_aes.specs.Block.{enciphered, last_round, mix_column, next_key, rou
 use Rattle.zb_aes.specs.Bytes.{xored}
 use Rattle.zb_aes.specs.Field.{substitute, times}
 use Rattle.zb_install.specs.Code.{code_of}
-use Rattle.zb_crc.specs.Division.{added, divided, message_bits, remainder}
+use Rattle.zb_install.specs.Division.{added, divided, message_bits, remainder}
 use Rattle.zb_install.specs.Crc.{crc}
 use Rattle.zb_mmo.specs.Hash.{blocks_of, hash}
 use Rattle.zb_model.specs.Rules.{centre_of}

@@ -88,11 +88,7 @@ event_spared tells c line task s before after old new p h told up own refusal =
 
 pub lays_some : (o : Order) (s : NodeState) → lays_out o (Some s) ≡ false
 lays_some (Init key) s = refl
-lays_some (Provision device code) s = refl
-lays_some (Remove device via) s = refl
-lays_some Lists s = refl
-lays_some Backup s = refl
-lays_some (Restore by bytes) s = refl
+lays_some _ _ = refl
 
 pub carried_as : {c : Setting} {lays : Bool} {b : Option NodeState} {old : View} {front : List ℕ}
     {r : Result (Unit {0}) AdminFault} {centre : Option (Hosted CoreValue)} {new : View} {text : List ℕ} (d e : Done)

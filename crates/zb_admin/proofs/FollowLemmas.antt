@@ -65,21 +65,15 @@ order_writes r front text line o p same h =
 pub none_made : (o : Order) → ((key : Key) → o ≡ Init key → ⊥) → ((by : ℕ) (bytes : _) → o ≡ Restore by bytes → ⊥)
     → false ≡ lays_out o None
 none_made (Init key) not_init not_restore = absurd (not_init key refl)
-none_made (Provision device code) not_init not_restore = refl
-none_made (Remove device via) not_init not_restore = refl
-none_made Lists not_init not_restore = refl
-none_made Backup not_init not_restore = refl
 none_made (Restore by bytes) not_init not_restore = absurd (not_restore by bytes refl)
+none_made _ _ _ = refl
 
 pub none_written : (line : ℕ) (o : Order) → ((key : Key) → o ≡ Init key → ⊥)
     → ((by : ℕ) (bytes : _) → o ≡ Restore by bytes → ⊥) → (on_empty line o).lines ≡ refuse_line line (codes "empty")
     ∷ []
 none_written line (Init key) not_init not_restore = absurd (not_init key refl)
-none_written line (Provision device code) not_init not_restore = refl
-none_written line (Remove device via) not_init not_restore = refl
-none_written line Lists not_init not_restore = refl
-none_written line Backup not_init not_restore = refl
 none_written line (Restore by bytes) not_init not_restore = absurd (not_restore by bytes refl)
+none_written _ _ _ _ = refl
 
 pub lines_as : (r : Ended) (front text : List ℕ) (a b : List Bytes) → b ≡ a → OnOk r (text ≡ front ++ page a)
     → OnOk r (text ≡ front ++ page b)

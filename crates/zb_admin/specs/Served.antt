@@ -15,7 +15,7 @@ use Rattle.zb_record.specs.Records.{record_read}
 use Rattle.zb_script.specs.declared.script.Order.{Order}
 use Rattle.zb_script.specs.declared.script.Order.TheVariants.{Init, Provision, Remove, List as Lists, Backup, Restore}
 use Rattle.zb_script.specs.declared.script.Step.{Step}
-use Rattle.zb_skip.specs.Skipping.{skipped}
+use Rattle.zb_centre_store.specs.Skipping.{skipped}
 use Rattle.zb_text.specs.Pages.{page}
 
 -- the lines of a command, and what stands after it

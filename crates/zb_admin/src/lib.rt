@@ -13,4 +13,4 @@ pub use zb_centre_store::AdminFault;
 pub use zb_script::{
     Order, Script, ScriptCause as AdminCause, ScriptError as AdminError, Step, read,
 };
-pub use zb_skip::skip;
+pub use zb_centre_store::skip;

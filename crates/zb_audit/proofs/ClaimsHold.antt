@@ -69,41 +69,10 @@ same_seal t u keys sources counters controls =
 apart_one : (event : ℕ) (node : _) (t : Term) (g : List Line) (l : Line) → IsIn (line.Seal event node t) g
     → is_fresh g l ≡ true → SealsApart t l
 unfolding is_fresh
-apart_one event node t g (line.Node x0 x1 x2 x3 x4 x5) here fresh = tt
-apart_one event node t g (line.GivenNet x0 x1 x2) here fresh = tt
-apart_one event node t g (line.GivenLink x0 x1 x2) here fresh = tt
-apart_one event node t g (line.Counter x0 x1 x2) here fresh = tt
-apart_one event node t g (line.Reserve x0 x1 x2 x3) here fresh = tt
-apart_one event node t g (line.Floor x0 x1 x2 x3 x4 x5) here fresh = tt
-apart_one event node t g (line.Draw x0 x1) here fresh = tt
-apart_one event node t g (line.DropNet x0 x1 x2) here fresh = tt
-apart_one event node t g (line.DropLink x0 x1 x2 x3) here fresh = tt
-apart_one event node t g (line.Install x0 x1 x2 x3) here fresh = tt
-apart_one event node t g (line.Active x0 x1 x2) here fresh = tt
-apart_one event node t g (line.Start x0 x1 x2 x3) here fresh = tt
-apart_one event node t g (line.Row x0 x1 x2 x3 x4) here fresh = tt
-apart_one event node t g (line.Pair x0 x1 x2 x3 x4) here fresh = tt
-apart_one event node t g (line.State x0 x1 x2) here fresh = tt
-apart_one event node t g (line.Live x0 x1) here fresh = tt
-apart_one event node t g (line.Removed x0 x1) here fresh = tt
-apart_one event node t g (line.Roll x0 x1 x2) here fresh = tt
-apart_one event node t g (line.Told x0 x1) here fresh = tt
-apart_one event node t g (line.Untold x0 x1) here fresh = tt
-apart_one event node t g (line.Commit x0 x1) here fresh = tt
-apart_one event node t g (line.Accept x0 x1 x2) here fresh = tt
-apart_one event node t g (line.Refuse x0 x1 x2) here fresh = tt
 apart_one event node t g (line.Seal x0 x1 u) here fresh =
     λ keys sources counters controls. not_some (seals_alike u) g (line.Seal event node t) here fresh
     (same_seal t u keys sources counters controls)
-apart_one event node t g (line.Forge x0 x1) here fresh = tt
-apart_one event node t g (line.Send x0 x1 x2 x3) here fresh = tt
-apart_one event node t g (line.Inject x0 x1 x2) here fresh = tt
-apart_one event node t g (line.Stopped x0 x1) here fresh = tt
-apart_one event node t g (line.DownReset x0 x1) here fresh = tt
-apart_one event node t g (line.DownDisk x0 x1) here fresh = tt
-apart_one event node t g (line.Boot x0 x1) here fresh = tt
-apart_one event node t g (line.Dump x0 x1 x2) here fresh = tt
-apart_one event node t g (line.End x0 x1 x2 x3 x4 x5) here fresh = tt
+apart_one _ _ _ _ _ _ _ = tt
 
 all_apart : (event : ℕ) (node : _) (t : Term) (g ls : List Line) → IsIn (line.Seal event node t) g
     → failing_from is_fresh g ls ≡ [] → AllByRecursion (SealsApart t) ls
@@ -116,40 +85,9 @@ all_apart event node t g (l ∷ ls) here none =
     )
 
 fresh_line : (g : List Line) (l : Line) (ls : List Line) → failing_from is_fresh (g ++ l ∷ []) ls ≡ [] → FreshFrom l ls
-fresh_line g (line.Node x0 x1 x2 x3 x4 x5) ls none = tt
-fresh_line g (line.GivenNet x0 x1 x2) ls none = tt
-fresh_line g (line.GivenLink x0 x1 x2) ls none = tt
-fresh_line g (line.Counter x0 x1 x2) ls none = tt
-fresh_line g (line.Reserve x0 x1 x2 x3) ls none = tt
-fresh_line g (line.Floor x0 x1 x2 x3 x4 x5) ls none = tt
-fresh_line g (line.Draw x0 x1) ls none = tt
-fresh_line g (line.DropNet x0 x1 x2) ls none = tt
-fresh_line g (line.DropLink x0 x1 x2 x3) ls none = tt
-fresh_line g (line.Install x0 x1 x2 x3) ls none = tt
-fresh_line g (line.Active x0 x1 x2) ls none = tt
-fresh_line g (line.Start x0 x1 x2 x3) ls none = tt
-fresh_line g (line.Row x0 x1 x2 x3 x4) ls none = tt
-fresh_line g (line.Pair x0 x1 x2 x3 x4) ls none = tt
-fresh_line g (line.State x0 x1 x2) ls none = tt
-fresh_line g (line.Live x0 x1) ls none = tt
-fresh_line g (line.Removed x0 x1) ls none = tt
-fresh_line g (line.Roll x0 x1 x2) ls none = tt
-fresh_line g (line.Told x0 x1) ls none = tt
-fresh_line g (line.Untold x0 x1) ls none = tt
-fresh_line g (line.Commit x0 x1) ls none = tt
-fresh_line g (line.Accept x0 x1 x2) ls none = tt
-fresh_line g (line.Refuse x0 x1 x2) ls none = tt
 fresh_line g (line.Seal x0 x1 t) ls none = all_apart x0 x1 t (g ++ line.Seal x0 x1 t ∷ []) ls
     (in_end g (line.Seal x0 x1 t)) none
-fresh_line g (line.Forge x0 x1) ls none = tt
-fresh_line g (line.Send x0 x1 x2 x3) ls none = tt
-fresh_line g (line.Inject x0 x1 x2) ls none = tt
-fresh_line g (line.Stopped x0 x1) ls none = tt
-fresh_line g (line.DownReset x0 x1) ls none = tt
-fresh_line g (line.DownDisk x0 x1) ls none = tt
-fresh_line g (line.Boot x0 x1) ls none = tt
-fresh_line g (line.Dump x0 x1 x2) ls none = tt
-fresh_line g (line.End x0 x1 x2 x3 x4 x5) ls none = tt
+fresh_line _ _ _ _ = tt
 
 all_fresh : (g ls : List Line) → failing_from is_fresh g ls ≡ [] → Fresh ls
 all_fresh g [] none = tt
@@ -179,42 +117,11 @@ rises_by t u name node g m here is none nodes layers bases sources false e = leb
 rises_one : (event : ℕ) (node : _) (t : Term) (g : List Line) (l : Line) → IsIn (line.Accept event node t) g
     → is_later g l ≡ true → Rises node.bytes t l
 unfolding is_later bars
-rises_one event node t g (line.Node x0 x1 x2 x3 x4 x5) here later = tt
-rises_one event node t g (line.GivenNet x0 x1 x2) here later = tt
-rises_one event node t g (line.GivenLink x0 x1 x2) here later = tt
-rises_one event node t g (line.Counter x0 x1 x2) here later = tt
-rises_one event node t g (line.Reserve x0 x1 x2 x3) here later = tt
-rises_one event node t g (line.Floor x0 x1 x2 x3 x4 x5) here later = tt
-rises_one event node t g (line.Draw x0 x1) here later = tt
-rises_one event node t g (line.DropNet x0 x1 x2) here later = tt
-rises_one event node t g (line.DropLink x0 x1 x2 x3) here later = tt
-rises_one event node t g (line.Install x0 x1 x2 x3) here later = tt
-rises_one event node t g (line.Active x0 x1 x2) here later = tt
-rises_one event node t g (line.Start x0 x1 x2 x3) here later = tt
-rises_one event node t g (line.Row x0 x1 x2 x3 x4) here later = tt
-rises_one event node t g (line.Pair x0 x1 x2 x3 x4) here later = tt
-rises_one event node t g (line.State x0 x1 x2) here later = tt
-rises_one event node t g (line.Live x0 x1) here later = tt
-rises_one event node t g (line.Removed x0 x1) here later = tt
-rises_one event node t g (line.Roll x0 x1 x2) here later = tt
-rises_one event node t g (line.Told x0 x1) here later = tt
-rises_one event node t g (line.Untold x0 x1) here later = tt
-rises_one event node t g (line.Commit x0 x1) here later = tt
 rises_one event node t g (line.Accept x0 x1 u) here later =
     λ nodes layers bases sources.
     rises_by t u node.bytes x1.bytes g (line.Accept event node t) here refl later nodes layers bases sources
     (nat_le u.counter t.counter) refl
-rises_one event node t g (line.Refuse x0 x1 x2) here later = tt
-rises_one event node t g (line.Seal x0 x1 x2) here later = tt
-rises_one event node t g (line.Forge x0 x1) here later = tt
-rises_one event node t g (line.Send x0 x1 x2 x3) here later = tt
-rises_one event node t g (line.Inject x0 x1 x2) here later = tt
-rises_one event node t g (line.Stopped x0 x1) here later = tt
-rises_one event node t g (line.DownReset x0 x1) here later = tt
-rises_one event node t g (line.DownDisk x0 x1) here later = tt
-rises_one event node t g (line.Boot x0 x1) here later = tt
-rises_one event node t g (line.Dump x0 x1 x2) here later = tt
-rises_one event node t g (line.End x0 x1 x2 x3 x4 x5) here later = tt
+rises_one _ _ _ _ _ _ _ = tt
 
 all_rise : (event : ℕ) (node : _) (t : Term) (g ls : List Line) → IsIn (line.Accept event node t) g
     → failing_from is_later g ls ≡ [] → AllByRecursion (Rises node.bytes t) ls
@@ -227,40 +134,9 @@ all_rise event node t g (l ∷ ls) here none =
     )
 
 once_line : (g : List Line) (l : Line) (ls : List Line) → failing_from is_later (g ++ l ∷ []) ls ≡ [] → OnceFrom l ls
-once_line g (line.Node x0 x1 x2 x3 x4 x5) ls none = tt
-once_line g (line.GivenNet x0 x1 x2) ls none = tt
-once_line g (line.GivenLink x0 x1 x2) ls none = tt
-once_line g (line.Counter x0 x1 x2) ls none = tt
-once_line g (line.Reserve x0 x1 x2 x3) ls none = tt
-once_line g (line.Floor x0 x1 x2 x3 x4 x5) ls none = tt
-once_line g (line.Draw x0 x1) ls none = tt
-once_line g (line.DropNet x0 x1 x2) ls none = tt
-once_line g (line.DropLink x0 x1 x2 x3) ls none = tt
-once_line g (line.Install x0 x1 x2 x3) ls none = tt
-once_line g (line.Active x0 x1 x2) ls none = tt
-once_line g (line.Start x0 x1 x2 x3) ls none = tt
-once_line g (line.Row x0 x1 x2 x3 x4) ls none = tt
-once_line g (line.Pair x0 x1 x2 x3 x4) ls none = tt
-once_line g (line.State x0 x1 x2) ls none = tt
-once_line g (line.Live x0 x1) ls none = tt
-once_line g (line.Removed x0 x1) ls none = tt
-once_line g (line.Roll x0 x1 x2) ls none = tt
-once_line g (line.Told x0 x1) ls none = tt
-once_line g (line.Untold x0 x1) ls none = tt
-once_line g (line.Commit x0 x1) ls none = tt
 once_line g (line.Accept x0 x1 t) ls none = all_rise x0 x1 t (g ++ line.Accept x0 x1 t ∷ []) ls
     (in_end g (line.Accept x0 x1 t)) none
-once_line g (line.Refuse x0 x1 x2) ls none = tt
-once_line g (line.Seal x0 x1 x2) ls none = tt
-once_line g (line.Forge x0 x1) ls none = tt
-once_line g (line.Send x0 x1 x2 x3) ls none = tt
-once_line g (line.Inject x0 x1 x2) ls none = tt
-once_line g (line.Stopped x0 x1) ls none = tt
-once_line g (line.DownReset x0 x1) ls none = tt
-once_line g (line.DownDisk x0 x1) ls none = tt
-once_line g (line.Boot x0 x1) ls none = tt
-once_line g (line.Dump x0 x1 x2) ls none = tt
-once_line g (line.End x0 x1 x2 x3 x4 x5) ls none = tt
+once_line _ _ _ _ = tt
 
 all_once : (g ls : List Line) → failing_from is_later g ls ≡ [] → Once ls
 all_once g [] none = tt
@@ -276,29 +152,6 @@ kept_is Kept e = refl
 
 pub confirm_one : (h : List Line) (l : Line) → is_confirmable h l ≡ true → ConfirmLine h l
 unfolding is_confirmable
-confirm_one h (line.Node x0 x1 x2 x3 x4 x5) fine = tt
-confirm_one h (line.GivenNet x0 x1 x2) fine = tt
-confirm_one h (line.GivenLink x0 x1 x2) fine = tt
-confirm_one h (line.Counter x0 x1 x2) fine = tt
-confirm_one h (line.Reserve x0 x1 x2 x3) fine = tt
-confirm_one h (line.Floor x0 x1 x2 x3 x4 x5) fine = tt
-confirm_one h (line.Draw x0 x1) fine = tt
-confirm_one h (line.DropNet x0 x1 x2) fine = tt
-confirm_one h (line.DropLink x0 x1 x2 x3) fine = tt
-confirm_one h (line.Install x0 x1 x2 x3) fine = tt
-confirm_one h (line.Active x0 x1 x2) fine = tt
-confirm_one h (line.Start x0 x1 x2 x3) fine = tt
-confirm_one h (line.Row x0 x1 x2 x3 x4) fine = tt
-confirm_one h (line.Pair x0 x1 x2 x3 x4) fine = tt
-confirm_one h (line.State x0 x1 x2) fine = tt
-confirm_one h (line.Live x0 x1) fine = tt
-confirm_one h (line.Removed x0 x1) fine = tt
-confirm_one h (line.Roll x0 x1 x2) fine = tt
-confirm_one h (line.Told x0 x1) fine = tt
-confirm_one h (line.Untold x0 x1) fine = tt
-confirm_one h (line.Commit x0 x1) fine = tt
-confirm_one h (line.Accept x0 x1 x2) fine = tt
-confirm_one h (line.Refuse x0 x1 x2) fine = tt
 confirm_one h (line.Seal x0 x1 t) fine =
     λ device is.
     let it : stands_for h x1.bytes t.base.0 (Some device) ≡ true = ap (stands_for h x1.bytes t.base.0) (sym is) ∙ fine
@@ -307,15 +160,7 @@ confirm_one h (line.Seal x0 x1 t) fine =
       stored_verified h device.0 t.base.0
           (kept_is (row_in h device.0 t.base.0) (and_right (is_centres (declared_in h) x1.bytes) _ it)),
     )
-confirm_one h (line.Forge x0 x1) fine = tt
-confirm_one h (line.Send x0 x1 x2 x3) fine = tt
-confirm_one h (line.Inject x0 x1 x2) fine = tt
-confirm_one h (line.Stopped x0 x1) fine = tt
-confirm_one h (line.DownReset x0 x1) fine = tt
-confirm_one h (line.DownDisk x0 x1) fine = tt
-confirm_one h (line.Boot x0 x1) fine = tt
-confirm_one h (line.Dump x0 x1 x2) fine = tt
-confirm_one h (line.End x0 x1 x2 x3 x4 x5) fine = tt
+confirm_one _ _ _ = tt
 
 -- and back
 
@@ -330,39 +175,8 @@ stands_by h name base (Some device) stored =
 
 pub confirmable_one : (h : List Line) (l : Line) → ConfirmLine h l → is_confirmable h l ≡ true
 unfolding is_confirmable
-confirmable_one h (line.Node x0 x1 x2 x3 x4 x5) stored = refl
-confirmable_one h (line.GivenNet x0 x1 x2) stored = refl
-confirmable_one h (line.GivenLink x0 x1 x2) stored = refl
-confirmable_one h (line.Counter x0 x1 x2) stored = refl
-confirmable_one h (line.Reserve x0 x1 x2 x3) stored = refl
-confirmable_one h (line.Floor x0 x1 x2 x3 x4 x5) stored = refl
-confirmable_one h (line.Draw x0 x1) stored = refl
-confirmable_one h (line.DropNet x0 x1 x2) stored = refl
-confirmable_one h (line.DropLink x0 x1 x2 x3) stored = refl
-confirmable_one h (line.Install x0 x1 x2 x3) stored = refl
-confirmable_one h (line.Active x0 x1 x2) stored = refl
-confirmable_one h (line.Start x0 x1 x2 x3) stored = refl
-confirmable_one h (line.Row x0 x1 x2 x3 x4) stored = refl
-confirmable_one h (line.Pair x0 x1 x2 x3 x4) stored = refl
-confirmable_one h (line.State x0 x1 x2) stored = refl
-confirmable_one h (line.Live x0 x1) stored = refl
-confirmable_one h (line.Removed x0 x1) stored = refl
-confirmable_one h (line.Roll x0 x1 x2) stored = refl
-confirmable_one h (line.Told x0 x1) stored = refl
-confirmable_one h (line.Untold x0 x1) stored = refl
-confirmable_one h (line.Commit x0 x1) stored = refl
-confirmable_one h (line.Accept x0 x1 x2) stored = refl
-confirmable_one h (line.Refuse x0 x1 x2) stored = refl
 confirmable_one h (line.Seal x0 x1 t) stored = stands_by h x1.bytes t.base.0 (confirmed t) stored
-confirmable_one h (line.Forge x0 x1) stored = refl
-confirmable_one h (line.Send x0 x1 x2 x3) stored = refl
-confirmable_one h (line.Inject x0 x1 x2) stored = refl
-confirmable_one h (line.Stopped x0 x1) stored = refl
-confirmable_one h (line.DownReset x0 x1) stored = refl
-confirmable_one h (line.DownDisk x0 x1) stored = refl
-confirmable_one h (line.Boot x0 x1) stored = refl
-confirmable_one h (line.Dump x0 x1 x2) stored = refl
-confirmable_one h (line.End x0 x1 x2 x3 x4 x5) stored = refl
+confirmable_one _ _ _ = refl
 
 all_confirm : (g ls : List Line) → failing_from is_confirmable g ls ≡ [] → Each ConfirmLine g ls
 all_confirm g [] none = tt

@@ -285,41 +285,13 @@ pub row_stays : (l : Line)
     → ((x0 : ℕ) (x1 : ArrayString) → l ≡ line.Commit x0 x1 → ⊥)
     → ((x0 : ℕ) (x1 : ArrayString) (x2 : Term) → l ≡ line.Seal x0 x1 x2 → ⊥)
     → (p : ℕ) (k : Bytes) (known : List Station) (s : RowState) → row_becomes p k known s l ≡ s
-row_stays (line.Node x0 x1 x2 x3 x4 x5) no_row no_droplink no_commit no_seal p k known s = refl
-row_stays (line.GivenNet x0 x1 x2) no_row no_droplink no_commit no_seal p k known s = refl
-row_stays (line.GivenLink x0 x1 x2) no_row no_droplink no_commit no_seal p k known s = refl
-row_stays (line.Counter x0 x1 x2) no_row no_droplink no_commit no_seal p k known s = refl
-row_stays (line.Reserve x0 x1 x2 x3) no_row no_droplink no_commit no_seal p k known s = refl
-row_stays (line.Floor x0 x1 x2 x3 x4 x5) no_row no_droplink no_commit no_seal p k known s = refl
-row_stays (line.Draw x0 x1) no_row no_droplink no_commit no_seal p k known s = refl
-row_stays (line.DropNet x0 x1 x2) no_row no_droplink no_commit no_seal p k known s = refl
 row_stays (line.DropLink x0 x1 x2 x3) no_row no_droplink no_commit no_seal p k known s =
     absurd (no_droplink x0 x1 x2 x3 refl)
-row_stays (line.Install x0 x1 x2 x3) no_row no_droplink no_commit no_seal p k known s = refl
-row_stays (line.Active x0 x1 x2) no_row no_droplink no_commit no_seal p k known s = refl
-row_stays (line.Start x0 x1 x2 x3) no_row no_droplink no_commit no_seal p k known s = refl
 row_stays (line.Row x0 x1 x2 x3 x4) no_row no_droplink no_commit no_seal p k known s =
     absurd (no_row x0 x1 x2 x3 x4 refl)
-row_stays (line.Pair x0 x1 x2 x3 x4) no_row no_droplink no_commit no_seal p k known s = refl
-row_stays (line.State x0 x1 x2) no_row no_droplink no_commit no_seal p k known s = refl
-row_stays (line.Live x0 x1) no_row no_droplink no_commit no_seal p k known s = refl
-row_stays (line.Removed x0 x1) no_row no_droplink no_commit no_seal p k known s = refl
-row_stays (line.Roll x0 x1 x2) no_row no_droplink no_commit no_seal p k known s = refl
-row_stays (line.Told x0 x1) no_row no_droplink no_commit no_seal p k known s = refl
-row_stays (line.Untold x0 x1) no_row no_droplink no_commit no_seal p k known s = refl
 row_stays (line.Commit x0 x1) no_row no_droplink no_commit no_seal p k known s = absurd (no_commit x0 x1 refl)
-row_stays (line.Accept x0 x1 x2) no_row no_droplink no_commit no_seal p k known s = refl
-row_stays (line.Refuse x0 x1 x2) no_row no_droplink no_commit no_seal p k known s = refl
 row_stays (line.Seal x0 x1 x2) no_row no_droplink no_commit no_seal p k known s = absurd (no_seal x0 x1 x2 refl)
-row_stays (line.Forge x0 x1) no_row no_droplink no_commit no_seal p k known s = refl
-row_stays (line.Send x0 x1 x2 x3) no_row no_droplink no_commit no_seal p k known s = refl
-row_stays (line.Inject x0 x1 x2) no_row no_droplink no_commit no_seal p k known s = refl
-row_stays (line.Stopped x0 x1) no_row no_droplink no_commit no_seal p k known s = refl
-row_stays (line.DownReset x0 x1) no_row no_droplink no_commit no_seal p k known s = refl
-row_stays (line.DownDisk x0 x1) no_row no_droplink no_commit no_seal p k known s = refl
-row_stays (line.Boot x0 x1) no_row no_droplink no_commit no_seal p k known s = refl
-row_stays (line.Dump x0 x1 x2) no_row no_droplink no_commit no_seal p k known s = refl
-row_stays (line.End x0 x1 x2 x3 x4 x5) no_row no_droplink no_commit no_seal p k known s = refl
+row_stays _ _ _ _ _ _ _ _ _ = refl
 
 pub confirms_none : (h : List Line) (l : Line)
     → ((x0 : ℕ) (x1 : ArrayString) (x2 : Eui) (x3 : Key) (x4 : Attribute) → l ≡ line.Row x0 x1 x2 x3 x4 → ⊥)
@@ -328,40 +300,12 @@ pub confirms_none : (h : List Line) (l : Line)
     → ((x0 : ℕ) (x1 : ArrayString) (x2 : Term) → l ≡ line.Seal x0 x1 x2 → ⊥)
     → is_confirmable h l ≡ true
 unfolding is_confirmable
-confirms_none h (line.Node x0 x1 x2 x3 x4 x5) no_row no_droplink no_commit no_seal = refl
-confirms_none h (line.GivenNet x0 x1 x2) no_row no_droplink no_commit no_seal = refl
-confirms_none h (line.GivenLink x0 x1 x2) no_row no_droplink no_commit no_seal = refl
-confirms_none h (line.Counter x0 x1 x2) no_row no_droplink no_commit no_seal = refl
-confirms_none h (line.Reserve x0 x1 x2 x3) no_row no_droplink no_commit no_seal = refl
-confirms_none h (line.Floor x0 x1 x2 x3 x4 x5) no_row no_droplink no_commit no_seal = refl
-confirms_none h (line.Draw x0 x1) no_row no_droplink no_commit no_seal = refl
-confirms_none h (line.DropNet x0 x1 x2) no_row no_droplink no_commit no_seal = refl
 confirms_none h (line.DropLink x0 x1 x2 x3) no_row no_droplink no_commit no_seal =
     absurd (no_droplink x0 x1 x2 x3 refl)
-confirms_none h (line.Install x0 x1 x2 x3) no_row no_droplink no_commit no_seal = refl
-confirms_none h (line.Active x0 x1 x2) no_row no_droplink no_commit no_seal = refl
-confirms_none h (line.Start x0 x1 x2 x3) no_row no_droplink no_commit no_seal = refl
 confirms_none h (line.Row x0 x1 x2 x3 x4) no_row no_droplink no_commit no_seal = absurd (no_row x0 x1 x2 x3 x4 refl)
-confirms_none h (line.Pair x0 x1 x2 x3 x4) no_row no_droplink no_commit no_seal = refl
-confirms_none h (line.State x0 x1 x2) no_row no_droplink no_commit no_seal = refl
-confirms_none h (line.Live x0 x1) no_row no_droplink no_commit no_seal = refl
-confirms_none h (line.Removed x0 x1) no_row no_droplink no_commit no_seal = refl
-confirms_none h (line.Roll x0 x1 x2) no_row no_droplink no_commit no_seal = refl
-confirms_none h (line.Told x0 x1) no_row no_droplink no_commit no_seal = refl
-confirms_none h (line.Untold x0 x1) no_row no_droplink no_commit no_seal = refl
 confirms_none h (line.Commit x0 x1) no_row no_droplink no_commit no_seal = absurd (no_commit x0 x1 refl)
-confirms_none h (line.Accept x0 x1 x2) no_row no_droplink no_commit no_seal = refl
-confirms_none h (line.Refuse x0 x1 x2) no_row no_droplink no_commit no_seal = refl
 confirms_none h (line.Seal x0 x1 x2) no_row no_droplink no_commit no_seal = absurd (no_seal x0 x1 x2 refl)
-confirms_none h (line.Forge x0 x1) no_row no_droplink no_commit no_seal = refl
-confirms_none h (line.Send x0 x1 x2 x3) no_row no_droplink no_commit no_seal = refl
-confirms_none h (line.Inject x0 x1 x2) no_row no_droplink no_commit no_seal = refl
-confirms_none h (line.Stopped x0 x1) no_row no_droplink no_commit no_seal = refl
-confirms_none h (line.DownReset x0 x1) no_row no_droplink no_commit no_seal = refl
-confirms_none h (line.DownDisk x0 x1) no_row no_droplink no_commit no_seal = refl
-confirms_none h (line.Boot x0 x1) no_row no_droplink no_commit no_seal = refl
-confirms_none h (line.Dump x0 x1 x2) no_row no_droplink no_commit no_seal = refl
-confirms_none h (line.End x0 x1 x2 x3 x4 x5) no_row no_droplink no_commit no_seal = refl
+confirms_none _ _ _ _ _ _ = refl
 
 pub quiet_follows : (c : Confirming) (h : List Line) (l : Line)
     → ((x0 : ℕ) (x1 : ArrayString) (x2 : Eui) (x3 : Key) (x4 : Attribute) → l ≡ line.Row x0 x1 x2 x3 x4 → ⊥)

@@ -29,76 +29,14 @@ ends_more tools g (k ∷ m ∷ h) l = ends_more tools (g ++ k ∷ []) (m ∷ h) 
 
 no_end_alike : (g h : List Line) (l : Line) → is_no_end g l ≡ is_no_end h l
 no_end_alike g h (line.Node x0 x1 x2 x3 x4 x5) = refl
-no_end_alike g h (line.GivenNet x0 x1 x2) = refl
-no_end_alike g h (line.GivenLink x0 x1 x2) = refl
-no_end_alike g h (line.Counter x0 x1 x2) = refl
-no_end_alike g h (line.Reserve x0 x1 x2 x3) = refl
-no_end_alike g h (line.Floor x0 x1 x2 x3 x4 x5) = refl
-no_end_alike g h (line.Draw x0 x1) = refl
-no_end_alike g h (line.DropNet x0 x1 x2) = refl
-no_end_alike g h (line.DropLink x0 x1 x2 x3) = refl
-no_end_alike g h (line.Install x0 x1 x2 x3) = refl
-no_end_alike g h (line.Active x0 x1 x2) = refl
-no_end_alike g h (line.Start x0 x1 x2 x3) = refl
-no_end_alike g h (line.Row x0 x1 x2 x3 x4) = refl
-no_end_alike g h (line.Pair x0 x1 x2 x3 x4) = refl
-no_end_alike g h (line.State x0 x1 x2) = refl
-no_end_alike g h (line.Live x0 x1) = refl
-no_end_alike g h (line.Removed x0 x1) = refl
-no_end_alike g h (line.Roll x0 x1 x2) = refl
-no_end_alike g h (line.Told x0 x1) = refl
-no_end_alike g h (line.Untold x0 x1) = refl
-no_end_alike g h (line.Commit x0 x1) = refl
-no_end_alike g h (line.Accept x0 x1 x2) = refl
-no_end_alike g h (line.Refuse x0 x1 x2) = refl
-no_end_alike g h (line.Seal x0 x1 x2) = refl
-no_end_alike g h (line.Forge x0 x1) = refl
-no_end_alike g h (line.Send x0 x1 x2 x3) = refl
-no_end_alike g h (line.Inject x0 x1 x2) = refl
-no_end_alike g h (line.Stopped x0 x1) = refl
-no_end_alike g h (line.DownReset x0 x1) = refl
-no_end_alike g h (line.DownDisk x0 x1) = refl
-no_end_alike g h (line.Boot x0 x1) = refl
-no_end_alike g h (line.Dump x0 x1 x2) = refl
-no_end_alike g h (line.End x0 x1 x2 x3 x4 x5) = refl
+no_end_alike _ _ _ = refl
 
 fits_is : (tools : Tools) (e : Ending) (h : List Line) (i p : Bool) (l : Line) → i ≡ ideal tools h → p
     ≡ private tools h → Ends tools e h → fits e i p l ≡ sums_up tools h l
 unfolding sums_up
-fits_is tools e h i p (line.Node x0 x1 x2 x3 x4 x5) ideals privates before = refl
-fits_is tools e h i p (line.GivenNet x0 x1 x2) ideals privates before = refl
-fits_is tools e h i p (line.GivenLink x0 x1 x2) ideals privates before = refl
-fits_is tools e h i p (line.Counter x0 x1 x2) ideals privates before = refl
-fits_is tools e h i p (line.Reserve x0 x1 x2 x3) ideals privates before = refl
-fits_is tools e h i p (line.Floor x0 x1 x2 x3 x4 x5) ideals privates before = refl
-fits_is tools e h i p (line.Draw x0 x1) ideals privates before = refl
-fits_is tools e h i p (line.DropNet x0 x1 x2) ideals privates before = refl
-fits_is tools e h i p (line.DropLink x0 x1 x2 x3) ideals privates before = refl
-fits_is tools e h i p (line.Install x0 x1 x2 x3) ideals privates before = refl
-fits_is tools e h i p (line.Active x0 x1 x2) ideals privates before = refl
-fits_is tools e h i p (line.Start x0 x1 x2 x3) ideals privates before = refl
-fits_is tools e h i p (line.Row x0 x1 x2 x3 x4) ideals privates before = refl
-fits_is tools e h i p (line.Pair x0 x1 x2 x3 x4) ideals privates before = refl
-fits_is tools e h i p (line.State x0 x1 x2) ideals privates before = refl
-fits_is tools e h i p (line.Live x0 x1) ideals privates before = refl
-fits_is tools e h i p (line.Removed x0 x1) ideals privates before = refl
-fits_is tools e h i p (line.Roll x0 x1 x2) ideals privates before = refl
-fits_is tools e h i p (line.Told x0 x1) ideals privates before = refl
-fits_is tools e h i p (line.Untold x0 x1) ideals privates before = refl
-fits_is tools e h i p (line.Commit x0 x1) ideals privates before = refl
-fits_is tools e h i p (line.Accept x0 x1 x2) ideals privates before = refl
-fits_is tools e h i p (line.Refuse x0 x1 x2) ideals privates before = refl
-fits_is tools e h i p (line.Seal x0 x1 x2) ideals privates before = refl
-fits_is tools e h i p (line.Forge x0 x1) ideals privates before = refl
-fits_is tools e h i p (line.Send x0 x1 x2 x3) ideals privates before = refl
-fits_is tools e h i p (line.Inject x0 x1 x2) ideals privates before = refl
-fits_is tools e h i p (line.Stopped x0 x1) ideals privates before = refl
-fits_is tools e h i p (line.DownReset x0 x1) ideals privates before = refl
-fits_is tools e h i p (line.DownDisk x0 x1) ideals privates before = refl
-fits_is tools e h i p (line.Boot x0 x1) ideals privates before = refl
-fits_is tools e h i p (line.Dump x0 x1 x2) ideals privates before = refl
 fits_is tools e h i p (line.End x0 x1 x2 x3 x4 x5) ideals privates before =
     rw (ideals, privates, before.events, before.seals, before.accepts, before.refusals) refl
+fits_is _ _ _ _ _ _ _ _ _ = refl
 
 pub none_ended : (tools : Tools)
     → Ends tools

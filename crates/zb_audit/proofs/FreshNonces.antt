@@ -31,13 +31,7 @@ part o p a b e f = then_alike o p ∙ ap (λ (x : Bool). x && is_eq p) e ∙ ap 
 -- a test that is made last may stand first
 last_first : (a b c d : Bool) → (a && (b && (c && d))) ≡ (d && (a && (b && c)))
 last_first true true true true = refl
-last_first true true true false = refl
-last_first true true false true = refl
-last_first true true false false = refl
-last_first true false c true = refl
-last_first true false c false = refl
-last_first false b c true = refl
-last_first false b c false = refl
+last_first _ _ _ _ = refl
 
 pub stamp_alike : (a b : Stamp) → is_eq (stamp_cmp a b) ≡ same_parts a b
 stamp_alike a b =
@@ -76,77 +70,15 @@ seal_follows old new h event node t number seen first here before = record {
 pub seals_none : (l : Line)
     → ((x0 : ℕ) (x1 : ArrayString) (x2 : Term) → l ≡ line.Seal x0 x1 x2 → ⊥)
     → (t : Term) → seals_alike t l ≡ false
-seals_none (line.Node x0 x1 x2 x3 x4 x5) no_seal t = refl
-seals_none (line.GivenNet x0 x1 x2) no_seal t = refl
-seals_none (line.GivenLink x0 x1 x2) no_seal t = refl
-seals_none (line.Counter x0 x1 x2) no_seal t = refl
-seals_none (line.Reserve x0 x1 x2 x3) no_seal t = refl
-seals_none (line.Floor x0 x1 x2 x3 x4 x5) no_seal t = refl
-seals_none (line.Draw x0 x1) no_seal t = refl
-seals_none (line.DropNet x0 x1 x2) no_seal t = refl
-seals_none (line.DropLink x0 x1 x2 x3) no_seal t = refl
-seals_none (line.Install x0 x1 x2 x3) no_seal t = refl
-seals_none (line.Active x0 x1 x2) no_seal t = refl
-seals_none (line.Start x0 x1 x2 x3) no_seal t = refl
-seals_none (line.Row x0 x1 x2 x3 x4) no_seal t = refl
-seals_none (line.Pair x0 x1 x2 x3 x4) no_seal t = refl
-seals_none (line.State x0 x1 x2) no_seal t = refl
-seals_none (line.Live x0 x1) no_seal t = refl
-seals_none (line.Removed x0 x1) no_seal t = refl
-seals_none (line.Roll x0 x1 x2) no_seal t = refl
-seals_none (line.Told x0 x1) no_seal t = refl
-seals_none (line.Untold x0 x1) no_seal t = refl
-seals_none (line.Commit x0 x1) no_seal t = refl
-seals_none (line.Accept x0 x1 x2) no_seal t = refl
-seals_none (line.Refuse x0 x1 x2) no_seal t = refl
 seals_none (line.Seal x0 x1 x2) no_seal t = absurd (no_seal x0 x1 x2 refl)
-seals_none (line.Forge x0 x1) no_seal t = refl
-seals_none (line.Send x0 x1 x2 x3) no_seal t = refl
-seals_none (line.Inject x0 x1 x2) no_seal t = refl
-seals_none (line.Stopped x0 x1) no_seal t = refl
-seals_none (line.DownReset x0 x1) no_seal t = refl
-seals_none (line.DownDisk x0 x1) no_seal t = refl
-seals_none (line.Boot x0 x1) no_seal t = refl
-seals_none (line.Dump x0 x1 x2) no_seal t = refl
-seals_none (line.End x0 x1 x2 x3 x4 x5) no_seal t = refl
+seals_none _ _ _ = refl
 
 pub is_no_seal : (h : List Line) (l : Line)
     → ((x0 : ℕ) (x1 : ArrayString) (x2 : Term) → l ≡ line.Seal x0 x1 x2 → ⊥)
     → is_fresh h l ≡ true
 unfolding is_fresh
-is_no_seal h (line.Node x0 x1 x2 x3 x4 x5) no_seal = refl
-is_no_seal h (line.GivenNet x0 x1 x2) no_seal = refl
-is_no_seal h (line.GivenLink x0 x1 x2) no_seal = refl
-is_no_seal h (line.Counter x0 x1 x2) no_seal = refl
-is_no_seal h (line.Reserve x0 x1 x2 x3) no_seal = refl
-is_no_seal h (line.Floor x0 x1 x2 x3 x4 x5) no_seal = refl
-is_no_seal h (line.Draw x0 x1) no_seal = refl
-is_no_seal h (line.DropNet x0 x1 x2) no_seal = refl
-is_no_seal h (line.DropLink x0 x1 x2 x3) no_seal = refl
-is_no_seal h (line.Install x0 x1 x2 x3) no_seal = refl
-is_no_seal h (line.Active x0 x1 x2) no_seal = refl
-is_no_seal h (line.Start x0 x1 x2 x3) no_seal = refl
-is_no_seal h (line.Row x0 x1 x2 x3 x4) no_seal = refl
-is_no_seal h (line.Pair x0 x1 x2 x3 x4) no_seal = refl
-is_no_seal h (line.State x0 x1 x2) no_seal = refl
-is_no_seal h (line.Live x0 x1) no_seal = refl
-is_no_seal h (line.Removed x0 x1) no_seal = refl
-is_no_seal h (line.Roll x0 x1 x2) no_seal = refl
-is_no_seal h (line.Told x0 x1) no_seal = refl
-is_no_seal h (line.Untold x0 x1) no_seal = refl
-is_no_seal h (line.Commit x0 x1) no_seal = refl
-is_no_seal h (line.Accept x0 x1 x2) no_seal = refl
-is_no_seal h (line.Refuse x0 x1 x2) no_seal = refl
 is_no_seal h (line.Seal x0 x1 x2) no_seal = absurd (no_seal x0 x1 x2 refl)
-is_no_seal h (line.Forge x0 x1) no_seal = refl
-is_no_seal h (line.Send x0 x1 x2 x3) no_seal = refl
-is_no_seal h (line.Inject x0 x1 x2) no_seal = refl
-is_no_seal h (line.Stopped x0 x1) no_seal = refl
-is_no_seal h (line.DownReset x0 x1) no_seal = refl
-is_no_seal h (line.DownDisk x0 x1) no_seal = refl
-is_no_seal h (line.Boot x0 x1) no_seal = refl
-is_no_seal h (line.Dump x0 x1 x2) no_seal = refl
-is_no_seal h (line.End x0 x1 x2 x3 x4 x5) no_seal = refl
+is_no_seal _ _ _ = refl
 
 pub quiet_follows : (n : Nonces) (h : List Line) (l : Line)
     → ((x0 : ℕ) (x1 : ArrayString) (x2 : Term) → l ≡ line.Seal x0 x1 x2 → ⊥) → AreNonces n h

@@ -40,11 +40,7 @@ layer_turned Aps Aps = refl
 -- a test that is made first may stand last
 first_last : (a b c : Bool) → (a && (b && c)) ≡ (b && (c && a))
 first_last true true true = refl
-first_last true true false = refl
-first_last true false c = refl
-first_last false true true = refl
-first_last false true false = refl
-first_last false false c = refl
+first_last _ _ _ = refl
 
 channel_alike : (i j : ℕ) (t u : Term) → is_eq (channel_cmp (channel_of i t) (channel_of j u))
     ≡ (nat_eq i j && same_sender u t)
@@ -110,77 +106,15 @@ pub bars_none : (l : Line)
     → ((x0 : ℕ) (x1 : ArrayString) (x2 : Term) → l ≡ line.Accept x0 x1 x2 → ⊥)
     → (name : Bytes) (t : Term) → bars name t l ≡ false
 unfolding bars
-bars_none (line.Node x0 x1 x2 x3 x4 x5) no_accept name t = refl
-bars_none (line.GivenNet x0 x1 x2) no_accept name t = refl
-bars_none (line.GivenLink x0 x1 x2) no_accept name t = refl
-bars_none (line.Counter x0 x1 x2) no_accept name t = refl
-bars_none (line.Reserve x0 x1 x2 x3) no_accept name t = refl
-bars_none (line.Floor x0 x1 x2 x3 x4 x5) no_accept name t = refl
-bars_none (line.Draw x0 x1) no_accept name t = refl
-bars_none (line.DropNet x0 x1 x2) no_accept name t = refl
-bars_none (line.DropLink x0 x1 x2 x3) no_accept name t = refl
-bars_none (line.Install x0 x1 x2 x3) no_accept name t = refl
-bars_none (line.Active x0 x1 x2) no_accept name t = refl
-bars_none (line.Start x0 x1 x2 x3) no_accept name t = refl
-bars_none (line.Row x0 x1 x2 x3 x4) no_accept name t = refl
-bars_none (line.Pair x0 x1 x2 x3 x4) no_accept name t = refl
-bars_none (line.State x0 x1 x2) no_accept name t = refl
-bars_none (line.Live x0 x1) no_accept name t = refl
-bars_none (line.Removed x0 x1) no_accept name t = refl
-bars_none (line.Roll x0 x1 x2) no_accept name t = refl
-bars_none (line.Told x0 x1) no_accept name t = refl
-bars_none (line.Untold x0 x1) no_accept name t = refl
-bars_none (line.Commit x0 x1) no_accept name t = refl
 bars_none (line.Accept x0 x1 x2) no_accept name t = absurd (no_accept x0 x1 x2 refl)
-bars_none (line.Refuse x0 x1 x2) no_accept name t = refl
-bars_none (line.Seal x0 x1 x2) no_accept name t = refl
-bars_none (line.Forge x0 x1) no_accept name t = refl
-bars_none (line.Send x0 x1 x2 x3) no_accept name t = refl
-bars_none (line.Inject x0 x1 x2) no_accept name t = refl
-bars_none (line.Stopped x0 x1) no_accept name t = refl
-bars_none (line.DownReset x0 x1) no_accept name t = refl
-bars_none (line.DownDisk x0 x1) no_accept name t = refl
-bars_none (line.Boot x0 x1) no_accept name t = refl
-bars_none (line.Dump x0 x1 x2) no_accept name t = refl
-bars_none (line.End x0 x1 x2 x3 x4 x5) no_accept name t = refl
+bars_none _ _ _ _ = refl
 
 pub is_no_accept : (h : List Line) (l : Line)
     → ((x0 : ℕ) (x1 : ArrayString) (x2 : Term) → l ≡ line.Accept x0 x1 x2 → ⊥)
     → is_later h l ≡ true
 unfolding is_later
-is_no_accept h (line.Node x0 x1 x2 x3 x4 x5) no_accept = refl
-is_no_accept h (line.GivenNet x0 x1 x2) no_accept = refl
-is_no_accept h (line.GivenLink x0 x1 x2) no_accept = refl
-is_no_accept h (line.Counter x0 x1 x2) no_accept = refl
-is_no_accept h (line.Reserve x0 x1 x2 x3) no_accept = refl
-is_no_accept h (line.Floor x0 x1 x2 x3 x4 x5) no_accept = refl
-is_no_accept h (line.Draw x0 x1) no_accept = refl
-is_no_accept h (line.DropNet x0 x1 x2) no_accept = refl
-is_no_accept h (line.DropLink x0 x1 x2 x3) no_accept = refl
-is_no_accept h (line.Install x0 x1 x2 x3) no_accept = refl
-is_no_accept h (line.Active x0 x1 x2) no_accept = refl
-is_no_accept h (line.Start x0 x1 x2 x3) no_accept = refl
-is_no_accept h (line.Row x0 x1 x2 x3 x4) no_accept = refl
-is_no_accept h (line.Pair x0 x1 x2 x3 x4) no_accept = refl
-is_no_accept h (line.State x0 x1 x2) no_accept = refl
-is_no_accept h (line.Live x0 x1) no_accept = refl
-is_no_accept h (line.Removed x0 x1) no_accept = refl
-is_no_accept h (line.Roll x0 x1 x2) no_accept = refl
-is_no_accept h (line.Told x0 x1) no_accept = refl
-is_no_accept h (line.Untold x0 x1) no_accept = refl
-is_no_accept h (line.Commit x0 x1) no_accept = refl
 is_no_accept h (line.Accept x0 x1 x2) no_accept = absurd (no_accept x0 x1 x2 refl)
-is_no_accept h (line.Refuse x0 x1 x2) no_accept = refl
-is_no_accept h (line.Seal x0 x1 x2) no_accept = refl
-is_no_accept h (line.Forge x0 x1) no_accept = refl
-is_no_accept h (line.Send x0 x1 x2 x3) no_accept = refl
-is_no_accept h (line.Inject x0 x1 x2) no_accept = refl
-is_no_accept h (line.Stopped x0 x1) no_accept = refl
-is_no_accept h (line.DownReset x0 x1) no_accept = refl
-is_no_accept h (line.DownDisk x0 x1) no_accept = refl
-is_no_accept h (line.Boot x0 x1) no_accept = refl
-is_no_accept h (line.Dump x0 x1 x2) no_accept = refl
-is_no_accept h (line.End x0 x1 x2 x3 x4 x5) no_accept = refl
+is_no_accept _ _ _ = refl
 
 pub quiet_follows : (names : List Bytes) (k : Taking) (h : List Line) (l : Line)
     → ((x0 : ℕ) (x1 : ArrayString) (x2 : Term) → l ≡ line.Accept x0 x1 x2 → ⊥) → AreTaken names k h

@@ -14,7 +14,7 @@ use Rattle.zb_model.specs.Data.{Bytes, Station}
 use Rattle.zb_seal.specs.declared.term.Term.{Term}
 use Rattle.zb_trace.specs.declared.line.Line.{Line}
 use Rattle.zb_trace.specs.declared.line.Line.TheVariants as line
-use Rattle.zb_carried_keys.specs.Carrying.{is_command_header}
+use Rattle.zb_seal.specs.Carrying.{is_command_header}
 
 -- The device in a Confirm-Key of status 00 (05-3474-21, 4.4.10.8).
 abbrev pub confirmed_in : Result Command CmdError → Option Eui

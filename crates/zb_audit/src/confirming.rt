@@ -8,7 +8,7 @@ ghost use Rattle.zb_audit_names.specs.Naming.{declared_in};
 ghost use Rattle.zb_audit_names.specs.Standing.{IsSpeaker};
 ghost use Rattle.zb_model.specs.Data.{Bytes};
 ghost use Rattle.zb_trace.specs.declared.line.Line.{Line as AnyLine};
-ghost use Rattle.zb_carried_keys.specs.Carrying.{is_command_header};
+ghost use Rattle.zb_seal.specs.Carrying.{is_command_header};
 ghost use Rattle.zb_base.specs.Limits.{longest_frame};
 
 use crate::numbers::first_bad;
@@ -16,7 +16,7 @@ use std::alloc::Global;
 use std::collections::BTreeMap;
 use zb_audit_names::Who;
 use zb_base::{Attribute, Eui, Key, Layer, NoMemory};
-use zb_carried_keys::is_command;
+use zb_seal::is_command;
 use zb_cmd::{Command, read_command};
 use zb_seal::Term;
 use zb_trace::Line;

@@ -72,11 +72,7 @@ layer_alike layer.Aps layer.Aps = refl
 -- a test that is made first may stand last
 first_last : (a b c : Bool) → (a && (b && c)) ≡ (b && (c && a))
 first_last true true true = refl
-first_last true true false = refl
-first_last true false c = refl
-first_last false true true = refl
-first_last false true false = refl
-first_last false false c = refl
+first_last _ _ _ = refl
 
 sender_alike : (s q : Sender) → is_eq (sender_cmp s q) ≡ same_sender s q
 sender_alike s q =

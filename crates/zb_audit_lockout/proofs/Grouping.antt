@@ -117,14 +117,11 @@ all_keep false g k (j ∷ gs) l = refl
 
 before_joined : (b : Bool) (gs : List (List Line)) (l : Line) → flat (all_but_last (joined b gs l))
     ≡ (if b then flat (all_but_last gs) else flat gs)
-before_joined true [] l = refl
-before_joined false [] l = refl
-before_joined true (g ∷ []) l = refl
-before_joined false (g ∷ []) l = refl
 before_joined true (g ∷ k ∷ gs) l = ap flat (all_keep true g k gs l) ∙ ap (λ (ls : List Line). g ++ ls)
     (before_joined true (k ∷ gs) l)
 before_joined false (g ∷ k ∷ gs) l = ap flat (all_keep false g k gs l) ∙ ap (λ (ls : List Line). g ++ ls)
     (before_joined false (k ∷ gs) l)
+before_joined _ _ _ = refl
 
 pub before_more : (h : List Line) (l : Line) → before_group (h ++ l ∷ [])
     ≡ (if same_event (last_event h) (event_of l) then before_group h else h)

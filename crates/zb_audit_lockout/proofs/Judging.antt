@@ -32,7 +32,7 @@ use Rattle.zb_trace_watch.specs.Terms.{has_term}
 use Rattle.zb_trace_watch.specs.declared.holdings.Holdings.{Holdings}
 use Rattle.zb_trace_watch.proofs.Effects.{carried_is}
 use Rattle.zb_trace_watch.proofs.Truth.{or_left, or_right}
-use Rattle.zb_carried_keys.specs.Carrying.{carried}
+use Rattle.zb_seal.specs.Carrying.{carried}
 
 -- What no line of some kinds says.
 pub record IsPlain (l : Line) : Type 0 where

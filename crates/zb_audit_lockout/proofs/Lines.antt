@@ -35,7 +35,7 @@ use Rattle.zb_trace.specs.declared.line.Line.TheVariants as line
 use Rattle.zb_trace_watch.specs.Sets.{is_node}
 use Rattle.zb_trace_watch.specs.Standing.{FindKeys}
 use Rattle.zb_trace_watch.proofs.Truth.{turned_number}
-use Rattle.zb_carried_keys.specs.Carrying.{carried}
+use Rattle.zb_seal.specs.Carrying.{carried}
 
 -- Lines by which devices hold a key
 

@@ -32,7 +32,7 @@ use Rattle.zb_trace_watch.specs.Sets.{is_carried, is_node, node_has}
 use Rattle.zb_trace_watch.specs.Standing.{FindKeys, bytes_of, carries, is_that}
 use Rattle.zb_trace_watch.proofs.Effects.{carried_is}
 use Rattle.zb_trace_watch.proofs.Truth.{itself_number, itself, same_bytes, same_number, same_truth, turned_number}
-use Rattle.zb_carried_keys.specs.Carrying.{carried}
+use Rattle.zb_seal.specs.Carrying.{carried}
 
 -- A fact more is known.
 pub recalls_next : (tools : Tools) (names : List Bytes) (b new : Before) (f : Fact) (rest : List Fact) (h : List Line)
@@ -101,13 +101,7 @@ never_living base (Some key) place k was = refl
 
 pub split_or : (a b e : Bool) → ((a && e) || (b && e)) ≡ ((b || a) && e)
 split_or true true true = refl
-split_or true false true = refl
-split_or false true true = refl
-split_or false false true = refl
-split_or true true false = refl
-split_or true false false = refl
-split_or false true false = refl
-split_or false false false = refl
+split_or _ _ _ = refl
 
 module _ (tools : Tools) (names : List Bytes) (known : List Station) (who : Who) where
   stated_held : (l : Line) → IsSpeaker who names known l → (d : ℕ) (k : Bytes)
@@ -143,12 +137,7 @@ module _ (tools : Tools) (names : List Bytes) (known : List Station) (who : Who)
     where
       paired : (a b e : Bool) → ((a && e) || (b && e)) ≡ ((a || b) && e)
       paired true true true = refl
-      paired true false true = refl
-      paired false b true = refl
-      paired true true false = refl
-      paired true false false = refl
-      paired false true false = refl
-      paired false false false = refl
+      paired _ _ _ = refl
   stated_held (line.Seal event node t) is d k = never_held t.base (carried t) d k
   stated_held (line.Forge event t) is d k = never_held t.base (carried t) d k
   stated_held _ is d k = refl
@@ -215,19 +204,11 @@ module _ (tools : Tools) (names : List Bytes) (known : List Station) (who : Who)
 
   comes_alive : (was a b : Bool) → (was || (a && b)) ≡ (if a && b then true else was)
   comes_alive true true true = refl
-  comes_alive false true true = refl
-  comes_alive true false b = refl
-  comes_alive false false b = refl
-  comes_alive true true false = refl
-  comes_alive false true false = refl
+  comes_alive _ _ _ = refl
 
   dies : (was a b : Bool) → (was && not (a && b)) ≡ (if a && b then false else was)
   dies true true true = refl
-  dies false true true = refl
-  dies true false b = refl
-  dies false false b = refl
-  dies true true false = refl
-  dies false true false = refl
+  dies _ _ _ = refl
 
   stated_live : (l : Line) → IsSpeaker who names known l → (name : Bytes) (place : ℕ) → place_in names name
       ≡ Some place → (k : Bytes) (was : Bool)

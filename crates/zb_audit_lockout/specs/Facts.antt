@@ -21,7 +21,7 @@ use Rattle.zb_trace_watch.specs.Exposure.{IsSettled, was_removed}
 use Rattle.zb_trace_watch.specs.Sets.{held, is_carried, node_has}
 use Rattle.zb_trace_watch.specs.Standing.{carries}
 use Rattle.zb_trace_watch.specs.declared.holdings.Holdings.{Holdings}
-use Rattle.zb_carried_keys.specs.Carrying.{carried}
+use Rattle.zb_seal.specs.Carrying.{carried}
 
 -- whether a device came to hold a key, a term carries a key under a base key, a device was removed
 abbrev pub holds_in : ℕ → List ℕ → Fact → Bool

@@ -13,7 +13,7 @@ ghost use Rattle.zb_model.specs.Tools.{Tools};
 ghost use Rattle.zb_trace.specs.declared.line.Line.{Line as AnyLine};
 ghost use Rattle.zb_trace_watch.specs.Sets.{is_node};
 ghost use Rattle.zb_trace_watch.specs.Standing.{FindKeys};
-ghost use Rattle.zb_carried_keys.specs.Carrying.{carried as carried_of};
+ghost use Rattle.zb_seal.specs.Carrying.{carried as carried_of};
 
 use crate::evidence::Evidence;
 use crate::past::{Past, eui_of, partner_at};

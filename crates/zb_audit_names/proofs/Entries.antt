@@ -517,37 +517,7 @@ unfolding declares
 quiet (line.Node name r eui short out_block in_block) no_node known =
     absurd (no_node name r eui short out_block in_block refl)
 quiet (line.GivenNet x0 x1 x2) no_node known = refl
-quiet (line.GivenLink x0 x1 x2) no_node known = refl
-quiet (line.Counter x0 x1 x2) no_node known = refl
-quiet (line.Reserve x0 x1 x2 x3) no_node known = refl
-quiet (line.Floor x0 x1 x2 x3 x4 x5) no_node known = refl
-quiet (line.Draw x0 x1) no_node known = refl
-quiet (line.DropNet x0 x1 x2) no_node known = refl
-quiet (line.DropLink x0 x1 x2 x3) no_node known = refl
-quiet (line.Install x0 x1 x2 x3) no_node known = refl
-quiet (line.Active x0 x1 x2) no_node known = refl
-quiet (line.Start x0 x1 x2 x3) no_node known = refl
-quiet (line.Row x0 x1 x2 x3 x4) no_node known = refl
-quiet (line.Pair x0 x1 x2 x3 x4) no_node known = refl
-quiet (line.State x0 x1 x2) no_node known = refl
-quiet (line.Live x0 x1) no_node known = refl
-quiet (line.Removed x0 x1) no_node known = refl
-quiet (line.Roll x0 x1 x2) no_node known = refl
-quiet (line.Told x0 x1) no_node known = refl
-quiet (line.Untold x0 x1) no_node known = refl
-quiet (line.Commit x0 x1) no_node known = refl
-quiet (line.Accept x0 x1 x2) no_node known = refl
-quiet (line.Refuse x0 x1 x2) no_node known = refl
-quiet (line.Seal x0 x1 x2) no_node known = refl
-quiet (line.Forge x0 x1) no_node known = refl
-quiet (line.Send x0 x1 x2 x3) no_node known = refl
-quiet (line.Inject x0 x1 x2) no_node known = refl
-quiet (line.Stopped x0 x1) no_node known = refl
-quiet (line.DownReset x0 x1) no_node known = refl
-quiet (line.DownDisk x0 x1) no_node known = refl
-quiet (line.Boot x0 x1) no_node known = refl
-quiet (line.Dump x0 x1 x2) no_node known = refl
-quiet (line.End x0 x1 x2 x3 x4 x5) no_node known = refl
+quiet _ _ _ = refl
 
 pub names_more : (h : List Line) (l : Line) → names_in (h ++ l ∷ []) ≡ named_by (names_in h) l
 unfolding names_in

@@ -19,12 +19,9 @@ use Rattle.zb_backup.specs.Raised.{raised, raised_items, raised_members, raised_
 
 mutual
   pub depth_raised : (d : Data) → depth (raised d) ≡ depth d
-  depth_raised null = refl
-  depth_raised (boolean b) = refl
-  depth_raised (number n) = refl
-  depth_raised (string s) = refl
   depth_raised (array ds) = ap suc (items_depth_raised ds)
   depth_raised (object ms) = ap suc (members_depth_raised ms)
+  depth_raised _ = refl
 
   items_depth_raised : (ds : Items) → items_depth (raised_items ds) ≡ items_depth ds
   items_depth_raised no_items = refl

@@ -26,20 +26,8 @@ is_own _ = true
 own_plan_is : (c : Setting) (s : NodeState) (task : Task) → is_own task ≡ true → plan_of real c s task
     ≡ own_plan (own real c s task)
 unfolding plan_of
-own_plan_is c s (SayTo to bytes) e = refl
-own_plan_is c s (TellTo partner bytes) e = refl
-own_plan_is c s DoKnock e = refl
-own_plan_is c s DoRejoin e = refl
-own_plan_is c s DoTimer e = refl
-own_plan_is c s (AskFor partner) e = refl
-own_plan_is c s (HasChild child rejoin) e = refl
-own_plan_is c s (DoProvision device key) e = refl
-own_plan_is c s (DoRemove device via) e = refl
-own_plan_is c s (DoRoll draw) e = refl
-own_plan_is c s DoSwitch e = refl
-own_plan_is c s (DoAgain device) e = refl
-own_plan_is c s (DoShare device partner) e = refl
 own_plan_is c s (Received bytes draw) e = absurd (cc)
+own_plan_is _ _ _ _ = refl
 
 centre_own : (c : Setting) (s : NodeState) (task : Task) → is_centre c.me.role ≡ true → own real c s task
     ≡ own_at_centre c s task
@@ -48,16 +36,8 @@ centre_own c s task centre = rw centre refl
 
 not_delivered : (e : CentreEvent) → ((bytes : ArrayVec ℕ) (draw : Option Key) → e ≡ Deliver bytes draw → ⊥)
     → is_own (task_of e) ≡ true
-not_delivered (Provision device key) other = refl
-not_delivered (Remove device via) other = refl
-not_delivered (Roll draw) other = refl
-not_delivered Switch other = refl
-not_delivered (Again device) other = refl
-not_delivered (Child device rejoin) other = refl
 not_delivered (Deliver bytes draw) other = absurd (other bytes draw refl)
-not_delivered Timer other = refl
-not_delivered (Say to bytes) other = refl
-not_delivered (Share device partner) other = refl
+not_delivered _ _ = refl
 
 -- what is planned by the rule of an event's task is the answer to it
 pub event_answer : (c : Setting) (s : NodeState) (e : CentreEvent) (r : Plan (Outcome Term Refusal))

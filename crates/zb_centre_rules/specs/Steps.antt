@@ -2,7 +2,7 @@
 use Rattle.std.specs.Prelude.{ℕ, ◌+◌, ◌%◌, true, [], ◌∷◌, ◌++◌, List}
 use Rattle.zb_model.specs.Commands.{proves, send_confirm, verified_current}
 use Rattle.zb_model.specs.Data.{Bytes, ForTransport, Move, Draw, Install, Roll, Row, Told, Verified, NoKey, WrongHash, WrongState, CounterSpent, TransportNet}
-use Rattle.zb_model.specs.Rules.{Secret, Outcome, Stop, Does, Setting, unless, found_or, choose, sends, short_of, both_spent, drop_old, drop_row}
+use Rattle.zb_model.specs.Rules.{Secret, Outcome, Stop, Does, Setting, refuse_if, found_or, choose, sends, short_of, both_spent, drop_old, drop_row}
 use Rattle.zb_model.specs.State.{NetKey, NodeState, current, newest, offered}
 use Rattle.zb_model.specs.Tools.{Tools}
 
@@ -11,7 +11,7 @@ abbrev pub newest_to : Setting → NodeState → ℕ → Outcome
 newest_to c s device =
     found_or (newest s) NoKey (λ new.
     found_or (current s device) WrongState (λ row.
-    unless (both_spent s) CounterSpent (
+    refuse_if (both_spent s) CounterSpent (
     Does (Told device ∷ [])
     (sends (short_of c device) true
     (Secret ForTransport row.key (TransportNet new.key new.sequence device c.me.eui))))))

@@ -1,3 +1,5 @@
 pub mod RefusedLemmas
 pub mod StoreLemmas
 pub mod RowLemmas
+pub mod SkipLemmas
+pub mod FreshLemmas

@@ -18,20 +18,8 @@ answer_with c s p = answer_by real c s (counting_of c s p) p
 own_plan_is : (c : Setting) (s : NodeState) (task : Task) → is_own task ≡ true → plan_of real c s task
     ≡ own_plan (own real c s task)
 unfolding plan_of
-own_plan_is c s (SayTo to bytes) is = refl
-own_plan_is c s (TellTo partner bytes) is = refl
-own_plan_is c s DoKnock is = refl
-own_plan_is c s DoRejoin is = refl
-own_plan_is c s DoTimer is = refl
-own_plan_is c s (AskFor partner) is = refl
-own_plan_is c s (HasChild child rejoin) is = refl
-own_plan_is c s (DoProvision device key) is = refl
-own_plan_is c s (DoRemove device via) is = refl
-own_plan_is c s (DoRoll draw) is = refl
-own_plan_is c s DoSwitch is = refl
-own_plan_is c s (DoAgain device) is = refl
-own_plan_is c s (DoShare device partner) is = refl
 own_plan_is c s (Received bytes draw) is = absurd (cc)
+own_plan_is _ _ _ _ = refl
 
 no_edits : (c : Setting) (s : NodeState) (o : Outcome) → is_some (answer_with c s (own_plan o)).refusal ≡ true
     → (answer_with c s (own_plan o)).edits ≡ []

@@ -7,3 +7,5 @@ pub mod Calls
 pub mod Outside
 pub use Rattle.zb_centre.specs.Tasks
 pub use Rattle.zb_centre.specs.declared.event.CentreEvent
+pub mod Skipping
+pub mod Freshness

@@ -14,13 +14,13 @@ ghost use Rattle.zb_model.specs.State.{NodeState, after_boot, shown};
 ghost use Rattle.zb_setting.specs.Settings.{setting_for};
 ghost use Rattle.zb_record.specs.Ranges.{FitsBytes};
 ghost use Rattle.zb_record.specs.Records.{record_read};
-ghost use Rattle.zb_skip.specs.Skipping.{skipped};
+ghost use Rattle.zb_centre_store.specs.Skipping.{skipped};
 ghost use Rattle.zb_base.specs.Sizes.{record_room};
 ghost use Rattle.zb_store.specs.Store.{IsHeld, formatted};
 ghost use Rattle.zb_stored_tables.specs.Cores.{IsOfRole};
 
-use crate::AdminFault;
 use crate::fault::of_host;
+use crate::{AdminFault, skip};
 use std::alloc::Global;
 use zb_base::{Config, Failed, Key, NoMemory, OrMemory, RECORD_ROOM, Role};
 use zb_centre::{Centre, CentreEvent};
@@ -29,7 +29,6 @@ use zb_host::{Host, Outcome, Plan};
 use zb_keys::{Declaration, HeldNetwork, Tables};
 use zb_node_types::Refusal;
 use zb_seal::Term;
-use zb_skip::skip;
 use zb_store::{Store, StoreFault};
 
 // Boots the centre whose store stands on the disk.

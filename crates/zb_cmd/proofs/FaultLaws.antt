@@ -98,17 +98,8 @@ stays_not bytes e wrong (inr (destination, inner, lacks)) =
 
 -- a command takes the bytes that it ends with
 ends_there : (c : Command) (rest : List ℕ) → TakesAll c → ReadAgain.Ends c rest
-ends_there (TransportNetwork k sequence destination source) rest takes = tt
-ends_there (TransportApplication k partner initiator) rest takes = tt
-ends_there (TransportLink k destination source) rest takes = tt
-ends_there (Update device address status) rest takes = tt
-ends_there (Remove target) rest takes = tt
-ends_there (RequestApplication partner) rest takes = tt
-ends_there RequestLink rest takes = tt
-ends_there (Switch sequence) rest takes = tt
 ends_there (Tunnel destination inner) rest takes = inl takes
-ends_there (Verify kind source hash) rest takes = tt
-ends_there (Confirm status kind destination) rest takes = tt
+ends_there _ _ _ = tt
 
 -- two bytes at the start that are known
 pair : (a b c d : ℕ) (tail : List ℕ) → a ≡ c → b ≡ d → c ∷ d ∷ tail ≡ a ∷ b ∷ tail

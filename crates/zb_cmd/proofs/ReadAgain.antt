@@ -100,17 +100,8 @@ command_again cut (Confirm status kind destination) rest fits is ends =
 
 -- a command of at most 127 bytes that nothing follows ends there
 pub ends_whole : (c : Command) → length (command c) ≤ 127 → Ends c []
-ends_whole (TransportNetwork k sequence destination source) le = tt
-ends_whole (TransportApplication k partner initiator) le = tt
-ends_whole (TransportLink k destination source) le = tt
-ends_whole (Update device address status) le = tt
-ends_whole (Remove target) le = tt
-ends_whole (RequestApplication partner) le = tt
-ends_whole RequestLink le = tt
-ends_whole (Switch sequence) le = tt
 ends_whole (Tunnel destination inner) le = inr (refl, omega (arith, le, length-append (eui destination) inner.items))
-ends_whole (Verify kind source hash) le = tt
-ends_whole (Confirm status kind destination) le = tt
+ends_whole _ _ = tt
 
 pub spelled_again : (bytes : List ℕ) (c : Command) → Spells bytes c → command_of bytes ≡ Ok c
 unfolding command_of

@@ -13,7 +13,7 @@ ghost use Rattle.zb_plan.specs.Deciding.{IsNwk};
 use crate::command::take_nwk_command;
 use crate::payload::decide_payload;
 use zb_base::Key;
-use zb_carried_keys::is_command;
+use zb_seal::is_command;
 use zb_host::{Outcome, Plan};
 use zb_judge::judge_nwk;
 use zb_keys::Tables;

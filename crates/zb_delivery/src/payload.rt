@@ -17,7 +17,7 @@ ghost use Rattle.zb_rules.specs.Outcomes.{decided, told, Keeps};
 use crate::command::take_bytes;
 use zb_aps::{ApsAux, ApsFrame};
 use zb_base::{Eui, Key, Place};
-use zb_carried_keys::is_command;
+use zb_seal::is_command;
 use zb_judge::{Unsealed, judge_aps};
 use zb_keys::Tables;
 use zb_node_types::Refusal;

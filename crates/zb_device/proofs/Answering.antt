@@ -26,20 +26,8 @@ is_own _ = true
 own_plan_is : (c : Setting) (s : NodeState) (task : Task) → is_own task ≡ true → plan_of real c s task
     ≡ own_plan (own real c s task)
 unfolding plan_of
-own_plan_is c s (SayTo to bytes) e = refl
-own_plan_is c s (TellTo partner bytes) e = refl
-own_plan_is c s DoKnock e = refl
-own_plan_is c s DoRejoin e = refl
-own_plan_is c s DoTimer e = refl
-own_plan_is c s (AskFor partner) e = refl
-own_plan_is c s (HasChild child rejoin) e = refl
-own_plan_is c s (DoProvision device key) e = refl
-own_plan_is c s (DoRemove device via) e = refl
-own_plan_is c s (DoRoll draw) e = refl
-own_plan_is c s DoSwitch e = refl
-own_plan_is c s (DoAgain device) e = refl
-own_plan_is c s (DoShare device partner) e = refl
 own_plan_is c s (Received bytes draw) e = absurd cc
+own_plan_is _ _ _ _ = refl
 
 member_own : (c : Setting) (s : NodeState) (task : Task) → is_centre c.me.role ≡ false → own real c s task
     ≡ own_at_member real c s task
@@ -56,13 +44,8 @@ member_answer c s known task o r member is_its rule same a =
     rw (same, own_plan_is c s known is_its, member_own c s known member, rule) a
 
 not_delivered : (e : DeviceEvent) → ((bytes : ArrayVec ℕ) → e ≡ Deliver bytes → ⊥) → is_own (own_task e) ≡ true
-not_delivered Knock other = refl
-not_delivered Rejoin other = refl
 not_delivered (Deliver bytes) other = absurd (other bytes refl)
-not_delivered Timer other = refl
-not_delivered (Say to bytes) other = refl
-not_delivered (Ask partner) other = refl
-not_delivered (Tell partner bytes) other = refl
+not_delivered _ _ = refl
 
 the_task : (e : DeviceEvent) (task : Task) → ((bytes : ArrayVec ℕ) → e ≡ Deliver bytes → ⊥) → IsTaskOf e task → task
     ≡ own_task e

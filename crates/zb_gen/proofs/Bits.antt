@@ -4,7 +4,7 @@ use Rattle.std.specs.Int.{bit_at}
 use Rattle.std.specs.List.{AllByRecursion, range_with_len}
 use Rattle.std.proofs.lemmas.Nat.{xor_lt}
 use Rattle.std.proofs.lemmas.Nat.Bits.{bit_at-lt}
-use Rattle.zb_crc.specs.Division.{added, bits_from, divided, divisor, message_bits, number_of, remainder}
+use Rattle.zb_install.specs.Division.{added, bits_from, divided, divisor, message_bits, number_of, remainder}
 use Rattle.zb_install.specs.Crc.{crc}
 
 abbrev AreBits : List ℕ → Type 0

@@ -15,15 +15,15 @@ use Rattle.zb_capture.specs.declared.capture.Capture.{Capture}
 use Rattle.zb_inspect_frame.specs.Lines.{frames_text}
 use Rattle.zb_inspect_frame.specs.declared.shown.Shown.{Shown}
 use Rattle.zb_inspect_frame.proofs.UnopenedFrames.{unopened_lines}
-use Rattle.zb_inspect_ring.specs.Pieces.{all_blocks, all_frames, frames_in, found_in, seen_text, HasRoom, StandsFor, Numbered, IsShown, AreShown, IsCut, IsWithin}
-use Rattle.zb_inspect_ring.specs.Rings.{keys_of, frames_shown, ring_of}
-use Rattle.zb_inspect_ring.specs.declared.block.Block.{Block}
-use Rattle.zb_inspect_ring.specs.declared.block.Seen.{Seen}
-use Rattle.zb_inspect_ring.specs.declared.block.Seen.TheVariants.{Nothing, Unopened, Lines, Whole}
-use Rattle.zb_inspect_ring.specs.declared.piece.Piece.{Piece}
-use Rattle.zb_inspect_ring.specs.declared.ring.Ring.{Ring}
-use Rattle.zb_inspect_ring.proofs.JoinLaws.{shown_append}
-use Rattle.zb_inspect_ring.proofs.PieceLists.{frames_count, in_pieces, whole_frames, within_cut}
+use Rattle.zb_inspect.specs.Pieces.{all_blocks, all_frames, frames_in, found_in, seen_text, HasRoom, StandsFor, Numbered, IsShown, AreShown, IsCut, IsWithin}
+use Rattle.zb_inspect.specs.Rings.{keys_of, frames_shown, ring_of}
+use Rattle.zb_inspect.specs.declared.block.Block.{Block}
+use Rattle.zb_inspect.specs.declared.block.Seen.{Seen}
+use Rattle.zb_inspect.specs.declared.block.Seen.TheVariants.{Nothing, Unopened, Lines, Whole}
+use Rattle.zb_inspect.specs.declared.piece.Piece.{Piece}
+use Rattle.zb_inspect.specs.declared.ring.Ring.{Ring}
+use Rattle.zb_inspect.proofs.JoinLaws.{shown_append}
+use Rattle.zb_inspect.proofs.PieceLists.{frames_count, in_pieces, whole_frames, within_cut}
 use Rattle.zb_inspect.specs.Report.{tail_text, report_text, report_of}
 use Rattle.zb_inspect.specs.Texts.{block_text, blocks_text, pages_text, BlockHasRoom, HaveRoom}
 

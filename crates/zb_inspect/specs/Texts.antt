@@ -2,8 +2,8 @@
 use Rattle.std.specs.Prelude.{ℕ, List, Vec, codes}
 use Rattle.std.specs.Global.{Global}
 use Rattle.std.specs.List.{AllByRecursion, flat_map}
-use Rattle.zb_inspect_ring.specs.Pieces.{seen_text, HasRoom}
-use Rattle.zb_inspect_ring.specs.declared.block.Block.{Block}
+use Rattle.zb_inspect.specs.Pieces.{seen_text, HasRoom}
+use Rattle.zb_inspect.specs.declared.block.Block.{Block}
 use Rattle.zb_inspect.specs.declared.fault.InspectFault.{InspectFault}
 use Rattle.zb_inspect.specs.declared.fault.InspectFault.TheVariants.{Write, NoMemory}
 

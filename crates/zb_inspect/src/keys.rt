@@ -1,13 +1,13 @@
 //! The ring of keys of a capture.
 ghost use Rattle.std.specs.Prelude.{◌≡◌, IfOk};
 ghost use Rattle.zb_capture.specs.Grammar.{IsCapture};
-ghost use Rattle.zb_inspect_ring.specs.Rings.{ring_of, IsRing};
+ghost use Rattle.zb_inspect.specs.Rings.{ring_of, IsRing};
 
+use crate::{Ring, open_all};
 use std::alloc::Global;
 use std::thread::Threads;
 use zb_base::NoMemory;
 use zb_capture::Capture;
-use zb_inspect_ring::{Ring, open_all};
 use zb_parallel::NoGate;
 
 /// Works out the ring of a capture: its given keys, and those that its frames give, with the rounds.

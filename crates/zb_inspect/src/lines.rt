@@ -3,8 +3,8 @@ ghost use Rattle.std.specs.Prelude.{◌≡◌, ◌+◌, ◌-◌, ◌<◌, ◌^�
 ghost use Rattle.zb_text.specs.Words.{then};
 ghost use Rattle.zb_inspect.specs.Report.{found_text, key_line, keys_text, end_line as end_text, tail_text};
 
+use crate::{Ring, RingKey};
 use std::alloc::AllocError;
-use zb_inspect_ring::{Ring, RingKey};
 use zb_text::page::{add_key, add_number, add_word, end_line, put};
 
 /// Prints the lines of the keys, and the end.

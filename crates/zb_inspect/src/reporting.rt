@@ -4,19 +4,19 @@ ghost use Rattle.std.specs.Io.KnownBytes.{Appends};
 ghost use Rattle.std.specs.List.{AllByRecursion};
 ghost use Rattle.zb_base.specs.Outside.{AppendsFront, HasCause, Unrisen};
 ghost use Rattle.zb_capture.specs.Grammar.{IsCapture};
-ghost use Rattle.zb_inspect_ring.specs.Pieces.{all_blocks};
+ghost use Rattle.zb_inspect.specs.Pieces.{all_blocks};
 ghost use Rattle.zb_inspect.specs.Report.{tail_text};
 ghost use Rattle.zb_inspect.specs.Texts.{blocks_text, pages_text, HaveRoom};
 ghost use Rattle.zb_inspect.specs.Reports.{Reports};
-ghost use Rattle.zb_inspect_ring.specs.Rings.{most_ring_keys};
+ghost use Rattle.zb_inspect.specs.Rings.{most_ring_keys};
 
 use crate::fault::InspectFault;
 use crate::lines::put_tail;
+use crate::{Piece, Ring, open_all};
 use std::alloc::{AllocError, Global};
 use std::thread::{Threads, map_vec};
 use zb_base::{Failed, NoMemory, Sink};
 use zb_capture::Capture;
-use zb_inspect_ring::{Piece, Ring, open_all};
 use zb_parallel::{Gate, gather};
 
 /// Writes the report on a capture, worked out by `jobs` jobs. Nothing is written before the report is known.

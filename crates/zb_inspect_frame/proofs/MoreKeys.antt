@@ -47,11 +47,8 @@ opened_further s source number (key ∷ keys) fresh =
 -- Trying keys and then further ones is trying all of them.
 pub tried_further : (number : ℕ) (keys fresh : List Key) (x : Finding)
     → tried number (keys ++ fresh) x ≡ tried (number + length keys) fresh (tried number keys x)
-tried_further number keys fresh Malformed = refl
-tried_further number keys fresh NotSecured = refl
-tried_further number keys fresh NoSource = refl
 tried_further number keys fresh (Closed s source) = opened_further s source number keys fresh
-tried_further number keys fresh (Opened key term) = refl
+tried_further _ _ _ _ = refl
 
 known_first : (known : ℕ) (keys : List Key) → known ≤ length keys → known ≡ 0 + length (take known keys)
 known_first known keys within = omega (arith, length-take known keys)

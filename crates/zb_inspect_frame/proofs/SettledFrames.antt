@@ -27,11 +27,8 @@ is_false false e = refl
 
 -- no key is tried on a layer that isn't closed
 tried_same : (number : ℕ) (fresh : List Key) (x : Finding) → is_closed x ≡ false → tried number fresh x ≡ x
-tried_same number fresh Malformed e = refl
-tried_same number fresh NotSecured e = refl
-tried_same number fresh NoSource e = refl
 tried_same number fresh (Closed s source) e = cc
-tried_same number fresh (Opened key term) e = refl
+tried_same _ _ _ _ = refl
 
 nwk_same : (known : ℕ) (keys : List Key) (bytes : List ℕ) → known ≤ length keys
     → is_closed (found_nwk (take known keys) bytes) ≡ false

@@ -44,11 +44,8 @@ still_closed s source number (key ∷ keys) e =
     (still_closed s source (number + 1) keys)
 
 tried_closed : (keys : List Key) (x : Finding) → is_closed (tried 0 keys x) ≡ true → tried 0 keys x ≡ tried 0 [] x
-tried_closed keys Malformed e = refl
-tried_closed keys NotSecured e = refl
-tried_closed keys NoSource e = refl
 tried_closed keys (Closed s source) e = still_closed s source 0 keys e
-tried_closed keys (Opened key term) e = refl
+tried_closed _ _ _ = refl
 
 nwk_closed : (keys : List Key) (bytes : List ℕ) → is_closed (found_nwk keys bytes) ≡ true → found_nwk keys bytes
     ≡ found_nwk [] bytes

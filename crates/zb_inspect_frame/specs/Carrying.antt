@@ -1,7 +1,7 @@
 -- The keys that opened contents carry.
 use Rattle.std.specs.Prelude.{Option, Some, None}
 use Rattle.zb_base.specs.declared.key.Key.{Key}
-use Rattle.zb_carried_keys.specs.Carrying.{carried}
+use Rattle.zb_seal.specs.Carrying.{carried}
 use Rattle.zb_inspect_frame.specs.declared.carried.Carried.{Carried}
 use Rattle.zb_inspect_frame.specs.declared.layer.Finding.{Finding}
 use Rattle.zb_inspect_frame.specs.declared.layer.Finding.TheVariants.{Malformed, NotSecured, NoSource, Closed, Opened}

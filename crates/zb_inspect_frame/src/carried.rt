@@ -5,7 +5,7 @@ ghost use Rattle.zb_inspect_frame.specs.Carrying.{key_below, carries, keys_carri
 use crate::layer::Finding;
 use crate::shown::{Below, Shown};
 use zb_base::Key;
-use zb_carried_keys::carried;
+use zb_seal::carried;
 
 /// The keys that the opened contents of a frame carry, from the innermost layer outwards.
 #[derive(Clone, Copy, Debug, PartialEq, Eq)]

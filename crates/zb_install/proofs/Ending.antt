@@ -1,8 +1,8 @@
 -- Ones added to the remainder are the number with all bits turned.
 use Rattle.std.proofs.Common.{◌≡◌, ℕ, ◌^◌, ◌<◌, List, ◌∙◌, sym, ap, bit_xor, replicate, arith}
 use Rattle.std.proofs.lemmas.Nat.{xor_lt}
-use Rattle.zb_crc.specs.Division.{added, bits_from, number_of, remainder}
-use Rattle.zb_crc.proofs.Division.{bits-xor, number_of-bits}
+use Rattle.zb_install.specs.Division.{added, bits_from, number_of, remainder}
+use Rattle.zb_install.proofs.Division.{bits-xor, number_of-bits}
 use Rattle.zb_install.specs.Crc.{crc}
 
 pub ends : (bytes : List ℕ) (register : ℕ) → register < 2 ^ 16 → bits_from 16 register ≡ remainder 0xffff bytes

@@ -2,7 +2,7 @@
 -- + 1, the bits of each byte from the lowest on, begun with ones and ended with ones. So it is the remainder of a
 -- division of polynomials.
 use Rattle.std.specs.Prelude.{ℕ, List, replicate}
-use Rattle.zb_crc.specs.Division.{added, number_of, remainder}
+use Rattle.zb_install.specs.Division.{added, number_of, remainder}
 
 -- The message times x^16, ones added to its highest powers, is divided, and ones are added to the remainder.
 unfoldable pub crc : List ℕ → ℕ

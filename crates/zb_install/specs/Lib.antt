@@ -1,2 +1,3 @@
 pub mod Crc
 pub mod Code
+pub mod Division

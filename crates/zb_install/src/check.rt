@@ -2,7 +2,7 @@
 ghost use Rattle.std.specs.Prelude.{◌≡◌};
 ghost use Rattle.zb_install.specs.Crc.{crc};
 
-use zb_crc::divide;
+use crate::divide;
 
 /// Computes the CRC of the bytes of a code.
 pub fn crc(bytes: &[u8]) -> u16

@@ -4,8 +4,11 @@
 
 pub use check::crc;
 pub use code_error::CodeError;
+pub use dividing::divide;
 pub use install_code::InstallCode;
 
 mod check;
 mod code_error;
+mod dividing;
 mod install_code;
+mod remainders;

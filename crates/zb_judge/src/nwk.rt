@@ -14,7 +14,7 @@ ghost use Rattle.zb_judge.specs.Verdicts.{carrier_seen, judged};
 use crate::opening::open_nwk;
 use zb_aps::ApsFrame;
 use zb_base::{Eui, Label, Place, State};
-use zb_carried_keys::is_command;
+use zb_seal::is_command;
 use zb_keys::Tables;
 use zb_node_types::Refusal;
 use zb_nwk::{NwkAux, NwkFrame};

@@ -67,18 +67,13 @@ keeps : (role : Role) (network : Option (Bytes × ℕ)) (code : Option (ℕ × B
     → keeps_rules (written role network code nwk aps) ≡ true
 unfolding keeps_rules rows_have_room keys_differ at_most_two_live active_is_live partners_agree links_are_marked
     floors_are_kept limits_are_started role_is_kept pairs_are_kept
-keeps Centre None None nwk aps = refl
-keeps Router None None nwk aps = refl
-keeps Device None None nwk aps = refl
-keeps Centre None (Some given) nwk aps = refl
-keeps Router None (Some given) nwk aps = refl
-keeps Device None (Some given) nwk aps = refl
 keeps Centre (Some held) None nwk aps = rw (same_key_of held.0 held.0 refl) refl
 keeps Router (Some held) None nwk aps = rw (same_key_of held.0 held.0 refl) refl
 keeps Device (Some held) None nwk aps = rw (same_key_of held.0 held.0 refl) refl
 keeps Centre (Some held) (Some given) nwk aps = rw (same_key_of held.0 held.0 refl) refl
 keeps Router (Some held) (Some given) nwk aps = rw (same_key_of held.0 held.0 refl) refl
 keeps Device (Some held) (Some given) nwk aps = rw (same_key_of held.0 held.0 refl) refl
+keeps _ _ _ _ _ = refl
 
 forgets : (nwk : ℕ) (network : Option (Bytes × ℕ)) → map shown_net (held_nets nwk network) ≡ held_nets nwk network
 forgets nwk None = refl

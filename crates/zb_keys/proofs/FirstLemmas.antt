@@ -30,41 +30,16 @@ pub fits_as_ever : (x : Change) (s : NodeState) → NotReserve x → NotStart x 
     ≡ first_fits (edit x) s
 unfolding first_fits
 fits_as_ever (change.Reserve layer limit) s reserve start pair = absurd (reserve layer limit refl)
-fits_as_ever (change.Floor layer key sender value) s reserve start pair = refl
-fits_as_ever (change.Draw key) s reserve start pair = refl
-fits_as_ever (change.DropNet key) s reserve start pair = refl
-fits_as_ever (change.DropLink partner key) s reserve start pair = refl
-fits_as_ever (change.Install key sequence) s reserve start pair = refl
-fits_as_ever (change.Active key) s reserve start pair = refl
-fits_as_ever (change.Row partner key attribute) s reserve start pair = refl
-fits_as_ever (change.State state) s reserve start pair = refl
-fits_as_ever (change.Roll rollover) s reserve start pair = refl
-fits_as_ever (change.Told device) s reserve start pair = refl
-fits_as_ever (change.Untold device) s reserve start pair = refl
-fits_as_ever (change.Live device) s reserve start pair = refl
-fits_as_ever (change.Removed device) s reserve start pair = refl
 fits_as_ever (change.Start key value) s reserve start pair = absurd (start key value refl)
 fits_as_ever (change.Pair first second key) s reserve start pair = absurd (pair first second key refl)
+fits_as_ever _ _ _ _ _ = refl
 
 pub applied_as_ever : (x : Change) (s : NodeState) → NotReserve x → NotInstall x → applied (edit x) s
     ≡ first_applied (edit x) s
 unfolding first_applied
 applied_as_ever (change.Reserve layer limit) s reserve install = absurd (reserve layer limit refl)
-applied_as_ever (change.Floor layer key sender value) s reserve install = refl
-applied_as_ever (change.Draw key) s reserve install = refl
-applied_as_ever (change.DropNet key) s reserve install = refl
-applied_as_ever (change.DropLink partner key) s reserve install = refl
 applied_as_ever (change.Install key sequence) s reserve install = absurd (install key sequence refl)
-applied_as_ever (change.Active key) s reserve install = refl
-applied_as_ever (change.Row partner key attribute) s reserve install = refl
-applied_as_ever (change.State state) s reserve install = refl
-applied_as_ever (change.Roll rollover) s reserve install = refl
-applied_as_ever (change.Told device) s reserve install = refl
-applied_as_ever (change.Untold device) s reserve install = refl
-applied_as_ever (change.Live device) s reserve install = refl
-applied_as_ever (change.Removed device) s reserve install = refl
-applied_as_ever (change.Start key value) s reserve install = refl
-applied_as_ever (change.Pair first second key) s reserve install = refl
+applied_as_ever _ _ _ _ = refl
 
 -- an APS limit fits where it isn't below the one that stands
 pub aps_fits : (limit : ℕ) (s : NodeState) → keeps_rules s ≡ true → fits (Reserve Aps limit) s

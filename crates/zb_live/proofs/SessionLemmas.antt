@@ -26,12 +26,12 @@ use Rattle.zb_live.specs.Events.{task_for}
 use Rattle.zb_live.specs.Living.{Done, Found, Living, after_event, counted, declared, done, first_station, happened, next as next_number, on_meaning, on_stage, opened, refused, says_nothing, setting_of, station}
 use Rattle.zb_live.specs.Shown.{Prints, event_lines, shown_text}
 use Rattle.zb_live.specs.declared.session.Session.{Session}
-use Rattle.zb_live_line.specs.Answers.{ok_text, refused_text}
-use Rattle.zb_live_line.specs.Grammar.{meaning_of}
-use Rattle.zb_live_line.specs.Said.{Event, Sentence, Quiet, Opens, Happens}
-use Rattle.zb_live_line.specs.declared.cause.Cause.{Cause}
-use Rattle.zb_live_line.specs.declared.cause.Cause.TheVariants as cause
-use Rattle.zb_live_line.specs.declared.line.Log.{Log}
+use Rattle.zb_live.specs.Answers.{ok_text, refused_text}
+use Rattle.zb_live.specs.Grammar.{meaning_of}
+use Rattle.zb_live.specs.Said.{Event, Sentence, Quiet, Opens, Happens}
+use Rattle.zb_live.specs.declared.cause.Cause.{Cause}
+use Rattle.zb_live.specs.declared.cause.Cause.TheVariants as cause
+use Rattle.zb_live.specs.declared.line.Log.{Log}
 use Rattle.zb_model.specs.Answer.{Answer, answer}
 use Rattle.zb_model.specs.Data as model
 use Rattle.zb_model.specs.Data.{Station, Task}

@@ -13,8 +13,8 @@ use Rattle.zb_core.specs.CorePlans.{CorePlan}
 use Rattle.zb_host.specs.declared.outcome.Outcome.{Outcome}
 use Rattle.zb_live.specs.Lines.{AreOfCentre, frame_bytes, outcome_lines, refused_lines}
 use Rattle.zb_live.specs.Shown.{Prints, event_lines, has_key, is_shown, is_written, shown_text}
-use Rattle.zb_live_line.specs.declared.line.Log.{Log}
-use Rattle.zb_live_line.specs.declared.line.Log.TheVariants.{All, NoKeys}
+use Rattle.zb_live.specs.declared.line.Log.{Log}
+use Rattle.zb_live.specs.declared.line.Log.TheVariants.{All, NoKeys}
 use Rattle.zb_model.specs.Answer.{Answer}
 use Rattle.zb_model.specs.Data as model
 use Rattle.zb_model.specs.Data.{Bytes, Edit, Reserve, Floor, Start, Moved, Draw, DropNet, DropLink, Install, Active, Row, Pair, Became, Live, Removed, Roll, Told, Untold, Station}
@@ -204,22 +204,12 @@ event_printed log known number n frame p a before page after is stored out =
 -- ---- whose changes they are
 
 of_centre : (known : List Station) (n : ℕ) (e : Edit) → the_centre known ≡ n → IsOfCentre known n e
-of_centre known n (Reserve l limit) is = tt
-of_centre known n (Floor l key from value) is = tt
-of_centre known n (Start key value) is = tt
 of_centre known n (Moved (Draw key)) is = is
-of_centre known n (Moved (DropNet key)) is = tt
-of_centre known n (Moved (DropLink partner key)) is = tt
-of_centre known n (Moved (Install key sequence)) is = tt
-of_centre known n (Moved (Active key)) is = tt
-of_centre known n (Moved (Row partner key a)) is = tt
-of_centre known n (Moved (Pair first second key)) is = tt
-of_centre known n (Moved (Became s)) is = tt
 of_centre known n (Moved (Live device)) is = is
 of_centre known n (Moved (Removed device)) is = is
-of_centre known n (Moved (Roll sending)) is = tt
 of_centre known n (Moved (Told device)) is = is
 of_centre known n (Moved (Untold device)) is = is
+of_centre _ _ _ _ = tt
 
 pub all_of_centre : (known : List Station) (n : ℕ) (cs : List Change) → the_centre known ≡ n → AreOfCentre known n cs
 all_of_centre known n [] is = tt

@@ -11,8 +11,8 @@ use Rattle.zb_disk.specs.View.{Telling, View, LeavesOnly}
 use Rattle.zb_host.specs.Hosts.{Hosted}
 use Rattle.zb_live.specs.Living.{Done, Found, Living, cause_of, on_stage, setting_of}
 use Rattle.zb_live.specs.declared.session.Session.{Session}
-use Rattle.zb_live_line.specs.Answers.{ok_text, refused_text}
-use Rattle.zb_live_line.specs.Said.{Sentence}
+use Rattle.zb_live.specs.Answers.{ok_text, refused_text}
+use Rattle.zb_live.specs.Said.{Sentence}
 use Rattle.zb_model.specs.Rules.{Setting}
 use Rattle.zb_model.specs.State.{NodeState}
 use Rattle.zb_script.specs.Judge.{has_centre}

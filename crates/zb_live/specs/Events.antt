@@ -4,9 +4,9 @@ use Rattle.zb_base.specs.declared.address.Eui.{Eui}
 use Rattle.zb_centre_store.specs.Tasks.{task_of}
 use Rattle.zb_centre_store.specs.CentreEvent.{CentreEvent}
 use Rattle.zb_install.specs.Code.{code_key}
-use Rattle.zb_live_line.specs.Said.{Event, Delivers, Adopts, Ticks, Says, Provisions, Removes, Rolls, Switches, Repeats, Shares}
-use Rattle.zb_live_line.specs.declared.cause.Cause.{Cause}
-use Rattle.zb_live_line.specs.declared.cause.Cause.TheVariants.{UnknownNode, BadCode}
+use Rattle.zb_live.specs.Said.{Event, Delivers, Adopts, Ticks, Says, Provisions, Removes, Rolls, Switches, Repeats, Shares}
+use Rattle.zb_live.specs.declared.cause.Cause.{Cause}
+use Rattle.zb_live.specs.declared.cause.Cause.TheVariants.{UnknownNode, BadCode}
 use Rattle.zb_model.specs.Data.{Bytes, Task, SayTo, DoTimer, HasChild, DoProvision, DoRemove, DoRoll, DoSwitch, DoAgain, DoShare, Received}
 use Rattle.zb_script.specs.Judge.{device_named, parent_named}
 use Rattle.zb_script.specs.Scripts.{Station}

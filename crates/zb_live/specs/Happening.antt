@@ -8,7 +8,7 @@ use Rattle.zb_centre_store.specs.declared.fault.AdminFault.TheVariants.{NoMemory
 use Rattle.zb_disk.specs.View.{Telling, View, LeavesOnly}
 use Rattle.zb_host.specs.Hosts.{Hosted}
 use Rattle.zb_live.specs.Shown.{Prints, event_lines}
-use Rattle.zb_live_line.specs.declared.line.Log.{Log}
+use Rattle.zb_live.specs.declared.line.Log.{Log}
 use Rattle.zb_model.specs.Answer.{answer}
 use Rattle.zb_model.specs.Data.{Task}
 use Rattle.zb_model.specs.Rules.{Setting}

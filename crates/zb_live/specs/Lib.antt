@@ -4,3 +4,14 @@ pub mod Lines
 pub mod Living
 pub mod Alive
 pub mod Happening
+pub mod Said
+pub mod Grammar
+pub mod Views
+pub mod Answers
+pub mod Faults
+pub mod WholeLines
+pub mod Feeding
+pub mod Moments
+pub mod ServedLines
+pub mod Following
+pub mod Serving

@@ -6,13 +6,13 @@ use Rattle.zb_centre_store.specs.Rows.{listed}
 use Rattle.zb_centre_store.specs.declared.fault.AdminFault.{AdminFault}
 use Rattle.zb_live.specs.Events.{task_for}
 use Rattle.zb_live.specs.Shown.{event_lines, shown_text}
-use Rattle.zb_live_line.specs.Answers.{ok_text, refused_text}
-use Rattle.zb_live_line.specs.Grammar.{meaning_of}
-use Rattle.zb_live_line.specs.Said.{Sentence, Quiet, Founds, Introduces, Logs, Opens, Happens, Lists, BacksUp}
-use Rattle.zb_live_line.specs.declared.cause.Cause.{Cause}
-use Rattle.zb_live_line.specs.declared.cause.Cause.TheVariants as cause
-use Rattle.zb_live_line.specs.declared.line.Log.{Log}
-use Rattle.zb_live_line.specs.declared.line.Log.TheVariants.{All}
+use Rattle.zb_live.specs.Answers.{ok_text, refused_text}
+use Rattle.zb_live.specs.Grammar.{meaning_of}
+use Rattle.zb_live.specs.Said.{Sentence, Quiet, Founds, Introduces, Logs, Opens, Happens, Lists, BacksUp}
+use Rattle.zb_live.specs.declared.cause.Cause.{Cause}
+use Rattle.zb_live.specs.declared.cause.Cause.TheVariants as cause
+use Rattle.zb_live.specs.declared.line.Log.{Log}
+use Rattle.zb_live.specs.declared.line.Log.TheVariants.{All}
 use Rattle.zb_model.specs.Answer.{Answer, answer}
 use Rattle.zb_model.specs.Data.{Bytes, Station, Task}
 use Rattle.zb_model.specs.Play.{no_station}

@@ -1,7 +1,7 @@
 -- The text of the lines of an event: all of them, or those in which no key stands.
 use Rattle.std.specs.Prelude.{ℕ, ◌≡◌, ◌++◌, filter, not, Bool, true, false, List}
-use Rattle.zb_live_line.specs.declared.line.Log.{Log}
-use Rattle.zb_live_line.specs.declared.line.Log.TheVariants.{All, NoKeys}
+use Rattle.zb_live.specs.declared.line.Log.{Log}
+use Rattle.zb_live.specs.declared.line.Log.TheVariants.{All, NoKeys}
 use Rattle.zb_model.specs.Answer.{Answer}
 use Rattle.zb_model.specs.Data.{Bytes, Edit, Move, Reserve, Floor, Start, Moved, Draw, DropNet, DropLink, Install, Active, Row, Pair, Became, Live, Removed, Roll, Told, Untold, Station}
 use Rattle.zb_model.specs.Lines.{Line, Changed, Accept, Seal}

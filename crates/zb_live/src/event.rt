@@ -1,13 +1,13 @@
 //! The events of a session as events of the centre.
 ghost use Rattle.std.specs.Prelude.{None, Some, Ok, Err};
 ghost use Rattle.zb_live.specs.Events.{IsEventFor, IsNode, provided, removed, shared, task_for, with_node};
-ghost use Rattle.zb_live_line.specs.Views.{event_of};
+ghost use Rattle.zb_live.specs.Views.{event_of};
 ghost use Rattle.zb_script.specs.Judge.{device_named, parent_named};
 
+use crate::{Cause, Event};
 use zb_base::{Eui, Name};
 use zb_centre_store::CentreEvent;
 use zb_install::InstallCode;
-use zb_live_line::{Cause, Event};
 use zb_script::Draft;
 
 // Returns the router or device of a name.

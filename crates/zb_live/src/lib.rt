@@ -4,8 +4,21 @@
 //! stored before anything that it writes stands on the page. `specs/Living.antt` says what a line does.
 #![tactic(auto)]
 
+mod answer;
+mod cause;
 mod event;
+mod fault;
+mod feed;
+mod line;
+mod line_event;
+mod serving;
 mod session;
 mod telling;
 
+pub use answer::{put_ok, put_refused};
+pub use cause::Cause;
+pub use fault::LiveFault;
+pub use line::{Line, Log, read_line};
+pub use line_event::Event;
+pub use serving::live;
 pub use session::Session;

@@ -11,9 +11,9 @@ ghost use Rattle.zb_live.specs.Alive.{CanGoOn, HasFollowed, HasSaid, HasTaken, I
 ghost use Rattle.zb_live.specs.Happening.{HasAnswered, HasHappened, IsHappeningFault};
 ghost use Rattle.zb_live.specs.Living.{Found, cause_of, done, fresh, next as next_number, setting_of};
 ghost use Rattle.zb_live.specs.Shown.{Prints, event_lines};
-ghost use Rattle.zb_live_line.specs.Answers.{ok_text, refused_text};
-ghost use Rattle.zb_live_line.specs.Said.{Founds, Introduces, Logs, Opens, Happens, Lists, BacksUp, Joins};
-ghost use Rattle.zb_live_line.specs.Views.{event_of, sentence_of};
+ghost use Rattle.zb_live.specs.Answers.{ok_text, refused_text};
+ghost use Rattle.zb_live.specs.Said.{Founds, Introduces, Logs, Opens, Happens, Lists, BacksUp, Joins};
+ghost use Rattle.zb_live.specs.Views.{event_of, sentence_of};
 ghost use Rattle.zb_model.specs.Answer.{Answer};
 ghost use Rattle.zb_model.specs.Data.{Station};
 ghost use Rattle.zb_model.specs.Rules.{Setting};
@@ -27,6 +27,7 @@ ghost use Rattle.zb_trace_model.specs.Naming.{IsCalled};
 
 use crate::event::event_for;
 use crate::telling::{Place, put_event};
+use crate::{Cause, Event, Line, Log, put_ok, put_refused, read_line};
 use std::alloc::Global;
 use zb_base::{Eui, Name, OrMemory, Peer};
 use zb_centre_store::{
@@ -35,7 +36,6 @@ use zb_centre_store::{
 use zb_disk::Disk;
 use zb_host::{Host, Outcome, Plan};
 use zb_keys::Tables;
-use zb_live_line::{Cause, Event, Line, Log, put_ok, put_refused, read_line};
 use zb_node_types::Refusal;
 use zb_script::{Draft, ScriptCause};
 use zb_seal::Term;

@@ -14,10 +14,10 @@ ghost use Rattle.zb_trace_model.specs.Naming.{IsCalled};
 ghost use Rattle.zb_trace_model.specs.Said.{IsLineOf, line_text};
 ghost use Rattle.zb_live.specs.Lines.{AreOfCentre, frame_bytes, outcome_lines, refused_lines, sent};
 
+use crate::Log;
 use std::alloc::AllocError;
 use zb_base::{Frame, Name};
 use zb_host::{Outcome, Plan};
-use zb_live_line::Log;
 use zb_node_types::{Change, Refusal};
 use zb_seal::Term;
 use zb_trace::{Line, put_line};

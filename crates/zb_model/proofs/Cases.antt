@@ -2,7 +2,7 @@
 use Rattle.std.specs.Prelude.{◌≡◌, ℕ, true, List, [], ◌∷◌, map, Some, None, refl}
 use Rattle.zb_model.specs.Data.{nobody, Centre, Device, State, Joined, Provisional, Verified, ForData, ForTransport, Aps, Term, Draw, Install, Active, Row, Removed, Roll, Became, Moved}
 use Rattle.zb_model.specs.State.{LinkKey, PairKey, applied, after_boot, active_row}
-use Rattle.zb_model.specs.Rules.{Does, Setting, unless, found_or, choose, centre_of, drop_old}
+use Rattle.zb_model.specs.Rules.{Does, Setting, refuse_if, found_or, choose, centre_of, drop_old}
 use Rattle.zb_model.specs.OwnEvents.{roll}
 use Rattle.zb_model.specs.Judging.{candidates}
 use Rattle.zb_model.specs.Commands.{Heard, take_net_key}
@@ -38,14 +38,14 @@ newest_candidate_first = refl
 -- the first network key is active at once, also in a node that waits for none
 first_key_is_active : take_net_key device (bare Device Joined) from_centre (k 8) 3 2 1
     ≡ Does (Install (k 8) 3 ∷ Active (k 8) ∷ []) None
-unfolding take_net_key unless choose centre_of drop_old
+unfolding take_net_key refuse_if choose centre_of drop_old
 first_key_is_active = refl
 
 -- the sequence of network keys wraps at 256
 sequence_wraps : roll
     (record (keyed_node Centre State.Fresh []) { nets = record (net_at 1 true 7) { sequence = 255 } ∷ [] })
     (Some (k 8)) ≡ Does (Draw (k 8) ∷ Install (k 8) 0 ∷ Roll true ∷ []) None
-unfolding roll found_or unless active_row drop_old
+unfolding roll found_or refuse_if active_row drop_old
 sequence_wraps = refl
 
 -- a pair ends with the removal of either

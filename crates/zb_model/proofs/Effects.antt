@@ -4,7 +4,7 @@ use Rattle.zb_model.specs.Data.{Bytes, Role, Centre, Device, State, Joined, Offe
 use Rattle.zb_model.specs.Lines.{Line, Declared, GivenLink, Changed, Seal, Forge}
 use Rattle.zb_model.specs.State.{SenderFloor, NetKey, LinkKey, NodeState, active_row, live_of, usable_of, usable_nets, newest, current, offered, is_live, is_told, pair_of, next_counter, other_user, applied, after_accepting, after_hearing, dropped_link}
 use Rattle.zb_model.specs.Record.{link_bytes, net_bytes}
-use Rattle.zb_model.specs.Rules.{Secret, Stop, Does, Setting, unless, found_or, choose, sends, centre_of, short_of, station_of, spent, both_spent, drop_partner, drop_old}
+use Rattle.zb_model.specs.Rules.{Secret, Stop, Does, Setting, refuse_if, found_or, choose, sends, centre_of, short_of, station_of, spent, both_spent, drop_partner, drop_old}
 use Rattle.zb_model.specs.OwnEvents.{again}
 use Rattle.zb_model.specs.Judging.{chosen_row}
 use Rattle.zb_model.specs.Frames.{data_control}
@@ -44,47 +44,47 @@ offered_key_is_confirmed : take_confirm device
     (with_links Device Offered (link_of 1 5 Verified true ∷ link_of 1 6 Unverified true ∷ []))
     (from_centre ForData (Some (link_of 1 6 Unverified true))) 0 4 2
     ≡ Does (DropLink 1 (k 5) ∷ Row 1 (k 6) Verified ∷ Became Confirmed ∷ []) None
-unfolding take_confirm unless found_or offered current centre_of
+unfolding take_confirm refuse_if found_or offered current centre_of
 offered_key_is_confirmed = refl
 
 another_key_is_offered : take_link_key device
     (with_links Device Offered (link_of 1 5 Verified true ∷ link_of 1 6 Unverified true ∷ []))
     (from_centre ForLoad (Some (link_of 1 5 Verified true))) (k 7) 2 1
     ≡ Does (DropLink 1 (k 6) ∷ Row 1 (k 7) Unverified ∷ Became Offered ∷ []) None
-unfolding take_link_key take_row unless choose offered current centre_of other_user
+unfolding take_link_key take_row refuse_if choose offered current centre_of other_user
 another_key_is_offered = refl
 
 another_partner_key : take_app_key device
     (with_links Device Confirmed (link_of 1 5 Verified true ∷ link_of 4 6 Verified true ∷ []))
     (from_centre ForLoad (Some (link_of 1 5 Verified true))) (k 7) 4
     ≡ Does (DropLink 4 (k 6) ∷ Row 4 (k 7) Verified ∷ []) None
-unfolding take_app_key take_row unless choose drop_partner centre_of station_of other_user
+unfolding take_app_key take_row refuse_if choose drop_partner centre_of station_of other_user
 another_partner_key = refl
 
 rejoined_with_an_offer : take_net_key device
     (with_links Device Rejoining (link_of 1 5 Verified true ∷ link_of 1 6 Unverified true ∷ []))
     (from_centre ForTransport (Some (link_of 1 5 Verified true))) (k 1) 1 2 1
     ≡ Does (Active (k 1) ∷ Became Offered ∷ []) None
-unfolding take_net_key unless choose centre_of offered current
+unfolding take_net_key refuse_if choose centre_of offered current
 rejoined_with_an_offer = refl
 
 rejoined_with_a_verified_key : take_net_key device (with_links Device Rejoining (link_of 1 5 Verified true ∷ []))
     (from_centre ForTransport (Some (link_of 1 5 Verified true))) (k 1) 1 2 1
     ≡ Does (Active (k 1) ∷ Became Confirmed ∷ []) None
-unfolding take_net_key unless choose centre_of offered current
+unfolding take_net_key refuse_if choose centre_of offered current
 rejoined_with_a_verified_key = refl
 
 rejoined_with_a_code : take_net_key device (with_links Device Rejoining (link_of 1 5 Provisional true ∷ []))
     (from_centre ForTransport (Some (link_of 1 5 Provisional true))) (k 1) 1 2 1
     ≡ Does (Active (k 1) ∷ Became Joined ∷ []) None
-unfolding take_net_key unless choose centre_of offered current
+unfolding take_net_key refuse_if choose centre_of offered current
 rejoined_with_a_code = refl
 
 offer_is_sent_again : take_request centre
     (with_links Centre State.Fresh (link_of 2 5 Verified true ∷ link_of 2 6 Unverified true ∷ []))
     (from_device ForData (Some (link_of 2 5 Verified true))) (Some (k 9))
     ≡ Does [] (sends 258 true (Secret ForLoad (k 5) (TransportLink (k 6) 2 1)))
-unfolding take_request unless found_or offered current both_spent spent next_counter active_row short_of station_of
+unfolding take_request refuse_if found_or offered current both_spent spent next_counter active_row short_of station_of
 offer_is_sent_again = refl
 
 pair_key_is_sent_again : take_app_request centre
@@ -92,7 +92,7 @@ pair_key_is_sent_again : take_app_request centre
     { pairs = record { first = 2; second = 4; key = k 8 } ∷ [] })
     (from_device ForData (Some (link_of 2 5 Verified true))) (Some (k 9)) 4
     ≡ Does [] (sends 258 true (Secret ForLoad (k 5) (TransportApp (k 8) 4 1)))
-unfolding take_app_request unless found_or current is_live pair_of both_spent spent next_counter active_row short_of
+unfolding take_app_request refuse_if found_or current is_live pair_of both_spent spent next_counter active_row short_of
     station_of
 pair_key_is_sent_again = refl
 
@@ -100,20 +100,20 @@ pair_is_drawn : take_app_request centre
     (with_links Centre State.Fresh (link_of 2 5 Verified true ∷ link_of 4 6 Verified true ∷ []))
     (from_device ForData (Some (link_of 2 5 Verified true))) (Some (k 9)) 4
     ≡ Does (Draw (k 9) ∷ Pair 2 4 (k 9) ∷ []) (sends 258 true (Secret ForLoad (k 5) (TransportApp (k 9) 4 1)))
-unfolding take_app_request unless found_or current is_live pair_of both_spent spent next_counter active_row short_of
+unfolding take_app_request refuse_if found_or current is_live pair_of both_spent spent next_counter active_row short_of
     station_of
 pair_is_drawn = refl
 
 current_key_is_confirmed_again : take_verify toy centre
     (with_links Centre State.Fresh (link_of 2 5 Verified true ∷ [])) clear_from_device 4 2 (toy.keyed (k 5) 3)
     ≡ Does [] (sends 258 true (Secret ForData (k 5) (ConfirmKey 0 4 2)))
-unfolding toy take_verify unless found_or choose offered current is_live both_spent spent next_counter active_row
+unfolding toy take_verify refuse_if found_or choose offered current is_live both_spent spent next_counter active_row
     short_of station_of
 current_key_is_confirmed_again = refl
 
 code_is_not_confirmed : take_verify toy centre (with_links Centre State.Fresh (link_of 2 5 Provisional true ∷ []))
     clear_from_device 4 2 (toy.keyed (k 5) 3) ≡ Stop WrongState
-unfolding toy take_verify unless found_or choose offered current is_live both_spent spent next_counter active_row
+unfolding toy take_verify refuse_if found_or choose offered current is_live both_spent spent next_counter active_row
 code_is_not_confirmed = refl
 
 -- Events of a node's own
@@ -121,7 +121,7 @@ code_is_not_confirmed = refl
 member_is_untold : again
     (record (with_links Centre State.Fresh (record (link_of 2 5 Verified true) { told = true } ∷ []))
     { sending = true }) 2 ≡ Does (Untold 2 ∷ []) None
-unfolding again unless is_live is_told
+unfolding again refuse_if is_live is_told
 member_is_untold = refl
 
 -- Rows

@@ -4,7 +4,7 @@ use Rattle.std.specs.Prelude.{ℕ, ◌+◌, ◌%◌, ◌/◌, Bool, true, false,
 use Rattle.zb_model.specs.Data.{Bytes, Nwk, State, Joined, Offered, Confirmed, Gone, Unverified, Verified, Label, ForData, ForTransport, ForLoad, Term, Move, Draw, Install, Active, Row, Pair, Became, NoKey, NotMember, WrongState, KeyOld, KeysFull, RowsFull, KeyInUse, NoDraw, CounterSpent, WrongHash, Policy, Command, TransportNet, TransportApp, TransportLink, UpdateDevice, RemoveDevice, RequestApp, RequestLink, SwitchKey, Tunnel, VerifyKey, ConfirmKey, nobody}
 use Rattle.zb_model.specs.State.{NetKey, LinkKey, PairKey, NodeState, same_key, is_centre, is_verified, is_live_of, has_net, has_link, active_row, live_of, current, offered, is_live, other_user, pair_of, same_label}
 use Rattle.zb_model.specs.Tools.{Tools, verify_hash}
-use Rattle.zb_model.specs.Rules.{Secret, Tunnelled, Leaving, Relayed, Outcome, Stop, Does, Setting, unless, found_or, choose, sends, centre_of, short_of, is_declared, acts_as_router, from_centre, is_router, spent, both_spent, in_rejoining, waits_for_key, nets_full, links_full, pairs_full, unless_held, drop_row, drop_partner, drop_old}
+use Rattle.zb_model.specs.Rules.{Secret, Tunnelled, Leaving, Relayed, Outcome, Stop, Does, Setting, refuse_if, refuse_unless, found_or, choose, sends, centre_of, short_of, is_declared, acts_as_router, from_centre, is_router, spent, both_spent, in_rejoining, waits_for_key, nets_full, links_full, pairs_full, unless_held, drop_row, drop_partner, drop_old}
 
 -- A command as it came. `sender` is the source of the sealed layer: that of the APS term where the command was sealed,
 -- else that of the NWK term. `label` and `row` are what opened it; `nwk_source` is the source of the NWK term.
@@ -52,9 +52,9 @@ abbrev pub dropped_at : ℕ → Bytes → List NetKey → Option ℕ
 dropped_at place key [] = None
 dropped_at place key (r ∷ rs) = if same_key r.key key && not r.live then Some place else dropped_at (place + 1) key rs
 
-abbrev pub unless_old : NodeState → Bytes → Option ℕ → Outcome → Outcome
-unless_old s key None rest = rest
-unless_old s key (Some place) rest = Stop (KeyOld place)
+abbrev pub refuse_if_old : NodeState → Bytes → Option ℕ → Outcome → Outcome
+refuse_if_old s key None rest = rest
+refuse_if_old s key (Some place) rest = Stop (KeyOld place)
 
 -- A network key that is taken in becomes active in a node that waits for one, and where none was active.
 abbrev pub activates : NodeState → Bool
@@ -74,23 +74,23 @@ activate c s key =
 -- Transport-Key, type 1: a network key
 unfoldable pub take_net_key : Setting → NodeState → Heard → Bytes → ℕ → ℕ → ℕ → Outcome
 take_net_key c s m key sequence destination source =
-    unless (not (is_member c && (labelled ForTransport m.label && (from_centre c m.sender
-    && (nat_eq destination c.me.eui && from_centre c source))))) Policy (
-    unless_old s key (dropped_at 0 key s.nets) (
+    refuse_unless (is_member c && (labelled ForTransport m.label && (from_centre c m.sender
+    && (nat_eq destination c.me.eui && from_centre c source)))) Policy (
+    refuse_if_old s key (dropped_at 0 key s.nets) (
     choose (has_net key s.nets)
     (Does (activate c s key) None)
-    (unless (nets_full s) KeysFull (
+    (refuse_if (nets_full s) KeysFull (
     Does (drop_old s ++ (Install key sequence ∷ activate c s key)) None))))
 
 -- a link key is taken in: its row is new, or it is one of that partner's dropped ones
-abbrev pub unless_used : Option LinkKey → Outcome → Outcome
-unless_used None rest = rest
-unless_used (Some other) rest = Stop (KeyInUse other.partner)
+abbrev pub refuse_if_used : Option LinkKey → Outcome → Outcome
+refuse_if_used None rest = rest
+refuse_if_used (Some other) rest = Stop (KeyInUse other.partner)
 
 unfoldable pub take_row : NodeState → ℕ → Bytes → List Move → Outcome
 take_row s partner key moves =
-    unless (not (has_link partner key s.links) && links_full s) RowsFull (
-    unless_used (other_user s partner key) (
+    refuse_if (not (has_link partner key s.links) && links_full s) RowsFull (
+    refuse_if_used (other_user s partner key) (
     Does moves None))
 
 abbrev pub has_key : Bytes → Option LinkKey → Bool
@@ -100,9 +100,9 @@ has_key key (Some r) = same_key r.key key
 -- Transport-Key, type 4: a link key with the centre, which is to be proved
 unfoldable pub take_link_key : Setting → NodeState → Heard → Bytes → ℕ → ℕ → Outcome
 take_link_key c s m key destination source =
-    unless (not (is_member c && (nwk_secured m && (labelled ForLoad m.label && (from_centre c m.sender
-    && (nat_eq destination c.me.eui && from_centre c source)))))) Policy (
-    unless (in_rejoining s.state) WrongState (
+    refuse_unless (is_member c && (nwk_secured m && (labelled ForLoad m.label && (from_centre c m.sender
+    && (nat_eq destination c.me.eui && from_centre c source))))) Policy (
+    refuse_if (in_rejoining s.state) WrongState (
     choose (has_key key (current s (centre_of c.stations)) || has_key key (offered s (centre_of c.stations)))
     (Does [] None)
     (take_row s (centre_of c.stations) key
@@ -112,10 +112,10 @@ take_link_key c s m key destination source =
 -- Transport-Key, type 3: a link key with a partner
 unfoldable pub take_app_key : Setting → NodeState → Heard → Bytes → ℕ → Outcome
 take_app_key c s m key partner =
-    unless (not (is_member c && (nwk_secured m && (labelled ForLoad m.label && (from_centre c m.sender
-    && not (nat_eq partner c.me.eui || from_centre c partner)))))) Policy (
-    unless (not (is_declared c partner)) NotMember (
-    unless (in_rejoining s.state) WrongState (
+    refuse_unless (is_member c && (nwk_secured m && (labelled ForLoad m.label && (from_centre c m.sender
+    && not (nat_eq partner c.me.eui || from_centre c partner))))) Policy (
+    refuse_unless (is_declared c partner) NotMember (
+    refuse_if (in_rejoining s.state) WrongState (
     choose (has_key key (find (is_live_of partner) s.links))
     (Does [] None)
     (take_row s partner key (drop_partner s partner ++ (Row partner key Verified ∷ []))))))
@@ -123,17 +123,17 @@ take_app_key c s m key partner =
 -- Switch-Key: the newest live network row of that sequence becomes active
 unfoldable pub take_switch : Setting → NodeState → Heard → ℕ → Outcome
 take_switch c s m sequence =
-    unless (not (is_member c && (clear_or_data m && from_centre c m.sender))) Policy (
+    refuse_unless (is_member c && (clear_or_data m && from_centre c m.sender)) Policy (
     found_or (live_of s sequence) WrongState (λ row.
     Does (Active row.key ∷ []) None))
 
 -- Confirm-Key: the offered key was proved, and takes the place of the current one
 unfoldable pub take_confirm : Setting → NodeState → Heard → ℕ → ℕ → ℕ → Outcome
 take_confirm c s m status kind destination =
-    unless (not (is_member c && (labelled ForData m.label && (from_centre c m.sender
-    && (nat_eq status 0 && (nat_eq kind 4 && nat_eq destination c.me.eui)))))) Policy (
-    unless (in_rejoining s.state) WrongState (
-    unless (not (row_is m.row (offered s (centre_of c.stations)))) WrongState (
+    refuse_unless (is_member c && (labelled ForData m.label && (from_centre c m.sender
+    && (nat_eq status 0 && (nat_eq kind 4 && nat_eq destination c.me.eui))))) Policy (
+    refuse_if (in_rejoining s.state) WrongState (
+    refuse_unless (row_is m.row (offered s (centre_of c.stations))) WrongState (
     -- decides nothing: the row that opened the command is the offered one, so there is one
     found_or (offered s (centre_of c.stations)) WrongState (λ row.
     Does (drop_row (current s (centre_of c.stations)) ++ (Row row.partner row.key Verified ∷ Became Confirmed ∷ []))
@@ -144,17 +144,17 @@ take_confirm c s m status kind destination =
 -- Remove-Device: the target is asked to leave
 unfoldable pub take_remove : Setting → NodeState → Heard → ℕ → Outcome
 take_remove c s m target =
-    unless (not (is_router c.me.role && (labelled ForData m.label && (from_centre c m.sender
-    && not (nat_eq target c.me.eui || from_centre c target))))) Policy (
-    unless (not (is_declared c target)) NotMember (
-    unless (spent Nwk s) CounterSpent (
+    refuse_unless (is_router c.me.role && (labelled ForData m.label && (from_centre c m.sender
+    && not (nat_eq target c.me.eui || from_centre c target)))) Policy (
+    refuse_unless (is_declared c target) NotMember (
+    refuse_if (spent Nwk s) CounterSpent (
     Does [] (sends (short_of c target) true Leaving))))
 
 -- Tunnel: its inner frame goes to the destination, without NWK security
 unfoldable pub take_tunnel : Setting → NodeState → Heard → ℕ → Bytes → Outcome
 take_tunnel c s m destination inner =
-    unless (not (is_router c.me.role && (is_clear m && from_centre c m.sender))) Policy (
-    unless (not (is_declared c destination) || nat_eq destination c.me.eui) NotMember (
+    refuse_unless (is_router c.me.role && (is_clear m && from_centre c m.sender)) Policy (
+    refuse_if (not (is_declared c destination) || nat_eq destination c.me.eui) NotMember (
     Does [] (sends (short_of c destination) false (Relayed inner))))
 
 -- Taken by the centre
@@ -167,12 +167,12 @@ eui_of (Some eui) = eui
 -- Update-Device: a router reports a child that joins (1) or rejoins (3). The network key goes to it through a Tunnel.
 unfoldable pub take_update : Setting → NodeState → Heard → ℕ → ℕ → Outcome
 take_update c s m device status =
-    unless (not (is_centre c.me.role && (clear_or_data m && (acts_as_router c m.sender && nat_le status 3)))) Policy (
+    refuse_unless (is_centre c.me.role && (clear_or_data m && (acts_as_router c m.sender && nat_le status 3))) Policy (
     choose (not (nat_eq status 1 || nat_eq status 3))
     (Does [] None)
     (found_or (active_row s) NoKey (λ net.
     found_or (current s device) NotMember (λ row.
-    unless (both_spent s) CounterSpent (
+    refuse_if (both_spent s) CounterSpent (
     Does []
     (sends (short_of c (eui_of m.nwk_source)) true
     (Tunnelled device row.key (TransportNet net.key net.sequence device c.me.eui))))))))
@@ -188,17 +188,17 @@ send_link_key c s device key moves row =
 -- Request-Key, type 4: the offered key is sent again, or a new one is drawn and offered
 abbrev pub answer_request : Setting → NodeState → ℕ → Option Bytes → LinkKey → Option LinkKey → Outcome
 answer_request c s device draw row (Some offer) =
-    unless (both_spent s) CounterSpent (
+    refuse_if (both_spent s) CounterSpent (
     send_link_key c s device offer.key [] row)
 answer_request c s device draw row None =
-    unless (links_full s) RowsFull (
+    refuse_if (links_full s) RowsFull (
     found_or (unless_held s draw) NoDraw (λ key.
-    unless (both_spent s) CounterSpent (
+    refuse_if (both_spent s) CounterSpent (
     send_link_key c s device key (Draw key ∷ Row device key Unverified ∷ []) row)))
 
 unfoldable pub take_request : Setting → NodeState → Heard → Option Bytes → Outcome
 take_request c s m draw =
-    unless (not (is_centre c.me.role && under_current s m)) Policy (
+    refuse_unless (is_centre c.me.role && under_current s m) Policy (
     -- decides nothing: the row that opened the request is the current one, so there is one
     found_or (current s m.sender) Policy (λ row.
     answer_request c s m.sender draw row (offered s m.sender)))
@@ -216,22 +216,22 @@ greater a b = if nat_lt a b then b else a
 
 abbrev pub answer_pair : Setting → NodeState → ℕ → ℕ → Option Bytes → LinkKey → Option PairKey → Outcome
 answer_pair c s device partner draw row (Some pair) =
-    unless (both_spent s) CounterSpent (
+    refuse_if (both_spent s) CounterSpent (
     send_app_key c device partner pair.key [] row)
 answer_pair c s device partner draw row None =
-    unless (pairs_full s) RowsFull (
+    refuse_if (pairs_full s) RowsFull (
     found_or (unless_held s draw) NoDraw (λ key.
-    unless (both_spent s) CounterSpent (
+    refuse_if (both_spent s) CounterSpent (
     send_app_key c device partner key (Draw key ∷ Pair (lesser device partner) (greater device partner) key ∷ [])
     row)))
 
 unfoldable pub take_app_request : Setting → NodeState → Heard → Option Bytes → ℕ → Outcome
 take_app_request c s m draw partner =
-    unless (not
-    (is_centre c.me.role && (under_current s m && not (nat_eq partner m.sender || nat_eq partner c.me.eui))))
+    refuse_unless
+    (is_centre c.me.role && (under_current s m && not (nat_eq partner m.sender || nat_eq partner c.me.eui)))
     Policy (
-    unless (not (is_live s partner)) NotMember (
-    unless (not (is_verified_row (current s m.sender) && is_verified_row (current s partner))) WrongState (
+    refuse_unless (is_live s partner) NotMember (
+    refuse_unless (is_verified_row (current s m.sender) && is_verified_row (current s partner)) WrongState (
     -- decides nothing: the current row was verified above, so there is one
     found_or (current s m.sender) Policy (λ row.
     answer_pair c s m.sender partner draw row (pair_of s m.sender partner)))))
@@ -255,10 +255,10 @@ verified_current s device = only (current s device)
 
 unfoldable pub take_verify : Tools → Setting → NodeState → Heard → ℕ → ℕ → Bytes → Outcome
 take_verify tools c s m kind device hash =
-    unless (not (is_centre c.me.role && (is_clear m && (nat_eq kind 4 && names_eui device m.nwk_source)))) Policy (
-    unless (not (is_live s device)) NotMember (
-    unless (is_none (offered s device) && is_none (verified_current s device)) WrongState (
-    unless (both_spent s) CounterSpent (
+    refuse_unless (is_centre c.me.role && (is_clear m && (nat_eq kind 4 && names_eui device m.nwk_source))) Policy (
+    refuse_unless (is_live s device) NotMember (
+    refuse_if (is_none (offered s device) && is_none (verified_current s device)) WrongState (
+    refuse_if (both_spent s) CounterSpent (
     -- neither refusal of `found_or` decides: a row of which the proof is is there
     choose (proves tools hash (offered s device))
     (found_or (offered s device) WrongHash (λ row.
@@ -288,6 +288,6 @@ asks_to_go options = nat_eq ((options / 64) % 2) 1
 
 unfoldable pub take_leave : Setting → Term → ℕ → Outcome
 take_leave c term options =
-    unless (not (is_member c && ((from_centre c term.source || acts_as_router c term.source) && asks_to_go options)))
+    refuse_unless (is_member c && ((from_centre c term.source || acts_as_router c term.source) && asks_to_go options))
     Policy (
     Does (Became Gone ∷ []) None)

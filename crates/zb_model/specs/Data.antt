@@ -135,19 +135,23 @@ pub data Command : Type 0 where
   ConfirmKey : (status : ℕ) (kind : ℕ) (destination : ℕ) → Command
 
 -- What an event asks of one node: its own events, and a delivered frame with the next key of the supply, which the
--- centre may need.
-pub data Task : Type 0 where
-  SayTo : (to : ℕ) (bytes : Bytes) → Task
-  TellTo : (partner : ℕ) (bytes : Bytes) → Task
-  DoKnock : Task
-  DoRejoin : Task
-  DoTimer : Task
-  AskFor : (partner : ℕ) → Task
-  HasChild : (child : ℕ) (rejoin : Bool) → Task
-  DoProvision : (device : ℕ) (key : Bytes) → Task
-  DoRemove : (device : ℕ) (via : ℕ) → Task
-  DoRoll : (draw : Option Bytes) → Task
-  DoSwitch : Task
-  DoAgain : (device : ℕ) → Task
-  DoShare : (device : ℕ) (partner : ℕ) → Task
-  Received : (bytes : Bytes) (draw : Option Bytes) → Task
+-- centre may need. N is how nodes are named, and K what admits a device.
+pub data TaskOf (N K : Type 0) : Type 0 where
+  SayTo : (to : ℕ) (bytes : Bytes) → TaskOf N K
+  TellTo : (partner : N) (bytes : Bytes) → TaskOf N K
+  DoKnock : TaskOf N K
+  DoRejoin : TaskOf N K
+  DoTimer : TaskOf N K
+  AskFor : (partner : N) → TaskOf N K
+  HasChild : (child : N) (rejoin : Bool) → TaskOf N K
+  DoProvision : (device : N) (key : K) → TaskOf N K
+  DoRemove : (device : N) (via : N) → TaskOf N K
+  DoRoll : (draw : Option Bytes) → TaskOf N K
+  DoSwitch : TaskOf N K
+  DoAgain : (device : N) → TaskOf N K
+  DoShare : (device : N) (partner : N) → TaskOf N K
+  Received : (bytes : Bytes) (draw : Option Bytes) → TaskOf N K
+
+-- a task of a node: nodes are named by their EUI, and a device is admitted by its link key
+abbrev pub Task : Type 0
+Task = TaskOf ℕ Bytes

@@ -5,7 +5,7 @@ use Rattle.zb_model.specs.Data.{Bytes, Nwk, Aps, State, Knocked, Joined, Offered
 use Rattle.zb_model.specs.State.{NetKey, LinkKey, NodeState, is_centre, is_live_of, has_link, active_row, usable_active, newest, current, offered, is_live, is_told, code_row, other_user, pair_of}
 use Rattle.zb_model.specs.Tools.{Tools, verify_hash}
 use Rattle.zb_model.specs.Frames.{clear_command, clear_broadcast, to_all}
-use Rattle.zb_model.specs.Rules.{Saying, Clear, Secret, Telling, Leaving, Sending, Outcome, Stop, Does, Setting, unless, found_or, choose, sends, centre_of, short_of, spent, both_spent, in_rejoining, in_confirmed, has_joined, nets_full, links_full, unless_held, drop_partner, drop_others, drop_old}
+use Rattle.zb_model.specs.Rules.{Saying, Clear, Secret, Telling, Leaving, Sending, Outcome, Stop, Does, Setting, refuse_if, refuse_unless, found_or, choose, sends, centre_of, short_of, spent, both_spent, in_rejoining, in_confirmed, has_joined, nets_full, links_full, unless_held, drop_partner, drop_others, drop_old}
 
 -- Of every node
 
@@ -13,8 +13,8 @@ use Rattle.zb_model.specs.Rules.{Saying, Clear, Secret, Telling, Leaving, Sendin
 unfoldable pub say : NodeState → ℕ → Bytes → Outcome
 say s to bytes =
     found_or (usable_active s) NoKey (λ net.
-    unless (in_rejoining s.state) WrongState (
-    unless (spent Nwk s) CounterSpent (
+    refuse_if (in_rejoining s.state) WrongState (
+    refuse_if (spent Nwk s) CounterSpent (
     Does [] (sends to true (Saying bytes)))))
 
 -- Of routers and devices
@@ -28,14 +28,14 @@ knock c s =
 -- rejoin: a member that lost the network key's changes asks again
 unfoldable pub rejoin : NodeState → Outcome
 rejoin s =
-    unless (not (has_joined s.state)) WrongState (
+    refuse_unless (has_joined s.state) WrongState (
     Does (Became Rejoining ∷ []) None)
 
 -- timer, joined: a link key of its own is asked for (Request-Key, type 4)
 unfoldable pub request_key : Setting → NodeState → Outcome
 request_key c s =
     found_or (current s (centre_of c.stations)) NoKey (λ row.
-    unless (both_spent s) CounterSpent (
+    refuse_if (both_spent s) CounterSpent (
     Does [] (sends 0 true (Secret ForData row.key RequestLink))))
 
 -- timer, offered: the offered key is proved (Verify-Key)
@@ -43,7 +43,7 @@ unfoldable pub verify_key : Tools → Setting → NodeState → Outcome
 verify_key tools c s =
     -- decides nothing in a run: a node in Offered has an offered row
     found_or (offered s (centre_of c.stations)) NoKey (λ row.
-    unless (spent Nwk s) CounterSpent (
+    refuse_if (spent Nwk s) CounterSpent (
     Does [] (sends 0 true (Clear clear_command (VerifyKey 4 c.me.eui (verify_hash tools row.key))))))
 
 abbrev pub timer_in : State → Tools → Setting → NodeState → Outcome
@@ -62,8 +62,8 @@ unfoldable pub ask : Setting → NodeState → ℕ → Outcome
 ask c s partner =
     found_or (usable_active s) NoKey (λ net.
     found_or (current s (centre_of c.stations)) NoKey (λ row.
-    unless (not (in_confirmed s.state)) WrongState (
-    unless (both_spent s) CounterSpent (
+    refuse_unless (in_confirmed s.state) WrongState (
+    refuse_if (both_spent s) CounterSpent (
     Does [] (sends 0 true (Secret ForData row.key (RequestApp partner)))))))
 
 -- tell: application data under the key shared with a partner
@@ -71,8 +71,8 @@ unfoldable pub tell : Setting → NodeState → ℕ → Bytes → Outcome
 tell c s partner bytes =
     found_or (usable_active s) NoKey (λ net.
     found_or (find (is_live_of partner) s.links) NoKey (λ row.
-    unless (in_rejoining s.state) WrongState (
-    unless (both_spent s) CounterSpent (
+    refuse_if (in_rejoining s.state) WrongState (
+    refuse_if (both_spent s) CounterSpent (
     Does [] (sends (short_of c partner) true (Telling row.key bytes))))))
 
 -- Of routers
@@ -84,17 +84,17 @@ child_status rejoin = if rejoin then 3 else 1
 -- sealed under the current link row, or without APS security where there is none
 abbrev pub report_child : Setting → NodeState → ℕ → Bool → Option LinkKey → Outcome
 report_child c s child rejoin None =
-    unless (spent Nwk s) CounterSpent (
+    refuse_if (spent Nwk s) CounterSpent (
     Does [] (sends 0 true (Clear clear_command (UpdateDevice child (short_of c child) (child_status rejoin)))))
 report_child c s child rejoin (Some row) =
-    unless (both_spent s) CounterSpent (
+    refuse_if (both_spent s) CounterSpent (
     Does [] (sends 0 true (Secret ForData row.key (UpdateDevice child (short_of c child) (child_status rejoin)))))
 
 -- child, at a router: the centre is told of it (Update-Device)
 unfoldable pub child_of_router : Setting → NodeState → ℕ → Bool → Outcome
 child_of_router c s child rejoin =
     found_or (usable_active s) NoKey (λ net.
-    unless (in_rejoining s.state) WrongState (
+    refuse_if (in_rejoining s.state) WrongState (
     report_child c s child rejoin (current s (centre_of c.stations))))
 
 -- Of the centre
@@ -104,7 +104,7 @@ unfoldable pub child_of_centre : Setting → NodeState → ℕ → Outcome
 child_of_centre c s child =
     found_or (active_row s) NoKey (λ net.
     found_or (current s child) NotMember (λ row.
-    unless (spent Aps s) CounterSpent (
+    refuse_if (spent Aps s) CounterSpent (
     Does []
     (sends (short_of c child) false
     (Secret ForTransport row.key (TransportNet net.key net.sequence child c.me.eui))))))
@@ -128,12 +128,12 @@ is_unfinished s = s.sending && is_some (next_member s)
 unfoldable pub centre_timer : Setting → NodeState → Outcome
 centre_timer c s =
     found_or (active_row s) NoKey (λ net.
-    unless (not s.sending) WrongState (
+    refuse_unless s.sending WrongState (
     found_or (next_member s) WrongState (λ device.
     -- neither decides in a run: the active row is live, so there is a newest; and each live device has a current row
     found_or (newest s) NoKey (λ new.
     found_or (current s device) WrongState (λ row.
-    unless (both_spent s) CounterSpent (
+    refuse_if (both_spent s) CounterSpent (
     Does (Told device ∷ [])
     (sends (short_of c device) true
     (Secret ForTransport row.key (TransportNet new.key new.sequence device c.me.eui)))))))))
@@ -145,8 +145,8 @@ provision_new s device key None = Does (Row device key Provisional ∷ Live devi
 
 unfoldable pub provision : NodeState → ℕ → Bytes → Outcome
 provision s device key =
-    unless (is_live s device) WrongState (
-    unless (not (has_link device key s.links) && links_full s) RowsFull (
+    refuse_if (is_live s device) WrongState (
+    refuse_if (not (has_link device key s.links) && links_full s) RowsFull (
     provision_new s device key (other_user s device key)))
 
 -- remove: a device's rows are dropped, and it or its parent is told where that can be sealed
@@ -161,7 +161,7 @@ tell_parent c s device via (Some row) = if is_some (active_row s) && not (both_s
 
 unfoldable pub remove_device : Setting → NodeState → ℕ → ℕ → Outcome
 remove_device c s device via =
-    unless (not (is_live s device)) NotMember (
+    refuse_unless (is_live s device) NotMember (
     Does (drop_partner s device ++ Removed device ∷ [])
     (if nat_eq via c.me.eui then tell_leave c s device else tell_parent c s device via (current s via)))
 
@@ -169,8 +169,8 @@ remove_device c s device via =
 unfoldable pub roll : NodeState → Option Bytes → Outcome
 roll s draw =
     found_or (active_row s) NoKey (λ net.
-    unless s.sending WrongState (
-    unless (nets_full s) KeysFull (
+    refuse_if s.sending WrongState (
+    refuse_if (nets_full s) KeysFull (
     found_or (unless_held s draw) NoDraw (λ key.
     Does (Draw key ∷ drop_old s ++ (Install key ((net.sequence + 1) % 256) ∷ Roll true ∷ [])) None))))
 
@@ -182,8 +182,8 @@ switch_to net moves = Does moves (sends to_all true (Clear clear_broadcast (Swit
 unfoldable pub switch_over : NodeState → Outcome
 switch_over s =
     found_or (active_row s) NoKey (λ net.
-    unless (is_unfinished s) WrongState (
-    unless (spent Nwk s) CounterSpent (
+    refuse_if (is_unfinished s) WrongState (
+    refuse_if (spent Nwk s) CounterSpent (
     choose s.sending
     -- decides nothing in a run: the active row is live, so there is a newest
     (found_or (newest s) NoKey (λ new. switch_to new (Active new.key ∷ Roll false ∷ [])))
@@ -192,19 +192,19 @@ switch_over s =
 -- again: the new network key is to be sent to a member once more
 unfoldable pub again : NodeState → ℕ → Outcome
 again s device =
-    unless (not (is_live s device)) NotMember (
-    unless (not s.sending || not (is_told s device)) WrongState (
+    refuse_unless (is_live s device) NotMember (
+    refuse_if (not s.sending || not (is_told s device)) WrongState (
     Does (Untold device ∷ []) None))
 
 -- share: the key of a pair to one of the two
 unfoldable pub share : Setting → NodeState → ℕ → ℕ → Outcome
 share c s device partner =
     found_or (active_row s) NoKey (λ net.
-    unless (not (is_live s device && is_live s partner)) NotMember (
+    refuse_unless (is_live s device && is_live s partner) NotMember (
     found_or (pair_of s device partner) WrongState (λ pair.
     -- decides nothing in a run: each live device has a current row
     found_or (current s device) NotMember (λ row.
-    unless (both_spent s) CounterSpent (
+    refuse_if (both_spent s) CounterSpent (
     Does [] (sends (short_of c device) true (Secret ForLoad row.key (TransportApp pair.key partner 0))))))))
 
 -- The rule of each event of a node's own; an event that isn't for a node of its role is refused. That decides nothing

@@ -43,9 +43,12 @@ pub record Setting : Type 0 where
   pub me : Station
   pub stations : List Station
 
--- The steps of a rule: refused where the test holds; refused where nothing is there; one of two.
-unfoldable pub unless : Bool → Reason → Outcome → Outcome
-unless bad reason rest = if bad then Stop reason else rest
+-- The steps of a rule: refused if the test holds; refused unless it holds; refused if nothing is there; one of two.
+unfoldable pub refuse_if : Bool → Reason → Outcome → Outcome
+refuse_if bad reason rest = if bad then Stop reason else rest
+
+abbrev pub refuse_unless : Bool → Reason → Outcome → Outcome
+refuse_unless good reason rest = refuse_if (not good) reason rest
 
 unfoldable pub found_or : {A : Type 0} → Option A → Reason → (A → Outcome) → Outcome
 found_or None reason rest = Stop reason

@@ -9,9 +9,9 @@ use Rattle.zb_model.specs.Tools.{sealing_key as model_key}
 use Rattle.zb_cmd.specs.Spelling.{command}
 use Rattle.zb_cmd.specs.declared.command.Command.{Command}
 use Rattle.zb_cmd.specs.declared.command.Command.TheVariants as cmd
-use Rattle.zb_carried_keys.specs.Keys.{sealing_key}
-use Rattle.zb_carried_keys.specs.Wire.{wire}
-use Rattle.zb_carried_keys.specs.Term.{Term}
+use Rattle.zb_seal.specs.Keys.{sealing_key}
+use Rattle.zb_seal.specs.Wire.{wire}
+use Rattle.zb_seal.specs.declared.term.Term.{Term}
 use Rattle.zb_model_real.specs.Readers.{model_command}
 use Rattle.zb_model_real.specs.Real.{real, command_for}
 use Rattle.zb_model_real.specs.Terms.{term_of, layer_of, label_of, model_label, model_term}
@@ -43,16 +43,7 @@ same_key label.Load base = refl
 
 command-back : (c : Command) → command_for (model_command c) ≡ c
 command-back (cmd.TransportNetwork key sequence destination source) = refl
-command-back (cmd.TransportApplication key partner initiator) = refl
-command-back (cmd.TransportLink key destination source) = refl
-command-back (cmd.Update device short status) = refl
-command-back (cmd.Remove target) = refl
-command-back (cmd.RequestApplication partner) = refl
-command-back cmd.RequestLink = refl
-command-back (cmd.Switch sequence) = refl
-command-back (cmd.Tunnel destination inner) = refl
-command-back (cmd.Verify kind source hash) = refl
-command-back (cmd.Confirm status kind destination) = refl
+command-back _ = refl
 
 pub same_spelling : (c : Command) → real.spelled (model_command c) ≡ command c
 unfolding real

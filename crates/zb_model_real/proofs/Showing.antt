@@ -12,16 +12,16 @@ use Rattle.zb_nwk.specs.Reading as nwk
 use Rattle.zb_nwk.specs.declared.auxiliary.NwkAux.{NwkAux}
 use Rattle.zb_nwk.specs.declared.fault.NwkError.{NwkError}
 use Rattle.zb_nwk.specs.declared.frame.NwkFrame.{NwkFrame}
-use Rattle.zb_carried_keys.specs.Opening.{nwk_envelope, nwk_seen, seen_nwk, aps_envelope, aps_seen, seen_aps, source_of, content_of, opened_term, opened_from, opened_seen, opened_nwk, opened_aps}
+use Rattle.zb_seal.specs.Opening.{nwk_envelope, nwk_seen, seen_nwk, aps_envelope, aps_seen, seen_aps, source_of, content_of, opened_term, opened_from, opened_seen, opened_nwk, opened_aps}
 use Rattle.zb_aps.specs.Shape.{key_id}
 use Rattle.zb_aps.specs.Spelling as aps_spelling
 use Rattle.zb_nwk.specs.Spelling as nwk_spelling
 use Rattle.zb_base.specs.declared.label.Label.TheVariants as label
 use Rattle.zb_base.specs.declared.label.Layer.TheVariants as layer
-use Rattle.zb_carried_keys.specs.Keys.{sealing_key}
-use Rattle.zb_carried_keys.specs.Opening as opening
-use Rattle.zb_carried_keys.specs.Wire.{real_level}
-use Rattle.zb_carried_keys.specs.Envelope.{Envelope}
+use Rattle.zb_seal.specs.Keys.{sealing_key}
+use Rattle.zb_seal.specs.Opening as opening
+use Rattle.zb_seal.specs.Wire.{real_level}
+use Rattle.zb_seal.specs.declared.envelope.Envelope.{Envelope}
 use Rattle.zb_model_real.specs.Readers.{auxiliary, aps_shown, nwk_auxiliary, nwk_shown}
 use Rattle.zb_model_real.specs.Real.{opened, real}
 use Rattle.zb_model_real.specs.Terms.{eui_of, key_of, model_term}

@@ -1,4 +1,4 @@
 pub mod Terms
 pub mod Readers
 pub mod Real
-pub use Rattle.zb_carried_keys.specs.Term
+pub use Rattle.zb_seal.specs.declared.term.Term

@@ -6,7 +6,7 @@ use Rattle.zb_aps.specs.declared.auxiliary.ApsAux.{ApsAux}
 use Rattle.zb_aps.specs.declared.fault.ApsError.{ApsError}
 use Rattle.zb_aps.specs.declared.frame.ApsFrame.{ApsFrame}
 use Rattle.zb_base.specs.declared.address.Eui.{Eui}
-use Rattle.zb_carried_keys.specs.Carrying.{is_command}
+use Rattle.zb_seal.specs.Carrying.{is_command}
 use Rattle.zb_cmd.specs.declared.command.Command.{Command}
 use Rattle.zb_cmd.specs.declared.command.Command.TheVariants as command
 use Rattle.zb_cmd.specs.declared.fault.CmdError.{CmdError}
@@ -17,7 +17,7 @@ use Rattle.zb_model.specs.Tools.{NwkShown, NwkAuxiliary, ApsShown, ApsAuxiliary,
 use Rattle.zb_nwk.specs.declared.auxiliary.NwkAux.{NwkAux}
 use Rattle.zb_nwk.specs.declared.fault.NwkError.{NwkError}
 use Rattle.zb_nwk.specs.declared.frame.NwkFrame.{NwkFrame}
-use Rattle.zb_carried_keys.specs.Opening.{label_of}
+use Rattle.zb_seal.specs.Opening.{label_of}
 use Rattle.zb_model_real.specs.Terms.{model_label}
 
 abbrev pub model_command : Command → model.Command

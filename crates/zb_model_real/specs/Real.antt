@@ -6,14 +6,14 @@ use Rattle.zb_cmd.specs.Reading.{command_of, leave_of}
 use Rattle.zb_cmd.specs.Spelling.{command}
 use Rattle.zb_cmd.specs.declared.command.Command.{Command}
 use Rattle.zb_cmd.specs.declared.command.Command.TheVariants as cmd
-use Rattle.zb_carried_keys.specs.Keyed.{keyed}
+use Rattle.zb_seal.specs.Keyed.{keyed}
 use Rattle.zb_model.specs.Data as model
 use Rattle.zb_model.specs.Tools.{Tools}
 use Rattle.zb_nwk.specs.Reading as nwk
-use Rattle.zb_carried_keys.specs.Opening.{opened_nwk, opened_aps}
-use Rattle.zb_carried_keys.specs.Wire.{wire}
-use Rattle.zb_carried_keys.specs.OpenError.{OpenError}
-use Rattle.zb_carried_keys.specs.Term.{Term}
+use Rattle.zb_seal.specs.Opening.{opened_nwk, opened_aps}
+use Rattle.zb_seal.specs.Wire.{wire}
+use Rattle.zb_seal.specs.declared.envelope.OpenError.{OpenError}
+use Rattle.zb_seal.specs.declared.term.Term.{Term}
 use Rattle.zb_model_real.specs.Readers.{aps_shown, nwk_shown, command_shown, leave_shown}
 use Rattle.zb_model_real.specs.Terms.{eui_of, key_of, term_of, model_term}
 

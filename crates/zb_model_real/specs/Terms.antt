@@ -9,7 +9,7 @@ use Rattle.zb_base.specs.declared.label.Layer.TheVariants as layer
 use Rattle.zb_node_types.specs.Changes.{model_layer}
 use Rattle.zb_model.specs.Data as model
 use Rattle.zb_model.specs.Data.{Bytes}
-use Rattle.zb_carried_keys.specs.Term.{Term}
+use Rattle.zb_seal.specs.declared.term.Term.{Term}
 
 abbrev pub model_label : Label → model.Label
 model_label label.Data = model.ForData

@@ -9,9 +9,9 @@ ghost use Rattle.zb_cmd.specs.declared.command.Command.{Command};
 ghost use Rattle.zb_model.specs.Data as model;
 ghost use Rattle.zb_model.specs.Data.{Bytes, Nwk, Aps};
 ghost use Rattle.zb_model.specs.Tools.{ApsAuxiliary, ApsShown, NwkAuxiliary, NwkShown, sealing_key as model_key};
-ghost use Rattle.zb_carried_keys.specs.Keys.{sealing_key};
-ghost use Rattle.zb_carried_keys.specs.Wire.{wire};
-ghost use Rattle.zb_carried_keys.specs.Term.{Term};
+ghost use Rattle.zb_seal.specs.Keys.{sealing_key};
+ghost use Rattle.zb_seal.specs.Wire.{wire};
+ghost use Rattle.zb_seal.specs.declared.term.Term.{Term};
 ghost use Rattle.zb_model_real.specs.Readers.{model_command};
 ghost use Rattle.zb_model_real.specs.Real.{real};
 ghost use Rattle.zb_model_real.specs.Terms.{model_label, model_term};
@@ -38,4 +38,4 @@ pub fn frames_open_as_they_show()
         → (t.layer ≡ Aps) × (t.base ≡ key) × (t.source ≡ unwrap_or aux.source given) × (t.counter ≡ aux.counter) }
 {}
 
-pub use zb_carried_keys::Term;
+pub use zb_seal::Term;

@@ -2,7 +2,7 @@
 -- + x^12 + x^5 + 1, over the bits of each byte from the lowest on, begun with zeros. It is the remainder of the
 -- message times x^16.
 use Rattle.std.specs.Prelude.{ℕ, List}
-use Rattle.zb_crc.specs.Division.{number_of, remainder}
+use Rattle.zb_install.specs.Division.{number_of, remainder}
 
 unfoldable pub check_sequence : List ℕ → ℕ
 check_sequence bytes = number_of (remainder 0 bytes)

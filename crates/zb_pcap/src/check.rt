@@ -2,7 +2,7 @@
 ghost use Rattle.std.specs.Prelude.{◌≡◌};
 ghost use Rattle.zb_pcap.specs.CheckSequence.{check_sequence};
 
-use zb_crc::divide;
+use zb_install::divide;
 
 /// Computes the frame check sequence of the bytes of a packet (IEEE 802.15.4).
 #[tactic(auto, unfolding(crate::specs::CheckSequence::check_sequence))]

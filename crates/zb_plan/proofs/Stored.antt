@@ -12,18 +12,7 @@ use Rattle.zb_plan.specs.Storing.{floor_edits, reserve_edits, stored_edits}
 
 behind_same : (k : Counting) (m : Move) → Moved m ∷ start_behind k.start (Moved m) ≡ move_edits k m
 behind_same k (Draw key) = refl
-behind_same k (DropNet key) = refl
-behind_same k (DropLink partner key) = refl
-behind_same k (Install key sequence) = refl
-behind_same k (Active key) = refl
-behind_same k (Row partner key attribute) = refl
-behind_same k (Pair first second key) = refl
-behind_same k (Became state) = refl
-behind_same k (Live device) = refl
-behind_same k (Removed device) = refl
-behind_same k (Roll sending) = refl
-behind_same k (Told device) = refl
-behind_same k (Untold device) = refl
+behind_same _ _ = refl
 
 settled_step : (b : Bool) (k : Counting) (m : Move) (ms : List Move) (rest : List Edit) → rest
     ≡ flat_map (move_edits k) ms

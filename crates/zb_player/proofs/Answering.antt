@@ -14,8 +14,8 @@ use Rattle.zb_model.specs.Play as play
 use Rattle.zb_model.specs.Play.{Disk, no_station, stations, step}
 use Rattle.zb_model_real.specs.Real.{real}
 use Rattle.law_run_steps.specs.Conditions.{Condition}
-use Rattle.law_run_swaps.proofs.Unswapped.{set_same}
-use Rattle.law_run_swaps.specs.Swaps.{Stood, after_swap, node_of, swapped}
+use Rattle.law_run_steps.proofs.Unswapped.{set_same}
+use Rattle.law_run_steps.specs.Swaps.{Stood, after_swap, node_of, swapped}
 use Rattle.law_schedules.specs.Schedules.{event_for, schedule_of, stations_for}
 use Rattle.law_schedules.proofs.Meets.{same_stations}
 use Rattle.zb_player.specs.Benches.{given_at, given_for, put_at}

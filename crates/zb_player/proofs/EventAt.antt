@@ -23,7 +23,7 @@ use Rattle.zb_player_events.specs.Nodes.{has_children, model_task, suits}
 use Rattle.zb_node_types.specs.Changes.{model_role}
 use Rattle.zb_player.specs.Playing.{FitsRun, IsEventAt}
 use Rattle.law_run_steps.specs.Steps.{is_of}
-use Rattle.law_run_swaps.specs.Swaps.{node_of}
+use Rattle.law_run_steps.specs.Swaps.{node_of}
 use Rattle.zb_player.proofs.Named.{adopts, found_at, joins, named_from, of_family, of_partners}
 use Rattle.zb_player.proofs.Seating.{setting_at, stations_differ}
 use Rattle.zb_sched.specs.Judge as judge
@@ -100,14 +100,8 @@ for_role : (w : Schedule) (q : Station) (event : play.Event) → node_in event �
 for_role w q (play.Own n task) same here fits counts child = suits_own w n q task (role_at w n q same here) fits child
 for_role w q (play.RollOver n) same here fits counts child = subst (λ (x : Role). is_centre x ≡ true)
     (role_at w n q same here) fits
-for_role w q (play.Deliver frame n) same here fits counts child = tt
-for_role w q (play.Reset n) same here fits counts child = tt
-for_role w q (play.PowerOn n) same here fits counts child = tt
-for_role w q (play.ShowRecord n) same here fits counts child = tt
-for_role w q (play.ArmStop n calls torn) same here fits counts child = tt
 for_role w q (play.ArmFail n call) same here fits counts child = counts
-for_role w q (play.InjectBytes bytes) same here fits counts child = tt
-for_role w q (play.ForgeNet to from source key sequence counter content) same here fits counts child = tt
+for_role _ _ _ _ _ _ _ _ = tt
 for_role w q (play.ForgeNetAps to from source key sequence counter label base aps_counter command) same here fits
     counts child = tt
 for_role w q (play.ForgeOpen to from source label base aps_counter command) same here fits counts child = tt
@@ -144,25 +138,9 @@ child_fits : (ms : List sched.Node) (e : Event) (q : Station) (it : Seat) → ha
     ≡ Some q)
     → ChildFits q.role (event_for (map station_for ms) e)
 unfolding event_for
-child_fits ms (said.Says name to bytes) q it fits found at = tt
-child_fits ms (said.Delivers frame name) q it fits found at = tt
-child_fits ms (said.Ticks name) q it fits found at = tt
-child_fits ms (said.Knocks name) q it fits found at = tt
-child_fits ms (said.Rejoins name) q it fits found at = tt
 child_fits ms (said.Adopts parent name rejoin) q it fits found at =
     found_parent parent q ms (at (has_name parent) found) (of_family ms name parent fits).1
-child_fits ms (said.Provisions name code) q it fits found at = tt
-child_fits ms (said.Repeats name) q it fits found at = tt
-child_fits ms said.Rolls q it fits found at = tt
-child_fits ms said.Switches q it fits found at = tt
-child_fits ms (said.Removes name parent) q it fits found at = tt
-child_fits ms (said.Resets name) q it fits found at = tt
-child_fits ms (said.Boots name) q it fits found at = tt
-child_fits ms (said.Dumps name) q it fits found at = tt
-child_fits ms (said.Stops name calls torn) q it fits found at = tt
-child_fits ms (said.Fails name call) q it fits found at = tt
-child_fits ms (said.Injects bytes) q it fits found at = tt
-child_fits ms (said.ForgesNet to from source key sequence counter content) q it fits found at = tt
+child_fits _ _ _ _ _ _ _ = tt
 child_fits ms (said.ForgesBoth to from source key sequence counter label base aps_counter command) q it fits found
     at = tt
 child_fits ms (said.ForgesOpen to from source label base aps_counter command) q it fits found at = tt
@@ -262,10 +240,6 @@ declared ms name some none = false≢true (ap is_some (sym none) ∙ named_from 
 pub of_outside : (ms : List sched.Node) (e : Event) (q : ℕ) → is_outside e ≡ true
     → is_of q (event_for (map station_for ms) e) ≡ false
 unfolding event_for
-of_outside ms (said.Injects bytes) q o = refl
-of_outside ms (said.ForgesNet to from source key sequence counter content) q o = refl
-of_outside ms (said.ForgesBoth to from source key sequence counter label base aps_counter command) q o = refl
-of_outside ms (said.ForgesOpen to from source label base aps_counter command) q o = refl
 of_outside ms (said.Says name to bytes) q o = absurd (false≢true o)
 of_outside ms (said.Delivers frame name) q o = absurd (false≢true o)
 of_outside ms (said.Ticks name) q o = absurd (false≢true o)
@@ -285,14 +259,11 @@ of_outside ms (said.Fails name call) q o = absurd (false≢true o)
 of_outside ms (said.Asks name partner) q o = absurd (false≢true o)
 of_outside ms (said.Shares name partner) q o = absurd (false≢true o)
 of_outside ms (said.Tells name partner bytes) q o = absurd (false≢true o)
+of_outside _ _ _ _ = refl
 
 pub none_outside : (ms : List sched.Node) (e : Event) → is_outside e ≡ true
     → node_of (event_for (map station_for ms) e) ≡ None
 unfolding event_for
-none_outside ms (said.Injects bytes) o = refl
-none_outside ms (said.ForgesNet to from source key sequence counter content) o = refl
-none_outside ms (said.ForgesBoth to from source key sequence counter label base aps_counter command) o = refl
-none_outside ms (said.ForgesOpen to from source label base aps_counter command) o = refl
 none_outside ms (said.Says name to bytes) o = absurd (false≢true o)
 none_outside ms (said.Delivers frame name) o = absurd (false≢true o)
 none_outside ms (said.Ticks name) o = absurd (false≢true o)
@@ -312,6 +283,7 @@ none_outside ms (said.Fails name call) o = absurd (false≢true o)
 none_outside ms (said.Asks name partner) o = absurd (false≢true o)
 none_outside ms (said.Shares name partner) o = absurd (false≢true o)
 none_outside ms (said.Tells name partner bytes) o = absurd (false≢true o)
+none_outside _ _ _ = refl
 
 centre_seat_by : (k : ℕ) (m : sched.Node) (o : Option Seat) (b c : Bool) → b ≡ c → (c ≡ false → o ≡ None → ⊥)
     → (if b then Some (record { place = k; eui = record { 0 = m.eui } }) else o) ≡ None → ⊥

@@ -5,7 +5,7 @@ use Rattle.zb_model.specs.Lines.{Line}
 use Rattle.zb_model.specs.Play.{Event, Schedule}
 use Rattle.zb_model_real.specs.Real.{real}
 use Rattle.law_run_steps.specs.Conditions.{Condition}
-use Rattle.law_run_swaps.specs.Swaps.{Passed, Stood, node_of, one_passed, swapped_groups}
+use Rattle.law_run_steps.specs.Swaps.{Passed, Stood, node_of, one_passed, swapped_groups}
 use Rattle.zb_player.specs.Swapping.{AreFit, FitsAt, nodes_after}
 
 -- what comes of one more event

@@ -12,7 +12,7 @@ use Rattle.zb_model.specs.Play.{stations}
 use Rattle.zb_model_real.specs.Real.{real}
 use Rattle.law_run.proofs.Basics.{nat_eq-refl}
 use Rattle.law_run_steps.specs.Conditions.{Condition}
-use Rattle.law_run_swaps.specs.Swaps.{Passed, Stood, node_of, one_passed, swapped_groups}
+use Rattle.law_run_steps.specs.Swaps.{Passed, Stood, node_of, one_passed, swapped_groups}
 use Rattle.law_schedules.specs.Schedules.{event_for, schedule_of, stations_for}
 use Rattle.zb_player_events.proofs.NodeLaws.{holds_from}
 use Rattle.zb_player_events.specs.Acts.{seat_for}

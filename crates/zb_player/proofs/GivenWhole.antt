@@ -12,7 +12,7 @@ use Rattle.zb_model.specs.Play.{stations}
 use Rattle.zb_model.specs.Transcript.{end_line}
 use Rattle.zb_model_real.specs.Real.{real}
 use Rattle.law_run_steps.specs.Conditions.{Condition, condition_of}
-use Rattle.law_run_swaps.specs.Swaps.{Stood, first_nodes, swapped_lines, swapped_transcript}
+use Rattle.law_run_steps.specs.Swaps.{Stood, first_nodes, swapped_lines, swapped_transcript}
 use Rattle.law_schedules.specs.Schedules.{event_for, schedule_of, stations_for}
 use Rattle.zb_player.specs.Playing.{RunStands}
 use Rattle.zb_player.specs.Runs.{IsPlayed, acts_of, last_line, text_in}

@@ -19,10 +19,10 @@ use Rattle.zb_model_real.specs.Real.{real}
 use Rattle.law_schedules.specs.Schedules.{schedule_of}
 use Rattle.law_run.proofs.Basics.{nat_eq-refl}
 use Rattle.law_run_steps.specs.Conditions.{Condition, condition_of}
-use Rattle.law_run_swaps.proofs.Turns.{left_setting}
-use Rattle.law_run_swaps.proofs.Unswapped.{IsStep, if_other, if_same, passed_step}
-use Rattle.law_run_swaps.specs.Swaps.{Passed, node_of, passed, with_condition}
-use Rattle.law_run_swaps.specs.Turns.{event_turn}
+use Rattle.law_run_steps.proofs.Turns.{left_setting}
+use Rattle.law_run_steps.proofs.Unswapped.{IsStep, if_other, if_same, passed_step}
+use Rattle.law_run_steps.specs.Swaps.{Passed, node_of, passed, with_condition}
+use Rattle.law_run_steps.specs.Turns.{event_turn}
 use Rattle.zb_player_events.specs.Nodes.{AllIn, IsIn, IsSeat, NodeValue}
 use Rattle.zb_player.specs.Playing.{AreSettings, IsEventAt, RunGoes, RunIn, RunPasses, passed_by, step_of}
 use Rattle.zb_player.specs.declared.run.Run.{Run}

@@ -14,7 +14,7 @@ use Rattle.zb_model.specs.Data.{Bytes, Station}
 use Rattle.zb_model.specs.Play as play
 use Rattle.law_schedules.specs.Schedules.{station_for}
 use Rattle.law_run_steps.specs.Steps.{is_of}
-use Rattle.law_run_swaps.specs.Swaps.{node_of}
+use Rattle.law_run_steps.specs.Swaps.{node_of}
 use Rattle.zb_player_events.specs.Nodes.{model_task}
 use Rattle.zb_sched.specs.Judge as judge
 use Rattle.zb_sched.specs.Judge.{are_child_and_parent, are_partners, has_its_nodes, is_joiner, is_parent, role_named}
@@ -164,28 +164,13 @@ of_family ms name parent e =
 
 -- the other nodes that an event names are declared
 pub has_names : (ms : List Node) (e : Event) → has_its_nodes e (map seated ms) ≡ true → HasNames (map station_for ms) e
-has_names ms (said.Says name to bytes) e = tt
-has_names ms (said.Delivers frame name) e = tt
-has_names ms (said.Ticks name) e = tt
-has_names ms (said.Knocks name) e = tt
-has_names ms (said.Rejoins name) e = tt
 has_names ms (said.Adopts parent name rejoin) e = is_named ms name (of_family ms name parent e).0
 has_names ms (said.Provisions name code) e = is_named ms name e
 has_names ms (said.Repeats name) e = is_named ms name e
-has_names ms said.Rolls e = tt
-has_names ms said.Switches e = tt
 has_names ms (said.Removes name parent) e = let f =
     of_family ms name parent e in (is_named ms name f.0, is_named_parent ms parent f.1)
-has_names ms (said.Resets name) e = tt
-has_names ms (said.Boots name) e = tt
-has_names ms (said.Dumps name) e = tt
-has_names ms (said.Stops name calls torn) e = tt
-has_names ms (said.Fails name call) e = tt
-has_names ms (said.Injects bytes) e = tt
-has_names ms (said.ForgesNet to from source key sequence counter content) e = tt
-has_names ms (said.ForgesBoth to from source key sequence counter label base aps_counter command) e = tt
-has_names ms (said.ForgesOpen to from source label base aps_counter command) e = tt
 has_names ms (said.Asks name partner) e = is_named ms partner (of_partners ms name partner e).1
 has_names ms (said.Shares name partner) e = let f =
     of_partners ms name partner e in (is_named ms name f.0, is_named ms partner f.1)
 has_names ms (said.Tells name partner bytes) e = is_named ms partner (of_partners ms name partner e).1
+has_names _ _ _ = tt

@@ -15,7 +15,7 @@ use Rattle.zb_model_real.specs.Real.{real}
 use Rattle.zb_model.specs.Schedules.{CountsCalls, SuitsRole}
 use Rattle.law_schedules.specs.Schedules.{event_for, schedule_of, stations_for}
 use Rattle.law_run_steps.specs.Conditions.{Condition, condition_of}
-use Rattle.law_run_swaps.specs.Swaps.{Passed, node_of, passed}
+use Rattle.law_run_steps.specs.Swaps.{Passed, node_of, passed}
 use Rattle.zb_player_events.specs.Nodes.{AllIn}
 use Rattle.zb_player.specs.declared.run.Run.{Run}
 use Rattle.zb_trace_model.specs.Said.{text_of}

@@ -8,7 +8,7 @@ use Rattle.zb_model.specs.Play.{Event, Schedule, start}
 use Rattle.zb_model.specs.Transcript.{end_line}
 use Rattle.zb_model_real.specs.Real.{real}
 use Rattle.law_run_steps.specs.Conditions.{Condition}
-use Rattle.law_run_swaps.specs.Swaps.{Passed, Stood, first_nodes, node_of, one_passed, swapped, swapped_groups, swapped_lines, swapped_transcript}
+use Rattle.law_run_steps.specs.Swaps.{Passed, Stood, first_nodes, node_of, one_passed, swapped, swapped_groups, swapped_lines, swapped_transcript}
 use Rattle.law_schedules.specs.Schedules.{schedule_of}
 use Rattle.zb_player.specs.Playing.{RunIn, passed_by}
 use Rattle.zb_player.specs.Runs.{IsPlayed, acts_of, last_line, text_in}

@@ -12,7 +12,7 @@ ghost use Rattle.zb_model_real.specs.Real.{real};
 ghost use Rattle.law_schedules.specs.Schedules.{event_for, schedule_of, stations_for};
 ghost use Rattle.zb_player_events.specs.Told.{HasRoom, lines_told, most_event_lines};
 ghost use Rattle.law_run_steps.specs.Conditions.{Condition};
-ghost use Rattle.law_run_swaps.specs.Swaps.{Stood, node_of};
+ghost use Rattle.law_run_steps.specs.Swaps.{Stood, node_of};
 ghost use Rattle.zb_player.specs.Benches.{Asks, AsksFor, Gave, GaveFor, given_for, put_at, under, most_seats};
 ghost use Rattle.zb_player.specs.Playing.{AreCalledBy, FitsRun, IsEventAt, RunGoes, RunIn, RunPasses, RunStands, passed_by, step_of};
 ghost use Rattle.zb_player.specs.Swapping.{FitsAt, passed_with};

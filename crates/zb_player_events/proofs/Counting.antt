@@ -32,11 +32,8 @@ ok_so (Err e) P p = tt
 -- ---- counts
 
 all_counted : (count : ℕ) (calls : play.Calls) → calls_after count calls ≡ counted_on count (count_of calls)
-all_counted count NoCalls = refl
-all_counted count EntryCalls = refl
-all_counted count RecordCalls = refl
 all_counted count (BootCalls true) = refl
-all_counted count (BootCalls false) = refl
+all_counted _ _ = refl
 
 -- nothing falls on them
 whole_made : (armed : Armed) (calls : play.Calls) → falls armed calls ≡ false → made_of armed calls ≡ count_of calls

@@ -29,8 +29,8 @@ use Rattle.zb_model_real.specs.Real.{real}
 use Rattle.law_run_steps.proofs.Centre.{none-of-others}
 use Rattle.law_run_steps.specs.Conditions.{Condition, after_arming, after_cut, after_cut_boot, after_power_on, after_reset, after_whole, calls_by}
 use Rattle.law_run_steps.specs.Steps.{cut_lines, is_of_the_centre, whole_lines}
-use Rattle.law_run_swaps.proofs.Turns.{answer_cut, answer_whole, boot_by, boot_cut, boot_whole, reset_by, task_down, task_up}
-use Rattle.law_run_swaps.specs.Turns.{Turn, deliver_turn, event_turn, refused_turn, task_turn, turn}
+use Rattle.law_run_steps.proofs.Turns.{answer_cut, answer_whole, boot_by, boot_cut, boot_whole, reset_by, task_down, task_up}
+use Rattle.law_run_steps.specs.Turns.{Turn, deliver_turn, event_turn, refused_turn, task_turn, turn}
 use Rattle.zb_player_node.proofs.Conditions.{in_later, power_is}
 use Rattle.zb_player_node.specs.Answers.{CanHave, Changes, HasBooted, HasHandled}
 use Rattle.zb_player_node.specs.Nodes.{IsIn}

@@ -6,3 +6,4 @@ pub mod Going
 pub mod FewCalls
 pub mod Counting
 pub mod NodeLaws
+mod Controls

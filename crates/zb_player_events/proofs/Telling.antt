@@ -89,40 +89,20 @@ air_stays h number n es = fold-append air_line [] h (lines_of_edits number n es)
 -- ---- whose changes they are
 
 of_centre : (known : List Station) (n : ℕ) (e : Edit) → the_centre known ≡ n → IsOfCentre known n e
-of_centre known n (Reserve l limit) is = tt
-of_centre known n (Floor l key from value) is = tt
-of_centre known n (Start key value) is = tt
 of_centre known n (Moved (Draw key)) is = is
-of_centre known n (Moved (DropNet key)) is = tt
-of_centre known n (Moved (DropLink partner key)) is = tt
-of_centre known n (Moved (Install key sequence)) is = tt
-of_centre known n (Moved (Active key)) is = tt
-of_centre known n (Moved (Row partner key a)) is = tt
-of_centre known n (Moved (Pair first second key)) is = tt
-of_centre known n (Moved (Became s)) is = tt
 of_centre known n (Moved (Live device)) is = is
 of_centre known n (Moved (Removed device)) is = is
-of_centre known n (Moved (Roll sending)) is = tt
 of_centre known n (Moved (Told device)) is = is
 of_centre known n (Moved (Untold device)) is = is
+of_centre _ _ _ _ = tt
 
 of_others : (known : List Station) (n : ℕ) (e : Edit) → is_of_the_centre e ≡ false → IsOfCentre known n e
-of_others known n (Reserve l limit) is = tt
-of_others known n (Floor l key from value) is = tt
-of_others known n (Start key value) is = tt
 of_others known n (Moved (Draw key)) is = absurd (false≢true (sym is))
-of_others known n (Moved (DropNet key)) is = tt
-of_others known n (Moved (DropLink partner key)) is = tt
-of_others known n (Moved (Install key sequence)) is = tt
-of_others known n (Moved (Active key)) is = tt
-of_others known n (Moved (Row partner key a)) is = tt
-of_others known n (Moved (Pair first second key)) is = tt
-of_others known n (Moved (Became s)) is = tt
 of_others known n (Moved (Live device)) is = absurd (false≢true (sym is))
 of_others known n (Moved (Removed device)) is = absurd (false≢true (sym is))
-of_others known n (Moved (Roll sending)) is = tt
 of_others known n (Moved (Told device)) is = absurd (false≢true (sym is))
 of_others known n (Moved (Untold device)) is = absurd (false≢true (sym is))
+of_others _ _ _ _ = tt
 
 no_first : (a b : Bool) → a || b ≡ false → a ≡ false
 no_first true b e = e

@@ -11,7 +11,7 @@ use Rattle.zb_model.specs.Play.{Schedule, setting_of, stations}
 use Rattle.zb_model.specs.Readings.{stations_of}
 use Rattle.zb_model.specs.State.{is_centre}
 use Rattle.law_run_steps.specs.Conditions.{Condition}
-use Rattle.law_run_swaps.specs.Turns.{Turn}
+use Rattle.law_run_steps.specs.Turns.{Turn}
 use Rattle.zb_player_node.specs.Nodes.{IsIn}
 use Rattle.zb_player_node.specs.Values.{NodeValue}
 use Rattle.zb_node_types.specs.Changes.{model_place, place_of, reason}

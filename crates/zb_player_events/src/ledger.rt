@@ -10,7 +10,7 @@ ghost use Rattle.zb_model.specs.Play.{Schedule, stations};
 ghost use Rattle.zb_model_real.specs.Real.{real};
 ghost use Rattle.zb_player_events.specs.Calls.{event_calls};
 ghost use Rattle.law_run_steps.specs.Conditions.{Condition};
-ghost use Rattle.law_run_swaps.specs.Turns.{event_turn};
+ghost use Rattle.law_run_steps.specs.Turns.{event_turn};
 ghost use Rattle.zb_node_types.specs.Changes.{model_place, place_of, reason};
 ghost use Rattle.zb_trace_model.specs.Naming.{IsCalled};
 ghost use Rattle.zb_trace_model.specs.Said.{IsLineOf};

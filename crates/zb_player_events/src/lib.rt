@@ -3,12 +3,14 @@
 #![tactic(auto)]
 
 mod acts;
+mod frames;
 mod ledger;
 mod node_events;
 mod outside;
 mod seats;
 
 pub use acts::Act;
+pub use frames::{aps_command, clear_frame, forged_control, nwk_frame, sealed};
 pub use ledger::Ledger;
 pub use seats::{Seat, Seats};
 pub use zb_player_node::{Node, NodePlan};

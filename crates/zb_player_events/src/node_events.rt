@@ -9,7 +9,7 @@ ghost use Rattle.zb_model.specs.Play.{Schedule, frame_at, stations, supply};
 ghost use Rattle.zb_model_real.specs.Real.{real};
 ghost use Rattle.zb_player_events.specs.Calls.{event_calls, frame_calls, task_calls};
 ghost use Rattle.law_run_steps.specs.Conditions.{Condition};
-ghost use Rattle.law_run_swaps.specs.Turns.{deliver_turn, event_turn, task_turn};
+ghost use Rattle.law_run_steps.specs.Turns.{deliver_turn, event_turn, task_turn};
 ghost use Rattle.zb_player_node.specs.Tasks.{model_task, suits};
 ghost use Rattle.zb_player_events.specs.Told.{Adds, Before, Calls, Goes, HasRoom, IsFallen, IsRefusedFor, IsTold, fall_line, lines_told, most_event_lines};
 ghost use Rattle.zb_trace_model.specs.Naming.{IsCalled};

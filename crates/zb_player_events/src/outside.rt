@@ -15,9 +15,9 @@ ghost use Rattle.zb_base.specs.Limits.{longest_frame, most_lines};
 ghost use Rattle.zb_send.specs.Sendings.{clear_room};
 
 use crate::ledger::Ledger;
+use crate::{aps_command, clear_frame, forged_control, nwk_frame, sealed};
 use zb_base::{Frame, Name, NoMemory, Short};
 use zb_cursor::frame_from;
-use zb_player_forge::{aps_command, clear_frame, forged_control, nwk_frame, sealed};
 use zb_sched::Event;
 use zb_seal::Term;
 use zb_send::SECURED;

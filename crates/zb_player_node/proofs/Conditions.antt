@@ -31,7 +31,7 @@ use Rattle.zb_model_real.specs.Real.{real}
 use Rattle.law_tables_suffice.proofs.Answered.{answered_same, boot_same}
 use Rattle.law_run_steps.specs.Conditions.{Condition, after_cut, after_cut_boot, after_fall, after_power_on, after_storing, after_whole, calls_by, commits_with}
 use Rattle.zb_setting.specs.Settings.{setting_for}
-use Rattle.law_run_swaps.specs.Swaps.{Stood, after_swap}
+use Rattle.law_run_steps.specs.Swaps.{Stood, after_swap}
 use Rattle.zb_player_node.proofs.Showing.{same_answer}
 use Rattle.zb_player_node.proofs.Standing.{after_alike, boot_alike, calls_are, same_given, stored_as, stored_from, stored_later, stored_next, writes_are}
 use Rattle.zb_player_node.specs.Answers.{CanHave, CanStart, HasBooted, HasGiven, HasMade, IsPlanFor, IsStarted, IsStillDown, IsUpAgain, WasAnswered, WasCut, start_condition}

@@ -12,7 +12,7 @@ use Rattle.zb_model.specs.Play.{Schedule, Disk, commits_of_record}
 use Rattle.zb_model.specs.Record.{payload, record_of}
 use Rattle.zb_model.specs.State.{NodeState, after_boot, shown}
 use Rattle.law_run_steps.specs.Conditions.{Condition, condition_of}
-use Rattle.law_run_swaps.specs.Swaps.{Stood}
+use Rattle.law_run_steps.specs.Swaps.{Stood}
 use Rattle.zb_setting.specs.Settings.{setting_for}
 use Rattle.zb_player_node.specs.Values.{NodeValue, Running}
 use Rattle.zb_node_types.specs.Changes.{edits, model_role}

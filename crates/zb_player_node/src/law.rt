@@ -2,7 +2,7 @@
 ghost use Rattle.std.specs.Prelude.{◌≡◌, ◌+◌, ℕ, Some, false, is_some};
 ghost use Rattle.zb_disk.specs.Memory.{Medium};
 ghost use Rattle.law_run_steps.specs.Conditions.{Condition};
-ghost use Rattle.law_run_swaps.specs.Swaps.{Stood, after_swap};
+ghost use Rattle.law_run_steps.specs.Swaps.{Stood, after_swap};
 ghost use Rattle.zb_player_node.specs.Nodes.{CanBootFrom, IsIn};
 ghost use Rattle.zb_player_node.specs.Values.{NodeValue};
 

@@ -37,23 +37,7 @@ kept_more h m old new w stands counts kept = record {
 
 undeclaring : (stations : List Station) (m : log.Line) → declares_node m ≡ false → station_line stations m ≡ stations
 undeclaring stations (log.Declared p) none = absurd (false≢true (sym none))
-undeclaring stations (log.GivenNet n key sequence) none = refl
-undeclaring stations (log.GivenLink n partner key) none = refl
-undeclaring stations (log.Counter n layer limit) none = refl
-undeclaring stations (log.Changed event n edit) none = refl
-undeclaring stations (log.Commit event n) none = refl
-undeclaring stations (log.Accept event n t) none = refl
-undeclaring stations (log.Refuse event n at why) none = refl
-undeclaring stations (log.Seal event n t) none = refl
-undeclaring stations (log.Forge event t) none = refl
-undeclaring stations (log.Send event n frame bytes) none = refl
-undeclaring stations (log.Inject event frame bytes) none = refl
-undeclaring stations (log.Stopped event n) none = refl
-undeclaring stations (log.DownReset event n) none = refl
-undeclaring stations (log.DownDisk event n) none = refl
-undeclaring stations (log.Boot event n) none = refl
-undeclaring stations (log.Dump event n bytes) none = refl
-undeclaring stations (log.End events seals accepts refusals ideal private) none = refl
+undeclaring _ _ _ = refl
 
 still_known : (h : List log.Line) (m : log.Line) → declares_node m ≡ false → stations_of (h ++ m ∷ []) ≡ stations_of h
 unfolding stations_of

@@ -1,7 +1,7 @@
 -- What the start and the end of a rollover change, in the words of the policy.
 use Rattle.std.specs.Prelude.{◌+◌, ◌%◌, List, [], ◌∷◌, ◌++◌, true, false, Option, Some, None}
 use Rattle.zb_model.specs.Data.{Bytes, Move, Install, Active, Roll, NoKey, KeysFull}
-use Rattle.zb_model.specs.Rules.{Outcome, Does, unless, found_or, drop_old, nets_full}
+use Rattle.zb_model.specs.Rules.{Outcome, Does, refuse_if, found_or, drop_old, nets_full}
 use Rattle.zb_model.specs.State.{NetKey, NodeState, active_row}
 
 -- of two network keys in use the one that isn't active goes, and the new one has the next sequence
@@ -11,7 +11,7 @@ start_moves s net key = drop_old s ++ (Install key ((net.sequence + 1) % 256) �
 unfoldable pub start_rule : NodeState → Bytes → Outcome
 start_rule s key =
     found_or (active_row s) NoKey (λ net.
-    unless (nets_full s) KeysFull (
+    refuse_if (nets_full s) KeysFull (
     Does (start_moves s net key) None))
 
 -- the newest network key in use becomes active

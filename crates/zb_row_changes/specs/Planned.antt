@@ -2,9 +2,9 @@
 -- about its rows. This project's profile of Zigbee 05-3474-21, chapter 4.
 use Rattle.std.specs.Prelude.{ℕ, ◌≤◌, ◌&&◌, ◌||◌, ⊤, List, [], ◌∷◌, ◌++◌, map, filter, flat_map, find, length, Option, Some, None, if◌then◌else◌, is_none, Result, Ok, Err}
 use Rattle.zb_model.specs.Answer.{changes, start_edit, start_for}
-use Rattle.zb_model.specs.Commands.{activates, dropped_at, greater, has_key, lesser, proves, take_row, unless_old, verified_current}
+use Rattle.zb_model.specs.Commands.{activates, dropped_at, greater, has_key, lesser, proves, take_row, refuse_if_old, verified_current}
 use Rattle.zb_model.specs.Data.{Bytes, Edit, Moved, Move, Install, Active, Row, Pair, Unverified, Verified, Reason, KeyOld, KeysFull, RowsFull, KeyInUse, WrongState, WrongHash, Malformed}
-use Rattle.zb_model.specs.Rules.{Outcome, Stop, Does, Sending, unless, found_or, choose, drop_old, drop_partner, drop_row, nets_full, pairs_full}
+use Rattle.zb_model.specs.Rules.{Outcome, Stop, Does, Sending, refuse_if, found_or, choose, drop_old, drop_partner, drop_row, nets_full, pairs_full}
 use Rattle.zb_model.specs.State.{NodeState, current, has_net, is_live_of, live_of, offered}
 use Rattle.zb_model.specs.Tools.{Tools}
 use Rattle.zb_node_types.specs.Changes.{edits}
@@ -66,10 +66,10 @@ arrival s key = if activates s then Active key ∷ [] else []
 -- the one that isn't active goes.
 unfoldable pub net_rule : NodeState → Bytes → ℕ → Outcome
 net_rule s key sequence =
-    unless_old s key (dropped_at 0 key s.nets) (
+    refuse_if_old s key (dropped_at 0 key s.nets) (
     choose (has_net key s.nets)
     (Does (arrival s key) None)
-    (unless (nets_full s) KeysFull (
+    (refuse_if (nets_full s) KeysFull (
     Does (drop_old s ++ (Install key sequence ∷ arrival s key)) None)))
 
 -- the newest network key in use of that sequence becomes active
@@ -99,7 +99,7 @@ partner_rule s partner key =
 -- verified current one nothing changes.
 unfoldable pub verify_rule : Tools → NodeState → ℕ → Bytes → Outcome
 verify_rule tools s partner hash =
-    unless (is_none (offered s partner) && is_none (verified_current s partner)) WrongState (
+    refuse_if (is_none (offered s partner) && is_none (verified_current s partner)) WrongState (
     choose (proves tools hash (offered s partner))
     (found_or (offered s partner) WrongHash (λ row.
     Does (drop_row (current s partner) ++ (Row partner row.key Verified ∷ [])) None))
@@ -112,5 +112,5 @@ verify_rule tools s partner hash =
 -- two devices get a key for one another, the smaller address first
 unfoldable pub pair_rule : NodeState → ℕ → ℕ → Bytes → Outcome
 pair_rule s a b key =
-    unless (pairs_full s) RowsFull (
+    refuse_if (pairs_full s) RowsFull (
     Does (Pair (lesser a b) (greater a b) key ∷ []) None)

@@ -1,15 +1,15 @@
 -- What the proof of a rule unfolds beside the rule's own word. That is the steps of its chain of refusals, and the
 -- part of it that is about the rows of a partner.
 use Rattle.std.specs.Prelude.{⊤}
-use Rattle.zb_model.specs.Rules.{unless, found_or, choose}
+use Rattle.zb_model.specs.Rules.{refuse_if, found_or, choose}
 use Rattle.zb_row_changes.specs.Planned.{partner_rule}
 use Rattle.zb_row_changes.specs.Real.{real}
 
 unfoldable pub steps : ⊤
-unfolding unless found_or choose partner_rule
+unfolding refuse_if found_or choose partner_rule
 steps = tt
 
 -- the same of a rule that asks a tool
 unfoldable pub steps_with_tools : ⊤
-unfolding unless found_or choose real
+unfolding refuse_if found_or choose real
 steps_with_tools = tt

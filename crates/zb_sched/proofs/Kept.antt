@@ -449,12 +449,7 @@ nodes_same (Removes name parent) seats = rw (role_same name seats, role_same par
 nodes_same (Asks name partner) seats = rw (role_same name seats, role_same partner seats) refl
 nodes_same (Shares name partner) seats = rw (role_same name seats, role_same partner seats) refl
 nodes_same (Tells name partner bytes) seats = rw (role_same name seats, role_same partner seats) refl
-nodes_same Rolls seats = refl
-nodes_same Switches seats = refl
-nodes_same (Injects bytes) seats = refl
-nodes_same (ForgesNet to from source key sequence counter content) seats = refl
-nodes_same (ForgesBoth to from source key sequence counter label base aps_counter command) seats = refl
-nodes_same (ForgesOpen to from source label base aps_counter command) seats = refl
+nodes_same _ _ = refl
 
 pub clashes_same : (key name : Bytes) (seen : Seen)
     → clashes key name (record { seats = map seated (nodes seen.seats); draws = seen.draws; events = [] })

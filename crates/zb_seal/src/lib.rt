@@ -1,6 +1,7 @@
 //! Sealing and opening the layers of a frame (05-3474-21, 4.3.1, 4.4.1 and 4.5).
 #![tactic(auto)]
 
+mod carrying;
 mod envelope;
 mod key;
 mod laws;
@@ -10,6 +11,7 @@ mod sealing;
 mod sealing_keys;
 mod term;
 
+pub use carrying::{carried, is_command};
 pub use envelope::{Envelope, NwkEnvelope, OpenError};
 pub use key::{nonce, real_level, sealing_key, zero_level};
 pub use laws::wire_and_open;

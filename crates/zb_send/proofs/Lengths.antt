@@ -13,17 +13,8 @@ use Rattle.zb_send.specs.Sendings.{room}
 
 -- a command but a Tunnel needs no more to be one
 pub shaped : (c : Command) → is_tunnel c ≡ false → IsCommand c
-shaped (TransportNetwork key sequence destination source) e = tt
-shaped (TransportApplication key partner initiator) e = tt
-shaped (TransportLink key destination source) e = tt
-shaped (Update device address status) e = tt
-shaped (Remove target) e = tt
-shaped (RequestApplication partner) e = tt
-shaped RequestLink e = tt
-shaped (Switch sequence) e = tt
 shaped (Tunnel destination inner) e = absurd cc
-shaped (Verify kind source hash) e = tt
-shaped (Confirm status kind destination) e = tt
+shaped _ _ = tt
 
 pub least_room : (b : Bool) → 101 ≤ room b
 least_room true = omega arith

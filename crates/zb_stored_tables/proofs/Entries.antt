@@ -153,24 +153,8 @@ all_fit_rules (e ∷ es) s kept fit = let parts = both (fits e s) (all_fit es (a
 
 pub applied_role : (e : Edit) (s : NodeState) → (applied e s).role ≡ s.role
 unfolding applied
-applied_role (Reserve Nwk limit) s = refl
-applied_role (Reserve Aps limit) s = refl
-applied_role (Floor Nwk key sender value) s = refl
-applied_role (Floor Aps key sender value) s = refl
-applied_role (Start key value) s = refl
 applied_role (Moved (Draw key)) s = refl
-applied_role (Moved (DropNet key)) s = refl
-applied_role (Moved (DropLink partner key)) s = refl
-applied_role (Moved (Install key sequence)) s = refl
-applied_role (Moved (Active key)) s = refl
-applied_role (Moved (Row partner key attribute)) s = refl
-applied_role (Moved (Pair first second key)) s = refl
-applied_role (Moved (Became model_state)) s = refl
-applied_role (Moved (Live device)) s = refl
-applied_role (Moved (Removed device)) s = refl
-applied_role (Moved (Roll sending)) s = refl
-applied_role (Moved (Told device)) s = refl
-applied_role (Moved (Untold device)) s = refl
+applied_role _ _ = refl
 
 behind_role : (v : Version) (e : Edit) (s : NodeState) → (applied_behind v e s).role ≡ s.role
 unfolding applied_behind first_applied

@@ -220,23 +220,13 @@ three_same (suc (suc (suc (suc n)))) e =
 
 two_same : (b : ℕ) → nat_lt b 4 ≡ true → two_flags b ≡ Some (bit b 0, bit b 1)
 unfolding two_flags
-two_same zero e = refl
-two_same (suc zero) e = refl
-two_same (suc (suc zero)) e = refl
-two_same (suc (suc (suc zero))) e = refl
 two_same (suc (suc (suc (suc n)))) e = absurd (omega (arith, ltb-true _ _ e))
+two_same _ _ = refl
 
 flags_same : (b : ℕ) → nat_lt b 8 ≡ true → three_flags b ≡ Some (bit b 0, bit b 1, bit b 2)
 unfolding three_flags
-flags_same zero e = refl
-flags_same (suc zero) e = refl
-flags_same (suc (suc zero)) e = refl
-flags_same (suc (suc (suc zero))) e = refl
-flags_same (suc (suc (suc (suc zero)))) e = refl
-flags_same (suc (suc (suc (suc (suc zero))))) e = refl
-flags_same (suc (suc (suc (suc (suc (suc zero)))))) e = refl
-flags_same (suc (suc (suc (suc (suc (suc (suc zero))))))) e = refl
 flags_same (suc (suc (suc (suc (suc (suc (suc (suc n)))))))) e = absurd (omega (arith, ltb-true _ _ e))
+flags_same _ _ = refl
 
 one_same : (b : ℕ) → is_one b ≡ true → only 1 b ≡ Some tt
 one_same b e = let one : b ≡ 1 = eqb-true b 1 e in rw one refl

@@ -91,21 +91,11 @@ attribute_both_ways =
 
 pub state_again : (x : State) → state_of (state_text x) ≡ Some x
 state_again state.Fresh = refl
-state_again state.Knocked = refl
-state_again state.Joined = refl
-state_again state.Offered = refl
-state_again state.Confirmed = refl
-state_again state.Rejoining = refl
-state_again state.Gone = refl
+state_again _ = refl
 
 pub state_words : (x : State) → IsWord (state_text x)
 state_words state.Fresh = refl
-state_words state.Knocked = refl
-state_words state.Joined = refl
-state_words state.Offered = refl
-state_words state.Confirmed = refl
-state_words state.Rejoining = refl
-state_words state.Gone = refl
+state_words _ = refl
 
 pub state_both_ways : IsBothWays state_text state_of
 state_both_ways = record { word = state_words; reads = state_again; printed = value_is_text state_text states }

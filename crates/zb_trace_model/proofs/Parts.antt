@@ -41,12 +41,7 @@ role_same role.Device = refl
 
 pub state_same : (s : State) → state_for (model_state s) ≡ s
 state_same state.Fresh = refl
-state_same state.Knocked = refl
-state_same state.Joined = refl
-state_same state.Offered = refl
-state_same state.Confirmed = refl
-state_same state.Rejoining = refl
-state_same state.Gone = refl
+state_same _ = refl
 
 pub attribute_same : (a : Attribute) → attribute_for (model_attribute a) ≡ a
 attribute_same attribute.Provisional = refl
@@ -107,12 +102,7 @@ role_again model.Device = refl
 
 pub state_again : (s : model.State) → model_state (state_for s) ≡ s
 state_again model.Fresh = refl
-state_again model.Knocked = refl
-state_again model.Joined = refl
-state_again model.Offered = refl
-state_again model.Confirmed = refl
-state_again model.Rejoining = refl
-state_again model.Gone = refl
+state_again _ = refl
 
 pub attribute_again : (a : model.Attribute) → model_attribute (attribute_for a) ≡ a
 attribute_again model.Provisional = refl
@@ -134,43 +124,9 @@ term_again t =
     (λ l. record t { label = l }) (label_again t.label)
 
 pub reason_again : (at : Place) (why : model.Reason) → reason (refusal_for at why) ≡ why
-reason_again at model.Down = refl
-reason_again at model.Malformed = refl
-reason_again at model.NotForMe = refl
-reason_again at model.Unsecured = refl
-reason_again at model.NoKey = refl
-reason_again at model.CounterMax = refl
 reason_again at (model.Stale floor) = refl
-reason_again at model.BadMic = refl
-reason_again at model.Policy = refl
-reason_again at model.NotMember = refl
-reason_again at model.WrongState = refl
-reason_again at (model.KeyOld row) = refl
-reason_again at model.KeysFull = refl
-reason_again at model.RowsFull = refl
-reason_again at (model.KeyInUse partner) = refl
-reason_again at model.NoDraw = refl
-reason_again at model.CounterSpent = refl
-reason_again at model.WrongHash = refl
-reason_again at model.NoFrame = refl
+reason_again _ _ = refl
 
 pub place_is : (at : Place) (why : model.Reason) → place_of (refusal_for at why) ≡ at
-place_is at model.Down = refl
-place_is at model.Malformed = refl
-place_is at model.NotForMe = refl
-place_is at model.Unsecured = refl
-place_is at model.NoKey = refl
-place_is at model.CounterMax = refl
 place_is at (model.Stale floor) = refl
-place_is at model.BadMic = refl
-place_is at model.Policy = refl
-place_is at model.NotMember = refl
-place_is at model.WrongState = refl
-place_is at (model.KeyOld row) = refl
-place_is at model.KeysFull = refl
-place_is at model.RowsFull = refl
-place_is at (model.KeyInUse partner) = refl
-place_is at model.NoDraw = refl
-place_is at model.CounterSpent = refl
-place_is at model.WrongHash = refl
-place_is at model.NoFrame = refl
+place_is _ _ = refl

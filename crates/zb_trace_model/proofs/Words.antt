@@ -97,12 +97,7 @@ attribute_read attribute.Verified = refl
 
 state_read : (s : State) → state_said (state_text s) ≡ model_state s
 state_read state.Fresh = refl
-state_read state.Knocked = refl
-state_read state.Joined = refl
-state_read state.Offered = refl
-state_read state.Confirmed = refl
-state_read state.Rejoining = refl
-state_read state.Gone = refl
+state_read _ = refl
 
 rollover_read : (r : Rollover) → rollover_said (rollover_text r) ≡ is_sending r
 rollover_read rollover.Sending = refl
@@ -356,42 +351,22 @@ words_read known (line.Node name r eui short out_block in_block) =
     (record
     { name = name.bytes; eui = eui.0; short = short.0; role = x; out_block = out_block; in_block = in_block }))
     (role_read r)
-words_read known (line.GivenNet node key sequence) = refl
-words_read known (line.GivenLink node partner key) = refl
 words_read known (line.Counter node l limit) = ap (λ x. log.Counter (named known node.bytes) x limit) (layer_read l)
 words_read known (line.Reserve event node l limit) =
     ap (λ x. log.Changed event (named known node.bytes) (model.Reserve x limit)) (layer_read l)
 words_read known (line.Floor event node l key sender value) =
     ap (λ x. log.Changed event (named known node.bytes) (model.Floor x key.0 sender.0 value)) (layer_read l)
-words_read known (line.Draw event key) = refl
-words_read known (line.DropNet event node key) = refl
-words_read known (line.DropLink event node partner key) = refl
-words_read known (line.Install event node key sequence) = refl
-words_read known (line.Active event node key) = refl
-words_read known (line.Start event node key value) = refl
 words_read known (line.Row event node partner key a) =
     ap (λ x. log.Changed event (named known node.bytes) (model.Moved (model.Row partner.0 key.0 x))) (attribute_read a)
-words_read known (line.Pair event node one two key) = refl
 words_read known (line.State event node s) =
     ap (λ x. log.Changed event (named known node.bytes) (model.Moved (model.Became x))) (state_read s)
-words_read known (line.Live event device) = refl
-words_read known (line.Removed event device) = refl
 words_read known (line.Roll event node r) =
     ap (λ x. log.Changed event (named known node.bytes) (model.Moved (model.Roll x))) (rollover_read r)
-words_read known (line.Told event device) = refl
-words_read known (line.Untold event device) = refl
-words_read known (line.Commit event node) = refl
 words_read known (line.Accept event node t) = ap (log.Accept event (named known node.bytes)) (term_read t)
 words_read known (line.Refuse event node r) = ap (refused event (named known node.bytes)) (refusal_read r)
 words_read known (line.Seal event node t) = ap (log.Seal event (named known node.bytes)) (term_read t)
 words_read known (line.Forge event t) = ap (log.Forge event) (term_read t)
-words_read known (line.Send event node frame bytes) = refl
-words_read known (line.Inject event frame bytes) = refl
-words_read known (line.Stopped event node) = refl
-words_read known (line.DownReset event node) = refl
-words_read known (line.DownDisk event node) = refl
-words_read known (line.Boot event node) = refl
-words_read known (line.Dump event node bytes) = refl
 words_read known (line.End events seals accepts refusals ideal private) =
     ap (λ x. log.End events seals accepts refusals x (answer_said (answer_text private))) (answer_read ideal)
     ∙ ap (λ x. log.End events seals accepts refusals ideal x) (answer_read private)
+words_read _ _ = refl

@@ -8,7 +8,7 @@ use Rattle.zb_aps.specs.declared.frame.ApsFrame.{ApsFrame}
 use Rattle.zb_base.specs.declared.key.Key.{Key}
 use Rattle.zb_base.specs.declared.label.Layer.{Layer}
 use Rattle.zb_base.specs.declared.label.Layer.TheVariants.{Nwk}
-use Rattle.zb_carried_keys.specs.Carrying.{carried, carried_at, clear_key, is_command, is_command_header, key_in}
+use Rattle.zb_seal.specs.Carrying.{carried, carried_at, clear_key, is_command, is_command_header, key_in}
 use Rattle.zb_cmd.specs.Reading.{command_of}
 use Rattle.zb_seal.specs.declared.term.Term.{Term}
 

@@ -9,7 +9,7 @@ use Rattle.zb_base.specs.declared.address.Eui.{Eui}
 use Rattle.zb_base.specs.declared.key.Key.{Key}
 use Rattle.zb_base.specs.declared.label.Layer.{Layer}
 use Rattle.zb_base.specs.declared.label.Layer.TheVariants as layer
-use Rattle.zb_carried_keys.specs.Carrying as carrying
+use Rattle.zb_seal.specs.Carrying as carrying
 use Rattle.zb_node_types.specs.Changes.{model_layer}
 use Rattle.zb_base.specs.declared.state.Attribute.{Attribute}
 use Rattle.zb_cmd.specs.Reading.{command_of}
@@ -108,10 +108,7 @@ any_and p q (x ∷ xs) = ap (λ (b : Bool). (p x && q) || b) (any_and p q xs) �
   where
     spread : (a b q : Bool) → ((a && q) || (b && q)) ≡ ((a || b) && q)
     spread true true true = refl
-    spread true true false = refl
-    spread true false true = refl
-    spread true false false = refl
-    spread false b q = refl
+    spread _ _ _ = refl
 
 brings_as : (tools : Tools) (keys : List Bytes) (key : Bytes) (t : model.Term) (o : Option Bytes) → carried tools t ≡ o
     → (holds keys t.base && is_that (carried tools t) key) ≡ brings tools keys key t
@@ -140,13 +137,7 @@ has_more old new node key more n k =
 
 regrouped : (a x y e : Bool) → ((a || (x && e)) || (y && e)) ≡ (a || ((y || x) && e))
 regrouped true x y e = refl
-regrouped false true true true = refl
-regrouped false true true false = refl
-regrouped false true false true = refl
-regrouped false true false false = refl
-regrouped false false true true = refl
-regrouped false false true false = refl
-regrouped false false false e = refl
+regrouped _ _ _ _ = refl
 
 twice : (before middle after : Exposure) (first second : Option Eui) (key : Key) → Holds before middle first key
     → Holds middle after second key → (d : ℕ) (k : Bytes)
@@ -594,39 +585,17 @@ pub says_nothing : (tools : Tools) (s : Sayings) (who : Speaker) (l : Line)
     → ((x0 : ℕ) (x1 : ArrayString) (x2 : Term) → l ≡ line.Seal x0 x1 x2 → ⊥)
     → ((x0 : ℕ) (x1 : Term) → l ≡ line.Forge x0 x1 → ⊥)
     → said_by tools s who l ≡ nothing
-says_nothing tools s who (line.Node x0 x1 x2 x3 x4 x5) _ _ _ _ _ _ _ _ _ _ = refl
 says_nothing tools s who (line.GivenNet x0 x1 x2) differs _ _ _ _ _ _ _ _ _ = absurd (differs x0 x1 x2 refl)
 says_nothing tools s who (line.GivenLink x0 x1 x2) _ differs _ _ _ _ _ _ _ _ = absurd (differs x0 x1 x2 refl)
-says_nothing tools s who (line.Counter x0 x1 x2) _ _ _ _ _ _ _ _ _ _ = refl
-says_nothing tools s who (line.Reserve x0 x1 x2 x3) _ _ _ _ _ _ _ _ _ _ = refl
-says_nothing tools s who (line.Floor x0 x1 x2 x3 x4 x5) _ _ _ _ _ _ _ _ _ _ = refl
 says_nothing tools s who (line.Draw x0 x1) _ _ differs _ _ _ _ _ _ _ = absurd (differs x0 x1 refl)
-says_nothing tools s who (line.DropNet x0 x1 x2) _ _ _ _ _ _ _ _ _ _ = refl
-says_nothing tools s who (line.DropLink x0 x1 x2 x3) _ _ _ _ _ _ _ _ _ _ = refl
 says_nothing tools s who (line.Install x0 x1 x2 x3) _ _ _ differs _ _ _ _ _ _ = absurd (differs x0 x1 x2 x3 refl)
-says_nothing tools s who (line.Active x0 x1 x2) _ _ _ _ _ _ _ _ _ _ = refl
-says_nothing tools s who (line.Start x0 x1 x2 x3) _ _ _ _ _ _ _ _ _ _ = refl
 says_nothing tools s who (line.Row x0 x1 x2 x3 x4) _ _ _ _ differs _ _ _ _ _ = absurd (differs x0 x1 x2 x3 x4 refl)
 says_nothing tools s who (line.Pair x0 x1 x2 x3 x4) _ _ _ _ _ differs _ _ _ _ = absurd (differs x0 x1 x2 x3 x4 refl)
-says_nothing tools s who (line.State x0 x1 x2) _ _ _ _ _ _ _ _ _ _ = refl
-says_nothing tools s who (line.Live x0 x1) _ _ _ _ _ _ _ _ _ _ = refl
 says_nothing tools s who (line.Removed x0 x1) _ _ _ _ _ _ differs _ _ _ = absurd (differs x0 x1 refl)
-says_nothing tools s who (line.Roll x0 x1 x2) _ _ _ _ _ _ _ _ _ _ = refl
-says_nothing tools s who (line.Told x0 x1) _ _ _ _ _ _ _ _ _ _ = refl
-says_nothing tools s who (line.Untold x0 x1) _ _ _ _ _ _ _ _ _ _ = refl
-says_nothing tools s who (line.Commit x0 x1) _ _ _ _ _ _ _ _ _ _ = refl
 says_nothing tools s who (line.Accept x0 x1 x2) _ _ _ _ _ _ _ differs _ _ = absurd (differs x0 x1 x2 refl)
-says_nothing tools s who (line.Refuse x0 x1 x2) _ _ _ _ _ _ _ _ _ _ = refl
 says_nothing tools s who (line.Seal x0 x1 x2) _ _ _ _ _ _ _ _ differs _ = absurd (differs x0 x1 x2 refl)
 says_nothing tools s who (line.Forge x0 x1) _ _ _ _ _ _ _ _ _ differs = absurd (differs x0 x1 refl)
-says_nothing tools s who (line.Send x0 x1 x2 x3) _ _ _ _ _ _ _ _ _ _ = refl
-says_nothing tools s who (line.Inject x0 x1 x2) _ _ _ _ _ _ _ _ _ _ = refl
-says_nothing tools s who (line.Stopped x0 x1) _ _ _ _ _ _ _ _ _ _ = refl
-says_nothing tools s who (line.DownReset x0 x1) _ _ _ _ _ _ _ _ _ _ = refl
-says_nothing tools s who (line.DownDisk x0 x1) _ _ _ _ _ _ _ _ _ _ = refl
-says_nothing tools s who (line.Boot x0 x1) _ _ _ _ _ _ _ _ _ _ = refl
-says_nothing tools s who (line.Dump x0 x1 x2) _ _ _ _ _ _ _ _ _ _ = refl
-says_nothing tools s who (line.End x0 x1 x2 x3 x4 x5) _ _ _ _ _ _ _ _ _ _ = refl
+says_nothing _ _ _ _ _ _ _ _ _ _ _ _ _ _ = refl
 
 pub quiet_follows : (tools : Tools) (counts : ℕ → Bool) (w : EndWords) (s a : Sayings) → a ≡ nothing
     → (after : Sayings) → Grows counts s a after → Represents tools counts w s → Represents tools counts w after

@@ -293,38 +293,7 @@ pub other_stations : (known : List Station) (l : AnyLine)
     → ((x0 : ArrayString) (x1 : Role) (x2 : Eui) (x3 : Short) (x4 : ℕ) (x5 : ℕ) → l ≡ line.Node x0 x1 x2 x3 x4 x5 → ⊥)
     → station_line known (logged known l) ≡ known
 other_stations known (line.Node x0 x1 x2 x3 x4 x5) differs = absurd (differs x0 x1 x2 x3 x4 x5 refl)
-other_stations known (line.GivenNet x0 x1 x2) differs = refl
-other_stations known (line.GivenLink x0 x1 x2) differs = refl
-other_stations known (line.Counter x0 x1 x2) differs = refl
-other_stations known (line.Reserve x0 x1 x2 x3) differs = refl
-other_stations known (line.Floor x0 x1 x2 x3 x4 x5) differs = refl
-other_stations known (line.Draw x0 x1) differs = refl
-other_stations known (line.DropNet x0 x1 x2) differs = refl
-other_stations known (line.DropLink x0 x1 x2 x3) differs = refl
-other_stations known (line.Install x0 x1 x2 x3) differs = refl
-other_stations known (line.Active x0 x1 x2) differs = refl
-other_stations known (line.Start x0 x1 x2 x3) differs = refl
-other_stations known (line.Row x0 x1 x2 x3 x4) differs = refl
-other_stations known (line.Pair x0 x1 x2 x3 x4) differs = refl
-other_stations known (line.State x0 x1 x2) differs = refl
-other_stations known (line.Live x0 x1) differs = refl
-other_stations known (line.Removed x0 x1) differs = refl
-other_stations known (line.Roll x0 x1 x2) differs = refl
-other_stations known (line.Told x0 x1) differs = refl
-other_stations known (line.Untold x0 x1) differs = refl
-other_stations known (line.Commit x0 x1) differs = refl
-other_stations known (line.Accept x0 x1 x2) differs = refl
-other_stations known (line.Refuse x0 x1 x2) differs = refl
-other_stations known (line.Seal x0 x1 x2) differs = refl
-other_stations known (line.Forge x0 x1) differs = refl
-other_stations known (line.Send x0 x1 x2 x3) differs = refl
-other_stations known (line.Inject x0 x1 x2) differs = refl
-other_stations known (line.Stopped x0 x1) differs = refl
-other_stations known (line.DownReset x0 x1) differs = refl
-other_stations known (line.DownDisk x0 x1) differs = refl
-other_stations known (line.Boot x0 x1) differs = refl
-other_stations known (line.Dump x0 x1 x2) differs = refl
-other_stations known (line.End x0 x1 x2 x3 x4 x5) differs = refl
+other_stations _ _ _ = refl
 
 -- What it comes to
 

@@ -8,7 +8,7 @@ use Rattle.zb_aps.specs.Reading.{frame_of}
 use Rattle.zb_aps.specs.declared.auxiliary.ApsAux.{ApsAux}
 use Rattle.zb_aps.specs.declared.fault.ApsError.{ApsError}
 use Rattle.zb_aps.specs.declared.frame.ApsFrame.{ApsFrame}
-use Rattle.zb_carried_keys.specs.Carrying as carrying
+use Rattle.zb_seal.specs.Carrying as carrying
 use Rattle.zb_cmd.specs.Reading.{command_of}
 use Rattle.zb_cmd.specs.declared.command.Command.{Command}
 use Rattle.zb_cmd.specs.declared.command.Command.TheVariants as command
@@ -94,20 +94,7 @@ watch_private tools h = refl
 
 command_found : (r : Result Command CmdError) → key_shown (command_shown r) ≡ bytes_of (carrying.key_in r)
 command_found (Ok (command.TransportNetwork key sequence destination source)) = refl
-command_found (Ok (command.TransportApplication key partner initiator)) = refl
-command_found (Ok (command.TransportLink key destination source)) = refl
-command_found (Ok (command.Update device short status)) = refl
-command_found (Ok (command.Remove target)) = refl
-command_found (Ok (command.RequestApplication partner)) = refl
-command_found (Ok command.RequestLink) = refl
-command_found (Ok (command.Switch sequence)) = refl
-command_found (Ok (command.Tunnel destination inner)) = refl
-command_found (Ok (command.Verify kind source hash)) = refl
-command_found (Ok (command.Confirm status kind destination)) = refl
-command_found (Err (fault.Unknown id)) = refl
-command_found (Err (fault.KeyType found)) = refl
-command_found (Err (fault.Short at)) = refl
-command_found (Err (fault.Trailing count)) = refl
+command_found _ = refl
 
 unsealed_found : (f : ApsFrame) (aux : Option ApsAux) (b : Bool)
     → unsealed_key real (record { is_command = b; auxiliary = option_map auxiliary aux; body = f.body.items })

@@ -32,21 +32,7 @@ layer_alike layer.Aps layer.Aps = refl
 
 label_alike : (a b : Label) → nat_eq (label_number a) (label_number b) ≡ same_label (model_label a) (model_label b)
 label_alike label.Data label.Data = refl
-label_alike label.Data label.Network = refl
-label_alike label.Data label.Transport = refl
-label_alike label.Data label.Load = refl
-label_alike label.Network label.Data = refl
-label_alike label.Network label.Network = refl
-label_alike label.Network label.Transport = refl
-label_alike label.Network label.Load = refl
-label_alike label.Transport label.Data = refl
-label_alike label.Transport label.Network = refl
-label_alike label.Transport label.Transport = refl
-label_alike label.Transport label.Load = refl
-label_alike label.Load label.Data = refl
-label_alike label.Load label.Network = refl
-label_alike label.Load label.Transport = refl
-label_alike label.Load label.Load = refl
+label_alike _ _ = refl
 
 and_assoc : (a b c : Bool) → (a && (b && c)) ≡ ((a && b) && c)
 and_assoc true b c = refl

@@ -41,21 +41,7 @@ layer_alike layer.Aps layer.Aps = refl
 
 label_alike : (a b : Label) → is_eq (label_ord.cmp-value.it a b) ≡ same_label (model_label a) (model_label b)
 label_alike label.Data label.Data = refl
-label_alike label.Data label.Network = refl
-label_alike label.Data label.Transport = refl
-label_alike label.Data label.Load = refl
-label_alike label.Network label.Data = refl
-label_alike label.Network label.Network = refl
-label_alike label.Network label.Transport = refl
-label_alike label.Network label.Load = refl
-label_alike label.Transport label.Data = refl
-label_alike label.Transport label.Network = refl
-label_alike label.Transport label.Transport = refl
-label_alike label.Transport label.Load = refl
-label_alike label.Load label.Data = refl
-label_alike label.Load label.Network = refl
-label_alike label.Load label.Transport = refl
-label_alike label.Load label.Load = refl
+label_alike _ _ = refl
 
 part : (o p : Ordering) (a b : Bool) → is_eq o ≡ a → is_eq p ≡ b → is_eq (ordering_then o p) ≡ (a && b)
 part o p a b e f = then_alike o p ∙ ap (λ (x : Bool). x && is_eq p) e ∙ ap (λ (x : Bool). a && x) f

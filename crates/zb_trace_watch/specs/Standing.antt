@@ -8,7 +8,7 @@ use Rattle.zb_model.specs.Secrets.{carried, clear_key, holds, key_shown, same_te
 use Rattle.zb_model.specs.Tools.{Tools}
 use Rattle.zb_aps.specs.Reading.{frame_of}
 use Rattle.zb_base.specs.declared.key.Key.{Key}
-use Rattle.zb_carried_keys.specs.Carrying as carrying
+use Rattle.zb_seal.specs.Carrying as carrying
 use Rattle.zb_cmd.specs.Reading.{command_of}
 use Rattle.zb_model_real.specs.Terms.{model_term}
 use Rattle.zb_seal.specs.declared.term.Term.{Term}

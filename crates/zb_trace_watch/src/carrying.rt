@@ -2,10 +2,10 @@
 ghost use Rattle.std.specs.Prelude.{◌≡◌, None, false};
 ghost use Rattle.zb_aps.specs.Reading.{frame_of};
 ghost use Rattle.zb_base.specs.declared.label.Layer.TheVariants.{Nwk};
-ghost use Rattle.zb_carried_keys.specs.Carrying.{carried, clear_key, is_command_header};
+ghost use Rattle.zb_seal.specs.Carrying.{carried, clear_key, is_command_header};
 
 use zb_base::{Key, Layer};
-use zb_carried_keys::{carried, is_command};
+use zb_seal::{carried, is_command};
 use zb_seal::Term;
 
 /// Returns the key that a term carries, if any.

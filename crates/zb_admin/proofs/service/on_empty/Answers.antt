@@ -7,7 +7,7 @@ use Rattle.zb_centre_store.specs.Calls.{HasLaidOut, HasSetting, tables_in}
 use Rattle.zb_centre_store.specs.Makings.{tables_of}
 use Rattle.zb_setting.specs.Settings.{setting_for}
 use Rattle.zb_record.specs.Records.{record_read}
-use Rattle.zb_skip.specs.Skipping.{skipped}
+use Rattle.zb_centre_store.specs.Skipping.{skipped}
 use Rattle.zb_admin.proofs.CommandLemmas.{always, carried_for, carried_new, carried_refused, kept_command, kept_unrisen, kept_worn, new_stands, short_worn}
 use Rattle.zb_admin.proofs.service.on_empty.Goals as goal
 

@@ -1,6 +1,6 @@
 use Rattle.std.proofs.Common.{get_or, sym, ◌∙◌, subst, IfOk}
-use Rattle.zb_inspect_ring.specs.declared.piece.Piece.{Piece}
-use Rattle.zb_inspect_ring.proofs.Lists.{oks_zip, if_ok}
+use Rattle.zb_inspect.specs.declared.piece.Piece.{Piece}
+use Rattle.zb_inspect.proofs.Lists.{oks_zip, if_ok}
 use Rattle.zb_inspect.proofs.Printed.{IsPagePrinted, pages_printed}
 use Rattle.zb_inspect.proofs.reporting.print_all.Goals as goal
 

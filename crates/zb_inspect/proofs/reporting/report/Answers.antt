@@ -3,7 +3,7 @@ use Rattle.std.specs.Io.KnownBytes.{Appends}
 use Rattle.zb_base.specs.Outside.{AppendsFront}
 use Rattle.std.proofs.lemmas.Result.{err_from_is_err_and}
 use Rattle.zb_inspect.specs.Texts.{pages_text}
-use Rattle.zb_inspect_ring.specs.Rings.{keys_of}
+use Rattle.zb_inspect.specs.Rings.{keys_of}
 use Rattle.zb_inspect.specs.Report.{report_of}
 use Rattle.zb_inspect.proofs.Printed.{is_report, room_in_pieces}
 use Rattle.zb_inspect.proofs.reporting.report.Goals as goal

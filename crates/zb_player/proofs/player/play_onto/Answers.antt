@@ -16,7 +16,7 @@ use Rattle.zb_player.proofs.Whole.{Ended, all_answered, begin, front_end, front_
 use Rattle.zb_player.specs.Benches.{Asks, questions}
 use Rattle.zb_player.specs.Swapping.{AreGifts}
 use Rattle.zb_player.proofs.GivenWhole.{GivenEnded, all_given, for_gifts, given_end, given_last, given_nothing, given_part, given_start, given_unended, given_whole, summed_given, sums_given}
-use Rattle.law_run_swaps.specs.Swaps.{Stood}
+use Rattle.law_run_steps.specs.Swaps.{Stood}
 use Rattle.zb_player.proofs.Asking.{few_stations}
 use Rattle.zb_player.proofs.player.play_onto.Goals as goal
 use Rattle.zb_sched.specs.Schedules as sched

@@ -3,7 +3,7 @@ use Rattle.zb_audit_lockout.specs.Facts.{eui_of_node}
 use Rattle.zb_audit_lockout.specs.Standing.{CarriesSome, Draws, Forges, Forgets, CameToHold, Judges, Removes, Seals, Tells}
 use Rattle.zb_audit_lockout.specs.Reading.{accepts}
 use Rattle.zb_trace.specs.declared.line.Line.{Line}
-use Rattle.zb_carried_keys.specs.Carrying.{carried}
+use Rattle.zb_seal.specs.Carrying.{carried}
 use Rattle.zb_audit_lockout.proofs.Lines.{accept_judges, admit_judges, draw_judges, forge_judges, given_link_judges, given_net_judges, install_judges, pair_judges, quiet_judges, quiet_line, remove_judges, row_judges, seal_judges}
 use Rattle.zb_audit_lockout.proofs.Results.{if_ok, if_ok_both}
 use Rattle.zb_audit_lockout.proofs.lockout.Lockout.judge.Goals as goal

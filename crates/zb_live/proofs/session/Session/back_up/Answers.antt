@@ -3,8 +3,8 @@ use Rattle.std.specs.Prelude.{is_some}
 use Rattle.zb_backup.specs.Format.{backup_text}
 use Rattle.zb_live.specs.Alive.{living_of}
 use Rattle.zb_live.specs.Living.{refused}
-use Rattle.zb_live_line.specs.Answers.{ok_text}
-use Rattle.zb_live_line.specs.declared.cause.Cause.TheVariants as cause
+use Rattle.zb_live.specs.Answers.{ok_text}
+use Rattle.zb_live.specs.declared.cause.Cause.TheVariants as cause
 use Rattle.zb_model.specs.State.{NodeState}
 use Rattle.zb_text.specs.Pages.{ended}
 use Rattle.zb_live.proofs.SessionLemmas.{on_ok, said_closed, said_up}

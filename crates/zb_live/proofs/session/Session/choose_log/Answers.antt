@@ -1,7 +1,7 @@
 use Rattle.std.proofs.Common.{◌∙◌, sym, refl}
 use Rattle.zb_live.specs.Alive.{living_of}
 use Rattle.zb_live.specs.Living.{confirmed}
-use Rattle.zb_live_line.specs.declared.cause.Cause.TheVariants as cause
+use Rattle.zb_live.specs.declared.cause.Cause.TheVariants as cause
 use Rattle.zb_live.proofs.SessionLemmas.{on_ok, said_closed, said_open}
 use Rattle.zb_live.proofs.session.Session.choose_log.Goals as goal
 

@@ -4,7 +4,7 @@ use Rattle.zb_centre_store.proofs.StoreLemmas.{same_fault}
 use Rattle.zb_disk.proofs.Moments.{still_refl}
 use Rattle.zb_live.specs.Alive.{living_of}
 use Rattle.zb_live.specs.Living.{refused}
-use Rattle.zb_live_line.specs.declared.cause.Cause.TheVariants as cause
+use Rattle.zb_live.specs.declared.cause.Cause.TheVariants as cause
 use Rattle.zb_setting.specs.Settings.{setting_for}
 use Rattle.zb_live.proofs.SessionLemmas.{always, on_ok, opened_follows, opened_some, said, said_closed, said_follows, said_open, setting_is, short_fault}
 use Rattle.zb_live.proofs.session.Session.open.Goals as goal

@@ -1,7 +1,7 @@
 use Rattle.zb_disk.proofs.Moments.{still_refl}
 use Rattle.zb_live.specs.Alive.{done_by, living_of}
 use Rattle.zb_live.specs.Living.{done}
-use Rattle.zb_live_line.specs.Views.{sentence_of}
+use Rattle.zb_live.specs.Views.{sentence_of}
 use Rattle.zb_live.proofs.SessionLemmas.{always, counted_faults, counted_taken, follows_as, line_is, short_fault, unread_follows, unread_taken}
 use Rattle.zb_live.proofs.session.Session.take.Goals as goal
 

@@ -7,8 +7,8 @@ use Rattle.zb_host.specs.Hosts.{Hosted}
 use Rattle.zb_live.specs.Alive.{CanServe, HasFollowed, done_by, living_of}
 use Rattle.zb_live.specs.Living.{happened, refused, setting_of}
 use Rattle.zb_live.specs.declared.session.Session.{Session}
-use Rattle.zb_live_line.specs.Said.{Happens}
-use Rattle.zb_live_line.specs.Views.{event_of}
+use Rattle.zb_live.specs.Said.{Happens}
+use Rattle.zb_live.specs.Views.{event_of}
 use Rattle.zb_model.specs.Rules.{Setting}
 use Rattle.zb_stored_tables.specs.Cores.{CoreValue}
 use Rattle.zb_live.proofs.SessionLemmas.{event_done, event_follows, happening_fault, on_ok, said_follows, said_up, up_here}

@@ -1,7 +1,7 @@
 use Rattle.std.proofs.Common.{Ok, ap, subst, sym}
 use Rattle.zb_live.specs.Alive.{HasTaken, done_by}
-use Rattle.zb_live_line.specs.Views.{sentence_of}
-use Rattle.zb_live_line.specs.declared.line.Line.{Line}
+use Rattle.zb_live.specs.Views.{sentence_of}
+use Rattle.zb_live.specs.declared.line.Line.{Line}
 use Rattle.zb_live.proofs.SessionLemmas.{blank_said, follows_of, said, said_can, said_follows, said_taken, said_waits, short_fault}
 use Rattle.zb_live.proofs.session.Session.take_line.Goals as goal
 

@@ -8,7 +8,7 @@ use Rattle.zb_player_events.specs.declared.acts.Act.TheVariants as act
 use Rattle.zb_model.specs.Data.{Bytes, DoRoll}
 use Rattle.zb_model.specs.Play.{ArmFail, ArmStop, Deliver, Own, PowerOn, Reset, RollOver, ShowRecord}
 use Rattle.zb_model_real.specs.Real.{real}
-use Rattle.law_run_swaps.specs.Turns.{task_turn}
+use Rattle.law_run_steps.specs.Turns.{task_turn}
 use Rattle.zb_player_node.specs.Tasks.{model_task}
 use Rattle.zb_trace_watch.proofs.Starting.{on_ok}
 

@@ -8,7 +8,7 @@ use Rattle.zb_model.specs.Data.{Bytes}
 use Rattle.zb_model.specs.Play.{supply}
 use Rattle.zb_player_events.specs.Calls.{frame_calls}
 use Rattle.zb_model_real.specs.Real.{real}
-use Rattle.law_run_swaps.specs.Turns.{deliver_turn}
+use Rattle.law_run_steps.specs.Turns.{deliver_turn}
 use Rattle.zb_player_scribe.specs.Outcomes.{items_of}
 use Rattle.zb_trace_watch.proofs.Starting.{on_ok}
 

@@ -4,7 +4,7 @@ use Rattle.zb_player_events.proofs.Going.{draw_is}
 use Rattle.zb_player_events.proofs.ledger.Ledger.receive.Goals as goal
 use Rattle.zb_player_events.specs.Told.{Calls, Goes}
 use Rattle.zb_model.specs.Data.{Bytes, Received}
-use Rattle.law_run_swaps.specs.Turns.{task_turn}
+use Rattle.law_run_steps.specs.Turns.{task_turn}
 use Rattle.zb_model_real.specs.Real.{real}
 use Rattle.zb_player_events.specs.Calls.{task_calls}
 use Rattle.zb_trace_watch.proofs.Starting.{on_ok}

@@ -1,4 +1,0 @@
-pub mod Prefixes
-pub mod Events
-pub mod Locks
-pub mod Fifth

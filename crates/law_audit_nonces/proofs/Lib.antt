@@ -1,3 +1,0 @@
-pub mod Clauses
-pub mod Fresher
-pub mod Later

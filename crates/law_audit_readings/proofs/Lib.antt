@@ -1,3 +1,0 @@
-pub mod EachLine
-pub mod Sealed
-pub mod Reading

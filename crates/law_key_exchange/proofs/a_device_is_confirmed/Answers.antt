@@ -1,5 +1,0 @@
-use Rattle.law_key_exchange.proofs.Laws as law
-use Rattle.law_key_exchange.proofs.a_device_is_confirmed.Goals as goal
-
-pub returns : goal.returns
-returns c = record { refused = law.end_refused; confirmed = law.ends }

@@ -1,5 +1,0 @@
-use Rattle.law_key_exchange.proofs.Joining.{is_joined}
-use Rattle.law_key_exchange.proofs.a_device_joins_for_the_exchange.Goals as goal
-
-pub returns : goal.returns
-returns c = is_joined

@@ -1,5 +1,0 @@
-use Rattle.law_key_exchange.proofs.Laws as law
-use Rattle.law_key_exchange.proofs.a_joined_device_keeps_an_offered_key.Goals as goal
-
-pub returns : goal.returns
-returns c = record { refused = law.keep_refused; keeps = law.keeps; silent = law.keeps_silently }

@@ -1,4 +1,0 @@
-pub mod CommandFrames
-pub mod Meeting
-pub mod Exchanging
-pub mod Obstacles

@@ -1,5 +1,0 @@
-use Rattle.law_lost_frames.proofs.Stopping.{after_stop, before_stop}
-use Rattle.law_lost_frames.proofs.a_stop_leaves_an_exchange.Goals as goal
-
-pub returns : goal.returns
-returns c = record { before = before_stop; after = after_stop }

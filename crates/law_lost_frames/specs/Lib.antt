@@ -1,8 +1,0 @@
-pub mod Turns
-pub mod Stages
-pub mod Stops
-pub mod Waiting
-pub mod Rounds
-pub mod Stale
-pub mod Twice
-pub mod Foreseen

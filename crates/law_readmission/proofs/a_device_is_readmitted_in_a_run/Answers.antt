@@ -1,5 +1,0 @@
-use Rattle.law_readmission.proofs.Readmitted.{readmitted}
-use Rattle.law_readmission.proofs.a_device_is_readmitted_in_a_run.Goals as goal
-
-pub returns : goal.returns
-returns c = readmitted

@@ -1,5 +1,0 @@
-use Rattle.law_readmission.proofs.Knocks.{refuses, has_knocked}
-use Rattle.law_readmission.proofs.a_device_knocks_for_its_code.Goals as goal
-
-pub returns : goal.returns
-returns c = record { refused = refuses; knocked = has_knocked }

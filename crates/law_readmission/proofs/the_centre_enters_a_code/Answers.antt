@@ -1,5 +1,0 @@
-use Rattle.law_readmission.proofs.Codes.{refuses, enters}
-use Rattle.law_readmission.proofs.the_centre_enters_a_code.Goals as goal
-
-pub returns : goal.returns
-returns c = record { refused = refuses; entered = enters }

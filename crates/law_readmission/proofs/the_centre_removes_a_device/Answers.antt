@@ -1,5 +1,0 @@
-use Rattle.law_readmission.proofs.Removing.{refuses, removes, same_counter}
-use Rattle.law_readmission.proofs.the_centre_removes_a_device.Goals as goal
-
-pub returns : goal.returns
-returns c = record { refused = refuses; removed = removes; counter = same_counter }

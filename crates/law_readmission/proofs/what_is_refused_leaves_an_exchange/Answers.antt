@@ -1,5 +1,0 @@
-use Rattle.law_readmission.proofs.Refusing.{spared}
-use Rattle.law_readmission.proofs.what_is_refused_leaves_an_exchange.Goals as goal
-
-pub returns : goal.returns
-returns c = spared

@@ -1,5 +1,0 @@
-use Rattle.law_recovery_runs.proofs.Confirmed.{joined_and_exchanged}
-use Rattle.law_recovery_runs.proofs.a_device_joins_and_is_confirmed_in_a_run.Goals as goal
-
-pub returns : goal.returns
-returns c = joined_and_exchanged

@@ -1,5 +1,0 @@
-use Rattle.law_recovery_runs.proofs.Joined.{joined}
-use Rattle.law_recovery_runs.proofs.a_device_joins_in_a_run.Goals as goal
-
-pub returns : goal.returns
-returns c = joined

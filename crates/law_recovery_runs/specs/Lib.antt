@@ -1,4 +1,0 @@
-pub mod Fronts
-pub mod Rolled
-pub mod Joining
-pub mod KeyExchange

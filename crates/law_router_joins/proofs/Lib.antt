@@ -1,4 +1,0 @@
-pub mod Reporting
-pub mod Passing
-pub mod Through
-mod Cases

@@ -1,3 +1,0 @@
-pub mod RouterFrames
-pub mod Relaying
-pub mod Routed

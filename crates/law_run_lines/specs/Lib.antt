@@ -1,3 +1,0 @@
-pub mod OfNodes
-pub mod Wide
-pub mod Alone

@@ -1,6 +1,0 @@
-use Rattle.std.proofs.Common.{◌≡◌, [], drop}
-use Rattle.zb_inspect_ring.specs.Rings.{given_from}
-use Rattle.zb_inspect_ring.proofs.ring.given_ring.Given as goal
-
-abbrev pub invariant-loop-key : goal.invariant-loop-key
-invariant-loop-key l = given_from l.ring (drop l.key-index l.keys) ≡ given_from [] l.keys

@@ -1,4 +1,0 @@
-pub mod Said
-pub mod Grammar
-pub mod Views
-pub mod Answers

@@ -1,4 +1,0 @@
-pub mod LineLemmas
-pub mod MomentLemmas
-pub mod FollowLemmas
-pub mod ServingLemmas

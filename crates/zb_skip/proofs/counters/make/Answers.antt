@@ -1,8 +1,0 @@
-use Rattle.zb_skip.proofs.SkipLemmas.{one_fits, one_made}
-use Rattle.zb_skip.proofs.counters.make.Goals as goal
-
-pub apply-requires : goal.apply-requires
-apply-requires c = one_fits c.args.change _ _ _ c.new-changes.ensures c.push.ensures.items c.requires
-
-pub returns : goal.returns
-returns c = one_made c.args.change _ _ _ _ c.new-changes.ensures c.push.ensures.items c.apply.ensures
