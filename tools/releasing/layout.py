@@ -68,8 +68,8 @@ class Layout:
 
 
 def lay_front_end(layout, commit):
-    """Lays out `gabzetu` as a clone has it, under share/gabzetu, and a link to it in bin."""
-    for name in ('gabzetu', 'VERSION', 'tools/gabzetu'):
+    """Lays out `gabzetu` as a clone has it, under share/gabzetu, and a link to it in bin. It reads the page on the policy."""
+    for name in ('gabzetu', 'VERSION', 'tools/gabzetu', 'docs/POLICY.md'):
         layout.copy(name, f'share/gabzetu/{name}')
     layout.write('share/gabzetu/COMMIT', f'{commit.name[:12]}\n')
     os.symlink('../share/gabzetu/gabzetu', layout.path('bin/gabzetu'))

@@ -84,7 +84,7 @@ class Teller:
         layer, reason = refused['layer'], refused['reason']
         why = policy.sentence_of_refusal(rule and rule.refused, layer, reason, is_judged)
         said = ['', f'Refused as {reason}: {why}']
-        words = policy.JUDGING.get(layer, {}).get(reason) if is_judged else None
+        words = policy.judging().get(layer, {}).get(reason) if is_judged else None
         return said + ([f'  docs/POLICY.md, "Judging a frame": {reason}: {words}'] if words not in (None, why) else [])
 
 

@@ -242,7 +242,7 @@ class Story:
         """Returns the rule that answered a frame, or none."""
         if self.command() == 'data' and not self.refusal():
             return Rule('data', 'Judging a frame', [('accepted', policy.DATA)], None)
-        row = policy.COMMANDS.get(self.command())
+        row = policy.commands().get(self.command())
         if not row or self.is_judged():
             return None
         taken, refused, effect = row

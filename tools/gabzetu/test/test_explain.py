@@ -2,8 +2,10 @@
 import os
 import re
 import unittest
+from unittest import mock
 
 from gabzetu import TOP, program
+from gabzetu.errors import Stop
 from gabzetu.formats import fields, policy, sentences, stories
 from gabzetu.test.support import Folder, example, needs_tc, run
 
@@ -35,45 +37,57 @@ def played(name):
 
 
 class Policy(unittest.TestCase):
-    """The rows are those of the page."""
+    """The rows are read from the page, and the words beside them fit it."""
 
-    def setUp(self):
-        page = read(os.path.join(TOP, 'docs', 'POLICY.md'))
-        self.rows = [
-            [it.strip() for it in line.strip('|').split('|')] for line in page.splitlines() if line.startswith('| ')
-        ]
-        self.page = page
+    def test_each_event_and_command_has_a_row(self):
+        self.assertEqual(
+            sorted({event for event, _ in policy.events()}),
+            sorted(
+                'say knock rejoin child timer provision remove roll switch again ask share tell'.split()
+            ),
+        )
+        self.assertEqual(len(policy.commands()), 12)
+        for row in [*policy.events().values(), *policy.commands().values()]:
+            self.assertTrue(all(row), row)
 
-    def test_events(self):
-        for (event, of), row in policy.EVENTS.items():
-            self.assertIn([event, of, *row], self.rows)
+    def test_a_rule_is_found_by_event_and_role(self):
+        self.assertEqual(policy.rule_of_event('timer', True)[0], ('timer', 'centre'))
+        self.assertEqual(policy.rule_of_event('timer', False)[0], ('timer', 'router, device'))
+        self.assertEqual(policy.rule_of_event('child', False)[0], ('child', 'router'))
+        self.assertEqual(policy.rule_of_event('say', True)[0], ('say', 'all'))
+        self.assertIsNone(policy.rule_of_event('boot', True))
 
-    def test_commands(self):
-        for command, row in policy.COMMANDS.items():
-            self.assertTrue([command, *row] in self.rows, command)
+    def test_switch_is_refused_in_an_unfinished_rollover_alone(self):
+        refused, _ = policy.events()['switch', 'centre']
+        self.assertEqual(
+            policy.clause_of(refused, 'wrong-state'), "wrong-state while sending with a live device that isn't told"
+        )
 
-    def test_judging(self):
-        """Each layer has a table on the page, in the order of the layers, and a sentence on policy after it."""
-        section = re.search('\n## Judging a frame\n(.*?)\n## ', self.page, re.DOTALL)[1]
-        tables = re.findall(r'\| Reason \| Where \|\n\|---\|---\|\n((?:\|.*\n)+)', section)
-        self.assertEqual(len(tables), len(policy.JUDGING))
-        for table, reasons in zip(tables, policy.JUDGING.values()):
-            rows = re.findall(r'\| (.*) \| (.*) \|', table)
-            wanted = {reason: where for named, where in rows for reason in named.split(', ')}
-            self.assertEqual(wanted, {reason: it for reason, it in reasons.items() if reason != 'policy'})
-            self.assertIn(reasons['policy'], plain(section))
+    def test_judging_has_both_layers(self):
+        self.assertEqual(list(policy.judging()), ['nwk', 'aps'])
+        self.assertEqual(policy.judging()['nwk']['bad-mic'], "it doesn't open")
+        self.assertEqual(policy.judging()['aps']['stale'], 'as above, against that row')
 
     def test_notes(self):
         for note in (policy.DATA, *policy.NOTES.values()):
-            self.assertIn(note, plain(self.page))
+            self.assertIn(note, plain(policy.read_page()))
 
     def test_plain_sentences_are_of_reasons_that_there_are(self):
         for layer, reason in policy.PLAIN:
-            self.assertIn(reason, policy.JUDGING[layer])
+            self.assertIn(reason, policy.judging()[layer])
 
     def test_all_reasons_have_words(self):
-        order = re.search(r'The reasons are tried in one order everywhere:\n1\. (.*);\n2\. (.*)\.', self.page)
+        order = re.search(
+            r'The reasons are tried in one order everywhere:\n1\. (.*);\n2\. (.*)\.', policy.read_page()
+        )
         self.assertEqual(sorted(', '.join(order.groups()).split(', ')), sorted(policy.REASONS))
+
+    def test_a_missing_page_is_named(self):
+        policy.read_page.cache_clear()
+        self.addCleanup(policy.read_page.cache_clear)
+        with mock.patch.object(policy, 'TOP', '/nowhere'), self.assertRaises(Stop) as stopped:
+            policy.read_page()
+        self.assertIn('/nowhere/docs/POLICY.md: No such file or directory', stopped.exception.message)
 
 
 @needs_tc

@@ -1,0 +1,1 @@
+"""What check-docs reads besides the pages."""
