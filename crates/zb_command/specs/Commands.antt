@@ -3,7 +3,7 @@ use Rattle.std.specs.Prelude.{ℕ, ◌==◌, ◌∷◌, [], ◌&&◌, nat_lt, na
 use Rattle.zb_model.specs.Data.{Bytes}
 use Rattle.zb_base.specs.declared.key.Key.{Key}
 use Rattle.zb_text.specs.Numbers.{number_of}
-use Rattle.zb_command.specs.KeyWords.{all_keys, keys_in}
+use Rattle.zb_input.specs.KeyWords.{all_keys, keys_in}
 use Rattle.zb_base.specs.Limits.{most_runs, last_start, greatest_count, most_jobs, most_made, most_keys}
 
 -- What the program does, each with the words that ask for it.

@@ -1,5 +1,4 @@
 pub mod Answers
-pub mod KeyWords
 pub mod CountsLine
 pub mod Commands
 pub mod Statuses
@@ -9,5 +8,4 @@ pub mod Serving
 pub mod Settled
 pub mod Finishing
 pub mod Words
-pub mod Inputs
 pub mod Process

@@ -1,6 +1,6 @@
 -- A command of the program as an invocation.
 use Rattle.std.specs.Prelude.{◌<◌, ◌≤◌, ◌^◌, ◌-◌, length, map, string_bytes, ⊤}
-use Rattle.zb_command.specs.KeyWords.{keys_in}
+use Rattle.zb_input.specs.KeyWords.{keys_in}
 use Rattle.zb_command.specs.Commands.{Invocation, Playing, Installing, Making, Inspecting, Sniffing, Campaigning, Auditing, Serving}
 use Rattle.zb_command.specs.declared.command.Command.{Command}
 use Rattle.zb_command.specs.declared.command.Command.TheVariants.{Play, Install, Make, Inspect, Sniff, Campaign, Audit, Admin}

@@ -3,7 +3,7 @@ ghost use Rattle.std.specs.Prelude.{◌≡◌, ◌≢◌};
 ghost use Rattle.std.specs.Io.KnownBytes.{IsAtEnd};
 ghost use Rattle.zb_admin.specs.Serving.{outside};
 ghost use Rattle.zb_base.specs.Outside.{Rose, Unrisen};
-ghost use Rattle.zb_command.specs.Inputs.{TakesAtMost};
+ghost use Rattle.zb_input.specs.Inputs.{TakesAtMost};
 ghost use Rattle.zb_command.specs.Serving.{Serviced, ServesOut};
 ghost use Rattle.zb_command.specs.Statuses.{served_status};
 ghost use Rattle.zb_base.specs.Limits.{first_too_long};

@@ -3,7 +3,7 @@ ghost use Rattle.std.specs.Prelude.{◌≡◌, ◌≢◌, ◌<◌, ◌^◌, leng
 ghost use Rattle.std.specs.Io.KnownBytes.{IsAtEnd};
 ghost use Rattle.zb_base.specs.Outside.{Rose, Unrisen};
 ghost use Rattle.zb_command.specs.Auditing.{Audits, IsSoundText, IsTextFault, IsTold, sound_line};
-ghost use Rattle.zb_command.specs.Inputs.{TakesAtMost};
+ghost use Rattle.zb_input.specs.Inputs.{TakesAtMost};
 ghost use Rattle.zb_command.specs.declared.audit.TextFault.TheVariants.{NoMemory as lacks};
 ghost use Rattle.zb_base.specs.Limits.{first_too_long};
 

@@ -4,8 +4,8 @@ ghost use Rattle.std.specs.Option.{option_map};
 ghost use Rattle.zb_command.specs.Commands.{campaign_words, count_of, lone_word, sniff_words, invocation_of, word_and_operand, word_and_three};
 ghost use Rattle.zb_command.specs.Words.{invocation, Fits};
 
-use crate::keys::are_keys;
 use zb_base::{LAST_START, MOST_JOBS, MOST_KEYS, MOST_MADE, MOST_RUNS};
+use zb_input::are_keys;
 use zb_text::numbers::number;
 
 /// A command of the program.

@@ -1,99 +1,19 @@
-//! Reading the whole input.
-ghost use Rattle.std.specs.Prelude.{◌≡◌, ◌≢◌, ◌-◌, ◌<◌, ◌≤◌, IfOk, OnOk, OnErr, Err, IfSome, length, vec_len};
-ghost use Rattle.std.specs.Io.KnownBytes.{IsAtEnd};
-ghost use Rattle.zb_base.specs.Outside.{Rose, Unrisen};
-ghost use Rattle.zb_command.specs.Inputs.{IsReadOn, TakesAtMost};
-ghost use Rattle.zb_command.specs.declared.input.InputFault.TheVariants.{NoMemory as lacks};
-ghost use Rattle.zb_base.specs.Limits.{first_too_long, longest_input};
-
-use std::alloc::{AllocError, Global};
-use zb_base::Source;
-
-/// How many bytes the longest input of a command has.
-pub(crate) const LONGEST: u32 = 16_777_216;
-
-/// Why the input isn't known whole.
-#[derive(Clone, Copy, Debug, PartialEq, Eq)]
-pub(crate) enum InputFault {
-    /// The source failed.
-    Read,
-    /// It has more than `LONGEST` bytes.
-    TooLong,
-    /// There was no memory left.
-    NoMemory,
-}
-
-impl From<AllocError> for InputFault {
-    ghost from_gives = { λ _ e. e ≡ lacks };
-
-    fn from(_error: AllocError) -> InputFault {
-        InputFault::NoMemory
-    }
-}
+//! Taking the whole input of a command, or ending with the status of why it can't be had.
 
 /// Gives the whole input, or returns the status of why it isn't known whole.
 macro_rules! whole_input {
     ($alloc:expr, $input:expr) => {
-        match $crate::input::read_input($alloc, $input) {
+        match zb_input::read_input($alloc, $input) {
             Ok(bytes) => bytes,
-            Err($crate::input::InputFault::Read) => return $crate::status::Status::ReadFault,
-            Err($crate::input::InputFault::TooLong) => {
+            Err(zb_input::InputFault::Read) => return $crate::status::Status::ReadFault,
+            Err(zb_input::InputFault::TooLong) => {
                 return $crate::status::Status::TooLong {
-                    limit: $crate::input::LONGEST,
+                    limit: zb_input::LONGEST,
                 };
             }
-            Err($crate::input::InputFault::NoMemory) => return $crate::status::Status::NoMemory,
+            Err(zb_input::InputFault::NoMemory) => return $crate::status::Status::NoMemory,
         }
     };
 }
 
 pub(crate) use whole_input;
-
-/// Reads on after bytes that came before, to the end of the input or until there are `limit`.
-///
-/// # Errors
-/// `Read` where the source fails, or `NoMemory`.
-pub(crate) fn read_on<R: Source>(
-    input: &mut R,
-    bytes: &mut Vec<u8>,
-    limit: usize,
-) -> Result<(), InputFault>
-    requires { vec_len bytes.old ≤ limit }
-    ensures read { IsReadOn result (R.rest input.old) (R.rest input.new) bytes.old.items bytes.new.items limit
-        (R.faults input.old) (R.faults input.new) }
-    ensures few { TakesAtMost (R.rest input.old) (R.rest input.new) (limit - length bytes.old.items) }
-{
-    let mut buffer = [0; 16_384];
-    while bytes.len() < limit {
-        let room = (limit - bytes.len()).min(16_384);
-        match input.read(&mut buffer[..room]) {
-            Ok(0) => return Ok(()),
-            Ok(count) => bytes.extend_from_slice(&buffer[..count])?,
-            Err(_) => return Err(InputFault::Read),
-        }
-    }
-    Ok(())
-}
-
-/// Reads the input to its end, or one byte past the longest.
-///
-/// # Errors
-/// `Read` where the source fails, `TooLong` where it has more than `LONGEST` bytes, or `NoMemory`.
-pub(crate) fn read_input<R: Source>(alloc: Global, input: &mut R) -> Result<Vec<u8>, InputFault>
-    ensures whole { IfOk result (λ bytes. IfSome (R.rest input.old) (λ rest. bytes.items ≡ rest)) }
-    ensures end { OnOk result (IsAtEnd (R.rest input.new)) }
-    ensures short { IfOk result (λ bytes. vec_len bytes ≤ longest_input) }
-    ensures few { TakesAtMost (R.rest input.old) (R.rest input.new) first_too_long }
-    ensures later { R.faults input.old ≤ R.faults input.new }
-    ensures read { result ≡ Err InputFault.Read → Rose (R.faults input.old) (R.faults input.new) }
-    ensures unrisen { result ≢ Err InputFault.Read → Unrisen (R.faults input.old) (R.faults input.new) }
-    ensures too_long { result ≡ Err InputFault.TooLong
-        → IfSome (R.rest input.old) (λ rest. longest_input < length rest) }
-{
-    let mut bytes = Vec::new(alloc);
-    read_on(input, &mut bytes, LONGEST as usize + 1)?;
-    if bytes.len() > LONGEST as usize {
-        return Err(InputFault::TooLong);
-    }
-    Ok(bytes)
-}

@@ -6,17 +6,16 @@ ghost use Rattle.zb_capture.specs.Grammar.{IsCapture};
 ghost use Rattle.zb_inspect.specs.Report.{report_of};
 ghost use Rattle.zb_command.specs.Answers.{wanted, Writes};
 ghost use Rattle.zb_command.specs.Commands.{Inspecting};
-ghost use Rattle.zb_command.specs.Inputs.{TakesAtMost};
+ghost use Rattle.zb_input.specs.Inputs.{TakesAtMost};
 ghost use Rattle.zb_command.specs.Outcomes.{Ends};
 ghost use Rattle.zb_base.specs.Limits.{first_too_long};
 
-use crate::capture::{CaptureFault, read_capture_on};
-use crate::input::{InputFault, LONGEST};
 use crate::status::{Cause, Status};
 use std::alloc::Global;
 use std::thread::Threads;
 use zb_base::{Sink, Source};
 use zb_capture::Capture;
+use zb_input::{CaptureFault, InputFault, LONGEST, read_capture_on};
 use zb_inspect::{InspectFault, report};
 use zb_parallel::NoGate;
 

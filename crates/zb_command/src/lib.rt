@@ -4,13 +4,10 @@
 mod admin;
 mod audit;
 mod campaign;
-mod capture;
 mod command;
-mod incoming;
 mod input;
 mod inspect;
 mod install;
-mod keys;
 mod make;
 mod play;
 mod process;

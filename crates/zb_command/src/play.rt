@@ -4,7 +4,7 @@ ghost use Rattle.std.specs.Io.KnownBytes.{IsAtEnd};
 ghost use Rattle.zb_base.specs.Outside.{Rose, Unrisen};
 ghost use Rattle.zb_command.specs.Answers.{wanted, Writes};
 ghost use Rattle.zb_command.specs.Commands.{Playing};
-ghost use Rattle.zb_command.specs.Inputs.{TakesAtMost};
+ghost use Rattle.zb_input.specs.Inputs.{TakesAtMost};
 ghost use Rattle.zb_command.specs.Outcomes.{Ends, Played};
 ghost use Rattle.zb_campaign.specs.Runs.{transcript_text};
 ghost use Rattle.zb_sched.specs.Schedules as sched;

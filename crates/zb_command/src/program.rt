@@ -7,7 +7,7 @@ ghost use Rattle.zb_command.specs.Answers.{Answer, Refuses, Exceeds, status_of, 
 ghost use Rattle.zb_command.specs.Auditing.{Audits};
 ghost use Rattle.zb_command.specs.Commands.{Invocation, Auditing, Playing, Making, Serving, invocation_of};
 ghost use Rattle.zb_command.specs.Finishing.{Finishes};
-ghost use Rattle.zb_command.specs.Inputs.{TakesAtMost};
+ghost use Rattle.zb_input.specs.Inputs.{TakesAtMost};
 ghost use Rattle.zb_command.specs.Outcomes.{IsWritten, Made, Played, ReadsToEnd, WritesFront, WritesNothing};
 ghost use Rattle.zb_command.specs.Serving.{Serviced};
 ghost use Rattle.zb_command.specs.Settled.{AdminGives, AuditGives};

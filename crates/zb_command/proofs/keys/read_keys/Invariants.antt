@@ -1,9 +1,0 @@
-use Rattle.std.proofs.Common.{◌≡◌, ◌≤◌, ◌++◌, drop, map, string_bytes, vec_len}
-use Rattle.zb_command.specs.KeyWords.{keys_in}
-use Rattle.zb_command.proofs.keys.read_keys.Given as goal
-
-abbrev pub invariant-loop-word : goal.invariant-loop-word
-invariant-loop-word l = record {
-  so_far : l.keys.items ++ keys_in (map string_bytes (drop l.word-index l.words)) ≡ keys_in (map string_bytes l.words);
-  few : vec_len l.keys ≤ l.word-index;
-}

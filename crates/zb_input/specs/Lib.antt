@@ -1,0 +1,2 @@
+pub mod KeyWords
+pub mod Inputs
