@@ -276,9 +276,9 @@ unfolding toy plan_of part_of may_seal out_of edits_of answer_by reserve_of stor
     stored_lines told_lines group_of cut_of setting_of supply task_step forged_net forged_both forged_open step_by
     step groups speaker after heard_line state_of is_up air draws_used commits_of stations_of record_of edit_bytes
     payload refuse_if found_or choose station_of station_at centre_of short_of spent both_spent drop_partner
-    drop_others drop_old carried terms_of a_round rounds exposed centre_in ever removed_devices outside network_keys each_line
-    same_term bases codes_of came_by ideal_line ideal passes_on private active_row usable_nets usable_active newest
-    usable_of live_of current offered is_live is_known is_told code_row other_user pair_of next_counter stored_limit
-    sender_floor applied applied_all after_sealing after_counting after_hearing after_accepting after_boot shown
-    with_given_net with_given_link with_declared sealing_key end_line run_lines transcript
+    drop_others drop_old carried terms_of a_round rounds exposed centre_in ever removed_devices outside network_keys
+    each_line same_term bases codes_of came_by ideal_line ideal passes_on private active_row usable_nets usable_active
+    newest usable_of live_of current offered is_live is_known is_told code_row other_user pair_of next_counter
+    stored_limit sender_floor applied applied_all after_sealing after_counting after_hearing after_accepting
+    after_boot shown with_given_net with_given_link with_declared sealing_key end_line run_lines transcript
 join_through_router = refl
