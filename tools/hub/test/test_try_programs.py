@@ -33,7 +33,7 @@ def load():
 @unittest.skipUnless(find('tc') and find('tc_centre'), 'a built program is missing')
 class TryPrograms(unittest.TestCase):
     def setUp(self):
-        self.tool, self.seconds, session.SECONDS = load(), session.SECONDS, 5
+        self.tool, self.seconds, session.SECONDS = load(), session.SECONDS, 15
         self.room = tempfile.TemporaryDirectory()
 
     def tearDown(self):
@@ -47,7 +47,7 @@ class TryPrograms(unittest.TestCase):
             programs = self.tool.Programs(paths['tc'], paths['centre'], room)
             try:
                 getattr(self.tool, name)(programs)
-            except (self.tool.Failed, subprocess.SubprocessError) as error:
+            except self.tool.ERRORS as error:
                 return str(error)
         return None
 
