@@ -1,7 +1,7 @@
 """Sessions of tc_centre that are ended by SIGKILL: at a moment, or at one of their system calls.
 
-A session is given all its lines at once, and then the end of its input. So it works without a pause until it is killed,
-or ends by itself."""
+A session is given all its lines at once, and then the end of its input. So it works without a pause until it is
+killed, or ends by itself."""
 import ctypes
 import os
 import signal
@@ -9,6 +9,7 @@ import subprocess
 import tempfile
 import threading
 import time
+from typing import IO
 
 SECONDS = 120
 # An answer that came out before it was stored would be missing after these.
@@ -26,17 +27,17 @@ class Stuck(Exception):
 class Killed:
     """What came of a session: its whole lines, and whether it was killed before it ended by itself."""
 
-    def __init__(self, output, status):
+    def __init__(self, output: bytes, status: int):
         self.lines = output.decode('ascii', 'replace').split('\n')[:-1]
         self.status, self.is_killed = status, status == -signal.SIGKILL
 
 
-def text_of(lines):
+def text_of(lines: list[str]) -> bytes:
     """Returns the bytes of the lines of a session."""
     return ''.join(f'{line}\n' for line in lines).encode('ascii')
 
 
-def run(program, store, lines, delay=None):
+def run(program: str, store: str, lines: list[str], delay: float | None = None) -> tuple[Killed, float]:
     """Runs a session, and kills it after that many seconds, or never. Returns it, and the seconds that it took."""
     began, out = time.monotonic(), []
     process = subprocess.Popen([program, store], stdin=subprocess.PIPE, stdout=subprocess.PIPE)
@@ -51,17 +52,17 @@ def run(program, store, lines, delay=None):
     return Killed(out[0], process.returncode), time.monotonic() - began
 
 
-def trace(request, pid, more=None):
+def trace(request: int, pid: int, more: int | None = None) -> bool:
     """Makes a call of ptrace, and returns whether it was carried out."""
     return LIBC.ptrace(request, pid, None, more) == 0
 
 
-def can_trace():
+def can_trace() -> bool:
     """Returns whether this machine lets a process trace its child."""
     return bool(traced(['/bin/true'], b'')[1])
 
 
-def traced(words, given, last=None):
+def traced(words: list[str], given: bytes, last: int | None = None) -> tuple[Killed, list[int]]:
     """Runs a program whose input is these bytes, and kills it at the stop of that number; never where it is none.
 
     A process stops before and after each system call. Returns what came of it, and how much it had written at each
@@ -79,7 +80,7 @@ def traced(words, given, last=None):
         return Killed(sink.read(), os.waitstatus_to_exitcode(status)), sizes
 
 
-def started(words, source, sink):
+def started(words: list[str], source: IO, sink: IO) -> int:
     """Starts a program that waits to be traced, and returns its number."""
     pid = os.fork()
     if pid == 0:
@@ -93,7 +94,7 @@ def started(words, source, sink):
     return pid
 
 
-def follow(pid, sink, sizes, last):
+def follow(pid: int, sink: IO, sizes: list[int], last: int | None) -> int:
     """Lets a traced process go from stop to stop, and returns the status with which it ended."""
     while True:
         if len(sizes) == last:
@@ -107,15 +108,16 @@ def follow(pid, sink, sizes, last):
             return status
 
 
-def stops(program, store, lines, passed):
+def stops(program: str, store: str, lines: list[str], passed: int) -> list[int]:
     """Returns the numbers of the stops of a session, which isn't killed: from the answer to its line of the number
     `passed` to shortly after its last answer."""
     session, sizes = traced([program, store], text_of(lines))
     before = session.lines[: session.lines.index(f'ok {passed}') + 1]
-    first, last = (next(at for at, size in enumerate(sizes) if size >= least) for least in (len(text_of(before)), sizes[-1]))
+    bounds = (len(text_of(before)), sizes[-1])
+    first, last = (next(at for at, size in enumerate(sizes) if size >= least) for least in bounds)
     return list(range(first, min(last + STOPS_AFTER, len(sizes))))
 
 
-def run_to_stop(program, store, lines, number):
+def run_to_stop(program: str, store: str, lines: list[str], number: int) -> Killed:
     """Runs a session, and kills it at the stop of that number. Returns what came of it."""
     return traced([program, store], text_of(lines), number)[0]
