@@ -1,4 +1,4 @@
-"""Tests of examples/hub.py: it goes on at a refusal and at a frame without content, and its log is for its owner alone."""
+"""Tests of examples/hub.py: it goes on at a refusal and at a frame without content, and only its owner reads its log."""
 import contextlib
 import importlib.util
 import io
@@ -39,7 +39,8 @@ class HubExample(unittest.TestCase):
 
     def test_a_frame_without_content(self):
         accept = f'1 accept hub nwk network {"00" * 16} 00124B0000000002 5 2D 0802'
-        self.assertEqual(self.happens([f'{accept} -', '1 refuse hub aps malformed']), 'the hub: refuse hub aps malformed\n')
+        said = self.happens([f'{accept} -', '1 refuse hub aps malformed'])
+        self.assertEqual(said, 'the hub: refuse hub aps malformed\n')
         self.assertEqual(self.happens([f'{accept} 00']), '')
         self.assertEqual(self.happens([f'{accept} 000106000401010701']), '00124B0000000002 says 01\n')
 

@@ -1,4 +1,4 @@
-"""Tests of the lists of words that the tools have: each has the words of docs/FORMATS.md and docs/ADMIN.md, and no other.
+"""Tests of the lists of words that the tools have: each has the words of docs/FORMATS.md and docs/ADMIN.md, no other.
 
 A word that a list lacks is named. So a new line of a session or command of `admin` can't be forgotten in a tool."""
 import importlib.machinery
@@ -84,7 +84,8 @@ class Words(unittest.TestCase):
             for it in spans(row[0])
         }
         # no event of the centre changes the state of a router or device
-        self.same('EVENTS of tools/hub/words.py', {it for may in words.EVENTS.values() for it in may}, changes - {'state'})
+        found = {it for may in words.EVENTS.values() for it in may}
+        self.same('EVENTS of tools/hub/words.py', found, changes - {'state'})
 
     def test_events_of_the_tools(self):
         drive, kill, library = tool('drive-centre'), tool('kill-centre'), tool('drive-library')
