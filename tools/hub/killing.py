@@ -2,6 +2,8 @@
 
 A session is given all its lines at once, and then the end of its input. So it works without a pause until it is
 killed, or ends by itself."""
+from __future__ import annotations
+
 import ctypes
 import os
 import signal
@@ -77,7 +79,8 @@ def traced(words: list[str], given: bytes, last: int | None = None) -> tuple[Kil
         else:
             os.kill(pid, signal.SIGKILL)
         sink.seek(0)
-        return Killed(sink.read(), os.waitstatus_to_exitcode(status)), sizes
+        ended = -os.WTERMSIG(status) if os.WIFSIGNALED(status) else os.WEXITSTATUS(status)
+        return Killed(sink.read(), ended), sizes
 
 
 def started(words: list[str], source: IO, sink: IO) -> int:
