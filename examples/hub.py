@@ -11,6 +11,10 @@ LAMP, CODE = '00124B0000000002', '83FED3407A939723A5C639B26916D505C3B5'
 HEADER = ['centre hub 00124B0000000001 16 1', f'peer lamp device {LAMP} 1A2B']
 
 
+class Refused(Exception):
+    """The centre did not carry out a line, and nothing has changed. It holds the cause."""
+
+
 class Radio:
     """A radio whose air has one device, which `tc play` plays. What the hub sends is injected there."""
 
@@ -43,17 +47,23 @@ class Hub:
         self.process = subprocess.Popen([program, store], **pipes)
         self.note('\nstart')
         for line in [*HEADER, 'open', 'backup']:
-            self.ask(line)
+            try:
+                self.ask(line)
+            except Refused as error:
+                sys.exit(f'hub: `{line}` was not carried out: {error}')
 
     def note(self, line):
         if self.log:
             print(line, file=self.log, flush=True)
 
     def ask(self, line):
-        """Sends a line, and returns the words of each line that answers it."""
+        """Sends a line, and returns the words of each line that answers it. Raises Refused."""
         self.count += 1
         self.note(f'> {line}')
-        print(line, file=self.process.stdin, flush=True)
+        try:
+            print(line, file=self.process.stdin, flush=True)
+        except BrokenPipeError:
+            pass  # the centre has ended, and what it wrote says why
         answer = []
         for text in self.process.stdout:
             self.note(f'< {text.rstrip()}')
@@ -61,16 +71,21 @@ class Hub:
             if words[:2] == ['ok', str(self.count)]:
                 return answer
             if words[:2] == ['refuse', str(self.count)]:
-                sys.exit(f'hub: `{line}` was not carried out: {words[2]}')
+                raise Refused(words[2])
             answer.append(words)
-        sys.exit(f'hub: the centre ended with status {self.process.wait()}: {answer}')
+        sys.exit(f'hub: the centre ended with status {self.process.wait()}: {" ".join(answer[-1]) if answer else ""}')
 
     def happen(self, line):
         """Lets an event happen, sends what comes out of it, and hears what is sent on that."""
-        for words in self.ask(line):
+        try:
+            answer = self.ask(line)
+        except Refused as error:
+            print(f'the hub: `{line.split()[0]}` was not carried out: {error}')
+            return
+        for words in answer:
             if words[1] == 'send':
                 self.hear(self.radio.send(words[4]))
-            elif words[1] == 'accept' and words[3] == 'nwk' and int(words[10][:2], 16) % 4 == 0:
+            elif words[1] == 'accept' and words[3] == 'nwk' and is_data(words[10]):
                 print(f'{words[6]} says {words[10][16:]}')
             elif words[1] in ('live', 'removed', 'refuse'):
                 print('the hub:', ' '.join(words[1:]))
@@ -79,6 +94,24 @@ class Hub:
         """Gives frames to the centre, each with a fresh key of which it may make a device's."""
         for frame in frames:
             self.happen(f'deliver {frame} {os.urandom(16).hex()}')
+
+
+def is_data(content):
+    """Returns whether a NWK content is an APS data frame with its header of 8 bytes. It may be empty, which is `-`."""
+    return len(content) >= 16 and int(content[:2], 16) % 4 == 0
+
+
+def open_log(path):
+    """Opens a log, which has keys, so that others than its owner can't read it."""
+    return open(path, 'a', opener=lambda path, flags: os.open(path, flags, 0o600))
+
+
+def make_store(tc, store):
+    """Makes the store of a centre with a network key of its own."""
+    script = '\n'.join([*HEADER, f'init {os.urandom(16).hex()}\n'])
+    ran = subprocess.run([tc, 'admin', store], input=script, text=True, stdout=subprocess.PIPE)
+    if ran.returncode != 0 or 'refuse' in ran.stdout:
+        sys.exit(f'hub: the store is not made: {ran.stdout.strip()}')
 
 
 def join(hub):
@@ -91,10 +124,9 @@ def join(hub):
 
 
 def main(tc_centre, tc, store, *logs):
-    log = open(logs[0], 'a') if logs else None
-    if not os.path.exists(store):
-        script = '\n'.join([*HEADER, f'init {os.urandom(16).hex()}\n'])
-        subprocess.run([tc, 'admin', store], input=script, text=True, stdout=subprocess.DEVNULL, check=True)
+    log = open_log(logs[0]) if logs else None
+    if not os.path.lexists(store):
+        make_store(tc, store)
     radio = Radio(tc)
     hub = Hub(tc_centre, store, radio, log)
     join(hub)
@@ -111,4 +143,7 @@ def main(tc_centre, tc, store, *logs):
 
 
 if __name__ == '__main__':
-    sys.exit(main(*sys.argv[1:]) if len(sys.argv) in (4, 5) else __doc__)
+    try:
+        sys.exit(main(*sys.argv[1:]) if len(sys.argv) in (4, 5) else __doc__)
+    except OSError as error:
+        sys.exit(f'hub: {error}')

@@ -110,7 +110,11 @@ struct tc_used {
  *   1. put the new store in place of the old one, so that a loss of power leaves one or the other, and sync it;
  *   2. and only then do what the answer says: send its frames, tell its lines.
  *
- * Where 1 fails, forget both buffers, and read the store again. Never run two centres on one store.
+ * If 1 fails, forget both buffers, and read the store again.
+ *
+ * Two calls that begin with the same store seal with the same frame counters. So never run two centres on one store:
+ * hold a lock from before you read the store until the new one is written, and don't begin if another process has it.
+ * That holds for one process per event, too. If the store can't be read, stop: only a file that isn't there is no store.
  *
  * tc_admin serves a script of `tc admin`, and the answer is what that program writes. tc_live serves the lines of a
  * session of `tc_centre`, each of which ends with a line feed. Each call is a session of its own: it begins with the

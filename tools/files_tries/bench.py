@@ -132,7 +132,7 @@ class Bench:
             return
         os.makedirs(FOUND, exist_ok=True)
         name = f"{FOUND}/{os.getpid()}-{self.violations}"
-        with open(f"{name}.script", "wb") as it:
+        with open(os.open(f"{name}.script", os.O_WRONLY | os.O_CREAT | os.O_TRUNC, 0o600), "wb") as it:
             it.write(scripts.script(commands))
         if store and os.path.isfile(store):
             shutil.copy(store, f"{name}.store")

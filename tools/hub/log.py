@@ -1,10 +1,7 @@
 """Reads logs of sessions: `start` where tc_centre was started, `> LINE` for a line to it, `< LINE` for one of it."""
 import re
 
-HEADER = ('centre', 'peer', 'log', 'open')
-QUESTIONS = ('list', 'backup')
-# the last line of a session that ended by itself
-ENDS = ('usage', 'read fault', 'no memory', 'store fault', 'no store', 'worn', 'busy', 'too long', 'bad store')
+from hub.words import ENDS, EVENTS, HEADER, QUESTIONS
 
 
 class BadLog(Exception):
@@ -27,7 +24,12 @@ class Asked:
     @property
     def is_event(self):
         """Returns whether the line is one of an event, and was carried out where it was answered."""
-        return self.kind not in HEADER + QUESTIONS and self.word != 'refuse'
+        return self.kind in EVENTS and self.word != 'refuse'
+
+    @property
+    def is_known(self):
+        """Returns whether the line is one of those that the tools know, or wasn't carried out."""
+        return self.word == 'refuse' or self.kind in EVENTS or self.kind in HEADER + QUESTIONS
 
 
 class Session:
@@ -92,4 +94,6 @@ def read(lines):
             sessions[-1].ask(text, place)
         else:
             sessions[-1].hear(text, place)
+    for asked in (it for session in sessions for it in session.asked if not it.is_known):
+        raise BadLog(f'line {asked.place}: `{asked.kind}` is no line of a session that this tool knows')
     return [it for it in sessions if it.header('open')]

@@ -1,7 +1,10 @@
 """A session of tc_centre: lines go in one at a time, each is answered, and a log keeps both."""
 import os
 import re
+import select
 import subprocess
+
+SECONDS = 60
 
 
 class Ended(Exception):
@@ -10,6 +13,10 @@ class Ended(Exception):
     def __init__(self, lines, status):
         super().__init__(f'tc_centre ended with status {status} after {lines}')
         self.lines, self.status = lines, status
+
+
+class Silent(Exception):
+    """The program neither answered nor ended within a minute."""
 
 
 class Session:
@@ -38,6 +45,9 @@ class Session:
     def line(self):
         """Returns the next line of the program, or none at its end."""
         while b'\n' not in self.held:
+            if not select.select([self.process.stdout], [], [], SECONDS)[0]:
+                self.process.kill()
+                raise Silent(f'no answer within {SECONDS} seconds')
             more = os.read(self.process.stdout.fileno(), 65_536)
             if not more:
                 return None

@@ -1,6 +1,15 @@
-"""Words of sessions that are made up: keys and install codes, and the change lines that each event may give."""
+"""The words of sessions and of scripts of `admin`, by docs/FORMATS.md and docs/ADMIN.md, which all tools around the
+centre read here; and words that are made up: keys and install codes."""
+
+# The lines of a session before `open`, those that only show something, and the last lines of one that ends by itself.
+HEADER = ('centre', 'peer', 'log', 'open')
+QUESTIONS = ('list', 'backup')
+ENDS = ('usage', 'read fault', 'no memory', 'store fault', 'no store', 'worn', 'busy', 'too long', 'bad store')
+# The commands of a script of `admin`.
+COMMANDS = ('init', 'provision', 'remove', 'list', 'backup', 'restore')
 
 RECEIVED = {'reserve', 'floor'}
+# The events of a session, and the change lines that each may give.
 EVENTS = {
     'deliver': RECEIVED | {'draw', 'drop', 'row', 'pair', 'live', 'removed', 'told', 'untold'},
     'child': {'reserve'},
