@@ -9,8 +9,7 @@ mod service;
 
 pub use service::serve;
 pub use zb_backup::{BackupError, read_backup, write_backup};
-pub use zb_centre_store::AdminFault;
+pub use zb_centre_store::{AdminFault, skip};
 pub use zb_script::{
     Order, Script, ScriptCause as AdminCause, ScriptError as AdminError, Step, read,
 };
-pub use zb_centre_store::skip;

@@ -16,9 +16,8 @@ use std::alloc::Global;
 use std::collections::BTreeMap;
 use zb_audit_names::Who;
 use zb_base::{Attribute, Eui, Key, Layer, NoMemory};
-use zb_seal::is_command;
 use zb_cmd::{Command, read_command};
-use zb_seal::Term;
+use zb_seal::{Term, is_command};
 use zb_trace::Line;
 
 /// A link row of the centre.

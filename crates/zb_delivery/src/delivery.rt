@@ -13,7 +13,6 @@ ghost use Rattle.zb_plan.specs.Deciding.{IsNwk};
 use crate::command::take_nwk_command;
 use crate::payload::decide_payload;
 use zb_base::Key;
-use zb_seal::is_command;
 use zb_host::{Outcome, Plan};
 use zb_judge::judge_nwk;
 use zb_keys::Tables;
@@ -21,7 +20,7 @@ use zb_node_types::Refusal;
 use zb_nwk::NwkFrame;
 use zb_plan::{plan_of, plan_refused};
 use zb_rules::Effect;
-use zb_seal::{KeyMemo, Term};
+use zb_seal::{KeyMemo, Term, is_command};
 use zb_setting::Network;
 
 /// Decides a frame whose NWK layer passed, and writes what it accepts at APS into `aps`.

@@ -17,13 +17,12 @@ ghost use Rattle.zb_rules.specs.Outcomes.{decided, told, Keeps};
 use crate::command::take_bytes;
 use zb_aps::{ApsAux, ApsFrame};
 use zb_base::{Eui, Key, Place};
-use zb_seal::is_command;
 use zb_judge::{Unsealed, judge_aps};
 use zb_keys::Tables;
 use zb_node_types::Refusal;
 use zb_nwk::NwkFrame;
 use zb_rules::{Effect, Heard};
-use zb_seal::{KeyMemo, Term, label_of};
+use zb_seal::{KeyMemo, Term, is_command, label_of};
 use zb_setting::Network;
 
 /// Returns the source of a term, if there is one.

@@ -12,7 +12,6 @@ mod reporting;
 mod ring;
 mod rounds;
 
-pub use crate::{Ring, RingKey};
 pub use block::{Block, Seen};
 pub use fault::InspectFault;
 pub use keys::ring;

@@ -14,12 +14,11 @@ ghost use Rattle.zb_judge.specs.Verdicts.{carrier_seen, judged};
 use crate::opening::open_nwk;
 use zb_aps::ApsFrame;
 use zb_base::{Eui, Label, Place, State};
-use zb_seal::is_command;
 use zb_keys::Tables;
 use zb_node_types::Refusal;
 use zb_nwk::{NwkAux, NwkFrame};
 use zb_rows::{floor_of, is_full_for, is_known, is_live, usable_of};
-use zb_seal::{KeyMemo, Term, label_of};
+use zb_seal::{KeyMemo, Term, is_command, label_of};
 use zb_setting::Network;
 
 /// Returns whether a label is that of a key-transport key.

@@ -5,8 +5,7 @@ ghost use Rattle.zb_base.specs.declared.label.Layer.TheVariants.{Nwk};
 ghost use Rattle.zb_seal.specs.Carrying.{carried, clear_key, is_command_header};
 
 use zb_base::{Key, Layer};
-use zb_seal::{carried, is_command};
-use zb_seal::Term;
+use zb_seal::{Term, carried, is_command};
 
 /// Returns the key that a term carries, if any.
 ///
