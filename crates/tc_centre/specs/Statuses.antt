@@ -1,19 +1,20 @@
 -- How the process ends: the number and the text of each status.
-use Rattle.std.specs.Prelude.{ℕ, List, [], ◌∷◌, ◌++◌, codes, decimal, Option, Some, None}
+use Rattle.std.specs.Prelude.{ℕ, List, [], ◌∷◌, ◌++◌, codes, decimal, if◌then◌else◌, Option, Some, None, Result, Ok, Err}
 use Rattle.zb_text.specs.Words.{then}
 use Rattle.tc_centre.specs.declared.status.Status.{Status}
 use Rattle.tc_centre.specs.declared.status.Status.TheVariants as status
+use Rattle.zb_disk.specs.declared.file_fault.FileFault.{FileFault}
 use Rattle.zb_live.specs.declared.fault.LiveFault.{LiveFault}
 use Rattle.zb_live.specs.declared.fault.LiveFault.TheVariants as fault
 
 abbrev pub Bytes : Type 0
 Bytes = List ℕ
 
--- the path of the store: the only word
-abbrev pub store_path : List Bytes → Option Bytes
-store_path [] = None
-store_path (path ∷ []) = Some path
-store_path (path ∷ other ∷ more) = None
+-- the only word
+abbrev pub only_word : List Bytes → Option Bytes
+only_word [] = None
+only_word (word ∷ []) = Some word
+only_word (word ∷ other ∷ more) = None
 
 abbrev pub number_of : Status → ℕ
 number_of status.Ok = 0
@@ -46,13 +47,20 @@ abbrev pub line_of : Bytes → Bytes
 line_of [] = []
 line_of (c ∷ text) = (c ∷ text) ++ 10 ∷ []
 
--- how a session ends that doesn't end well
-abbrev pub status_of : LiveFault → Status
-status_of fault.Read = status.ReadFault
-status_of fault.Write = status.WriteFault
-status_of fault.NoMemory = status.NoMemory
-status_of fault.Disk = status.DiskFault
-status_of fault.NoStore = status.NoStore
-status_of fault.TooLong = status.TooLong
-status_of (fault.BadStore at) = status.BadStore at
-status_of fault.Worn = status.Worn
+-- how a process ends whose store failed: it is busy only if its file couldn't be opened because another process has it
+-- open
+abbrev pub store_status : Option FileFault → Status
+store_status None = status.DiskFault
+store_status (Some fault) = if fault.is_taken then status.Busy else status.DiskFault
+
+-- how a process ends whose session came to this end, where this failed first on the store's file
+abbrev pub status_after : Result (Unit {0}) LiveFault → Option FileFault → Status
+status_after (Ok done) first = status.Ok
+status_after (Err fault.Read) first = status.ReadFault
+status_after (Err fault.Write) first = status.WriteFault
+status_after (Err fault.NoMemory) first = status.NoMemory
+status_after (Err fault.Disk) first = store_status first
+status_after (Err fault.NoStore) first = status.NoStore
+status_after (Err fault.TooLong) first = status.TooLong
+status_after (Err (fault.BadStore at)) first = status.BadStore at
+status_after (Err fault.Worn) first = status.Worn
