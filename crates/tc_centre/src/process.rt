@@ -29,7 +29,10 @@ pub struct Ending {
 /// output. The words `--version` and `--help` name no store: of these it writes a text, and reads nothing.
 pub fn run_process<H: Env + Input + Print + StoreFiles + AllocGlobal + Drop>(rt: &H) -> Ending {
     let mut output = StdSink::new(io::writer(rt));
-    let Ending { status, first_fault } = carry_out(rt, &mut output);
+    let Ending {
+        status,
+        first_fault,
+    } = carry_out(rt, &mut output);
     Ending {
         status: ended(status, &mut output),
         first_fault,

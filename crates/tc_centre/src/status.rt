@@ -1,7 +1,7 @@
 //! How the process ends.
 ghost use Rattle.std.specs.Prelude.{◌≡◌, ◌+◌, ◌≤◌, ◌++◌, length, decimal};
 ghost use Rattle.arrayvec.specs.ArrayString.{array_string_len};
-ghost use Rattle.tc_centre.specs.Statuses.{status_after, store_status};
+ghost use Rattle.tc_centre.specs.Ends.{status_after, store_status};
 ghost use Rattle.zb_text.specs.Words.{then};
 
 use arrayvec::ArrayString;
