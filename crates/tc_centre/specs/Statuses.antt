@@ -3,17 +3,15 @@ use Rattle.std.specs.Prelude.{ℕ, List, [], ◌∷◌, ◌++◌, codes, decimal
 use Rattle.zb_text.specs.Words.{then}
 use Rattle.tc_centre.specs.declared.status.Status.{Status}
 use Rattle.tc_centre.specs.declared.status.Status.TheVariants as status
-use Rattle.zb_live.specs.declared.fault.LiveFault.{LiveFault}
-use Rattle.zb_live.specs.declared.fault.LiveFault.TheVariants as fault
 
 abbrev pub Bytes : Type 0
 Bytes = List ℕ
 
--- the path of the store: the only word
-abbrev pub store_path : List Bytes → Option Bytes
-store_path [] = None
-store_path (path ∷ []) = Some path
-store_path (path ∷ other ∷ more) = None
+-- the only word
+abbrev pub only_word : List Bytes → Option Bytes
+only_word [] = None
+only_word (word ∷ []) = Some word
+only_word (word ∷ other ∷ more) = None
 
 abbrev pub number_of : Status → ℕ
 number_of status.Ok = 0
@@ -45,14 +43,3 @@ text_of status.Busy = codes "busy"
 abbrev pub line_of : Bytes → Bytes
 line_of [] = []
 line_of (c ∷ text) = (c ∷ text) ++ 10 ∷ []
-
--- how a session ends that doesn't end well
-abbrev pub status_of : LiveFault → Status
-status_of fault.Read = status.ReadFault
-status_of fault.Write = status.WriteFault
-status_of fault.NoMemory = status.NoMemory
-status_of fault.Disk = status.DiskFault
-status_of fault.NoStore = status.NoStore
-status_of fault.TooLong = status.TooLong
-status_of (fault.BadStore at) = status.BadStore at
-status_of fault.Worn = status.Worn

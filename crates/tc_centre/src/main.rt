@@ -3,6 +3,7 @@
 #![tactic(auto)]
 
 mod advice;
+mod asked;
 mod process;
 mod status;
 
@@ -10,7 +11,7 @@ use process::run_process;
 use std::process::ExitCode;
 
 fn main(rt: HostRuntime) -> ExitCode {
-    let status = run_process(&rt);
-    advice::advise(&rt, &status);
-    ExitCode::from(status.number())
+    let ending = run_process(&rt);
+    advice::advise(&rt, &ending);
+    ExitCode::from(ending.status.number())
 }

@@ -1,61 +1,110 @@
 //! The run of the process: its words, its standard input and output, and the store in the file that is named.
 ghost use Rattle.std.specs.Io.KnownBytes.{Appends};
-ghost use Rattle.std.specs.Prelude.{◌≡◌, OnOk, map, option_map, string_bytes};
-ghost use Rattle.zb_base.specs.Outside.{HasCause};
-ghost use Rattle.tc_centre.specs.Statuses.{line_of, store_path, text_of};
+ghost use Rattle.std.specs.Prelude.{◌≡◌, ◌⊎◌, OnOk, map, option_map, string_bytes};
+ghost use Rattle.zb_base.specs.Outside.{HasCause, Rose, Unrisen};
+ghost use Rattle.tc_centre.specs.Asking.{version_text};
+ghost use Rattle.tc_centre.specs.Statuses.{line_of, only_word, text_of};
 
-use crate::status::Status;
+use crate::asked::{Asked, asked_by};
+use crate::status::{Status, status_after};
 use std::env;
 use std::io::{self, ErrorKind};
 use std::rt::Env;
 use zb_base::{Failed, Sink, StdSink, StdSource};
-use zb_disk::{FileDisk, StoreFiles};
-use zb_live::{LiveFault, live};
+use zb_disk::{FileDisk, FileFault, StoreFiles};
+use zb_live::live;
+
+/// How the process ended, and what it knows of the store's file for the people who read standard error.
+#[derive(Clone, Copy, Debug)]
+pub struct Ending {
+    /// How it ended.
+    pub status: Status,
+    /// What failed first on the store's file, if anything did.
+    pub first_fault: Option<FileFault>,
+}
 
 /// Serves the lines of standard input over the store that the one word of the process names.
 ///
 /// Each answer goes out before the next line is read. Where the session didn't end well, it says so on standard
-/// output.
-pub fn run_process<H: Env + Input + Print + StoreFiles + AllocGlobal + Drop>(rt: &H) -> Status {
-    let status = serve(rt);
+/// output. The words `--version` and `--help` name no store: of these it writes a text, and reads nothing.
+pub fn run_process<H: Env + Input + Print + StoreFiles + AllocGlobal + Drop>(rt: &H) -> Ending {
     let mut output = StdSink::new(io::writer(rt));
-    match tell(&status, &mut output) {
-        Ok(()) => status,
-        Err(Failed) => Status::WriteFault,
+    let Ending {
+        status,
+        first_fault,
+    } = carry_out(rt, &mut output);
+    Ending {
+        status: ended(status, &mut output),
+        first_fault,
     }
 }
 
-/// Serves the session, if the words of the process are right.
-fn serve<H: Env + Input + Print + StoreFiles + AllocGlobal + Drop>(rt: &H) -> Status {
+/// Carries out what the words of the process ask for.
+fn carry_out<H: Env + Input + StoreFiles + AllocGlobal + Drop, W: Sink>(
+    rt: &H,
+    output: &mut W,
+) -> Ending {
     let words = match words_after_name(rt) {
         Ok(words) => words,
-        Err(error) => return without_words(&error),
+        Err(error) => return without_store(without_words(&error)),
     };
-    match store_path(words.as_slice()) {
-        Some(path) => serve_store(rt, path),
-        None => Status::Usage,
+    let Some(word) = only_word(words.as_slice()) else {
+        return without_store(Status::Usage);
+    };
+    match asked_by(word) {
+        Some(asked) => without_store(show(asked, output)),
+        None => serve_store(rt, word, output),
+    }
+}
+
+/// Returns how a process ends that opened no store.
+fn without_store(status: Status) -> Ending
+    ensures { result.status ≡ status }
+{
+    Ending {
+        status,
+        first_fault: None,
     }
 }
 
 /// Serves the session over the store at this path.
-fn serve_store<H: Input + Print + StoreFiles + AllocGlobal + Drop>(rt: &H, path: &str) -> Status {
+fn serve_store<H: Input + StoreFiles + AllocGlobal + Drop, W: Sink>(
+    rt: &H,
+    path: &str,
+    output: &mut W,
+) -> Ending {
     let Ok(mut store) = FileDisk::new(rt, path) else {
-        return Status::NoMemory;
+        return without_store(Status::NoMemory);
     };
     let mut input = StdSource::new(rt.reader());
-    let mut output = StdSink::new(io::writer(rt));
-    match live(rt.alloc(), &mut input, &mut output, &mut store) {
-        Ok(()) => Status::Ok,
-        Err(LiveFault::Disk) if store.calls == 0 && is_busy(rt, path) => Status::Busy,
-        Err(fault) => Status::from(fault),
+    let session = live(rt.alloc(), &mut input, output, &mut store);
+    Ending {
+        status: status_after(session, store.first_fault),
+        first_fault: store.first_fault,
     }
 }
 
-/// Returns whether another process has the store open.
-fn is_busy<H: StoreFiles>(rt: &H, path: &str) -> bool {
-    match rt.open_store(path) {
-        Ok(_) => false,
-        Err(error) => error.kind() == ErrorKind::WouldBlock,
+/// Writes a text that was asked for.
+fn show<W: Sink>(asked: Asked, output: &mut W) -> Status
+    ensures version { asked ≡ Asked.Version → result ≡ Status.Ok
+        → Appends (W.taken output.old) (W.taken output.new) (line_of version_text) }
+    ensures ends { ((result ≡ Status.Ok) × Unrisen (W.faults output.old) (W.faults output.new))
+        ⊎ ((result ≡ Status.WriteFault) × Rose (W.faults output.old) (W.faults output.new)) }
+{
+    match write_line(asked.text().as_bytes(), output) {
+        Ok(()) => Status::Ok,
+        Err(Failed) => Status::WriteFault,
+    }
+}
+
+/// Returns the status of the process: that of its run, unless its text can't be written.
+fn ended<W: Sink>(status: Status, output: &mut W) -> Status
+    ensures { ((result ≡ status) × Unrisen (W.faults output.old) (W.faults output.new))
+        ⊎ ((result ≡ Status.WriteFault) × Rose (W.faults output.old) (W.faults output.new)) }
+{
+    match tell(&status, output) {
+        Ok(()) => status,
+        Err(Failed) => Status::WriteFault,
     }
 }
 
@@ -68,12 +117,12 @@ fn without_words(error: &io::Error) -> Status {
     }
 }
 
-/// Returns the path of the store: the only word.
-fn store_path(words: &[String]) -> Option<&str>
-    ensures { option_map (λ path. path.now) result ≡ store_path (map string_bytes words.now) }
+/// Returns the only word, if there is just one.
+fn only_word(words: &[String]) -> Option<&str>
+    ensures { option_map (λ word. word.now) result ≡ only_word (map string_bytes words.now) }
 {
     match words {
-        [path] => Some(path.as_str()),
+        [word] => Some(word.as_str()),
         _ => None,
     }
 }

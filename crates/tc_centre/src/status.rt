@@ -1,16 +1,18 @@
 //! How the process ends.
 ghost use Rattle.std.specs.Prelude.{◌≡◌, ◌+◌, ◌≤◌, ◌++◌, length, decimal};
 ghost use Rattle.arrayvec.specs.ArrayString.{array_string_len};
+ghost use Rattle.tc_centre.specs.Ends.{status_after, store_status};
 ghost use Rattle.zb_text.specs.Words.{then};
 
 use arrayvec::ArrayString;
 use itoa::Buffer;
+use zb_disk::FileFault;
 use zb_live::LiveFault;
 
 /// How the process ends. Its number is the status of the process.
 #[derive(Clone, Copy, Debug, PartialEq, Eq)]
 pub enum Status {
-    /// The input ended, and all its lines were answered.
+    /// The input ended, and all its lines were answered; or a text was written that was asked for.
     Ok,
     /// There isn't exactly one word.
     Usage,
@@ -22,11 +24,11 @@ pub enum Status {
     NoMemory,
     /// The store failed.
     DiskFault,
-    /// The store isn't empty, and no record stands in it.
+    /// The store isn't empty, and no record is in it.
     NoStore,
     /// A line has more than 1,048,576 bytes.
     TooLong,
-    /// What stands in the store is no record of a centre.
+    /// What is in the store is no record of a centre.
     BadStore {
         /// The place of the first fault, from 0.
         at: u32,
@@ -37,23 +39,39 @@ pub enum Status {
     Busy,
 }
 
-impl From<LiveFault> for Status {
-    ghost use Rattle.std.specs.Prelude.{◌≡◌};
-    ghost use Rattle.tc_centre.specs.Statuses.{status_of};
+/// Returns how a process ends whose session came to this end, where this failed first on the store's file.
+///
+/// The store is busy if its file couldn't be opened because another process has it open. Any other failed call on it is
+/// a fault of the store.
+pub(crate) fn status_after(session: Result<(), LiveFault>, first: Option<FileFault>) -> Status
+    ensures { result ≡ status_after session first }
+{
+    match session {
+        Ok(()) => Status::Ok,
+        Err(LiveFault::Read) => Status::ReadFault,
+        Err(LiveFault::Write) => Status::WriteFault,
+        Err(LiveFault::NoMemory) => Status::NoMemory,
+        Err(LiveFault::Disk) => store_status(first),
+        Err(LiveFault::NoStore) => Status::NoStore,
+        Err(LiveFault::TooLong) => Status::TooLong,
+        Err(LiveFault::BadStore { at }) => Status::BadStore { at },
+        Err(LiveFault::Worn) => Status::Worn,
+    }
+}
 
-    ghost from_gives = { λ fault s. s ≡ status_of fault };
-
-    fn from(fault: LiveFault) -> Status {
-        match fault {
-            LiveFault::Read => Status::ReadFault,
-            LiveFault::Write => Status::WriteFault,
-            LiveFault::NoMemory => Status::NoMemory,
-            LiveFault::Disk => Status::DiskFault,
-            LiveFault::NoStore => Status::NoStore,
-            LiveFault::TooLong => Status::TooLong,
-            LiveFault::BadStore { at } => Status::BadStore { at },
-            LiveFault::Worn => Status::Worn,
+/// Returns how a process ends whose store failed, first by this fault of its file.
+fn store_status(first: Option<FileFault>) -> Status
+    ensures { result ≡ store_status first }
+{
+    match first {
+        Some(fault) => {
+            if fault.is_taken {
+                Status::Busy
+            } else {
+                Status::DiskFault
+            }
         }
+        None => Status::DiskFault,
     }
 }
 
