@@ -14,7 +14,7 @@ use Rattle.zb_inspect.specs.Pieces.{all_fresh, frames_in, fresh, found_in, IsNex
 use Rattle.zb_inspect.specs.declared.block.Block.{Block}
 use Rattle.zb_inspect.specs.declared.block.Seen.{Seen}
 use Rattle.zb_inspect.specs.declared.block.Seen.TheVariants.{Lines}
-use Rattle.zb_inspect.specs.declared.ring.Lead.{Lead}
+use Rattle.zb_inspect.specs.declared.key_ring.Lead.{Lead}
 use Rattle.zb_inspect.specs.Rings.{frames_shown}
 use Rattle.zb_inspect.proofs.FreshLeads.{both_true, settled_frames}
 use Rattle.zb_inspect.proofs.Lists.{Half, half_get, half_more, all_at, flat_next}

@@ -16,9 +16,9 @@ use Rattle.zb_inspect_frame.specs.Shows.{frame_shown}
 use Rattle.zb_inspect_frame.specs.declared.carried.Carried.{Carried}
 use Rattle.zb_inspect_frame.specs.declared.shown.Shown.{Shown}
 use Rattle.zb_inspect.specs.Rings.{is_key, has_key, with_key, given_from, keys_of, lead_of, leads_of, leads, frames_shown, learnt, ring_after, ring_from, ring_of, IsRing}
-use Rattle.zb_inspect.specs.declared.ring.Lead.{Lead}
-use Rattle.zb_inspect.specs.declared.ring.Ring.{Ring}
-use Rattle.zb_inspect.specs.declared.ring.RingKey.{RingKey}
+use Rattle.zb_inspect.specs.declared.key_ring.Lead.{Lead}
+use Rattle.zb_inspect.specs.declared.key_ring.Ring.{Ring}
+use Rattle.zb_inspect.specs.declared.key_ring.RingKey.{RingKey}
 use Rattle.zb_inspect.proofs.Growth.{Kept, Grows, carried_grows}
 use Rattle.zb_inspect.proofs.RingLaws.{learnt_grows, first_keys, not_shorter, unchanged}
 

@@ -16,8 +16,8 @@ use Rattle.zb_inspect.specs.Rings.{has_key, leads, frames_shown, learnt}
 use Rattle.zb_inspect.specs.declared.block.Block.{Block}
 use Rattle.zb_inspect.specs.declared.block.Seen.{Seen}
 use Rattle.zb_inspect.specs.declared.block.Seen.TheVariants.{Nothing, Unopened, Lines, Whole}
-use Rattle.zb_inspect.specs.declared.ring.Lead.{Lead}
-use Rattle.zb_inspect.specs.declared.ring.RingKey.{RingKey}
+use Rattle.zb_inspect.specs.declared.key_ring.Lead.{Lead}
+use Rattle.zb_inspect.specs.declared.key_ring.RingKey.{RingKey}
 use Rattle.zb_inspect.proofs.Bound.{AllKnown, known_split, known_more}
 use Rattle.zb_inspect.proofs.PieceLists.{frames_count, leads_append, learnt_append}
 use Rattle.zb_inspect.proofs.RingLaws.{learnt_grows}

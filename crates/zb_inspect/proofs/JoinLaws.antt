@@ -14,7 +14,7 @@ use Rattle.zb_inspect.specs.Rings.{leads, frames_shown}
 use Rattle.zb_inspect.specs.declared.block.Block.{Block}
 use Rattle.zb_inspect.specs.declared.block.Seen.{Seen}
 use Rattle.zb_inspect.specs.declared.block.Seen.TheVariants.{Nothing, Unopened, Lines, Whole}
-use Rattle.zb_inspect.specs.declared.ring.Lead.{Lead}
+use Rattle.zb_inspect.specs.declared.key_ring.Lead.{Lead}
 use Rattle.zb_inspect.proofs.Lists.{all_append, all_front, all_back}
 use Rattle.zb_inspect.proofs.PieceLists.{counts_append, drop_more, frames_count, leads_append, numbered_append, numbered_back, numbered_front, take_more}
 

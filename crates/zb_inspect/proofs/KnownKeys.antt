@@ -8,7 +8,7 @@ use Rattle.std.proofs.lemmas.List.Folds.{list_any-append}
 use Rattle.zb_base.specs.declared.key.Key.{Key}
 use Rattle.zb_inspect.specs.Known.{is_known, key_cmp}
 use Rattle.zb_inspect.specs.Rings.{has_key, is_key, keys_of}
-use Rattle.zb_inspect.specs.declared.ring.RingKey.{RingKey}
+use Rattle.zb_inspect.specs.declared.key_ring.RingKey.{RingKey}
 
 either : (same before : Bool) → cond same true before ≡ (before || (same || false))
 either true true = refl

@@ -16,8 +16,8 @@ use Rattle.zb_inspect.specs.declared.block.Block.{Block}
 use Rattle.zb_inspect.specs.declared.block.Seen.{Seen}
 use Rattle.zb_inspect.specs.declared.block.Seen.TheVariants.{Nothing, Unopened, Lines, Whole}
 use Rattle.zb_inspect.specs.declared.piece.Piece.{Piece}
-use Rattle.zb_inspect.specs.declared.ring.Lead.{Lead}
-use Rattle.zb_inspect.specs.declared.ring.RingKey.{RingKey}
+use Rattle.zb_inspect.specs.declared.key_ring.Lead.{Lead}
+use Rattle.zb_inspect.specs.declared.key_ring.RingKey.{RingKey}
 use Rattle.zb_inspect.proofs.Lists.{all_append, all_front, all_back}
 
 -- the first of the pieces that are left

@@ -21,7 +21,7 @@ use Rattle.zb_inspect.specs.declared.block.Block.{Block}
 use Rattle.zb_inspect.specs.declared.block.Seen.{Seen}
 use Rattle.zb_inspect.specs.declared.block.Seen.TheVariants.{Nothing, Unopened, Lines, Whole}
 use Rattle.zb_inspect.specs.declared.piece.Piece.{Piece}
-use Rattle.zb_inspect.specs.declared.ring.Ring.{Ring}
+use Rattle.zb_inspect.specs.declared.key_ring.Ring.{Ring}
 use Rattle.zb_inspect.proofs.JoinLaws.{shown_append}
 use Rattle.zb_inspect.proofs.PieceLists.{frames_count, in_pieces, whole_frames, within_cut}
 use Rattle.zb_inspect.specs.Report.{tail_text, report_text, report_of}

@@ -3,8 +3,8 @@ use Rattle.std.proofs.Common.{◌≡◌, ℕ, ◌≤◌, List, [], ◌∷◌, �
 use Rattle.std.proofs.lemmas.List.{map-append, length-map}
 use Rattle.std.proofs.Math.Seq.{take-append_seam}
 use Rattle.zb_inspect.specs.Rings.{learnt, with_key, has_key, keys_of}
-use Rattle.zb_inspect.specs.declared.ring.Lead.{Lead}
-use Rattle.zb_inspect.specs.declared.ring.RingKey.{RingKey}
+use Rattle.zb_inspect.specs.declared.key_ring.Lead.{Lead}
+use Rattle.zb_inspect.specs.declared.key_ring.RingKey.{RingKey}
 
 -- keys are only added after those that are there
 one_more : (b : Bool) (ring : List RingKey) (k : RingKey) → (more : List RingKey)

@@ -10,7 +10,7 @@ use Rattle.zb_capture.specs.declared.capture.Capture.{Capture}
 use Rattle.zb_inspect.specs.Pieces.{all_blocks, all_leads, Sees, AllSee, AreShown, IsCut, IsNextPiece, IsWithin}
 use Rattle.zb_inspect.specs.Rings.{leads, frames_shown, learnt, keys_of, after_round, ring_after, IsRing}
 use Rattle.zb_inspect.specs.declared.piece.Piece.{Piece}
-use Rattle.zb_inspect.specs.declared.ring.RingKey.{RingKey}
+use Rattle.zb_inspect.specs.declared.key_ring.RingKey.{RingKey}
 use Rattle.zb_inspect.proofs.Bound.{AllKnown, all_known}
 use Rattle.zb_inspect.proofs.FreshLeads.{AllLearnt, fresh_learnt, learnt_blocks}
 use Rattle.zb_inspect.proofs.PieceLists.{in_pieces, led, pieces_counts, pieces_numbers, pieces_shown, shown_seen, whole_frames, within_cut}

@@ -14,7 +14,7 @@ use Rattle.zb_inspect.specs.declared.block.Block.{Block}
 use Rattle.zb_inspect.specs.declared.block.Seen.{Seen}
 use Rattle.zb_inspect.specs.declared.block.Seen.TheVariants.{Nothing, Unopened, Lines, Whole}
 use Rattle.zb_inspect.specs.declared.piece.Piece.{Piece}
-use Rattle.zb_inspect.specs.declared.ring.Lead.{Lead}
+use Rattle.zb_inspect.specs.declared.key_ring.Lead.{Lead}
 use Rattle.zb_parallel.specs.declared.share.Share.{Share}
 
 -- what pieces have, one after the other

@@ -3,8 +3,8 @@ use Rattle.std.specs.Prelude.{ℕ, ◌+◌, List, [], ◌∷◌, ◌++◌, lengt
 use Rattle.hex.specs.Hex.{encode_upper}
 use Rattle.zb_capture.specs.declared.capture.Capture.{Capture}
 use Rattle.zb_inspect.specs.Rings.{keys_of, frames_shown, ring_of}
-use Rattle.zb_inspect.specs.declared.ring.Ring.{Ring}
-use Rattle.zb_inspect.specs.declared.ring.RingKey.{RingKey}
+use Rattle.zb_inspect.specs.declared.key_ring.Ring.{Ring}
+use Rattle.zb_inspect.specs.declared.key_ring.RingKey.{RingKey}
 use Rattle.zb_inspect_frame.specs.Lines.{frames_text}
 use Rattle.zb_text.specs.Words.{then}
 

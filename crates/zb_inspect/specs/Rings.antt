@@ -10,9 +10,9 @@ use Rattle.zb_inspect_frame.specs.Carrying.{keys_carried}
 use Rattle.zb_inspect_frame.specs.Shows.{frame_shown}
 use Rattle.zb_inspect_frame.specs.declared.carried.Carried.{Carried}
 use Rattle.zb_inspect_frame.specs.declared.shown.Shown.{Shown}
-use Rattle.zb_inspect.specs.declared.ring.Lead.{Lead}
-use Rattle.zb_inspect.specs.declared.ring.Ring.{Ring}
-use Rattle.zb_inspect.specs.declared.ring.RingKey.{RingKey}
+use Rattle.zb_inspect.specs.declared.key_ring.Lead.{Lead}
+use Rattle.zb_inspect.specs.declared.key_ring.Ring.{Ring}
+use Rattle.zb_inspect.specs.declared.key_ring.RingKey.{RingKey}
 
 abbrev pub is_key : Key → RingKey → Bool
 is_key key known = bytes_eq known.key.0 key.0

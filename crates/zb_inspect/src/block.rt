@@ -9,7 +9,7 @@ ghost use Rattle.zb_inspect.specs.Rings.{lead_of, leads_of, leads as leads_in, f
 ghost use Rattle.zb_inspect.specs.Pieces.{SameFrames, IsWithin, StandsFor, Sees, IsShown, fresh};
 ghost use Rattle.zb_base.specs.Limits.{most_frames};
 
-use crate::ring::Lead;
+use crate::key_ring::Lead;
 use std::alloc::{AllocError, Global};
 use std::mem;
 use zb_base::{Key, NoMemory};

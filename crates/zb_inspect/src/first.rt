@@ -5,7 +5,7 @@ ghost use Rattle.zb_inspect.specs.Pieces.{AreShown, AreJoined, IsAdded, Numbered
 ghost use Rattle.zb_base.specs.Limits.{most_frames};
 
 use crate::block::{Block, Seen, look_at};
-use crate::ring::Lead;
+use crate::key_ring::Lead;
 use std::alloc::{AllocError, Global};
 use zb_base::NoMemory;
 use zb_capture::Frames;

@@ -7,7 +7,7 @@ ghost use Rattle.zb_base.specs.Limits.{most_frames};
 
 use crate::block::{Block, Seen, look_at};
 use crate::first::look_first;
-use crate::ring::Lead;
+use crate::key_ring::Lead;
 use std::alloc::Global;
 use zb_base::NoMemory;
 use zb_capture::Frames;

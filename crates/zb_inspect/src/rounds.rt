@@ -8,8 +8,8 @@ ghost use Rattle.zb_capture.specs.Grammar.{IsCapture};
 ghost use Rattle.zb_base.specs.Limits.{most_frames};
 
 use crate::cut::cut;
+use crate::key_ring::{KeyRing, Ring, given_ring, learn};
 use crate::piece::{Piece, look};
-use crate::ring::{KeyRing, Ring, given_ring, learn};
 use std::alloc::Global;
 use std::thread::{Threads, map_vec};
 use zb_base::NoMemory;

@@ -51,7 +51,7 @@ impl Model for KeyRing {
     ghost use Rattle.zb_base.specs.declared.key.Key.{Key};
     ghost use Rattle.zb_inspect.specs.Rings.{has_key, keys_of};
     ghost use Rattle.zb_inspect.specs.Known.{is_known};
-    ghost use Rattle.zb_inspect.specs.declared.ring.RingKey.{RingKey};
+    ghost use Rattle.zb_inspect.specs.declared.key_ring.RingKey.{RingKey};
 
     ghost Value = { List RingKey };
 

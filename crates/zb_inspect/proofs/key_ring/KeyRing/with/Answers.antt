@@ -1,6 +1,6 @@
-use Rattle.zb_inspect.specs.declared.ring.RingKey.{RingKey}
+use Rattle.zb_inspect.specs.declared.key_ring.RingKey.{RingKey}
 use Rattle.zb_inspect.proofs.KnownKeys.{sealing_keys_with, known_as, known_with}
-use Rattle.zb_inspect.proofs.ring.KeyRing.with.Goals as goal
+use Rattle.zb_inspect.proofs.key_ring.KeyRing.with.Goals as goal
 
 pub invariant_of-result : goal.invariant_of-result
 invariant_of-result c =
