@@ -2,7 +2,7 @@
 //! of their fields, and the text reads back as exactly these lines. docs/THEOREMS.md says the laws in words.
 #![tactic(auto)]
 
-mod lines;
+mod run_lines;
 
 ghost use Rattle.std.specs.Prelude.{◌≡◌, Ok, ◌<◌, ◌^◌, length};
 ghost use Rattle.law_run_ranges.specs.Asking.{KeepsRanges, ScheduleInRange};
@@ -15,7 +15,7 @@ ghost use Rattle.zb_sched.specs.Valid.{IsSchedule};
 ghost use Rattle.law_run_text.specs.Back.{IsReadBack, ReadsBack, text_of_run};
 
 use law_schedules::texts_read_as_schedules;
-pub use lines::{lines_of_a_run_are_of_its_nodes, the_text_of_a_run_is_of_no_other_lines};
+pub use run_lines::{lines_of_a_run_are_of_its_nodes, the_text_of_a_run_is_of_no_other_lines};
 use std::alloc::Global;
 use zb_base::OrMemory;
 use zb_trace::Line;

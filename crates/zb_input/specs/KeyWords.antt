@@ -10,7 +10,7 @@ abbrev pub code_given : Result (List ℕ) CodeError → Option Key
 code_given (Err e) = None
 code_given (Ok code) = Some (record { 0 = code_key code })
 
-abbrev pub key_or : Option List ℕ → Option Key → Option Key
+abbrev pub key_or : Option (List ℕ) → Option Key → Option Key
 key_or None other = other
 key_or (Some key) other = Some (record { 0 = key })
 
