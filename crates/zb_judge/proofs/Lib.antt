@@ -1,2 +1,3 @@
 mod Choosing
+mod Counters
 mod Opened

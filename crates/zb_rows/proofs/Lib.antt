@@ -1,3 +1,4 @@
 pub mod Looking
 pub mod Drops
 pub mod Rooms
+pub mod Drawing

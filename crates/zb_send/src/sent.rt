@@ -1,21 +1,21 @@
 //! The frame that goes out, and the terms that are sealed in it.
-ghost use Rattle.std.specs.Prelude.{◌≡◌, ◌&&◌, ◌||◌, Some, false, is_some, nat_eq, not, option_map, true};
+ghost use Rattle.std.specs.Prelude.{◌≡◌, ◌&&◌, ◌||◌, Some, false, is_some, not, option_map, true};
 ghost use Rattle.zb_model.specs.Answer.{Counting, framed, has_aps_seal, may_seal, nothing_out, out_of, part_of, plain_out, reserve_of, seals_at, secured_out, sent};
 ghost use Rattle.zb_model.specs.Data.{Aps, Nwk};
 ghost use Rattle.zb_model.specs.Rules.{spent};
-ghost use Rattle.zb_model.specs.State.{active_row, next_counter, stored_limit};
+ghost use Rattle.zb_model.specs.State.{active_row, next_counter};
 ghost use Rattle.zb_model_real.specs.Real.{real};
 ghost use Rattle.zb_node_types.specs.Changes.{model_layer};
 ghost use Rattle.zb_rows.specs.RowViews.{net_key};
 ghost use Rattle.zb_send.specs.Sendings.{CanBeSent, IsSendable, body_of, sending_of};
-ghost use Rattle.zb_send.specs.Sent.{IsCounting, sent_seen};
+ghost use Rattle.zb_send.specs.Sent.{IsCounting, drawn_limit, sent_seen};
 
 use crate::headers::{joined, nwk_header};
 use crate::part::{put_part, put_sealed};
 use crate::sending::{Body, Sending};
 use crate::terms::{CLEAR, blank_term, forget, put_nwk_term};
 use zb_base::{Frame, Layer};
-use zb_rows::{NetRow, Tables, is_spent, next_counter, stored_limit};
+use zb_rows::{NetRow, Tables, drawn, is_spent, next_counter};
 use zb_seal::{KeyMemo, Term};
 use zb_setting::Network;
 
@@ -156,6 +156,18 @@ fn put_framed(
     }
 }
 
+/// Returns the counter of a frame at a layer: the number that is drawn, or the last one when none is left.
+///
+/// A frame that isn't sealed at NWK has the low byte of that layer's counter all the same, as its sequence number.
+fn counter_at(network: &Network, tables: &Tables, layer: Layer) -> u32
+    ensures { result ≡ next_counter (model_layer layer) tables.now }
+{
+    match drawn(network, tables, layer) {
+        Some(drawn) => drawn.number,
+        None => next_counter(tables, layer),
+    }
+}
+
 /// Puts out what is to be sent, with the next counters.
 fn send_one(
     network: &Network,
@@ -170,8 +182,8 @@ fn send_one(
     ensures { (k : Counting) → IsCounting tables.now k → sent_seen sealed_aps.new sealed_nwk.new frame.new
         ≡ sent real network.now tables.now k (Some (sending_of sending.now)) }
 {
-    let nwk = next_counter(tables, Layer::Nwk);
-    let aps = next_counter(tables, Layer::Aps);
+    let nwk = counter_at(network, tables, Layer::Nwk);
+    let aps = counter_at(network, tables, Layer::Aps);
     put_framed(
         network, tables, memo, nwk, aps, sending, sealed_aps, sealed_nwk, frame,
     );
@@ -224,15 +236,41 @@ fn seals_at(layer: Layer, sending: &Sending) -> bool
     }
 }
 
-/// Returns whether the counters that are reserved at a layer are used up.
-fn is_used_up(tables: &Tables, layer: Layer) -> bool
-    ensures { result
-        ≡ nat_eq (next_counter (model_layer layer) tables.now) (stored_limit (model_layer layer) tables.now) }
+/// Returns whether a frame is sealed at a layer, and the node has a key and the counters for it.
+fn is_sealed_at(layer: Layer, tables: &Tables, sending: &Sending) -> bool
+    ensures { result ≡ (seals_at (model_layer layer) (Some (sending_of sending.now))
+        && may_seal tables.now (Some (sending_of sending.now))) }
 {
-    next_counter(tables, layer) == stored_limit(tables, layer)
+    seals_at(layer, sending) && may_seal(tables, sending)
 }
 
-/// Returns the limit up to which counters of a layer are reserved before the frame goes out, if any are.
+/// Returns the limit that the next draw at a layer stores first, if it does. A spent counter stores none.
+fn drawn_limit(network: &Network, tables: &Tables, layer: Layer) -> Option<u32>
+    ensures { result ≡ drawn_limit network.now tables.now (model_layer layer) }
+{
+    match drawn(network, tables, layer) {
+        Some(drawn) => drawn.reserve,
+        None => None,
+    }
+}
+
+/// Returns the limit up to which counters of a layer are reserved before a frame goes out, if any are.
+fn reserve_for(
+    network: &Network,
+    tables: &Tables,
+    sending: &Sending,
+    layer: Layer,
+) -> Option<u32>
+    ensures { result ≡ reserve_of network.now tables.now (Some (sending_of sending.now)) (model_layer layer) }
+{
+    if is_sealed_at(layer, tables, sending) {
+        drawn_limit(network, tables, layer)
+    } else {
+        None
+    }
+}
+
+/// Returns the limit up to which counters of a layer are reserved before what is to be sent goes out, if any are.
 #[tactic(auto, unfolding(zb_model::specs::Answer::reserve_of))]
 pub fn reserve(
     network: &Network,
@@ -244,13 +282,7 @@ pub fn reserve(
 {
     match sending {
         None => None,
-        Some(sending) => {
-            if seals_at(layer, sending) && may_seal(tables, sending) && is_used_up(tables, layer) {
-                Some(next_counter(tables, layer).saturating_add(network.out_block()))
-            } else {
-                None
-            }
-        }
+        Some(sending) => reserve_for(network, tables, sending, layer),
     }
 }
 

@@ -6,4 +6,4 @@ use Rattle.zb_send.proofs.sent.send_one.Goals as goal
 pub returns : goal.returns
 returns c =
     sent_with c.args.network.now c.args.tables.now (sending_of c.args.sending.now) _ _ _ _ _ refl
-    c.next_counter-nwk.ensures c.next_counter-aps.ensures refl c.put_framed.ensures
+    c.counter_at-nwk.ensures c.counter_at-aps.ensures refl c.put_framed.ensures
