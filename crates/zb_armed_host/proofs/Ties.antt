@@ -19,17 +19,32 @@ gate_closing (b ∷ torn) = grind (arith, nat_tests)
 -- by the number of the call, with what the gate reads as a test
 
 entry_stands : (n : ℕ) (b : Bool) → n < 4 → (nat_eq n 3 && b) ≡ (if n == 3 then b else nat_lt 3 n)
+entry_stands zero b low = refl
+entry_stands (suc zero) b low = refl
+entry_stands (suc (suc zero)) b low = refl
+entry_stands (suc (suc (suc zero))) b low = refl
 entry_stands (suc (suc (suc (suc n)))) b low = absurd (omega arith)
-entry_stands _ _ _ = refl
 
 record_stands : (n : ℕ) (b : Bool) → n < 6 → ((nat_eq n 3 && b) || nat_le 4 n) ≡ (if n == 3 then b else nat_lt 3 n)
+record_stands zero b low = refl
+record_stands (suc zero) b low = refl
+record_stands (suc (suc zero)) b low = refl
+record_stands (suc (suc (suc zero))) true low = refl
+record_stands (suc (suc (suc zero))) false low = refl
+record_stands (suc (suc (suc (suc zero)))) b low = refl
+record_stands (suc (suc (suc (suc (suc zero))))) b low = refl
 record_stands (suc (suc (suc (suc (suc (suc n)))))) b low = absurd (omega arith)
-record_stands _ _ _ = refl
 
 record_leaves : (n : ℕ) (b d : Bool) → n < 6 → ((nat_eq n 3 && b) || (nat_eq n 4 || (nat_eq n 5 && d)))
     ≡ (if n == 3 then b else (if n == 4 then true else (n == 5 && d)))
+record_leaves zero b d low = refl
+record_leaves (suc zero) b d low = refl
+record_leaves (suc (suc zero)) b d low = refl
+record_leaves (suc (suc (suc zero))) true d low = refl
+record_leaves (suc (suc (suc zero))) false d low = refl
+record_leaves (suc (suc (suc (suc zero)))) b d low = refl
+record_leaves (suc (suc (suc (suc (suc zero))))) b d low = refl
 record_leaves (suc (suc (suc (suc (suc (suc n)))))) b d low = absurd (omega arith)
-record_leaves _ _ _ _ = refl
 
 boot_leaves : (n : ℕ) (d : Bool) → n < 3 → (nat_le n 1 || d) ≡ (if n == 2 then d else true)
 boot_leaves zero d low = refl

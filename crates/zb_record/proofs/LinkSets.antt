@@ -134,14 +134,29 @@ by_kind : (live now same kind told : Bool)
     → (now && ((live && (same && (kind && same_bool told true)))
     || (live && (same && (kind && same_bool told false))))) ≡ ((live && (now && same)) && kind)
 by_kind true true true true true = refl
-by_kind _ _ _ _ _ = refl
+by_kind true true true true false = refl
+by_kind true true true false told = refl
+by_kind true true false kind told = refl
+by_kind true false same kind told = refl
+by_kind false true same kind told = refl
+by_kind false false same kind told = refl
 
 by_told : (live now same unverified told other : Bool)
     → (now && ((live && (same && (same_bool unverified true && same_bool told (not other))))
     || (live && (same && (same_bool unverified false && same_bool told (not other))))))
     ≡ ((live && (now && same)) && not (same_bool told other))
 by_told true true true true true true = refl
-by_told _ _ _ _ _ _ = refl
+by_told true true true true true false = refl
+by_told true true true true false true = refl
+by_told true true true true false false = refl
+by_told true true true false true true = refl
+by_told true true true false true false = refl
+by_told true true true false false true = refl
+by_told true true true false false false = refl
+by_told true true false unverified told other = refl
+by_told true false same unverified told other = refl
+by_told false true same unverified told other = refl
+by_told false false same unverified told other = refl
 
 -- the two questions that a live row is asked, and the answer to one that isn't live
 

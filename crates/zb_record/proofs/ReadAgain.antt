@@ -36,7 +36,12 @@ pub state_again : {E : Type 0} (cut : E) (s : State) (rest : List ℕ)
     → state_at cut (state_byte (model_state s) ∷ rest) ≡ Ok (s, rest)
 unfolding state_at
 state_again cut state.Fresh rest = refl
-state_again _ _ _ = refl
+state_again cut state.Knocked rest = refl
+state_again cut state.Joined rest = refl
+state_again cut state.Offered rest = refl
+state_again cut state.Confirmed rest = refl
+state_again cut state.Rejoining rest = refl
+state_again cut state.Gone rest = refl
 
 pub rollover_again : {E : Type 0} (cut : E) (r : Rollover) (rest : List ℕ)
     → rollover_at cut (worth 1 (is_sending r) ∷ rest) ≡ Ok (r, rest)

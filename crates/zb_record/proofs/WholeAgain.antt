@@ -59,7 +59,12 @@ role_same Device = refl
 state_same : (g : model.State) → model_state (state_for g) ≡ g
 unfolding state_for
 state_same Fresh = refl
-state_same _ = refl
+state_same Knocked = refl
+state_same Joined = refl
+state_same Offered = refl
+state_same Confirmed = refl
+state_same Rejoining = refl
+state_same Gone = refl
 
 rollover_same : (b : Bool) → is_sending (rollover_for b) ≡ b
 unfolding rollover_for
@@ -76,7 +81,12 @@ state_read : (cut : ℕ) (g : model.State) (rest : List ℕ) → state_at cut (s
     ≡ found (state_for g) rest
 unfolding state_at state_for
 state_read cut Fresh rest = refl
-state_read _ _ _ = refl
+state_read cut Knocked rest = refl
+state_read cut Joined rest = refl
+state_read cut Offered rest = refl
+state_read cut Confirmed rest = refl
+state_read cut Rejoining rest = refl
+state_read cut Gone rest = refl
 
 rollover_read : (cut : ℕ) (b : Bool) (rest : List ℕ) → rollover_at cut (worth 1 b ∷ rest) ≡ found (rollover_for b) rest
 unfolding rollover_at rollover_for

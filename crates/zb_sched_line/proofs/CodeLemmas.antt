@@ -44,7 +44,13 @@ code_is_itself bytes code h = pick _ _ bytes code _ _ h
 by_ranges : (a b d : Bool) (x y z : ℕ) → is_some (if a then Some x else if b then Some y else if d then Some z
     else None) ≡ ((d || a) || b)
 by_ranges true true true x y z = refl
-by_ranges _ _ _ _ _ _ = refl
+by_ranges true true false x y z = refl
+by_ranges true false true x y z = refl
+by_ranges true false false x y z = refl
+by_ranges false true true x y z = refl
+by_ranges false true false x y z = refl
+by_ranges false false true x y z = refl
+by_ranges false false false x y z = refl
 
 is_hexdigit_same : (c : ℕ) → is_hex_digit c ≡ is_ascii_hexdigit c
 is_hexdigit_same c =
