@@ -1,4 +1,3 @@
 pub mod Looking
 pub mod Drops
 pub mod Rooms
-pub mod Drawing

@@ -53,10 +53,11 @@ fn drawn_from(counter: Outgoing) -> Option<Drawn>
     }
 }
 
-/// Draws the number for a frame that is sealed at a layer, unless the counter stands at its end.
+/// Draws the number for a frame that is sealed at a layer, unless its counter has reached its end.
 ///
 /// The number is used once the limit that comes with it is stored, if there is one. The tables stay as they are.
-pub fn drawn(network: &Network, tables: &Tables, layer: Layer) -> Option<Drawn>
+#[tactic(auto, unfolding(zb_model::specs::Rules::spent))]
+pub fn draw_number(network: &Network, tables: &Tables, layer: Layer) -> Option<Drawn>
     ensures there { is_some result ≡ not (spent (model_layer layer) tables.now) }
     ensures number { IfSome result (λ drawn. drawn.number ≡ next_counter (model_layer layer) tables.now) }
     ensures reserve { IfSome result (λ drawn. drawn.reserve
@@ -74,7 +75,7 @@ pub fn next_counter(tables: &Tables, layer: Layer) -> u32
     tables.outgoing(layer, 1).next
 }
 
-/// Returns whether a draw found the counter at its end.
+/// Returns whether a draw found its counter at the end.
 fn is_end(draw: Draw) -> bool
     ensures { result ≡ is_end draw }
 {
@@ -85,23 +86,23 @@ fn is_end(draw: Draw) -> bool
     }
 }
 
-/// Returns whether a counter stands at its end.
-fn is_used_up(counter: Outgoing) -> bool
+/// Returns whether a counter has reached its end.
+fn is_at_end(counter: Outgoing) -> bool
     ensures { result ≡ nat_le greatest_counter counter.next }
 {
     let mut outgoing = counter;
     is_end(outgoing.draw())
 }
 
-/// Returns whether the counter of a layer stands at its end.
+/// Returns whether the counter of a layer has reached its end.
 #[tactic(auto, unfolding(zb_model::specs::Rules::spent))]
 pub fn is_spent(tables: &Tables, layer: Layer) -> bool
     ensures { result ≡ spent (model_layer layer) tables.now }
 {
-    is_used_up(tables.outgoing(layer, 1))
+    is_at_end(tables.outgoing(layer, 1))
 }
 
-/// Returns whether the counter of one of the two layers stands at its end.
+/// Returns whether the counter of one of the two layers has reached its end.
 #[tactic(auto, unfolding(zb_model::specs::Rules::both_spent))]
 pub fn is_any_spent(tables: &Tables) -> bool
     ensures { result ≡ both_spent tables.now }
@@ -111,7 +112,7 @@ pub fn is_any_spent(tables: &Tables) -> bool
 
 /// Returns the first counter of a network key that becomes active for the first time.
 ///
-/// It is 0 where the counter has passed half of its range, else where the counter stands.
+/// It is 0 if the counter has passed half of its range, else the counter itself.
 pub fn first_counter(tables: &Tables) -> u32
     ensures { result ≡ first_counter tables.now }
 {

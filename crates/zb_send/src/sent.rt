@@ -15,7 +15,7 @@ use crate::part::{put_part, put_sealed};
 use crate::sending::{Body, Sending};
 use crate::terms::{CLEAR, blank_term, forget, put_nwk_term};
 use zb_base::{Frame, Layer};
-use zb_rows::{NetRow, Tables, drawn, is_spent, next_counter};
+use zb_rows::{NetRow, Tables, draw_number, is_spent, next_counter};
 use zb_seal::{KeyMemo, Term};
 use zb_setting::Network;
 
@@ -162,7 +162,7 @@ fn put_framed(
 fn counter_at(network: &Network, tables: &Tables, layer: Layer) -> u32
     ensures { result ≡ next_counter (model_layer layer) tables.now }
 {
-    match drawn(network, tables, layer) {
+    match draw_number(network, tables, layer) {
         Some(drawn) => drawn.number,
         None => next_counter(tables, layer),
     }
@@ -248,7 +248,7 @@ fn is_sealed_at(layer: Layer, tables: &Tables, sending: &Sending) -> bool
 fn drawn_limit(network: &Network, tables: &Tables, layer: Layer) -> Option<u32>
     ensures { result ≡ drawn_limit network.now tables.now (model_layer layer) }
 {
-    match drawn(network, tables, layer) {
+    match draw_number(network, tables, layer) {
         Some(drawn) => drawn.reserve,
         None => None,
     }
