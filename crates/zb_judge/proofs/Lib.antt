@@ -1,3 +1,2 @@
 mod Choosing
-mod Counters
 mod Opened
