@@ -1,7 +1,9 @@
 -- What judging a frame returns, as the model's verdict.
-use Rattle.std.specs.Prelude.{Option, option_map, Result, Ok, Err}
+use Rattle.std.specs.Prelude.{ℕ, ⊤, if◌then◌else◌, nat_le, nat_lt, Option, option_map, Result, Ok, Err}
+use Rattle.zb_model.specs.Data.{CounterMax, Place, Stale}
 use Rattle.zb_model.specs.Judging as model
 use Rattle.zb_model.specs.Judging.{Verdict, Not, Good}
+use Rattle.zb_model.specs.State.{greatest_counter}
 use Rattle.zb_model_real.specs.Readers.{nwk_frame_shown}
 use Rattle.zb_model_real.specs.Terms.{model_term}
 use Rattle.zb_node_types.specs.Changes.{model_place, place_of, reason}
@@ -22,3 +24,8 @@ carrier_seen frame term = record { frame = nwk_frame_shown frame; term = option_
 
 abbrev pub unsealed_seen : Unsealed → model.Unsealed
 unsealed_seen u = record { term = model_term u.term; row = link_key u.row }
+
+-- what the counter of a frame alone is refused for
+abbrev pub counted : Place → ℕ → ℕ → Verdict ⊤
+counted place kept counter = if nat_le greatest_counter counter then Not place CounterMax
+    else (if nat_lt counter kept then Not place (Stale kept) else Good tt)

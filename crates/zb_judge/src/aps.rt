@@ -11,6 +11,7 @@ ghost use Rattle.zb_model_real.specs.Terms.{model_term};
 ghost use Rattle.zb_record.specs.RowViews.{link_key};
 ghost use Rattle.zb_judge.specs.Verdicts.{judged, unsealed_seen};
 
+use crate::counter::check_counter;
 use crate::opening::open_aps;
 use zb_aps::{ApsAux, ApsFrame};
 use zb_base::{Eui, Place};
@@ -146,15 +147,7 @@ pub fn judge_aps(
     let Some(row) = chosen(memo, tables, bytes, part, source, &mut opened) else {
         return Err(Refusal::NoKey { place });
     };
-    if aux.counter >= u32::MAX {
-        return Err(Refusal::CounterMax { place });
-    }
-    if aux.counter < row.floor.kept {
-        return Err(Refusal::Stale {
-            place,
-            floor: row.floor.kept,
-        });
-    }
+    check_counter(network, place, row.floor, aux.counter)?;
     let Some(term) = opened else {
         return Err(Refusal::BadMic { place });
     };

@@ -3,6 +3,7 @@
 #![tactic(auto)]
 
 mod aps;
+mod counter;
 mod nwk;
 mod opening;
 

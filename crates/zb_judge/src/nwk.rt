@@ -11,6 +11,7 @@ ghost use Rattle.zb_nwk.specs.Reading.{frame_of};
 ghost use Rattle.zb_nwk.specs.Shape.{Spells};
 ghost use Rattle.zb_judge.specs.Verdicts.{carrier_seen, judged};
 
+use crate::counter::check_counter;
 use crate::opening::open_nwk;
 use zb_aps::ApsFrame;
 use zb_base::{Eui, Label, Place, State};
@@ -123,13 +124,7 @@ fn judge_net(
     let Some(row) = usable_of(tables, aux.key_sequence) else {
         return Err(Refusal::NoKey { place });
     };
-    if aux.counter >= u32::MAX {
-        return Err(Refusal::CounterMax { place });
-    }
-    let floor = floor_of(row, aux.source).kept;
-    if aux.counter < floor {
-        return Err(Refusal::Stale { place, floor });
-    }
+    check_counter(network, place, floor_of(row, aux.source), aux.counter)?;
     *accepted = open_nwk(memo, bytes, frame, &row.key);
     if accepted.is_none() {
         return Err(Refusal::BadMic { place });

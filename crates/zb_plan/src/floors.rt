@@ -4,9 +4,10 @@ ghost use Rattle.zb_model.specs.Answer.{floor_for, stored_floor};
 ghost use Rattle.zb_model_real.specs.Terms.{model_term};
 ghost use Rattle.zb_node_types.specs.Changes.{edits};
 ghost use Rattle.zb_plan.specs.Answers.{terms};
-ghost use Rattle.zb_plan.specs.Storing.{floor_edits};
+ghost use Rattle.zb_plan.specs.Storing.{floor_above, floor_edits, stored_by};
 
 use zb_base::Layer;
+use zb_counter::{Floor, Judge};
 use zb_keys::Tables;
 use zb_node_types::{Change, Changes};
 use zb_rules::{add, floor_of, link_of, net_of};
@@ -30,16 +31,31 @@ fn stored_floor(tables: &Tables, term: &Term) -> u32
     }
 }
 
-/// Returns the floor that is to be stored for a term: a block above its counter, where that isn't below the stored
-/// one.
+/// Returns the floor that a judgement asks to be stored, if it does.
+///
+/// Above the greatest counter there is none, so that one is its own.
+fn store_to(judged: Judge) -> Option<u32>
+    ensures { result ≡ stored_by judged }
+{
+    match judged {
+        Judge::Fresh { store_to } => store_to,
+        Judge::Stale { .. } => None,
+        Judge::Max => Some(u32::MAX),
+    }
+}
+
+/// Returns the floor that is stored for a counter: a block above it, unless it is below the stored floor.
+fn floor_above(stored: u32, counter: u32, block: u32) -> Option<u32>
+    ensures { result ≡ floor_above stored counter block }
+{
+    store_to(Floor::after_boot(stored).judge(counter, block))
+}
+
+/// Returns the floor that is to be stored for a term, if its counter isn't below the stored one.
 fn floor_for(network: &Network, tables: &Tables, term: &Term) -> Option<u32>
     ensures { result ≡ floor_for network.now tables.now (model_term term.now) }
 {
-    if stored_floor(tables, term) <= term.counter {
-        Some(term.counter.saturating_add(network.in_block()))
-    } else {
-        None
-    }
+    floor_above(stored_floor(tables, term), term.counter, network.in_block())
 }
 
 /// Adds the floor that an accepted term asks for, if it does.

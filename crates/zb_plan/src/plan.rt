@@ -121,15 +121,7 @@ fn plan_effect(
         effect,
     );
     out.refused = None;
-    send_out(
-        network,
-        tables,
-        memo,
-        &effect.sending,
-        &mut out.sealed_aps,
-        &mut out.sealed_nwk,
-        &mut out.frame,
-    );
+    send_out(network, tables, memo, &effect.sending, out);
 }
 
 /// Plans an event, after the terms that were accepted of its frame and stand in `plan`.
@@ -205,15 +197,7 @@ fn plan_sending(
     let out = &mut plan.out;
     store_sending(&mut plan.changes, network, tables, sending);
     out.refused = None;
-    send_out(
-        network,
-        tables,
-        memo,
-        sending,
-        &mut out.sealed_aps,
-        &mut out.sealed_nwk,
-        &mut out.frame,
-    );
+    send_out(network, tables, memo, sending, out);
 }
 
 /// Plans that a node says application data to a short address. What stood in `plan` is gone.

@@ -12,7 +12,7 @@ use zb_base::{Eui, Frame, Key, Label, Short};
 use zb_cmd::read_leave;
 use zb_cursor::frame_from;
 use zb_seal::{Term, wire};
-use zb_send::{CLEAR, COMMAND, SECURED, command_term, joined, nwk_header, nwk_term};
+use zb_send::{CLEAR, COMMAND, Head, SECURED, command_term, joined, nwk_header, nwk_term};
 
 /// Returns the NWK frame control of a forged content: a Leave is a command.
 ///
@@ -46,16 +46,16 @@ pub fn nwk_frame(
         ≡ nwk_term control to.0 from.0 source.0 key.now.0 sequence counter content.now }
     ensures len { wire_length result ≡ length content.now + 26 }
 {
-    nwk_term(
+    let head = Head {
         control,
         to,
         from,
         source,
-        key,
+        key: *key,
         sequence,
         counter,
-        frame_from(content),
-    )
+    };
+    nwk_term(head, frame_from(content))
 }
 
 /// Makes the term of an APS command under a link key.

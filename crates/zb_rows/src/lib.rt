@@ -10,7 +10,7 @@ mod nets;
 mod senders;
 
 pub use counters::{
-    first_counter, has_started, is_any_spent, is_spent, next_counter, stored_limit,
+    Drawn, draw_number, first_counter, has_started, is_any_spent, is_spent, next_counter,
 };
 pub use links::{
     code_row, has_link, has_row_as, is_known, is_live, is_told, link_of, links_full, live_link,

@@ -5,7 +5,7 @@ ghost use Rattle.zb_model.specs.Data.{ForData};
 ghost use Rattle.zb_model_real.specs.Terms.{model_label};
 ghost use Rattle.zb_base.specs.Limits.{longest_frame};
 
-use zb_base::{Eui, Frame, Label, Short};
+use zb_base::{Eui, Frame, Key, Label, Short};
 use zb_cursor::{fill, frame_from, put};
 
 /// Returns the auxiliary control of an APS frame: level 5, the extended nonce, and the key identifier of the label.
@@ -94,31 +94,64 @@ pub(crate) fn nwk_auxiliary(counter: u32, source: Eui, sequence: u8) -> Frame
     frame_from(&[0x2d, i, j, k, l, a, b, c, d, e, f, g, h, sequence])
 }
 
-/// Writes the header of a NWK frame and its auxiliary header in place of what stands in a frame. The low byte of the
-/// counter is the sequence number.
-pub(crate) fn put_nwk_headers(
-    out: &mut Frame,
-    control: u16,
-    to: Short,
-    from: Short,
-    source: Eui,
-    sequence: u8,
-    counter: u32,
-)
-    ensures items { out.new.items ≡ nwk_header control to.0 from.0 (low_byte counter)
-        ++ nwk_auxiliary counter source.0 sequence }
+/// What the two headers of a frame that is sealed at NWK are made of, and its key.
+#[derive(Clone, Copy, Debug, PartialEq, Eq)]
+pub struct Head {
+    /// The NWK frame control.
+    pub control: u16,
+    /// The short address that the frame goes to.
+    pub to: Short,
+    /// The short address that it comes from.
+    pub from: Short,
+    /// The EUI of the node that seals it.
+    pub source: Eui,
+    /// The network key.
+    pub key: Key,
+    /// The sequence number of the key.
+    pub sequence: u8,
+    /// The frame counter.
+    pub counter: u32,
+}
+
+/// Writes the header of a NWK frame and its auxiliary header into a frame, in place of its bytes.
+///
+/// The low byte of the counter is the sequence number of the frame.
+pub(crate) fn put_nwk_headers(out: &mut Frame, head: Head)
+    ensures items { out.new.items ≡ nwk_header head.control head.to.0 head.from.0 (low_byte head.counter)
+        ++ nwk_auxiliary head.counter head.source.0 head.sequence }
     ensures len { length out.new.items ≡ 22 }
 {
-    let [a, b] = control.to_le_bytes();
-    let [c, d] = to.0.to_le_bytes();
-    let [e, f] = from.0.to_le_bytes();
-    let [i, j, k, l] = counter.to_le_bytes();
-    let [m, n, o, p, q, r, s, t] = source.0.to_le_bytes();
-    let low = low_byte(counter);
+    let [a, b] = head.control.to_le_bytes();
+    let [c, d] = head.to.0.to_le_bytes();
+    let [e, f] = head.from.0.to_le_bytes();
+    let [i, j, k, l] = head.counter.to_le_bytes();
+    let [m, n, o, p, q, r, s, t] = head.source.0.to_le_bytes();
+    let low = low_byte(head.counter);
     fill(
         out,
         &[
-            a, b, c, d, e, f, 0x1e, low, 0x2d, i, j, k, l, m, n, o, p, q, r, s, t, sequence,
+            a,
+            b,
+            c,
+            d,
+            e,
+            f,
+            0x1e,
+            low,
+            0x2d,
+            i,
+            j,
+            k,
+            l,
+            m,
+            n,
+            o,
+            p,
+            q,
+            r,
+            s,
+            t,
+            head.sequence,
         ],
     );
 }

@@ -7,7 +7,7 @@ mod sending;
 mod sent;
 mod terms;
 
-pub use headers::{joined, nwk_header};
+pub use headers::{Head, joined, nwk_header};
 pub use sending::{Body, Payload, Sending, copied};
 pub use sent::{may_seal, reserve, send_out};
 pub use terms::{CLEAR, COMMAND, SECURED, command_term, nwk_term};

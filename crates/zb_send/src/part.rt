@@ -21,6 +21,18 @@ use zb_cmd::{Command, write_command};
 use zb_cursor::{fill, frame_from};
 use zb_seal::{KeyMemo, Term};
 
+/// What seals a frame: the memo of expanded keys, the node's EUI, and the frame's counters at both layers.
+pub(crate) struct Seals<'a> {
+    /// The keys that were expanded.
+    pub(crate) memo: &'a KeyMemo,
+    /// The node's EUI.
+    pub(crate) me: Eui,
+    /// The counter at NWK.
+    pub(crate) nwk: u32,
+    /// The counter at APS.
+    pub(crate) aps: u32,
+}
+
 /// Writes a command. Requires one that is no Tunnel.
 #[tactic(auto, using(crate::proofs::Lengths::shaped, zb_model_real::proofs::SameTerms::same_spelling))]
 fn spelled(command: &Command) -> Frame
@@ -108,22 +120,20 @@ fn clear(control: u8, nwk: u32, command: &Command, seal: &mut Option<Term>, out:
 /// Writes the part of an APS command under a link key.
 #[tactic(auto, unfolding(zb_model::specs::Answer::part_of))]
 fn secret(
-    memo: &KeyMemo,
+    seals: &Seals,
     label: Label,
     key: &Key,
-    me: Eui,
-    aps: u32,
     command: &Command,
     seal: &mut Option<Term>,
     out: &mut Frame,
 ) -> u16
     requires { is_tunnel command.now ≡ false }
     ensures part { (to nwk : ℕ) → part_seen result seal.new out.new
-        ≡ part_of real me.0 to nwk aps (model.Secret (model_label label) key.now.0 (model_command command.now)) }
+        ≡ part_of real seals.now.me.0 to nwk seals.now.aps (model.Secret (model_label label) key.now.0 (model_command command.now)) }
     ensures room { length out.new.items ≤ sealed_room }
 {
-    let term = command_term(label, key, me, aps, spelled(command));
-    let bytes = sealed(memo, &term);
+    let term = command_term(label, key, seals.me, seals.aps, spelled(command));
+    let bytes = sealed(seals.memo, &term);
     fill(out, bytes.as_slice());
     *seal = Some(term);
     SECURED
@@ -132,25 +142,22 @@ fn secret(
 /// Writes the part of an APS command inside a Tunnel.
 #[tactic(auto, unfolding(zb_model::specs::Answer::part_of))]
 fn tunnelled(
-    memo: &KeyMemo,
+    seals: &Seals,
     device: Eui,
     key: &Key,
-    me: Eui,
-    nwk: u32,
-    aps: u32,
     command: &Command,
     seal: &mut Option<Term>,
     out: &mut Frame,
 ) -> u16
     requires { is_tunnel command.now ≡ false }
     ensures part { (to : ℕ) → part_seen result seal.new out.new
-        ≡ part_of real me.0 to nwk aps (model.Tunnelled device.0 key.now.0 (model_command command.now)) }
+        ≡ part_of real seals.now.me.0 to seals.now.nwk seals.now.aps (model.Tunnelled device.0 key.now.0 (model_command command.now)) }
     ensures room { length out.new.items ≤ sealed_room }
 {
-    let term = command_term(Label::Transport, key, me, aps, spelled(command));
-    let inner = sealed(memo, &term);
+    let term = command_term(Label::Transport, key, seals.me, seals.aps, spelled(command));
+    let inner = sealed(seals.memo, &term);
     let bytes = tunnel(device, inner);
-    let header = [0x01, low_byte(nwk)];
+    let header = [0x01, low_byte(seals.nwk)];
     join(out, &header, bytes.as_slice());
     *seal = Some(term);
     SECURED
@@ -159,20 +166,18 @@ fn tunnelled(
 /// Writes the part of application data under a link key.
 #[tactic(auto, unfolding(zb_model::specs::Answer::part_of))]
 fn telling(
-    memo: &KeyMemo,
+    seals: &Seals,
     key: &Key,
-    me: Eui,
-    aps: u32,
     bytes: &Payload,
     seal: &mut Option<Term>,
     out: &mut Frame,
 ) -> u16
     ensures part { (to nwk : ℕ) → part_seen result seal.new out.new
-        ≡ part_of real me.0 to nwk aps (model.Telling key.now.0 bytes.now.items) }
+        ≡ part_of real seals.now.me.0 to nwk seals.now.aps (model.Telling key.now.0 bytes.now.items) }
     ensures room { length out.new.items ≤ sealed_room }
 {
-    let term = data_term(key, me, aps, frame_from(bytes.as_slice()));
-    let bytes = sealed(memo, &term);
+    let term = data_term(key, seals.me, seals.aps, frame_from(bytes.as_slice()));
+    let bytes = sealed(seals.memo, &term);
     fill(out, bytes.as_slice());
     *seal = Some(term);
     SECURED
@@ -207,37 +212,33 @@ fn relayed(bytes: &Frame, seal: &mut Option<Term>, out: &mut Frame) -> u16
 /// That term is one of the APS layer, if there is any. Returns the NWK frame control that carries the payload, with
 /// the bit that says sealed.
 ///
-/// The payload is made from the node's EUI and the frame counters of both layers. A key that the memo lacks is
-/// expanded. What stood in the places is gone.
+/// A key that the memo lacks is expanded. What the two places had is gone.
 #[tactic(auto, using(crate::proofs::Lengths::least_room))]
 pub(crate) fn put_part(
-    memo: &KeyMemo,
-    me: Eui,
-    nwk: u32,
-    aps: u32,
+    seals: &Seals,
     sending: &Sending,
     seal: &mut Option<Term>,
     out: &mut Frame,
 ) -> u16
     requires { IsSendable sending.now }
     ensures part { part_seen result seal.new out.new
-        ≡ part_of real me.0 sending.now.to.0 nwk aps (body_of sending.now.body) }
+        ≡ part_of real seals.now.me.0 sending.now.to.0 seals.now.nwk seals.now.aps (body_of sending.now.body) }
     ensures room { length out.new.items ≤ room sending.now.secured }
 {
     match &sending.body {
-        Body::Saying { bytes } => saying(sending.to, nwk, bytes, seal, out),
-        Body::Clear { control, command } => clear(*control, nwk, command, seal, out),
+        Body::Saying { bytes } => saying(sending.to, seals.nwk, bytes, seal, out),
+        Body::Clear { control, command } => clear(*control, seals.nwk, command, seal, out),
         Body::Secret {
             label,
             key,
             command,
-        } => secret(memo, *label, key, me, aps, command, seal, out),
+        } => secret(seals, *label, key, command, seal, out),
         Body::Tunnelled {
             device,
             key,
             command,
-        } => tunnelled(memo, *device, key, me, nwk, aps, command, seal, out),
-        Body::Telling { key, bytes } => telling(memo, key, me, aps, bytes, seal, out),
+        } => tunnelled(seals, *device, key, command, seal, out),
+        Body::Telling { key, bytes } => telling(seals, key, bytes, seal, out),
         Body::Leaving => leaving(seal, out),
         Body::Relayed { bytes } => relayed(bytes, seal, out),
     }

@@ -6,10 +6,10 @@ ghost use Rattle.zb_model_real.specs.Terms.{model_label, model_term};
 ghost use Rattle.zb_seal.specs.Wire.{wire_length};
 
 use crate::headers::{
-    aps_control, aps_label, command_header, data_header, joined, low_byte, nwk_auxiliary,
+    Head, aps_control, aps_label, command_header, data_header, joined, low_byte, nwk_auxiliary,
     nwk_header, put_nwk_headers,
 };
-use zb_base::{Eui, Frame, Key, Label, Layer, Short};
+use zb_base::{Eui, Frame, Key, Label, Layer};
 use zb_seal::Term;
 
 /// The NWK frame control of a sealed data frame.
@@ -22,28 +22,19 @@ pub const COMMAND: u16 = 0x0209;
 pub const CLEAR: u16 = 0x0008;
 
 /// Makes the term of a NWK frame under a network key.
-pub fn nwk_term(
-    control: u16,
-    to: Short,
-    from: Short,
-    source: Eui,
-    key: &Key,
-    sequence: u8,
-    counter: u32,
-    content: Frame,
-) -> Term
-    ensures term { model_term result
-        ≡ nwk_term control to.0 from.0 source.0 key.now.0 sequence counter content.items }
+pub fn nwk_term(head: Head, content: Frame) -> Term
+    ensures term { model_term result ≡ nwk_term head.control head.to.0 head.from.0 head.source.0 head.key.0
+        head.sequence head.counter content.items }
     ensures len { wire_length result ≡ length content.items + 26 }
 {
-    let header = nwk_header(control, to, from, low_byte(counter));
-    let auxiliary = nwk_auxiliary(counter, source, sequence);
+    let header = nwk_header(head.control, head.to, head.from, low_byte(head.counter));
+    let auxiliary = nwk_auxiliary(head.counter, head.source, head.sequence);
     Term {
         layer: Layer::Nwk,
-        base: *key,
+        base: head.key,
         label: Label::Network,
-        source,
-        counter,
+        source: head.source,
+        counter: head.counter,
         control: 0x2d,
         header: joined(header.as_slice(), auxiliary.as_slice()),
         content,
@@ -73,36 +64,19 @@ pub(crate) fn forget(term: &mut Option<Term>)
     }
 }
 
-/// Writes the term of a NWK frame under a network key around the content that stands in its place.
-pub(crate) fn put_nwk_term(
-    term: &mut Term,
-    control: u16,
-    to: Short,
-    from: Short,
-    source: Eui,
-    key: &Key,
-    sequence: u8,
-    counter: u32,
-)
-    ensures term { model_term term.new
-        ≡ nwk_term control to.0 from.0 source.0 key.now.0 sequence counter term.old.content.items }
+/// Writes the term of a NWK frame under a network key around the content that the term has.
+pub(crate) fn put_nwk_term(term: &mut Term, head: Head)
+    ensures term { model_term term.new ≡ nwk_term head.control head.to.0 head.from.0 head.source.0 head.key.0
+        head.sequence head.counter term.old.content.items }
     ensures len { wire_length term.new ≡ length term.old.content.items + 26 }
 {
     term.layer = Layer::Nwk;
-    term.base = *key;
+    term.base = head.key;
     term.label = Label::Network;
-    term.source = source;
-    term.counter = counter;
+    term.source = head.source;
+    term.counter = head.counter;
     term.control = 0x2d;
-    put_nwk_headers(
-        &mut term.header,
-        control,
-        to,
-        from,
-        source,
-        sequence,
-        counter,
-    );
+    put_nwk_headers(&mut term.header, head);
 }
 
 /// Makes the term of an APS command under a link key.
