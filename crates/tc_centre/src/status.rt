@@ -41,8 +41,8 @@ pub enum Status {
 
 /// Returns how a process ends whose session came to this end, where this failed first on the store's file.
 ///
-/// The store is busy if its file couldn't be opened because another process has it open. Any other failed call on it is
-/// a fault of the store.
+/// The store is busy if its file couldn't be opened because another process has it open. Any other failed call on it
+/// is a fault of the store.
 pub(crate) fn status_after(session: Result<(), LiveFault>, first: Option<FileFault>) -> Status
     ensures { result ≡ status_after session first }
 {

@@ -16,7 +16,8 @@ stored_by judge.Max = Some greatest_counter
 
 -- the floor that is stored for a counter, unless it is below the stored one
 abbrev pub floor_above : ℕ → ℕ → ℕ → Option ℕ
-floor_above stored counter block = if nat_le stored counter then Some (min (counter + block) greatest_counter) else None
+floor_above stored counter block =
+    if nat_le stored counter then Some (min (counter + block) greatest_counter) else None
 
 -- the floor of an accepted term
 abbrev pub floor_edits : Setting → NodeState → Term → List Edit

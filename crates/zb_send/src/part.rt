@@ -129,7 +129,8 @@ fn secret(
 ) -> u16
     requires { is_tunnel command.now ≡ false }
     ensures part { (to nwk : ℕ) → part_seen result seal.new out.new
-        ≡ part_of real seals.now.me.0 to nwk seals.now.aps (model.Secret (model_label label) key.now.0 (model_command command.now)) }
+        ≡ part_of real seals.now.me.0 to nwk seals.now.aps
+        (model.Secret (model_label label) key.now.0 (model_command command.now)) }
     ensures room { length out.new.items ≤ sealed_room }
 {
     let term = command_term(label, key, seals.me, seals.aps, spelled(command));
@@ -151,7 +152,8 @@ fn tunnelled(
 ) -> u16
     requires { is_tunnel command.now ≡ false }
     ensures part { (to : ℕ) → part_seen result seal.new out.new
-        ≡ part_of real seals.now.me.0 to seals.now.nwk seals.now.aps (model.Tunnelled device.0 key.now.0 (model_command command.now)) }
+        ≡ part_of real seals.now.me.0 to seals.now.nwk seals.now.aps
+        (model.Tunnelled device.0 key.now.0 (model_command command.now)) }
     ensures room { length out.new.items ≤ sealed_room }
 {
     let term = command_term(Label::Transport, key, seals.me, seals.aps, spelled(command));

@@ -33,12 +33,7 @@ fn put_nothing(out: &mut Outcome<Term, Refusal>)
 }
 
 /// Puts out what is to be sent, not sealed at the NWK layer.
-fn put_plain(
-    network: &Network,
-    seals: &Seals,
-    sending: &Sending,
-    out: &mut Outcome<Term, Refusal>,
-)
+fn put_plain(network: &Network, seals: &Seals, sending: &Sending, out: &mut Outcome<Term, Refusal>)
     requires sendable { IsSendable sending.now }
     requires plain { sending.now.secured ≡ false }
     ensures sent { sent_in out.new ≡ plain_out network.now sending.now.to.0 (part_by seals.now sending.now) }
@@ -208,12 +203,7 @@ fn drawn_limit(network: &Network, tables: &Tables, layer: Layer) -> Option<u32>
 }
 
 /// Returns the limit up to which counters of a layer are reserved before a frame goes out, if any are.
-fn reserve_for(
-    network: &Network,
-    tables: &Tables,
-    sending: &Sending,
-    layer: Layer,
-) -> Option<u32>
+fn reserve_for(network: &Network, tables: &Tables, sending: &Sending, layer: Layer) -> Option<u32>
     ensures { result ≡ reserve_of network.now tables.now (Some (sending_of sending.now)) (model_layer layer) }
 {
     if is_sealed_at(layer, tables, sending) {
