@@ -22,6 +22,7 @@ use zb_cursor::{fill, frame_from};
 use zb_seal::{KeyMemo, Term};
 
 /// What seals a frame: the memo of expanded keys, the node's EUI, and the frame's counters at both layers.
+#[derive(Drop)]
 pub(crate) struct Seals<'a> {
     /// The keys that were expanded.
     pub(crate) memo: &'a KeyMemo,
