@@ -1,6 +1,6 @@
 """The man page, made from the tree of commands."""
 from . import read_version
-from .errors import MISSING, UNREADABLE, UNWRITABLE, WRONG_INPUT, WRONG_USE
+from .errors import MISSING, UNEXPECTED, UNREADABLE, UNWRITABLE, WRONG_INPUT, WRONG_USE
 from .helping import INTRODUCTIONS, SECTIONS
 from .tree import options_of, places_of, read_tree
 
@@ -21,6 +21,7 @@ STATUSES = [
     (str(WRONG_INPUT), 'an input that only gabzetu reads is wrong'),
     (str(UNREADABLE), 'a file could not be read'),
     (str(MISSING), 'tc or a library is missing'),
+    (str(UNEXPECTED), 'gabzetu did not foresee this input'),
     (str(UNWRITABLE), 'a file could not be written'),
 ]
 

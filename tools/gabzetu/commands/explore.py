@@ -10,7 +10,7 @@ from ..explorer.runs import explain_verdict, make_run
 from ..formats.reports import is_report, parse_report, read_heard
 from ..formats.history import make_history
 from ..formats.transcripts import parse_transcript
-from ..output import read_input, say, write_output
+from ..output import keep_inputs, read_input, say, write_output
 
 SUMMARY = 'make one page of a transcript or a report, to look around in it by a browser'
 DESCRIPTION = """Makes one page of a transcript or a report. It opens from the disk in any browser, and lets
@@ -80,8 +80,10 @@ def read_text(path):
 
 def run(arguments):
     """Runs the command, and returns the exit status."""
+    keep_inputs([arguments.input, arguments.schedule, arguments.capture], [arguments.out])
     text = read_text(arguments.input)
     data = explore_report(text, arguments) if is_report(text) else explore_transcript(text, arguments)
     title, digest = title_of(arguments.input), hashlib.sha256(text.encode()).hexdigest()
-    write_output(arguments.out, pages.make_page({**data, 'title': title, 'text': text, 'digest': digest}, title))
+    page = pages.make_page({**data, 'title': title, 'text': text, 'digest': digest}, title)
+    write_output(arguments.out, page, is_private=True)
     return 0

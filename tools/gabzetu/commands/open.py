@@ -9,7 +9,7 @@ from ..formats.checks import MODES
 from ..formats.keyfiles import normal_key, printable, read_key_file
 from ..formats.words import counted
 from ..opening import MOST_FRAMES, WELL_KNOWN, Opener, Ring
-from ..output import is_watched, open_output, say
+from ..output import is_watched, keep_inputs, open_output, say
 from ..program import run_tc
 from ..runs import default_jobs
 
@@ -174,11 +174,13 @@ def finish(shown, arguments):
 
 def run(arguments):
     """Runs the command, and returns the exit status."""
+    keep_inputs([arguments.capture, *arguments.keys_from], [arguments.to_capture])
     ring = read_ring(arguments)
     capture = Capture(arguments.capture, arguments.fcs, arguments.zep_port, arguments.follow)
     opener = Opener(ring, default_jobs())
     shown = listing.Listing(capture, opener)
-    with open_output(arguments.to_capture) if arguments.to_capture else contextlib.nullcontext() as file:
+    out = arguments.to_capture
+    with open_output(out, is_private=True) if out else contextlib.nullcontext() as file:
         text = TextCapture(file, ring) if file else None
         try:
             show_all(capture, opener, shown, arguments, text)

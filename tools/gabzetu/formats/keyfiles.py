@@ -5,6 +5,7 @@ import re
 
 from ..errors import UNREADABLE, Stop
 from ..output import read_input
+from .numbers import read_hexadecimal, read_number
 
 KEY = re.compile('[0-9A-F]{32}')
 SEPARATORS = re.compile(r'[:\-\s]')
@@ -88,8 +89,8 @@ def keys_of_json(value):
 
 
 def number_of(word):
-    """Returns the number that a word is, decimal or with 0x."""
-    return int(word, 16) if word[:2] in ('0x', '0X') else int(word)
+    """Returns the number that a word is, decimal or with 0x, or none."""
+    return read_hexadecimal(word[2:]) if word[:2] in ('0x', '0X') else read_number(word)
 
 
 def listed_numbers(text):
@@ -110,7 +111,7 @@ def keys_of_settings(text):
     if not place:
         return
     numbers = listed_numbers(text[place.start(1) :])
-    if len(numbers) == 16 and max(numbers) < 256:
+    if len(numbers) == 16 and all(it is not None and it < 256 for it in numbers):
         yield bytes(numbers).hex(), 'network key of the settings'
     elif not numbers:
         yield place[1].split('#')[0].strip(' \'"\r'), 'network key of the settings'
@@ -128,13 +129,13 @@ def keys_of_report(lines):
     for words in lines:
         if words[0] == 'key' and words[3:] == ['given']:
             yield words[2], f'key {words[1]}, given'
-        elif words[0] == 'key' and words[3:4] == ['found'] and words[4:5] and words[4].isdigit():
+        elif words[0] == 'key' and words[3:4] == ['found'] and words[4:5] and read_number(words[4]) is not None:
             yield words[2], f'key {words[1]}, found in frame {words[4]}'
 
 
 def keys_of_transcript(lines):
     """Yields the keys that nodes have from the start or take in, each with a word on where it comes from."""
-    for event, kind, *words in (words for words in lines if len(words) > 3 and words[0].isdigit()):
+    for event, kind, *words in (words for words in lines if len(words) > 3 and read_number(words[0]) is not None):
         if kind == 'given' and words[1] == 'net' and len(words) > 3:
             yield words[2], f'network key {words[3]} of the start'
         elif kind == 'given' and words[1] == 'link' and len(words) > 3:
@@ -147,12 +148,20 @@ def keys_of_transcript(lines):
             yield words[3], f'link key of {words[1]} with {words[2]}, event {event}'
 
 
+def fields_of_line(line):
+    """Returns the fields of a JSON line, or none of one that is no JSON."""
+    try:
+        return json.loads(line)
+    except (ValueError, RecursionError):
+        return {}
+
+
 def keys_of_opened(text):
     """Yields the keys of what `gabzetu open` writes: its listing, or its JSON lines."""
     for number, key, words in re.findall(r'^  key +(\d+) +([0-9A-F]{32})  (.+)$', text, re.M):
         yield key, f'key {number}, {words.split(", which key")[0]}'
     for line in re.findall(r'^\{"kind": "key", .*\}$', text, re.M):
-        fields = json.loads(line)
+        fields = fields_of_line(line)
         yield fields.get('key'), f'key {fields.get("k")}, {fields.get("origin")}'
 
 
@@ -161,7 +170,7 @@ def keys_of_text(text):
     try:
         yield from keys_of_json(json.loads(text))
         return
-    except ValueError:
+    except (ValueError, RecursionError):
         pass
     lines = [words for words in map(str.split, text.splitlines()) if words]
     for reader, value in (

@@ -8,6 +8,7 @@ from .checks import check_of
 from .fields import read_report_line
 from .links import LeftOut
 from .mac import read_data
+from .numbers import read_number
 from ..errors import UNREADABLE, Stop
 from ..output import read_input
 
@@ -77,7 +78,7 @@ def read_text_capture(text):
     found, number = [], None
     for line in text.splitlines():
         words, comment = line.split(), PACKET_NUMBER.match(line)
-        number = int(comment.group(1)) if comment else number
+        number = read_number(comment.group(1)) if comment else number
         if words[:1] == ['frame'] and len(words) == 2:
             found.append(Heard(number or len(found) + 1, None, None, bytes.fromhex(words[1].replace('-', ''))))
             number = None

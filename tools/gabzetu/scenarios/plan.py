@@ -159,7 +159,7 @@ class Plan:
         number = int(words[1])
         if number <= len(entries):
             self.origin = entries[number - 1].origin
-        found = [it for it in diagnosis.find_mistakes('schedule', data) if it.line == number]
+        found = [it for it in diagnosis.find_mistakes('schedule', data, number, 1) if it.line == number]
         if not found:
             return self.stop(CAUSES['schedule'].get(words[2], words[2]))
         earlier = found[0].earlier and entries[found[0].earlier - 1].origin

@@ -1,5 +1,7 @@
 """What each line of a scenario becomes: the events of a schedule, whose frame numbers come of playing what is there
 so far."""
+import itertools
+
 from ..errors import WRONG_INPUT, Stop
 from ..formats import policy, schedules
 from ..formats.grammar import describe, read_lines
@@ -223,9 +225,10 @@ def text_lines(data):
         yield number, text.rstrip('\r'), said.get(number)
 
 
-def faults_of(data):
-    """Returns the mistakes of the lines of a scenario that have no form."""
-    return [fault for _, _, fault in map(language.GRAMMAR.read, read_lines(data)) if fault]
+def faults_of(data, most=100):
+    """Returns the first mistakes of the lines of a scenario that have no form."""
+    faults = (fault for _, _, fault in map(language.GRAMMAR.read, read_lines(data)) if fault)
+    return list(itertools.islice(faults, most))
 
 
 def check_words(name, data):

@@ -126,7 +126,7 @@ class Completions(Folder):
     def test_bash(self):
         self.assertEqual(self.complete_by_bash('pl'), ['play'])
         self.assertEqual(self.complete_by_bash('check', '--kind', 's'), ['schedule', 'script'])
-        self.assertEqual(self.complete_by_bash('play', '--'), ['--help', '--output', '--json'])
+        self.assertEqual(self.complete_by_bash('play', '--'), ['--help', '--output', '--json', '--debug'])
         self.assertEqual(self.complete_by_bash('completions', 'z'), ['zsh'])
         self.assertEqual(self.complete_by_bash('help', 'sched'), ['schedule'])
         self.assertEqual(self.complete_by_bash('play', example('join.s')), [example('join.sched')])
