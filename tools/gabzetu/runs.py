@@ -74,12 +74,16 @@ def finish(arguments, ran, reader, has_keys=False):
     return told.exit_status(ran.status)
 
 
-def run_file(arguments, words, kind, path, reader, usage='', has_keys=True):
-    """Runs tc on the content of a file, and returns the exit status. `has_keys` says whether its output has keys."""
+def run_file(arguments, words, kind, path, reader, usage='', has_keys=True, look_at=None):
+    """Runs tc on the content of a file, and returns the exit status.
+
+    `has_keys` says whether its output has keys. `look_at` is called with the output before it is written."""
     keep_inputs([path], [arguments.output])
     given = read_for_tc(path)
     with progress.shown(f'{words[0]} {told.base_name(path)}'):
         ran = program.run_tc(words, given)
+    if look_at and ran.status in ANSWERS:
+        look_at(ran.output)
     status = finish(arguments, ran, reader, has_keys)
     tell(kind, path, ran, given, usage)
     return status

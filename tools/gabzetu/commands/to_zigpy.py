@@ -135,6 +135,13 @@ def devices_of(rows, shorts, skip):
         f'not carried: {counted(len(removed), "removed device")}: {some(sorted(removed))}. '
         'Nothing there keeps their keys out.',
     )
+    known = others.keys() | removed | {row['partner'] for row in verified}
+    named = [eui for eui in shorts if eui not in known]
+    warn(
+        named,
+        f'not carried: {counted(len(named), "device")} of the script without a link key in the backup: '
+        f'{some(named)}. An install code admits each there.',
+    )
     warn(rows['pairs'], f'not carried: {counted(len(rows["pairs"]), "key")} of pairs of devices')
     sent = min(rows['aps'] + skip, MOST_COUNTER)
     return [
@@ -148,6 +155,7 @@ def tell_missing(arguments, coordinator, devices):
     warn(arguments.channel is None, 'no channel is known: null is written (--channel)')
     warn(arguments.extended_pan is None, f'no extended PAN is known: {coordinator} is written (--extended-pan)')
     warn(coordinator == NO_EUI, f'the EUI of the centre is not known: {NO_EUI} is written (--script)')
+    warn(True, 'the update identifier of the network is not known: 0 is written')
     missing = [it.eui for it in devices if it.short is None]
     warn(
         missing,

@@ -24,6 +24,7 @@ OTHERS = [
     (b'\x0a\x0d\x0d\x0a', 'a pcapng file: `gabzetu open` reads it'),
     (OF_TRANSCRIPT, 'a transcript: `gabzetu audit` judges it'),
     (b'1 nwk ', "an inspector's report"),
+    (b'start\n> ', 'a log of tc_centre: `gabzetu hub-log` makes its transcript'),
     (b'{"active"', 'a backup: `restore SKIP BACKUP` in a script takes it'),
     (b'{', 'a JSON text'),
 ]

@@ -3,7 +3,7 @@ import collections
 import re
 import struct
 
-from . import frames
+from . import frames, headers, names
 from .checks import check_of
 from .fields import read_report_line
 from .links import LeftOut
@@ -149,6 +149,14 @@ class Reader(frames.Reader):
     def __init__(self, report, heard, names):
         self.names, self.keys = names, {it['k']: it['key'] for it in report.keys}
         self.set_terms({place: self.terms(report.layers.get(place, []), it.data) for place, it in heard.items()})
+
+    def describe_aps(self, event, data, counters):
+        """Returns the words on an APS frame, of a data frame those that `gabzetu open` has."""
+        texts, counters = super().describe_aps(event, data, counters)
+        aps = headers.read_aps(data)
+        if aps.kind != headers.DATA or texts == ['sealed']:
+            return texts, counters
+        return [names.data_words(aps.profile, aps.cluster, self.content(event, frames.read_aps(data)))], counters
 
     def terms(self, layers, data):
         """Returns the terms of a frame by their headers.
