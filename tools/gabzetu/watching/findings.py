@@ -24,10 +24,12 @@ class Finding(NamedTuple):
 
 
 class Stream(NamedTuple):
-    """What was heard under one key from one source: its layers by counters, and how often the counter went back."""
+    """What was heard under one key from one source: its layers by counters, and how often the counter went back.
+
+    Under a counter there is one layer, or more if its nonce is used again."""
 
     last: Sealed
-    seen: Dict[int, Sealed]
+    seen: Dict[int, List[Sealed]]
     segment: int
 
 
@@ -76,7 +78,7 @@ class Watcher:
             self.go_on(it, 0, {})
             return
         earlier = stream.seen.get(it.counter)
-        if earlier is not None:
+        if earlier:
             self.take_again(earlier, it)
         elif it.counter < stream.last.counter:
             self.find_counter('counter-back', stream.last, it, f'after {stream.last.counter}: it went back')
@@ -84,18 +86,22 @@ class Watcher:
         else:
             self.go_on(it, stream.segment, stream.seen)
 
-    def go_on(self, it: Sealed, segment: int, seen: Dict[int, Sealed]) -> None:
+    def go_on(self, it: Sealed, segment: int, seen: Dict[int, List[Sealed]]) -> None:
         """Notes a layer as the last one of its source."""
-        seen[it.counter] = it
+        seen[it.counter] = [it]
         self.streams[it.stream()] = Stream(it, seen, segment)
         self.accepted.append((f'w{segment}', it))
 
-    def take_again(self, earlier: Sealed, it: Sealed) -> None:
-        """Takes a layer whose counter was there before."""
-        if not same_bytes(earlier, it):
-            self.find_nonce(earlier, it)
-        elif it.time - earlier.time >= SAME_FRAME[it.layer]:
-            self.find_counter('replay', earlier, it, f'with the bytes of packet {earlier.packet}: a replay')
+    def take_again(self, earlier: List[Sealed], it: Sealed) -> None:
+        """Takes a layer whose counter was there before, and notes it for copies of it that may follow."""
+        same = next((place for place, other in enumerate(earlier) if same_bytes(other, it)), None)
+        if same is None:
+            self.find_nonce(earlier[0], it)
+            earlier.append(it)
+        elif it.time - earlier[same].time >= SAME_FRAME[it.layer]:
+            packet = earlier[same].packet
+            self.find_counter('replay', earlier[same], it, f'with the bytes of packet {packet}: a replay')
+            earlier[same] = it
 
     def find_counter(self, kind: str, first: Sealed, second: Sealed, how: str) -> None:
         """Adds a finding on a counter, if tc says so."""

@@ -114,6 +114,7 @@ class Lanes {
   makeLife(lane) {
     const life = make('div', 'life');
     life.style.left = `${this.middle(lane)}px`;
+    life.setAttribute('aria-hidden', true);
     return life;
   }
 
