@@ -33,8 +33,15 @@ def escaped(text):
 
 
 def paragraphs(text):
-    """Returns a description of several paragraphs."""
-    return '\n.PP\n'.join(escaped(it.replace('\n', ' ')) for it in text.split('\n\n'))
+    """Returns a description of several paragraphs. One whose lines are indented keeps its lines."""
+    return '\n.PP\n'.join(paragraph(it.strip('\n')) for it in text.split('\n\n'))
+
+
+def paragraph(text):
+    """Returns a paragraph, or a block of lines that stay as they are if each is indented."""
+    if all(it.startswith('  ') for it in text.split('\n')):
+        return f'.nf\n{escaped(text)}\n.fi'
+    return escaped(text.replace('\n', ' '))
 
 
 def tagged(tag, text):

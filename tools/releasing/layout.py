@@ -69,21 +69,17 @@ class Layout:
 
 def lay_front_end(layout, commit):
     """Lays out `gabzetu` as a clone has it, under share/gabzetu, and a link to it in bin."""
-    for name in ('gabzetu', 'VERSION', 'tools/gabzetu'):
+    for name in ('gabzetu', 'VERSION', 'tools/gabzetu', 'tools/hub', 'tools/hub-log'):
         layout.copy(name, f'share/gabzetu/{name}')
     layout.write('share/gabzetu/COMMIT', f'{commit.name[:12]}\n')
     os.symlink('../share/gabzetu/gabzetu', layout.path('bin/gabzetu'))
 
 
 def lay_programs(layout, programs, kit):
-    """Lays out the programs by their names, and the version of the kit beside them. With the living centre comes the
-    tool for its logs."""
+    """Lays out the programs by their names, and the version of the kit beside them."""
     for name, data in programs.items():
         layout.write(f'lib/gabzetu/{name}', data, 0o755)
     layout.write('lib/gabzetu/KIT', f'{kit}\n')
-    if 'tc_centre' in programs:
-        for name in ('tools/hub-log', 'tools/hub'):
-            layout.copy(name, f'share/gabzetu/{name}')
 
 
 def lay_documents(layout, gate):

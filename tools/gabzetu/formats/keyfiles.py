@@ -1,17 +1,25 @@
 """Reads keys from files of other programs: coordinator backups, settings of Zigbee2MQTT, keys of Wireshark, reports
 and transcripts."""
+import contextlib
 import json
+import os
 import re
+import sqlite3
+from typing import Iterator, Optional, Tuple
+from urllib.parse import quote
 
 from ..errors import UNREADABLE, Stop
 from ..output import read_input
 from .numbers import read_hexadecimal, read_number
 
+SQLITE = b'SQLite format 3\0'
+# How settings of Zigbee2MQTT name a value of another file: '!secret.yaml network_key'.
+SECRET = re.compile(r'["\']?!(secrets?(?:\.yaml)?)[ \t]+([\w-]+)')
 KEY = re.compile('[0-9A-F]{32}')
 SEPARATORS = re.compile(r'[:\-\s]')
 MOST_LABEL = 100
 KNOWN = (
-    'a coordinator backup of zigpy, ZHA or Zigbee2MQTT, a backup of `gabzetu admin`, '
+    'a coordinator backup of zigpy, ZHA or Zigbee2MQTT, zigbee.db of zigpy, a backup of `gabzetu admin`, '
     'configuration.yaml of Zigbee2MQTT, zigbee_pc_keys of Wireshark, a report of inspect or sniff, and a transcript'
 )
 
@@ -105,16 +113,32 @@ def listed_numbers(text):
     )
 
 
-def keys_of_settings(text):
+def member_of_settings(text: str, name: str) -> Optional[re.Match]:
+    """Returns where the value of a member of YAML is, in a line of its own or within braces; or none."""
+    return re.search(rf'(?:^|[{{,])[ \t]*{re.escape(name)}:[ \t]*([^\n]*)', text, re.M)
+
+
+def place_of_secret(text: str, path: str) -> Tuple[str, Optional[re.Match]]:
+    """Returns the text and the place of a network key, which may be a word for one in secret.yaml beside a file."""
+    place = member_of_settings(text, 'network_key')
+    named = SECRET.match(place[1]) if place else None
+    if not named or path == '-':
+        return text, place
+    other = os.path.join(os.path.dirname(path), named[1] if named[1].endswith('yaml') else f'{named[1]}.yaml')
+    text = read_input(other).decode('utf-8', 'replace')
+    return text, member_of_settings(text, named[2])
+
+
+def keys_of_settings(text, path='-'):
     """Yields the network key of Zigbee2MQTT's settings, 16 numbers in a list or a text of digits."""
-    place = re.search(r'^[ \t]*network_key:[ \t]*(.*)$', text, re.M)
+    text, place = place_of_secret(text, path)
     if not place:
         return
     numbers = listed_numbers(text[place.start(1) :])
     if len(numbers) == 16 and all(it is not None and it < 256 for it in numbers):
         yield bytes(numbers).hex(), 'network key of the settings'
     elif not numbers:
-        yield place[1].split('#')[0].strip(' \'"\r'), 'network key of the settings'
+        yield place[1].split('#')[0].strip(' \'"\r}'), 'network key of the settings'
 
 
 def keys_of_wireshark(text):
@@ -165,7 +189,28 @@ def keys_of_opened(text):
         yield fields.get('key'), f'key {fields.get("k")}, {fields.get("origin")}'
 
 
-def keys_of_text(text):
+def keys_of_database(path: str) -> Iterator[tuple]:
+    """Yields the keys of the latest backup in zigbee.db, the database of zigpy."""
+    with contextlib.closing(sqlite3.connect(f'file:{quote(path)}?mode=ro&immutable=1', uri=True)) as database:
+        names = database.execute("select name from sqlite_master where name glob 'network_backups_v[0-9]*'").fetchall()
+        for name in sorted((it[0] for it in names), key=lambda it: (len(it), it), reverse=True)[:1]:
+            row = database.execute(f'select backup_json from "{name}" order by id desc limit 1').fetchone()  # noqa: S608
+            yield from keys_of_json(json.loads(row[0])) if row else ()
+
+
+def labelled_keys(path: str) -> Iterator[tuple]:
+    """Yields the keys of a file of any known form, each with a word on where it comes from."""
+    data = read_input(path)
+    if not data.startswith(SQLITE):
+        yield from keys_of_text(data.decode('utf-8-sig'), path)
+        return
+    try:
+        yield from keys_of_database(path)
+    except (sqlite3.Error, ValueError, RecursionError) as error:
+        raise Stop(f'{path}: the database cannot be read: {error}', UNREADABLE) from error
+
+
+def keys_of_text(text, path='-'):
     """Yields the keys of a text of any known form."""
     try:
         yield from keys_of_json(json.loads(text))
@@ -178,19 +223,19 @@ def keys_of_text(text):
         (keys_of_report, lines),
         (keys_of_transcript, lines),
         (keys_of_opened, text),
-        (keys_of_settings, text),
     ):
         yield from reader(value)
+    yield from keys_of_settings(text, path)
 
 
 def read_key_file(path):
     """Returns the keys of a file, each with a word on where it comes from. Stops where there is none."""
     try:
-        text = read_input(path).decode('utf-8-sig')
+        found = list(labelled_keys(path))
     except UnicodeDecodeError as error:
         raise Stop(f'{path}: this is no text: known are {KNOWN}', UNREADABLE) from error
     labels = {}
-    for text_of_key, label in keys_of_text(text):
+    for text_of_key, label in found:
         key = normal_key(text_of_key)
         if key:
             labels.setdefault(key, printable(label))
