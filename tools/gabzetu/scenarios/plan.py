@@ -216,7 +216,7 @@ class Plan:
         for number in [it for it in self.groups if it > mark.events]:
             del self.groups[number]
         self.pending, self.taken, self.frames = list(mark.pending), mark.taken, mark.frames
-        self.played = None
+        self.played = Played(self.groups, self.frames)
 
     # ---- what tc makes of it
 

@@ -12,6 +12,11 @@ from .plan import Hear, Plan, Refused
 MOST_TOLD = 64
 
 
+def is_state_of(fields, name):
+    """Returns whether a line says what state a node has."""
+    return fields['kind'] == 'state' and fields['node'] == name
+
+
 class Steps:
     """Takes the lines of a scenario one by one. A method of the name of a line's form takes it."""
 
@@ -83,8 +88,23 @@ class Steps:
 
     def join(self, values):
         """The whole join."""
-        self.plan.do_all(self.admission(values) + self.attachment(values))
-        self.confirm(values)
+        if not self.join_at_once(values):
+            self.plan.do_all(self.admission(values) + self.attachment(values))
+            self.confirm(values)
+
+    def join_at_once(self, values):
+        """Adds the whole join if a device is `joined` once it has the network key, and returns whether it is so."""
+        name, mark = values['NAME'], self.plan.mark()
+        first = self.admission(values) + self.attachment(values)
+        try:
+            groups = self.plan.do_at_once([*first, *self.exchange(name), *self.exchange(name)])
+        except Refused:
+            groups = None
+        states = [it['state'] for group in (groups or [])[: len(first)] for it in group if is_state_of(it, name)]
+        if states[-1:] == ['joined']:
+            return True
+        self.plan.back_to(mark)
+        return False
 
     def admit(self, values):
         """The centre admits a device, unless it is a member, and the device knocks."""
@@ -112,11 +132,14 @@ class Steps:
 
     def confirm(self, values):
         """A device gets its link key, and verifies it."""
-        name, centre, state = values['NAME'], self.plan.centre(), self.plan.state(values['NAME'])
+        name, state = values['NAME'], self.plan.state(values['NAME'])
         if state == 'confirmed':
             raise self.plan.stop(f"'{name}' is confirmed already")
-        exchange = [f'timer {name}', Hear([centre]), Hear([name])]
-        self.plan.do_all(exchange * (2 if state == 'joined' else 1))
+        self.plan.do_all(self.exchange(name) * (2 if state == 'joined' else 1))
+
+    def exchange(self, name):
+        """Returns the steps by which a device asks the centre, and hears its answer."""
+        return [f'timer {name}', Hear([self.plan.centre()]), Hear([name])]
 
     def return_(self, values):
         """A device rejoins."""
