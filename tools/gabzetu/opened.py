@@ -78,7 +78,8 @@ def fields_of_key(key: Key, places: Dict[int, int]) -> dict:
 def open_capture(path: str, ring: Ring, checks: str = 'auto', zep_port: Optional[int] = None) -> Opened:
     """Opens all frames of a capture with the keys of a ring and those that are found."""
     capture = Capture(path, checks, zep_port)
-    opener, found = Opener(ring, default_jobs()), {}
+    opener = Opener(ring, default_jobs())
+    found: Dict[int, tuple] = {}
     for frames in capture.parts():
         opener.addresses.learn_all(capture.take_associations())
         found.update((frame.number, (frame, layers)) for frame, layers in opener.open_part(frames))

@@ -54,17 +54,17 @@ def identity_of(path: Optional[str]) -> Optional[tuple]:
 
 def keep_inputs(read: Iterable[Optional[str]], written: Iterable[Optional[str]]) -> None:
     """Stops if a file that a command will write is one that it reads, or if it would write one file twice."""
-    taken = {identity_of(path): path for path in read if identity_of(path)}
-    for path in written:
-        found = identity_of(path) if path != '-' else None
+    taken = {identity_of(path): path for path in read if path and identity_of(path)}
+    for out in written:
+        found = identity_of(out) if out and out != '-' else None
         if found in taken:
             raise Stop(
-                f'{path}: the output is the same file as {name_of(taken[found])}, which it would overwrite. '
+                f'{out}: the output is the same file as {name_of(taken[found])}, which it would overwrite. '
                 'Give another name.',
                 WRONG_USE,
             )
-        if found:
-            taken[found] = path
+        if found and out:
+            taken[found] = out
 
 
 def is_written_in_place(path):

@@ -10,6 +10,7 @@ import struct
 import sys
 import time
 import zlib
+from typing import NamedTuple
 
 from ..errors import MISSING, UNREADABLE, Stop, reason_of
 
@@ -27,8 +28,15 @@ TIME_OFFSET, CUSTOM_BLOCKS = 14, (0x0BAD, 0x40000BAD)
 Packet = collections.namedtuple('Packet', 'number time link kept whole')
 
 
-# What a block without a packet has in place of the data of one. No link type has this number.
-NO_PACKET = collections.namedtuple('NoPacket', 'linktype wirelen')(0xFFFF, 0)
+
+class NoPacket(NamedTuple):
+    """What a block without a packet has in place of the data of one. No link type has this number."""
+
+    linktype: int = 0xFFFF
+    wirelen: int = 0
+
+
+NO_PACKET = NoPacket()
 
 
 class Ended(Exception):

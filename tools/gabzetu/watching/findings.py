@@ -1,5 +1,5 @@
 """What is found in a capture: verdicts of tc on counters, nonces and keys, and hints."""
-from typing import Dict, List, NamedTuple, Optional, Tuple
+from typing import Callable, Dict, List, NamedTuple, Optional, Tuple
 
 from ..formats import names
 from ..opening import WELL_KNOWN, Frame, Layer
@@ -120,7 +120,7 @@ class Watcher:
         if is_so:
             self.findings.append(Finding('nonce-twice', words, [first.packet, second.packet], text))
 
-    def ask(self, question, *what) -> Tuple[bool, str]:
+    def ask(self, question: Callable[..., Tuple[bool, str]], *what: object) -> Tuple[bool, str]:
         """Returns the answer of tc, or after many questions that it wasn't asked."""
         self.asked += 1
         return question(*what) if self.asked <= MOST_ASKED else (True, f'not asked after {MOST_ASKED} findings')

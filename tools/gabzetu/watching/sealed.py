@@ -1,6 +1,6 @@
 """The sealed layers of the frames of a capture that tc opened, with all that a line of a transcript says of them."""
 import collections
-from typing import Iterator, List, NamedTuple, Optional
+from typing import Iterator, List, NamedTuple, Optional, Union
 
 from ..formats import headers
 from ..formats.addresses import content_of, payload_of
@@ -8,6 +8,7 @@ from ..opening import Frame, Layer
 
 LEVEL, KEPT = 5, 0xF8
 LENGTH_OF_EUI = 8
+Header = Union[headers.Nwk, headers.Aps]
 
 
 class Sealed(NamedTuple):
@@ -48,7 +49,7 @@ def authenticated(data: bytes, rest: bytes, auxiliary: headers.Auxiliary) -> tup
     return control, (data[:start] + bytes([control]) + data[start + 1 : end]).hex().upper()
 
 
-def sealed_of(frame: Frame, layer: Layer, name: str, data: bytes, header) -> Optional[Sealed]:
+def sealed_of(frame: Frame, layer: Optional[Layer], name: str, data: bytes, header: Header) -> Optional[Sealed]:
     """Returns the layer of some bytes whose header was read, or none if it isn't open."""
     if layer is None or layer.key is None or header.auxiliary is None:
         return None
