@@ -46,7 +46,9 @@ class Opened(NamedTuple):
         ring = self.opener.ring
         places = {frame.number: place for place, (frame, _) in enumerate(self.frames, 1)}
         layers = {
-            place: [fields_of(place, it, ring) for it in found] for place, (_, found) in enumerate(self.frames, 1) if found
+            place: [fields_of(place, it, ring) for it in found]
+            for place, (_, found) in enumerate(self.frames, 1)
+            if found
         }
         keys = [fields_of_key(it, places) for it in ring.keys.values()]
         end = {'kind': 'end', 'frames': len(self.frames), 'keys': len(keys), 'rounds': 1}

@@ -194,7 +194,7 @@ def keys_of_database(path: str) -> Iterator[tuple]:
     with contextlib.closing(sqlite3.connect(f'file:{quote(path)}?mode=ro&immutable=1', uri=True)) as database:
         names = database.execute("select name from sqlite_master where name glob 'network_backups_v[0-9]*'").fetchall()
         for name in sorted((it[0] for it in names), key=lambda it: (len(it), it), reverse=True)[:1]:
-            row = database.execute(f'select backup_json from "{name}" order by id desc limit 1').fetchone()  # noqa: S608
+            row = database.execute(f'select backup_json from "{name}" order by id desc limit 1').fetchone()
             yield from keys_of_json(json.loads(row[0])) if row else ()
 
 

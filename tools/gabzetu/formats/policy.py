@@ -45,7 +45,7 @@ EVENTS = {
         'is told',
     ),
     ('switch', 'centre'): (
-        "no-key; wrong-state while a live device isn't told; counter-spent",
+        "no-key; wrong-state while sending, if a live device isn't told; counter-spent",
         'while sending: the newest key is active, and the rollover ends. Switch-Key to all, sealed under the '
         'key that was active before',
     ),

@@ -59,11 +59,15 @@ class Network:
     def __init__(self, seed):
         self.random = random.Random(seed)
         self.time, self.packets, self.mac = 1700000000.0, [], 0
-        self.key, self.number = self.random.randbytes(16), self.random.randrange(256)
+        self.key, self.number = self.bytes_of(16), self.random.randrange(256)
         self.keys = [self.key]
         self.centre = Node(0x00124B0000000001, 0, None)
         shorts = self.random.sample(range(1, 0xFFF0), 4)
-        self.nodes = [Node(0x00124B00000000A0 + at, short, self.random.randbytes(16)) for at, short in enumerate(shorts)]
+        self.nodes = [Node(0x00124B00000000A0 + at, short, self.bytes_of(16)) for at, short in enumerate(shorts)]
+
+    def bytes_of(self, count):
+        """Returns so many bytes at random. Python 3.8 has no randbytes."""
+        return bytes(self.random.randrange(256) for _ in range(count))
 
     # ---- bytes
 
@@ -100,7 +104,7 @@ class Network:
 
     def application(self, node):
         """Returns an APS data frame in clear: a report of a cluster."""
-        content = bytes([0x18, self.random.randrange(256), 0x0A]) + self.random.randbytes(6)
+        content = bytes([0x18, self.random.randrange(256), 0x0A]) + self.bytes_of(6)
         return struct.pack('<BBHHBB', 0, 1, 6, 0x0104, 1, self.random.randrange(256)) + content
 
     # ---- packets
@@ -147,7 +151,7 @@ class Network:
         return self.send(node, 0, self.aps(node, bytes([8, 4]), node.link))
 
     def link_key_for(self, node):
-        return bytes([5, 4]) + self.random.randbytes(16) + struct.pack('<QQ', node.eui, self.centre.eui)
+        return bytes([5, 4]) + self.bytes_of(16) + struct.pack('<QQ', node.eui, self.centre.eui)
 
     def answer(self, node):
         return self.send(self.centre, node.short, self.aps(self.centre, self.link_key_for(node), node.link, LOAD))
@@ -166,7 +170,7 @@ class Network:
     def roll(self):
         """A new network key goes out under the old one, and all switch to it."""
         old = self.key, self.number
-        self.key, self.number = self.random.randbytes(16), (self.number + 1) % 256
+        self.key, self.number = self.bytes_of(16), (self.number + 1) % 256
         self.keys.append(self.key)
         content = bytes([5, 1]) + self.key + bytes([self.number]) + bytes(8) + struct.pack('<Q', self.centre.eui)
         self.send(self.centre, ALL, self.aps(self.centre, content), key=old)
@@ -176,7 +180,8 @@ class Network:
     def remove(self, node):
         """The centre removes a device by its parent, another node."""
         parent = next(it for it in self.nodes if it is not node)
-        self.send(self.centre, parent.short, self.aps(self.centre, bytes([7]) + struct.pack('<Q', node.eui), parent.link))
+        content = self.aps(self.centre, bytes([7]) + struct.pack('<Q', node.eui), parent.link)
+        self.send(self.centre, parent.short, content)
 
     def rejoin(self, node):
         """A device comes back: it asks in clear, and gets the network key under its link key."""
@@ -221,8 +226,8 @@ def last(network, node):
 
 def nonce_twice_at_aps(network):
     node, counter = network.nodes[1], network.nodes[1].aps
-    network.send(node, 0, network.aps(node, bytes([15, 4]) + network.random.randbytes(24), node.link))
-    content = bytes([15, 4]) + network.random.randbytes(24)
+    network.send(node, 0, network.aps(node, bytes([15, 4]) + network.bytes_of(24), node.link))
+    content = bytes([15, 4]) + network.bytes_of(24)
     return 'nonce-twice', network.send(node, 0, network.aps(node, content, node.link, counter=counter))
 
 

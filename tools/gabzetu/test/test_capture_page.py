@@ -41,13 +41,15 @@ class Page(Folder):
         wanted = {it['packet']: it for it in map(json.loads, listed) if it['kind'] == 'packet'}
         self.assertEqual(opened, wanted)
         self.assertEqual([it[0] for it in page['frames']], sorted(wanted))
-        self.assertEqual([it[1] for it in page['keys']], [it['key'] for it in map(json.loads, listed) if it['kind'] == 'key'])
+        keys = [it['key'] for it in map(json.loads, listed) if it['kind'] == 'key']
+        self.assertEqual([it[1] for it in page['keys']], keys)
 
     def test_has_the_words_of_open(self):
         run('explore', data('mixed.pcap'), self.path('page.html'), '--code', CODE)
         page = data_of(self.path('page.html'))
         words = {row[0]: page['texts'][row[4]] for row in page['frames']}
-        self.assertRegex(words[13], '^data, cluster 0500 Intruder Alarm System Zone, command 00 of the cluster, 5 bytes')
+        wanted = '^data, cluster 0500 Intruder Alarm System Zone, command 00 of the cluster, 5 bytes'
+        self.assertRegex(words[13], wanted)
 
     def test_says_what_keys_are_for(self):
         ran = run('explore', data('join.report'), self.path('page.html'), '--code', CODE)
@@ -78,7 +80,8 @@ class Names(unittest.TestCase):
     @needs_tshark
     def test_are_those_of_wireshark(self):
         values = subprocess.run(['tshark', '-G', 'values'], capture_output=True, text=True, check=True).stdout
-        rows = [it.split('\t') for it in values.splitlines() if it.startswith(('R\tzbee_aps.cluster', 'R\tzbee_aps.profile'))]
+        heads = ('R\tzbee_aps.cluster', 'R\tzbee_aps.profile')
+        rows = [it.split('\t') for it in values.splitlines() if it.startswith(heads)]
         known = {(it[1], int(it[2], 16)): it[4] for it in rows if it[2] == it[3]}
         for number, name in names.CLUSTERS.items():
             self.assertEqual(known['zbee_aps.cluster', number], name)
@@ -89,7 +92,8 @@ class Names(unittest.TestCase):
         self.assertEqual(names.network_command(b'\x08'), 'Link Status')
         self.assertEqual(names.network_command(b'\x7f'), 'NWK command 7F')
         self.assertEqual(names.data_words(0, 0x8005, b'\0\0\0\0'), 'ZDP Active Endpoints Response, 4 bytes')
-        self.assertEqual(names.data_words(0x0104, 6, b'\x18\x01\x0a' + bytes(4)), 'data, cluster 0006 On/Off, Report Attributes, 7 bytes')
+        report = names.data_words(0x0104, 6, b'\x18\x01\x0a' + bytes(4))
+        self.assertEqual(report, 'data, cluster 0006 On/Off, Report Attributes, 7 bytes')
         self.assertEqual(names.data_words(0x0104, 6, b''), 'data, cluster 0006 On/Off, 0 bytes')
         self.assertEqual(names.data_words(0x0104, 0xFC12, None), 'data, cluster FC12, sealed')
 
@@ -112,7 +116,8 @@ class Pcapng(Folder):
         found = self.opened(SECTION + interface() + block(0x0BAD, bytes(8)) + packet(body))
         self.assertEqual(found[0]['packet'], 2)
         if shutil.which('tshark'):
-            ran = subprocess.run(['tshark', '-r', self.path('x.pcapng'), '-T', 'fields', '-e', 'frame.number'], capture_output=True, check=True)
+            words = ['tshark', '-r', self.path('x.pcapng'), '-T', 'fields', '-e', 'frame.number']
+            ran = subprocess.run(words, capture_output=True, check=True)
             self.assertEqual(ran.stdout.split(), [b'1', b'2'])
 
     def test_says_which_interface_is_missing(self):

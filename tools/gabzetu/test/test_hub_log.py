@@ -32,13 +32,15 @@ class HubLog(Folder):
         self.assertEqual(run('audit', self.path('out')).status, 0)
 
     def test_others_say_what_a_log_is(self):
-        for words in (('audit', self.log()), ('explore', self.log(), self.path('page.html')), ('explain', self.log(), '1')):
+        log = self.log()
+        for words in (('audit', log), ('explore', log, self.path('page.html')), ('explain', log, '1')):
             ran = run(*words)
             self.assertNotEqual(ran.status, 0)
             self.assertIn('this is a log of tc_centre: `gabzetu hub-log` makes its transcript', ran.said)
 
     def test_says_what_is_no_log(self):
-        for text in ('boom\n', 'start\nboom\n', 'start\n< hello\n', 'start\n> centre\n< ok 1\n> open\n< ok 2\n', 'ü\n', ''):
+        short = 'start\n> centre\n< ok 1\n> open\n< ok 2\n'
+        for text in ('boom\n', 'start\nboom\n', 'start\n< hello\n', short, 'ü\n', ''):
             ran = run('hub-log', self.write('bad.log', text))
             self.assertEqual((ran.status, ran.output), (65, ''), text)
             self.assertIn('bad.log', ran.said)

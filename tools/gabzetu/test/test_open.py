@@ -188,8 +188,8 @@ class Open(Folder):
         self.assertEqual(
             line.split(),
             (
-                'packet 13 pan 1A62 1A2B > 0000 nwk key 3, aps key 1 data data, cluster 0500 Intruder Alarm System Zone, '
-                'command 00 of the cluster, 5 bytes'
+                'packet 13 pan 1A62 1A2B > 0000 nwk key 3, aps key 1 data '
+                'data, cluster 0500 Intruder Alarm System Zone, command 00 of the cluster, 5 bytes'
             ).split(),
         )
         self.assertIn(f'  key 4   {SECOND}  found in packet 28, which key 3 opened', lines)
