@@ -6,6 +6,7 @@ import os
 import shutil
 import subprocess
 import sys
+import tempfile
 
 from gabzetu.errors import WRONG_INPUT, Stop
 
@@ -102,19 +103,22 @@ def lay_copyright(layout):
 
 
 def lay_help(layout):
-    """Lays out the man page and the completions."""
-    with open(layout.source('docs/gabzetu.1'), 'rb') as file:
-        layout.write('share/man/man1/gabzetu.1.gz', gzip.compress(file.read(), 9, mtime=0))
+    """Lays out the man pages and the completions."""
+    with tempfile.TemporaryDirectory() as folder:
+        written_by(layout, 'man', '--folder', folder)
+        for name in files_of(folder):
+            with open(os.path.join(folder, name), 'rb') as file:
+                layout.write(f'share/man/man1/{name}.gz', gzip.compress(file.read(), 9, mtime=0))
     for shell, name in COMPLETIONS.items():
-        layout.write(name, completions_of(layout, shell))
+        layout.write(name, written_by(layout, 'completions', shell))
 
 
-def completions_of(layout, shell):
-    """Returns what the laid out front end writes as completions for a shell."""
+def written_by(layout, *words):
+    """Returns what the laid out front end writes for some words."""
     front = layout.path('share/gabzetu/gabzetu')
-    ran = subprocess.run([sys.executable, front, 'completions', shell], stdout=subprocess.PIPE, check=False)
-    if ran.returncode or not ran.stdout:
-        raise Stop(f'`gabzetu completions {shell}` ended with status {ran.returncode}', WRONG_INPUT)
+    ran = subprocess.run([sys.executable, front, *words], stdout=subprocess.PIPE, check=False)
+    if ran.returncode:
+        raise Stop(f'`gabzetu {" ".join(words)}` ended with status {ran.returncode}', WRONG_INPUT)
     return ran.stdout
 
 

@@ -40,6 +40,7 @@ INSTALLED = '''
 ./usr/share/doc/gabzetu/gate.txt
 ./usr/share/doc/gabzetu/SHA256SUMS
 ./usr/share/man/man1/gabzetu.1.gz
+./usr/share/man/man1/gabzetu-watch.1.gz
 ./usr/share/bash-completion/completions/gabzetu
 ./usr/share/zsh/vendor-completions/_gabzetu
 ./usr/share/fish/vendor_completions.d/gabzetu.fish
