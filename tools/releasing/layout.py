@@ -87,6 +87,8 @@ def lay_documents(layout, gate):
     """Lays out pages, examples, licences and the gate's last lines. Links between the pages stay right."""
     for path in sorted(glob.glob(os.path.join(layout.sources, '*.md'))):
         layout.copy(os.path.basename(path), f'{DOCS}/{os.path.basename(path)}')
+    with open(layout.source('CHANGELOG.md'), 'rb') as file:
+        layout.write(f'{DOCS}/changelog.gz', gzip.compress(file.read(), 9, mtime=0))
     for name in ('docs', 'examples', *LICENCES):
         layout.copy(name, f'{DOCS}/{name}')
     os.remove(layout.path(f'{DOCS}/docs/gabzetu.1'))

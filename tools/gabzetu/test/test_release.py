@@ -39,6 +39,7 @@ INSTALLED = '''
 ./usr/share/doc/gabzetu/copyright
 ./usr/share/doc/gabzetu/gate.txt
 ./usr/share/doc/gabzetu/SHA256SUMS
+./usr/share/doc/gabzetu/changelog.gz
 ./usr/share/man/man1/gabzetu.1.gz
 ./usr/share/man/man1/gabzetu-watch.1.gz
 ./usr/share/bash-completion/completions/gabzetu
@@ -53,7 +54,7 @@ def git(folder, *words):
 
 def make_repository(folder):
     """Writes and commits what a release takes from a repository."""
-    for name in ('gabzetu', 'VERSION', 'README.md', 'tools/release', 'tools/hub-log'):
+    for name in ('gabzetu', 'VERSION', 'README.md', 'CHANGELOG.md', 'tools/release', 'tools/hub-log'):
         os.makedirs(os.path.dirname(os.path.join(folder, name)), exist_ok=True)
         shutil.copy(os.path.join(TOP, name), os.path.join(folder, name))
     for name in ('docs', 'examples', 'tools/gabzetu', 'tools/releasing', 'tools/hub'):
