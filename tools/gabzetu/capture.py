@@ -114,8 +114,8 @@ class Capture:
             for part in (live_parts if self.is_followed else parts_of_file)(packets):
                 self.packets += len(part)
                 yield part
-        except Ended:
-            self.left_out.add('the file ends within it', self.packets + 1)
+        except Ended as ended:
+            self.left_out.add(ended.reason, self.packets + 1)
 
     def parts(self):
         """Yields the frames of the capture in parts. After each part, left_out counts the packets so far."""

@@ -1,19 +1,36 @@
 """The command line: finds the commands, reads the words, runs one command and returns the exit status."""
 import argparse
+import contextlib
 import importlib
 import io
 import os
 import pkgutil
+import signal
 import sys
+import threading
+import traceback
+from typing import Iterator, List
 
 from . import commands
-from .errors import UNWRITABLE, WRONG_USE, Stop, reason_of
+from .errors import OUT_OF_MEMORY, UNEXPECTED, UNREADABLE, UNWRITABLE, WRONG_USE, Stop, reason_of
 from .formats.words import suggestion
-from .output import say, write_output
+from .output import say, shown, write_output
 
 DESCRIPTION = 'Front end of the proved Zigbee trust centre program tc. Every verdict is that of tc.'
 SEE_HELP = '`gabzetu help` lists the commands.'
+DEBUG = 'show where an unexpected error came from'
 EPILOG = '`gabzetu COMMAND --help` describes a command, `gabzetu help schedule` the lines of schedules.'
+
+
+LONGEST_ERROR = 200
+
+
+class Ended(BaseException):
+    """A signal ends the program. What it holds is its number."""
+
+    def __init__(self, number: int):
+        super().__init__(number)
+        self.number = number
 
 
 class Parser(argparse.ArgumentParser):
@@ -41,16 +58,18 @@ def load_command(name):
     return importlib.import_module(f'{commands.__name__}.{name}')
 
 
-def make_parser():
-    """Returns the parser of all commands. A module from_zigpy.py is the command from-zigpy."""
+def make_parser(names=None):
+    """Returns the parser of some commands, or of all. A module from_zigpy.py is the command from-zigpy."""
     parser = Parser(prog='gabzetu', description=DESCRIPTION, epilog=EPILOG)
     parser.add_argument('--version', action='store_true', help='print the versions of the front end and of tc')
+    parser.add_argument('--debug', action='store_true', help=DEBUG)
     places = parser.add_subparsers(title='commands', metavar='COMMAND', dest='command', parser_class=Parser)
-    for name in command_names():
+    for name in command_names() if names is None else names:
         module = load_command(name)
         place = places.add_parser(name.replace('_', '-'), help=module.SUMMARY, description=describe(module))
         place.formatter_class = argparse.RawDescriptionHelpFormatter
         module.add_arguments(place)
+        place.add_argument('--debug', action='store_true', help=DEBUG)
         place.set_defaults(run=module.run)
     return parser
 
@@ -92,10 +111,12 @@ def with_options_first(parser, words):
 
 def run(words):
     """Runs the command of these words, and returns its exit status."""
-    parser = make_parser()
+    words = [*words[1:], words[0]] if words[:1] == ['--debug'] else words
+    known = {name.replace('_', '-'): name for name in command_names()}
+    parser = make_parser([known[words[0]]] if words and words[0] in known else None)
     if words and not words[0].startswith('-'):
-        if words[0] not in parsers_of(parser):
-            raise Stop(f"there is no command '{words[0]}'{suggestion(words[0], parsers_of(parser))}\n{SEE_HELP}")
+        if words[0] not in known:
+            raise Stop(f"there is no command '{shown(words[0])}'{suggestion(words[0], known)}\n{SEE_HELP}")
         words = [words[0], *with_options_first(parsers_of(parser)[words[0]], list(words[1:]))]
     arguments = parser.parse_args(words)
     if arguments.version:
@@ -142,9 +163,57 @@ def run_to_end(words):
     return status
 
 
+def end_by_signal(number: int, _frame: object) -> None:
+    """Ends the program as an exception does, so that nothing half-written is left."""
+    raise Ended(number)
+
+
+@contextlib.contextmanager
+def signals_as_exceptions() -> Iterator[None]:
+    """Turns SIGTERM and SIGHUP into exceptions while the body runs."""
+    if threading.current_thread() is not threading.main_thread():
+        yield
+        return
+    before = {it: signal.signal(it, end_by_signal) for it in (signal.SIGTERM, signal.SIGHUP)}
+    try:
+        yield
+    finally:
+        for it, handler in before.items():
+            signal.signal(it, handler)
+
+
+def wants_trace(words: List[str]) -> bool:
+    """Returns whether `--debug` is among the words before `--`."""
+    return '--debug' in (words[: words.index('--')] if '--' in words else words)
+
+
+def tell_unexpected(error: Exception, words: List[str]) -> int:
+    """Says in a sentence what no command expects, and returns the exit status."""
+    if wants_trace(words):
+        say(traceback.format_exc().rstrip())
+    if isinstance(error, MemoryError):
+        say('gabzetu: the memory is not enough for this input')
+        return OUT_OF_MEMORY
+    if isinstance(error, RecursionError):
+        say('gabzetu: the input is nested too deeply')
+        return UNREADABLE
+    what = f'{type(error).__name__}: {str(error)[:LONGEST_ERROR]}'
+    say(
+        f'gabzetu: this input was not foreseen ({what}). No output was written. '
+        'Please report it with the input, and with what the same words and --debug show.'
+    )
+    return UNEXPECTED
+
+
 def main(words):
     """Runs gabzetu with these words, and returns its exit status."""
     fill_streams()
+    with signals_as_exceptions():
+        return run_and_tell(words)
+
+
+def run_and_tell(words):
+    """Runs gabzetu with these words, says what went wrong, and returns its exit status."""
     try:
         return run_to_end(words)
     except Stop as stop:
@@ -160,4 +229,9 @@ def main(words):
         drop_output()
         return UNWRITABLE
     except KeyboardInterrupt:
-        return 130
+        return 128 + signal.SIGINT
+    except Ended as ended:
+        drop_output()
+        return 128 + ended.number
+    except Exception as error:  # pylint: disable=broad-except (no trace reaches a user)
+        return tell_unexpected(error, words)

@@ -34,6 +34,7 @@ _gabzetu() {{
     elif [ "${{word#-}}" != "$word" ]; then
         COMPREPLY=($(compgen -W "$options" -- "$word"))
     else
+        local IFS=$'\n'
         COMPREPLY=($(compgen -f -- "$word"))
     fi
 }}

@@ -1,9 +1,11 @@
 """How a command stops: with a message for people and an exit status."""
 
+OUT_OF_MEMORY = 6
 WRONG_USE = 64
 WRONG_INPUT = 65
 UNREADABLE = 66
 MISSING = 69
+UNEXPECTED = 70
 UNWRITABLE = 74
 
 

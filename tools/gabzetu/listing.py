@@ -106,10 +106,12 @@ class Listing:
     def __init__(self, capture, opener):
         self.capture, self.opener = capture, opener
         self.counts, self.known, self.malformed, self.categories = collections.Counter(), Known(), Tally(), {}
+        self.start = None
 
     def note(self, frame, layers):
         """Counts a frame, or counts it anew where more of it opened since."""
         category = category_of(layers)
+        self.start = frame.time if self.start is None else self.start
         self.counts[category] += 1
         if frame.number in self.categories:
             self.counts[self.categories.pop(frame.number)] -= 1
@@ -118,6 +120,10 @@ class Listing:
         elif category in ('closed', 'partly'):
             self.malformed.add(why_closed(frame, layers, self.known), frame.number)
         self.known.note(frame, layers)
+
+    def since(self, frame):
+        """Returns the seconds of a frame since the first one, as the beginning of its line."""
+        return f'{frame.time - self.start:>12.6f} s  '
 
     def closed(self):
         """Returns the tally of the reasons why frames are not open, by all that is known at the end."""

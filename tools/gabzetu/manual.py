@@ -1,6 +1,6 @@
 """The man page, made from the tree of commands."""
 from . import read_version
-from .errors import MISSING, UNREADABLE, UNWRITABLE, WRONG_INPUT, WRONG_USE
+from .errors import MISSING, UNEXPECTED, UNREADABLE, UNWRITABLE, WRONG_INPUT, WRONG_USE
 from .helping import INTRODUCTIONS, SECTIONS
 from .tree import options_of, places_of, read_tree
 
@@ -21,6 +21,7 @@ STATUSES = [
     (str(WRONG_INPUT), 'an input that only gabzetu reads is wrong'),
     (str(UNREADABLE), 'a file could not be read'),
     (str(MISSING), 'tc or a library is missing'),
+    (str(UNEXPECTED), 'gabzetu did not foresee this input'),
     (str(UNWRITABLE), 'a file could not be written'),
 ]
 
@@ -32,8 +33,15 @@ def escaped(text):
 
 
 def paragraphs(text):
-    """Returns a description of several paragraphs."""
-    return '\n.PP\n'.join(escaped(it.replace('\n', ' ')) for it in text.split('\n\n'))
+    """Returns a description of several paragraphs. One whose lines are indented keeps its lines."""
+    return '\n.PP\n'.join(paragraph(it.strip('\n')) for it in text.split('\n\n'))
+
+
+def paragraph(text):
+    """Returns a paragraph, or a block of lines that stay as they are if each is indented."""
+    if all(it.startswith('  ') for it in text.split('\n')):
+        return f'.nf\n{escaped(text)}\n.fi'
+    return escaped(text.replace('\n', ' '))
 
 
 def tagged(tag, text):
@@ -48,11 +56,37 @@ def tag_of(argument):
     return ', '.join(name + (f' {argument.value}' if argument.value else '') for name in argument.names)
 
 
+def rows_of(command):
+    """Returns the paragraphs on the words of a command."""
+    arguments = places_of(command) + [it for it in options_of(command) if '--help' not in it.names]
+    return ''.join(tagged(tag_of(it), it.help.replace('%%', '%')) for it in arguments)
+
+
 def describe_command(command):
     """Returns the section of a command."""
-    arguments = places_of(command) + [it for it in options_of(command) if '--help' not in it.names]
-    rows = ''.join(tagged(tag_of(it), it.help.replace('%%', '%')) for it in arguments)
-    return f'.SS {escaped(command.usage)}\n{paragraphs(command.description)}\n{rows}'
+    return f'.SS {escaped(command.usage)}\n{paragraphs(command.description)}\n{rows_of(command)}'
+
+
+def write_page(command) -> str:
+    """Returns the man page gabzetu-NAME.1 of a command."""
+    name = f'gabzetu-{command.name}'
+    head = f'.TH {name.upper()} 1 "" "gabzetu {read_version()}" "User Commands"\n'
+    return ''.join(
+        [
+            f'.\\" written by `gabzetu man`\n{head}',
+            f'.SH NAME\n{escaped(name)} \\- {escaped(command.summary)}\n',
+            f'.SH SYNOPSIS\n.B {escaped(command.usage)}\n',
+            f'.SH DESCRIPTION\n{paragraphs(command.description)}\n',
+            f'.SH OPTIONS\n{rows_of(command)}',
+            '.SH EXIT STATUS\nSee\n.BR gabzetu (1).\n.SH SEE ALSO\n.BR gabzetu (1)\n',
+        ]
+    )
+
+
+def write_pages() -> dict:
+    """Returns all man pages by their names: that of the front end, and one for each command."""
+    pages = {f'gabzetu-{it.name}.1': write_page(it) for it in read_tree()[1]}
+    return {'gabzetu.1': write_manual(), **pages}
 
 
 def describe_texts(topic):

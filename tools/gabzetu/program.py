@@ -53,5 +53,9 @@ def run_tc(words, given=b''):
 
     What tc writes on standard error is dropped: the front end has sentences of its own for each status."""
     with start_tc(words, stdin=subprocess.PIPE, stderr=subprocess.DEVNULL) as process:
-        output, _ = process.communicate(given)
+        try:
+            output, _ = process.communicate(given)
+        except BaseException:
+            process.kill()
+            raise
     return Completed(process.returncode, output)

@@ -5,7 +5,7 @@ import os
 
 from . import program, progress, told
 from .formats import diagnosis
-from .output import read_input, say, write_output
+from .output import keep_inputs, read_for_tc, say, write_output
 
 MOST_JOBS = 64
 JOBS_USAGE = 'JOBS is a number from 1 to 64.'
@@ -66,18 +66,24 @@ def tell(kind, path, ran, given, usage=''):
             say(f'  {name}:{hint}')
 
 
-def finish(arguments, ran, reader):
-    """Writes an answer of tc as text or JSON lines, and returns the exit status."""
+def finish(arguments, ran, reader, has_keys=False):
+    """Writes an answer of tc as text or JSON lines, and returns the exit status. `has_keys` says what is in it."""
     if ran.status in ANSWERS:
-        write_output(arguments.output, json_lines(ran.output, reader) if arguments.json else ran.output)
+        written = json_lines(ran.output, reader) if arguments.json else ran.output
+        write_output(arguments.output, written, is_private=has_keys)
     return told.exit_status(ran.status)
 
 
-def run_file(arguments, words, kind, path, reader, usage=''):
-    """Runs tc on the content of a file, and returns the exit status."""
-    given = read_input(path)
+def run_file(arguments, words, kind, path, reader, usage='', has_keys=True, look_at=None):
+    """Runs tc on the content of a file, and returns the exit status.
+
+    `has_keys` says whether its output has keys. `look_at` is called with the output before it is written."""
+    keep_inputs([path], [arguments.output])
+    given = read_for_tc(path)
     with progress.shown(f'{words[0]} {told.base_name(path)}'):
         ran = program.run_tc(words, given)
-    status = finish(arguments, ran, reader)
+    if look_at and ran.status in ANSWERS:
+        look_at(ran.output)
+    status = finish(arguments, ran, reader, has_keys)
     tell(kind, path, ran, given, usage)
     return status

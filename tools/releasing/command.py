@@ -11,7 +11,7 @@ from gabzetu.errors import MISSING, UNWRITABLE, WRONG_INPUT, Stop, reason_of
 from gabzetu.output import say
 
 from . import clean_root, commit, layout, packing, program
-from .gate import read_gate
+from .gate import add_sums, check_bound, read_gate, run_gate
 
 DESCRIPTION = '''Makes the release of a passed gate in out/release: gabzetu-VERSION-x86_64-linux.tar.zst,
 gabzetu_VERSION_amd64.deb and SHA256SUMS.
@@ -23,8 +23,13 @@ those of the commit, so the same commit, program and log make the same bytes.
 Then it tries them in a clean Debian root, which debootstrap makes in out/clean-root and which is kept there: it
 installs the package, plays an example, opens a capture and makes a page. That needs root.
 
-  .ci/run 2>&1 | tee out/gate.log
-  tools/release 0.9.0 --gate out/gate.log'''
+The log of the gate names the commit and the check sums of the programs: one of another commit, or of other programs,
+is refused. --run runs the gate over the commit that is checked out, with nothing edited, and writes that log to
+out/gate/COMMIT.log. --sign FILE signs SHA256SUMS with a key of `ssh-keygen`, as SHA256SUMS.sig.
+
+  tools/release 0.9.0 --run
+  tools/release 0.9.0 --gate out/gate/COMMIT.log --sign ~/.ssh/release'''
+GATES = os.path.join(TOP, 'out', 'gate')
 RELEASES = os.path.join(TOP, 'out', 'release')
 CAPTURE = os.path.join(TOP, 'tools', 'data', 'mixed.pcap')
 
@@ -35,7 +40,10 @@ def read_words(words):
         prog='tools/release', description=DESCRIPTION, formatter_class=argparse.RawDescriptionHelpFormatter
     )
     parser.add_argument('version', metavar='VERSION', help='the version, as the file VERSION has it')
-    parser.add_argument('--gate', metavar='LOG', required=True, help='what the gate printed, or - for standard input')
+    gate = parser.add_mutually_exclusive_group(required=True)
+    gate.add_argument('--run', action='store_true', help='run the gate first')
+    gate.add_argument('--gate', metavar='LOG', help='the log that an earlier --run wrote')
+    parser.add_argument('--sign', metavar='FILE', help='the private key that signs SHA256SUMS')
     parser.add_argument('--program', metavar='TC', help='the program (the one that ./build built, or $GABZETU_TC)')
     parser.add_argument('--centre', metavar='TC_CENTRE', help='the living centre (the built one, if there is one)')
     parser.add_argument('--kit', metavar='LINE', help='the version of the kit (what `rt version` prints)')
@@ -78,19 +86,26 @@ def read_programs(arguments):
 
 def make_release(arguments, room, out):
     """Makes the two archives and their check sums in `out`. `room` is a folder for what is between."""
-    gate = read_gate(arguments.gate)
-    check_edits(arguments.edited)
+    check_edits(arguments.edited and not arguments.run)
     at = commit.read_commit()
     commit.check_version(arguments.version, at)
+    log = arguments.gate or os.path.join(GATES, f'{at.name}.log')
+    if arguments.run:
+        run_gate(at.name, log)
+        check_edits(False)
+    gate = read_gate(log)
     kit = read_kit(arguments.kit)
     programs = read_programs(arguments)
+    if arguments.run:
+        add_sums(log, programs)
+    check_bound(log, at.name, programs)
     sources = commit.unpack_commit(at, os.path.join(room, 'sources'))
     root = os.path.join(room, 'root')
     layout.lay_out(sources, os.path.join(root, 'usr'), at, programs, kit, gate)
     about = packing.About(arguments.version, at, program.needs_of(b''.join(programs.values())))
     archive = packing.pack_archive(os.path.join(root, 'usr'), out, about)
     package = packing.pack_deb(root, out, about)
-    packing.write_sums(out)
+    packing.sign(packing.write_sums(out), arguments.sign)
     return archive, package
 
 

@@ -6,6 +6,7 @@ import os
 import shutil
 import subprocess
 import sys
+import tempfile
 
 from gabzetu.errors import WRONG_INPUT, Stop
 
@@ -69,27 +70,25 @@ class Layout:
 
 def lay_front_end(layout, commit):
     """Lays out `gabzetu` as a clone has it, under share/gabzetu, and a link to it in bin. It reads the page on the policy."""
-    for name in ('gabzetu', 'VERSION', 'tools/gabzetu', 'docs/POLICY.md'):
+    for name in ('gabzetu', 'VERSION', 'tools/gabzetu', 'tools/hub', 'tools/hub-log', 'docs/POLICY.md'):
         layout.copy(name, f'share/gabzetu/{name}')
     layout.write('share/gabzetu/COMMIT', f'{commit.name[:12]}\n')
     os.symlink('../share/gabzetu/gabzetu', layout.path('bin/gabzetu'))
 
 
 def lay_programs(layout, programs, kit):
-    """Lays out the programs by their names, and the version of the kit beside them. With the living centre comes the
-    tool for its logs."""
+    """Lays out the programs by their names, and the version of the kit beside them."""
     for name, data in programs.items():
         layout.write(f'lib/gabzetu/{name}', data, 0o755)
     layout.write('lib/gabzetu/KIT', f'{kit}\n')
-    if 'tc_centre' in programs:
-        for name in ('tools/hub-log', 'tools/hub'):
-            layout.copy(name, f'share/gabzetu/{name}')
 
 
 def lay_documents(layout, gate):
     """Lays out pages, examples, licences and the gate's last lines. Links between the pages stay right."""
     for path in sorted(glob.glob(os.path.join(layout.sources, '*.md'))):
         layout.copy(os.path.basename(path), f'{DOCS}/{os.path.basename(path)}')
+    with open(layout.source('CHANGELOG.md'), 'rb') as file:
+        layout.write(f'{DOCS}/changelog.gz', gzip.compress(file.read(), 9, mtime=0))
     for name in ('docs', 'examples', *LICENCES):
         layout.copy(name, f'{DOCS}/{name}')
     os.remove(layout.path(f'{DOCS}/docs/gabzetu.1'))
@@ -106,19 +105,22 @@ def lay_copyright(layout):
 
 
 def lay_help(layout):
-    """Lays out the man page and the completions."""
-    with open(layout.source('docs/gabzetu.1'), 'rb') as file:
-        layout.write('share/man/man1/gabzetu.1.gz', gzip.compress(file.read(), 9, mtime=0))
+    """Lays out the man pages and the completions."""
+    with tempfile.TemporaryDirectory() as folder:
+        written_by(layout, 'man', '--folder', folder)
+        for name in files_of(folder):
+            with open(os.path.join(folder, name), 'rb') as file:
+                layout.write(f'share/man/man1/{name}.gz', gzip.compress(file.read(), 9, mtime=0))
     for shell, name in COMPLETIONS.items():
-        layout.write(name, completions_of(layout, shell))
+        layout.write(name, written_by(layout, 'completions', shell))
 
 
-def completions_of(layout, shell):
-    """Returns what the laid out front end writes as completions for a shell."""
+def written_by(layout, *words):
+    """Returns what the laid out front end writes for some words."""
     front = layout.path('share/gabzetu/gabzetu')
-    ran = subprocess.run([sys.executable, front, 'completions', shell], stdout=subprocess.PIPE, check=False)
-    if ran.returncode or not ran.stdout:
-        raise Stop(f'`gabzetu completions {shell}` ended with status {ran.returncode}', WRONG_INPUT)
+    ran = subprocess.run([sys.executable, front, *words], stdout=subprocess.PIPE, check=False)
+    if ran.returncode:
+        raise Stop(f'`gabzetu {" ".join(words)}` ended with status {ran.returncode}', WRONG_INPUT)
     return ran.stdout
 
 

@@ -4,6 +4,7 @@ import os
 import shutil
 import subprocess
 import tarfile
+from typing import Optional
 
 from gabzetu.errors import MISSING, UNWRITABLE, Stop
 
@@ -114,3 +115,19 @@ def write_sums(out):
     with open(path, 'w', encoding='utf-8') as file:
         file.write(text)
     return path
+
+
+def sign(path: str, key: Optional[str]) -> None:
+    """Signs a file with a private key of `ssh-keygen`, as FILE.sig, if a key is named.
+
+    To check it: ssh-keygen -Y verify -f ALLOWED -I gabzetu -n file -s SHA256SUMS.sig < SHA256SUMS"""
+    if key is None:
+        return
+    words = ['ssh-keygen', '-q', '-Y', 'sign', '-f', key, '-n', 'file', path]
+    pipes = {'stdin': subprocess.DEVNULL, 'stdout': subprocess.PIPE, 'stderr': subprocess.STDOUT}
+    try:
+        ran = subprocess.run(words, check=False, **pipes)
+    except FileNotFoundError as error:
+        raise Stop('ssh-keygen is missing: apt-get install openssh-client', MISSING) from error
+    if ran.returncode or not os.path.exists(f'{path}.sig'):
+        raise Stop(f'{key}: cannot sign: {ran.stdout.decode("utf-8", "replace").strip()}', UNWRITABLE)

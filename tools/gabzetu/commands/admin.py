@@ -7,7 +7,7 @@ from .. import program, told
 from ..errors import UNWRITABLE, Stop, reason_of
 from ..formats.fields import read_store_line
 from ..formats.grammar import printable
-from ..output import read_input, say
+from ..output import keep_inputs, read_for_tc, say
 from ..program import Completed
 from ..runs import add_output, json_lines, tell
 
@@ -123,7 +123,8 @@ def why_not(store):
 
 def run(arguments):
     """Runs the command, and returns the exit status."""
-    given = read_input(arguments.script)
+    keep_inputs([arguments.store, arguments.script], [arguments.output])
+    given = read_for_tc(arguments.script)
     os.umask(PRIVATE)
     lines = Lines(arguments.output, arguments.json)
     # as a path that no option of tc can be

@@ -16,4 +16,4 @@ def add_arguments(parser):
 
 def run(arguments):
     """Runs the command, and returns the exit status."""
-    return run_file(arguments, ['audit'], 'transcript', arguments.transcript, read_verdict_line)
+    return run_file(arguments, ['audit'], 'transcript', arguments.transcript, read_verdict_line, has_keys=False)

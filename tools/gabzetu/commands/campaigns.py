@@ -5,10 +5,10 @@ import shlex
 import subprocess
 import sys
 
-from .. import TOP
+from .. import encoded
 from ..errors import MISSING, UNREADABLE, WRONG_USE, Stop, reason_of
 from ..formats.made import MASK, MOST, made
-from ..output import write_output
+from ..output import shown, write_output
 from ..program import find_tc
 from .open import add_keys, read_ring
 
@@ -17,7 +17,8 @@ DESCRIPTION = '''Plays any number of made runs, or opens each capture of a folde
 
   gabzetu campaigns runs COUNT START RESULTS   plays COUNT made schedules from START on, a thousand a call of tc
   gabzetu campaigns captures FOLDER RESULTS    opens each file of FOLDER with the keys, as `gabzetu open` does, and
-                                               text captures as `gabzetu inspect` does
+                                               text captures as `gabzetu inspect` does. In the names of the results
+                                               %, quotes and what isn't printed are % and two digits
   gabzetu campaigns schedule START N           writes the made schedule of START for N routers and devices
 
 The calls may go on other machines, by parallel's option --sshlogin, which have the same programs and files in the
@@ -28,11 +29,12 @@ that ended with another status than 0.
 
 The status is 0 where there is none, 1 where there is one, and another where the calls couldn't be made.'''
 
-FRONT = os.path.join(TOP, 'gabzetu')
 SHARE = 1000
 NUMBERS = ('COUNT', 'START', 'N')
 LAST = MASK + 1
-NAME = re.compile('[A-Za-z0-9._-]+')
+# No path of a file has two slashes in a row, so they separate the columns of a row.
+BETWEEN = '//'
+PRIVATE = 0o077
 CAPTURES = (b'\xa1\xb2\xc3\xd4', b'\xd4\xc3\xb2\xa1', b'\xa1\xb2\x3c\x4d', b'\x4d\x3c\xb2\xa1', b'\n\r\r\n')
 
 
@@ -110,11 +112,11 @@ def options_of(arguments):
 def call_all(results, options, command, columns):
     """Has parallel make a call for each row of columns, and returns how each ended. What it writes comes into the
     file of the row's last column."""
-    words = ['parallel', '--will-cite', '--joblog', f'{results}/jobs', '--resume-failed', '--colsep', '\t']
+    words = ['parallel', '--will-cite', '--joblog', f'{results}/jobs', '--resume-failed', '--colsep', BETWEEN]
     words += ['--results', f'{results}/calls/{{{len(columns[0])}/}}', *options, command]
-    rows = ''.join('\t'.join(map(str, row)) + '\n' for row in columns)
+    rows = ''.join(BETWEEN.join(map(str, row)) + '\n' for row in columns)
     try:
-        subprocess.run(words, input=rows, text=True, stdout=subprocess.DEVNULL, check=False)
+        subprocess.run(words, input=rows, text=True, encoding='utf-8', stdout=subprocess.DEVNULL, check=False)
     except FileNotFoundError as error:
         raise Stop('parallel is missing (Debian: apt install parallel)', MISSING) from error
     return statuses_of(results, len(columns))
@@ -124,7 +126,7 @@ def statuses_of(results, count):
     """Returns how each call ended by the log: by a status, or by a signal as 128 and its number. A later try
     counts."""
     statuses = {}
-    with open(f'{results}/jobs', encoding='utf-8') as file:
+    with open(f'{results}/jobs', encoding='utf-8', errors='replace') as file:
         for words in [line.split('\t') for line in file.readlines()[1:]]:
             statuses[int(words[0])] = int(words[6]) or (128 + int(words[7]) if int(words[7]) else 0)
     missing = [number for number in range(1, count + 1) if number not in statuses]
@@ -197,22 +199,28 @@ def do_captures(arguments):
     """Opens each file of a folder, and adds up what was found."""
     given, results = words_of(arguments, 'FOLDER RESULTS')
     folder = os.path.abspath(given)
-    files = sorted(
-        name for name in os.listdir(folder) if os.path.isfile(os.path.join(folder, name)) and NAME.fullmatch(name)
-    )
+    files = sorted(name for name in os.listdir(folder) if os.path.isfile(os.path.join(folder, name)))
     if not files:
         raise Stop(f'{given}: no files are in it', UNREADABLE)
+    os.umask(PRIVATE)
     keys = key_words(arguments)
-    check_work(results, f'captures {folder} {" ".join(files)} {keys}'.rstrip())
-    front = shlex.join([sys.executable, FRONT])
-    rows = [(command_for(path), path) for path in (os.path.join(folder, name) for name in files)]
+    check_work(results, f'captures {encoded.encode(folder)} {" ".join(map(encoded.encode, files))} {keys}'.rstrip())
+    front = shlex.join([sys.executable, encoded.__file__])
     command = f'if [ {{1}} = open ]; then {front} open {{2}} {keys}; else {front} inspect {{2}}; fi'
-    statuses = call_all(results, options_of(arguments), command, rows)
+    statuses = call_all(results, options_of(arguments), command, rows_of(folder, files))
     bad = [(name, status) for name, status in zip(files, statuses) if status]
     print(f'{len(files) - len(bad)} reports in {results}/calls')
     if bad:
-        print(f'the first call that failed: {bad[0][0]} ended with status {bad[0][1]}')
+        print(f'the first call that failed: {shown(bad[0][0])} ended with status {bad[0][1]}')
     return 1 if bad else 0
+
+
+def rows_of(folder, files):
+    """Returns for each file of a folder the command that reads it, its encoded path, and the name of its result."""
+    return [
+        (command_for(os.path.join(folder, name)), encoded.encode(os.path.join(folder, name)), result)
+        for name, result in zip(files, (encoded.result_name(name, number) for number, name in enumerate(files, 1)))
+    ]
 
 
 KINDS = {'runs': do_runs, 'captures': do_captures, 'schedule': do_schedule}

@@ -9,7 +9,7 @@ from ..charts import make_chart
 from ..errors import MISSING, UNWRITABLE, WRONG_USE, Stop
 from ..formats.history import make_history
 from ..formats.transcripts import read_transcript
-from ..output import read_input, write_output
+from ..output import keep_inputs, read_input, write_output
 
 SUMMARY = 'draw a transcript as a message sequence chart, as .svg, .png or .msc'
 DESCRIPTION = """Draws a transcript as a message sequence chart, by mscgen. Each OUT ends in .svg, .png, or .msc,
@@ -84,6 +84,7 @@ def draw(text, out):
 def run(arguments):
     """Runs the command, and returns the exit status."""
     check_outs(arguments.out)
+    keep_inputs([arguments.transcript, arguments.schedule], arguments.out)
     history = make_history(read_transcript(arguments.transcript), arguments.schedule)
     text = make_chart(history, arguments.first, arguments.last, arguments.node)
     failures = []

@@ -9,17 +9,18 @@ from ..errors import MISSING, UNWRITABLE, WRONG_INPUT, Stop
 from ..formats import diagnosis
 from ..formats.causes import CAUSES
 from ..formats.grammar import Mistake, describe, read_lines
-from ..output import read_input, say, write_output
+from ..output import read_for_tc, say, write_output
 from ..scenarios.steps import faults_of, write_schedule
 
 SUMMARY = 'find the mistakes of a schedule, capture, script or scenario'
 DESCRIPTION = """Finds mistakes, each with its line, its column, the word, and what is wanted there.
 
 tc is asked in the end: the status is that of tc, 0 where it takes the file and 5 where it refuses it. A script is
-tried on a store of its own, and touches no other. Of a schedule that is right, deliveries of frames that are never
+tried on a store of its own, and touches no other. Of a file that is refused, the lines after the refused one are
+looked at too, up to 100 mistakes. Of a schedule that is right, deliveries of frames that are never
 sent are noted. A scenario is a file whose name ends with .scn."""
 
-MOST_SHOWN = 20
+MOST_SHOWN, MOST_FOUND = 20, 100
 SCENARIO = '.scn'
 
 # What tc says of a file: status, line and cause of a refusal; output: what it wrote
@@ -32,7 +33,9 @@ def add_arguments(parser):
     parser.add_argument(
         '--kind', choices=sorted(diagnosis.READERS), help='what the files are; without it their lines tell'
     )
-    parser.add_argument('--all', action='store_true', help=f'show all mistakes, not the first {MOST_SHOWN}')
+    parser.add_argument(
+        '--all', action='store_true', help=f'show up to {MOST_FOUND} mistakes, not the first {MOST_SHOWN}'
+    )
     parser.add_argument('--json', action='store_true', help='write JSON lines: an object for each mistake')
 
 
@@ -63,10 +66,10 @@ def unseen(kind, data, verdict):
 
 def mistakes_of(kind, data, verdict):
     """Returns the mistakes of a text that tc refuses. Its own line is among them, whatever the readers see."""
-    found = diagnosis.find_mistakes(kind, data)
+    found = diagnosis.find_mistakes(kind, data, verdict.line or 1, MOST_FOUND)
     if verdict.line is not None and verdict.line not in [it.line for it in found]:
         found.append(unseen(kind, data, verdict))
-    return sorted(it for it in found if verdict.line is None or it.line >= verdict.line)
+    return sorted(found)
 
 
 def notes_of(name, data, output):
@@ -93,6 +96,8 @@ def report(arguments, path, found):
     left = len(found) - len(shown)
     if left:
         say(f'gabzetu: {name}: {left} more (--all shows them)')
+    if len(found) >= MOST_FOUND:
+        say(f'gabzetu: {name}: after {MOST_FOUND} mistakes no more are looked for')
 
 
 def check_scenario(arguments, path, data):
@@ -109,7 +114,7 @@ def check_scenario(arguments, path, data):
 
 def check(arguments, path):
     """Checks a file, and returns the status of tc."""
-    data, name = read_input(path), told.base_name(path)
+    data, name = read_for_tc(path), told.base_name(path)
     if path.endswith(SCENARIO) and not arguments.kind:
         return check_scenario(arguments, path, data)
     other = diagnosis.other_kind_of(data)

@@ -5,6 +5,7 @@ from ..errors import UNREADABLE, WRONG_USE, Stop
 from ..formats import broken, diagnosis, policy, stories
 from ..formats.causes import CLAIMS
 from ..formats.grammar import printable
+from ..formats.numbers import read_number
 from ..formats.sentences import Speaker
 from ..output import read_input, say, write_output
 
@@ -32,9 +33,10 @@ def add_arguments(parser):
 
 def number_of(word, what):
     """Returns the number that a word is. Raises Stop where it is none."""
-    if not word.isdigit():
-        raise Stop(f'{what} is a number, and {word!r} is none', WRONG_USE)
-    return int(word)
+    number = read_number(word)
+    if number is None:
+        raise Stop(f'{what} is a number, and {word[:40]!r} is none', WRONG_USE)
+    return number
 
 
 class Teller:

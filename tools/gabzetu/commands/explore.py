@@ -2,7 +2,7 @@
 import hashlib
 import os
 
-from .. import program
+from .. import opened, program
 from ..errors import UNREADABLE, Stop
 from ..explorer import pages
 from ..explorer.reports import make_report
@@ -10,32 +10,38 @@ from ..explorer.runs import explain_verdict, make_run
 from ..formats.reports import is_report, parse_report, read_heard
 from ..formats.history import make_history
 from ..formats.transcripts import parse_transcript
-from ..output import read_input, say, write_output
+from ..output import keep_inputs, read_input, say, write_output
+from .open import add_keys, add_reading, read_ring
 
-SUMMARY = 'make one page of a transcript or a report, to look around in it by a browser'
-DESCRIPTION = """Makes one page of a transcript or a report. It opens from the disk in any browser, and lets
+SUMMARY = 'make one page of a capture, a transcript or a report, to look around in it by a browser'
+DESCRIPTION = """Makes one page of a capture, a transcript or a report. It opens from the disk in any browser, and lets
 it fetch nothing.
 
 Of a transcript, the page has a lane for each node and a row for each event; at its side the frames field by field,
 what each node holds after the event, the keys and the counters. With --schedule it shows each event's words, and of
 which frame each refusal is. The verdict on the page is that of `tc audit`.
 
+Of a capture of a sniffer it is made at once with the keys that you give: gabzetu explore x.pcapng x.html --code C
+It has a lane for each short address and a row for each packet, what opened it, and a tree of where each key came from.
+
 Of a report of `inspect` or `sniff`, it has a lane for each short address and a row for each packet, the keys that
 opened it, and a tree of where each key came from. With --capture, the capture that the report is of, it shows the
 packets' numbers in the file, their times, PANs and addresses, and the frames field by field.
 
-j and k go to the next and the previous row, / to the field for text; #e12 in the address is event 12, #p28 packet
-28."""
+j and k, or the arrows in the list of rows, go to the next and the previous row, / to the field for text; #e12 in the
+address is event 12, #p28 packet 28."""
 
 NO_AUDIT = ['', None, 'not audited, since tc is missing', 0]
 
 
 def add_arguments(parser):
     """Adds the words of the command."""
-    parser.add_argument('input', metavar='FILE', help='the transcript or report, - for the standard input')
+    parser.add_argument('input', metavar='FILE', help='the capture, transcript or report, - for standard input')
     parser.add_argument('out', metavar='OUT.html', help='the page, - for the standard output')
     parser.add_argument('--schedule', metavar='S', help='the schedule that was played')
     parser.add_argument('--capture', metavar='P', help='the capture that the report is of')
+    add_keys(parser)
+    add_reading(parser)
 
 
 def audit(text):
@@ -78,10 +84,30 @@ def read_text(path):
         ) from error
 
 
+def run_on_capture(arguments):
+    """Makes the page of a capture of a sniffer, and returns the exit status."""
+    if arguments.schedule or arguments.capture:
+        raise Stop('--schedule and --capture are for transcripts and reports, and this is a capture')
+    found = opened.open_capture(arguments.input, read_ring(arguments), arguments.fcs, arguments.zep_port)
+    title, text = title_of(arguments.input), found.text()
+    digest = hashlib.sha256(text.encode()).hexdigest()
+    data = make_report(found.report(), found.heard(), arguments.input)
+    page = pages.make_page({**data, 'title': title, 'text': text, 'digest': digest}, title)
+    write_output(arguments.out, page, is_private=True)
+    return 0
+
+
 def run(arguments):
     """Runs the command, and returns the exit status."""
+    read = [arguments.input, arguments.schedule, arguments.capture, *arguments.keys_from]
+    keep_inputs(read, [arguments.out])
+    if opened.is_capture(arguments.input):
+        return run_on_capture(arguments)
+    if arguments.code or arguments.key or arguments.keys_from:
+        raise Stop(f'{arguments.input}: keys are for a capture, and this is none')
     text = read_text(arguments.input)
     data = explore_report(text, arguments) if is_report(text) else explore_transcript(text, arguments)
     title, digest = title_of(arguments.input), hashlib.sha256(text.encode()).hexdigest()
-    write_output(arguments.out, pages.make_page({**data, 'title': title, 'text': text, 'digest': digest}, title))
+    page = pages.make_page({**data, 'title': title, 'text': text, 'digest': digest}, title)
+    write_output(arguments.out, page, is_private=True)
     return 0

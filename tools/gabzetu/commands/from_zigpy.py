@@ -7,8 +7,8 @@ from ..errors import WRONG_USE, Stop
 from ..formats.words import counted
 from ..formats.zigpy import MOST_COUNTER, parse_backup
 from ..opening import WELL_KNOWN
-from ..output import read_input, say
-from ..stores import is_restored, try_script, write_private
+from ..output import keep_inputs, read_input, say, write_output
+from ..stores import is_restored, try_script
 
 SUMMARY = 'make a script for admin from a coordinator backup of zigpy, ZHA or Zigbee2MQTT'
 DESCRIPTION = '''Makes a script for `gabzetu admin` from an open coordinator backup: of zigpy, ZHA, or Zigbee2MQTT
@@ -209,11 +209,12 @@ def tell_rest(backup, skip):
 
 def run(arguments):
     """Runs the command, and returns the exit status."""
+    keep_inputs([arguments.backup], [arguments.output])
     backup = parse_backup(read_input(arguments.backup), arguments.backup)
     skip = choose_skip(arguments.skip, backup.made, datetime.datetime.now(datetime.timezone.utc))
     carried = carried_devices(backup)
     script = make_script(backup, skip, carried)
     check(arguments.backup, backup, carried, script)
     tell_rest(backup, skip)
-    write_private(arguments.output, script)
+    write_output(arguments.output, script, is_private=True)
     return 0

@@ -15,6 +15,6 @@ def add_arguments(parser):
 def run(arguments):
     """Runs the command, and returns the exit status."""
     ran = program.run_tc(['install', arguments.code])
-    status = finish(arguments, ran, read_key_line)
+    status = finish(arguments, ran, read_key_line, has_keys=True)
     tell('code', repr(arguments.code), ran, b'')
     return status

@@ -6,10 +6,11 @@ from .. import listing
 from ..capture import Capture
 from ..errors import WRONG_USE, Stop
 from ..formats.checks import MODES
+from ..formats.contents import describe
 from ..formats.keyfiles import normal_key, printable, read_key_file
 from ..formats.words import counted
 from ..opening import MOST_FRAMES, WELL_KNOWN, Opener, Ring
-from ..output import is_watched, open_output, say
+from ..output import is_watched, keep_inputs, open_output, say
 from ..program import run_tc
 from ..runs import default_jobs
 
@@ -30,13 +31,38 @@ cooked, loopback or raw IP.
 
 A line for each frame: the number of its packet in the file, PAN, source and destination, what opened each layer, and
 what it carries. The end says which keys there are, and why the rest stayed closed. Whether a frame opens is what `tc
-inspect` says.'''
+inspect` says. --from, --to, --pan, --type and --failed choose the lines; the end counts all frames.'''
 
 
 def add_arguments(parser):
     """Adds the words of the command."""
     parser.add_argument('capture', metavar='CAPTURE', help='a capture file, or - for standard input')
     add_keys(parser)
+    add_reading(parser)
+    add_filter(parser)
+    parser.add_argument(
+        '--follow', action='store_true', help='go on as the file or pipe grows, until it ends or you press Ctrl-C'
+    )
+    parser.add_argument('--times', action='store_true', help='show the seconds since the first packet in each line')
+    parser.add_argument(
+        '--to-capture', metavar='OUT', help='write keys, addresses and frames as a text capture, for inspect'
+    )
+    parser.add_argument(
+        '--json', action='store_true', help='write JSON lines: an object for each frame, key and reason'
+    )
+
+
+def add_filter(parser):
+    """Adds the words that say which frames are shown."""
+    parser.add_argument('--from', dest='source', metavar='SHORT', help='show frames of this short address')
+    parser.add_argument('--to', metavar='SHORT', help='show frames to this short address')
+    parser.add_argument('--pan', metavar='PAN', help='show frames of this PAN')
+    parser.add_argument('--type', metavar='WORD', help='show frames whose line has this word, for example transport')
+    parser.add_argument('--failed', action='store_true', help='show frames of which a layer stayed closed')
+
+
+def add_reading(parser):
+    """Adds the words that say how the packets of a capture are read."""
     parser.add_argument(
         '--fcs',
         choices=MODES,
@@ -49,15 +75,6 @@ def add_arguments(parser):
         metavar='PORT',
         type=int,
         help='the only UDP port of ZEP packets; without it, 17754 and what looks like ZEP on any other port',
-    )
-    parser.add_argument(
-        '--follow', action='store_true', help='go on as the file or pipe grows, until it ends or you press Ctrl-C'
-    )
-    parser.add_argument(
-        '--to-capture', metavar='OUT', help='write keys, addresses and frames as a text capture, for inspect'
-    )
-    parser.add_argument(
-        '--json', action='store_true', help='write JSON lines: an object for each frame, key and reason'
     )
 
 
@@ -136,10 +153,34 @@ class TextCapture:
 
 def show(frames, shown, arguments, is_again=False):
     """Prints frames with their layers."""
-    write = (lambda *it: json.dumps(listing.object_of(*it))) if arguments.json else listing.line_of
+    ring = shown.opener.ring
     for frame, layers in frames:
         shown.note(frame, layers)
-        print(write(frame, layers, shown.opener.ring, is_again), flush=arguments.follow)
+        if not passes(frame, layers, arguments):
+            continue
+        if arguments.json:
+            line = json.dumps(listing.object_of(frame, layers, ring, is_again))
+        else:
+            since = shown.since(frame) if arguments.times else ''
+            line = since + listing.line_of(frame, layers, ring, is_again)
+        print(line, flush=arguments.follow)
+
+
+def is_address(given, found):
+    """Returns whether an address is the one that was asked for, or none was."""
+    return given is None or (found or '').upper() == given.upper()
+
+
+def passes(frame, layers, arguments):
+    """Returns whether a frame passes the filter."""
+    source, to = listing.addresses_of(frame)
+    return (
+        is_address(arguments.source, source)
+        and is_address(arguments.to, to)
+        and is_address(arguments.pan, frame.pan)
+        and (arguments.type is None or arguments.type.lower() in describe(frame, layers).lower())
+        and (not arguments.failed or listing.category_of(layers) in ('closed', 'partly'))
+    )
 
 
 def show_all(capture, opener, shown, arguments, text):
@@ -174,11 +215,13 @@ def finish(shown, arguments):
 
 def run(arguments):
     """Runs the command, and returns the exit status."""
+    keep_inputs([arguments.capture, *arguments.keys_from], [arguments.to_capture])
     ring = read_ring(arguments)
     capture = Capture(arguments.capture, arguments.fcs, arguments.zep_port, arguments.follow)
     opener = Opener(ring, default_jobs())
     shown = listing.Listing(capture, opener)
-    with open_output(arguments.to_capture) if arguments.to_capture else contextlib.nullcontext() as file:
+    out = arguments.to_capture
+    with open_output(out, is_private=True) if out else contextlib.nullcontext() as file:
         text = TextCapture(file, ring) if file else None
         try:
             show_all(capture, opener, shown, arguments, text)

@@ -1,6 +1,6 @@
 """gabzetu scenario: the schedule of a scenario."""
 from .. import progress, told
-from ..output import read_input, write_output
+from ..output import keep_inputs, read_input, write_output
 from ..scenarios.steps import write_schedule
 
 SUMMARY = 'write the schedule of a scenario, which has no frame numbers'
@@ -20,8 +20,9 @@ def add_arguments(parser):
 
 def run(arguments):
     """Runs the command, and returns the exit status."""
+    keep_inputs([arguments.scenario], [arguments.output])
     name, data = told.base_name(arguments.scenario), read_input(arguments.scenario)
     with progress.shown(f'scenario {name}'):
         text = write_schedule(name, data)
-    write_output(arguments.output, text)
+    write_output(arguments.output, text, is_private=True)
     return 0

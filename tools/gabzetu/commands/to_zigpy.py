@@ -8,8 +8,8 @@ from ..errors import UNREADABLE, WRONG_USE, Stop
 from ..formats.words import counted
 from ..formats.zigpy import CHANNELS, MOST_COUNTER, NO_EUI, NO_PAN, Backup, Device, Link, object_of, parse_json
 from ..opening import WELL_KNOWN
-from ..output import read_input, say
-from ..stores import is_restored, try_script, write_private
+from ..output import keep_inputs, read_input, say, write_output
+from ..stores import is_restored, try_script
 from .from_zigpy import A_DAY, REFUSED, some
 
 SUMMARY = 'make a coordinator backup for zigpy, ZHA or Zigbee2MQTT from the backup of a centre'
@@ -135,6 +135,13 @@ def devices_of(rows, shorts, skip):
         f'not carried: {counted(len(removed), "removed device")}: {some(sorted(removed))}. '
         'Nothing there keeps their keys out.',
     )
+    known = others.keys() | removed | {row['partner'] for row in verified}
+    named = [eui for eui in shorts if eui not in known]
+    warn(
+        named,
+        f'not carried: {counted(len(named), "device")} of the script without a link key in the backup: '
+        f'{some(named)}. An install code admits each there.',
+    )
     warn(rows['pairs'], f'not carried: {counted(len(rows["pairs"]), "key")} of pairs of devices')
     sent = min(rows['aps'] + skip, MOST_COUNTER)
     return [
@@ -148,6 +155,7 @@ def tell_missing(arguments, coordinator, devices):
     warn(arguments.channel is None, 'no channel is known: null is written (--channel)')
     warn(arguments.extended_pan is None, f'no extended PAN is known: {coordinator} is written (--extended-pan)')
     warn(coordinator == NO_EUI, f'the EUI of the centre is not known: {NO_EUI} is written (--script)')
+    warn(True, 'the update identifier of the network is not known: 0 is written')
     missing = [it.eui for it in devices if it.short is None]
     warn(
         missing,
@@ -160,6 +168,7 @@ def run(arguments):
     """Runs the command, and returns the exit status."""
     if not 0 <= arguments.skip <= MOST_COUNTER:
         raise Stop(f'--skip is 0 to {MOST_COUNTER}', WRONG_USE)
+    keep_inputs([arguments.backup, arguments.script], [arguments.output])
     rows = read_rows(arguments.backup)
     coordinator, shorts = read_addresses(arguments.script)
     net, devices = active_net(rows, arguments.backup), devices_of(rows, shorts, arguments.skip)
@@ -174,5 +183,5 @@ def run(arguments):
         coordinator, net['key'], net['sequence'], counter, now, f'gabzetu@{read_version()}', devices, [], notes
     )
     tell_missing(arguments, coordinator, devices)
-    write_private(arguments.output, json.dumps(object_of(backup, WELL_KNOWN), indent=4) + '\n')
+    write_output(arguments.output, json.dumps(object_of(backup, WELL_KNOWN), indent=4) + '\n', is_private=True)
     return 0

@@ -6,7 +6,8 @@ from ..errors import UNREADABLE, WRONG_USE, Stop, reason_of
 from ..formats import pcap, transcripts
 from ..formats.checks import MODES
 from ..formats.keyfiles import read_key_file
-from ..output import open_output, say, write_output
+from ..formats.numbers import read_number
+from ..output import keep_inputs, open_output, say, write_output
 
 SUMMARY = 'write keys and packets for Wireshark'
 DESCRIPTION = '''Hands to Wireshark what tc found.
@@ -42,6 +43,7 @@ def run(arguments):
         raise Stop(
             f'wireshark {arguments.kind} takes the name of the file to write, or - for standard output', WRONG_USE
         )
+    keep_inputs([arguments.file, arguments.capture], [arguments.out])
     return KINDS[arguments.kind](arguments)
 
 
@@ -60,12 +62,13 @@ def with_packet(label, numbers):
     head, is_found, frame = label.partition(', found in frame ')
     if not is_found:
         return label
-    if not frame.isdigit() or int(frame) > len(numbers):
+    place = read_number(frame)
+    if place is None or not 1 <= place <= len(numbers):
         raise Stop(
-            f'the capture has {len(numbers)} frames, and a key was found in frame {frame}: '
+            f'the capture has {len(numbers)} frames, and a key was found in frame {frame[:20]}: '
             'the report is of another one'
         )
-    return f'{head}, found in packet {numbers[int(frame) - 1]}'
+    return f'{head}, found in packet {numbers[place - 1]}'
 
 
 def write_keys(arguments):
@@ -74,7 +77,8 @@ def write_keys(arguments):
     if arguments.capture:
         numbers = packet_numbers(arguments.capture)
         labels = {key: with_packet(label, numbers) for key, label in labels.items()}
-    write_output(arguments.out, ''.join(f'"{key}","Normal","{label_of(label)}"\n' for key, label in labels.items()))
+    lines = ''.join(f'"{key}","Normal","{label_of(label)}"\n' for key, label in labels.items())
+    write_output(arguments.out, lines, is_private=True)
     return 0
 
 
@@ -121,18 +125,21 @@ def write_frames(arguments):
 
 def write_packets(arguments):
     """Writes the packets of a capture as a pcap of link type 230."""
-    capture, written = Capture(arguments.file, arguments.fcs, arguments.zep_port), 0
+    capture, written, misplaced = Capture(arguments.file, arguments.fcs, arguments.zep_port), 0, 0
     with open_output(arguments.out) as file:
         file.write(pcap.HEADER)
         for bodies in capture.bodies():
             written += sum(bool(body) for _, body in bodies)
-            file.write(b''.join(pcap.record(int(time), int(time % 1 * 1000000), body) for time, body in bodies))
+            misplaced += sum(not pcap.is_in_range(time) for time, _ in bodies)
+            file.write(b''.join(pcap.record_at(time, body) for time, body in bodies))
         if not written:
             raise Stop(f'{arguments.file}: no packet of IEEE 802.15.4 is in it', UNREADABLE)
     said = [
         f'{count} left empty: {reason} (the first is packet {first})'
         for reason, count, first in capture.left_out.rows()
     ]
+    if misplaced:
+        said.append(f'{misplaced} have a time before 1970 or after 2106, which a pcap cannot hold: it is moved there')
     say('\n'.join(f'gabzetu: {it}' for it in [f'{written} of {capture.packets} packets written', *said]))
     return 0
 

@@ -2,6 +2,7 @@
 from ..formats import fields, policy, stories
 from ..formats import history as histories
 from ..formats.causes import CLAIMS
+from ..output import MOST_OF_TC
 from .tables import Anatomies, Table
 
 
@@ -149,6 +150,8 @@ def explain_verdict(ran):
         ]
     if words[:1] == ['refused'] and len(words) == 3 and words[1].isdigit():
         return [text, False, f'line {words[1]} is no line of a transcript', int(words[1])]
+    if words[:2] == ['too', 'long']:
+        return [text, None, f'not audited: the transcript is longer than the {MOST_OF_TC:,} bytes that tc reads', 0]
     return [text, False, f'tc ended with status {ran.status}', 0]
 
 

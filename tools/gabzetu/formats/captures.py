@@ -1,5 +1,6 @@
 """The lines of text captures: their forms with a sentence each, and a reader that finds all mistakes of a text."""
-from .grammar import Form, Grammar, by_other, mistake, read_lines
+from . import grammar
+from .grammar import Form, Grammar, by_other, mistake, split_line
 from .words import Bytes, Code, Digits, Eui, fault_of_code
 
 MOST_KEYS, MOST_FRAMES = 256, 100000
@@ -49,9 +50,21 @@ class Reader:
         self.keys = self.frames = 0
         self.addresses = {}
 
-    def fault_of_meaning(self, form, line):
-        """Returns the mistake of a line of a known form, or none."""
-        return getattr(self, f'take_{form.first}')(line, form.values(line))
+    def skim(self, number, text):
+        """Takes a line that tc took: of a frame only that there is one."""
+        if text.startswith('frame '):
+            self.frames += 1
+        else:
+            self.fault(split_line(number, text))
+
+    def fault(self, line):
+        """Takes a line, and returns its mistake, or none."""
+        form, line, fault = GRAMMAR.read(line)
+        return fault or getattr(self, f'take_{form.first}')(line, form.values(line))
+
+    @staticmethod
+    def fault_of_end(data):
+        """Returns none: a capture may end anywhere."""
 
     def take_key(self, line, values):
         """Counts a key, and returns the mistake of its line, or none."""
@@ -88,12 +101,6 @@ class Reader:
         return None
 
 
-def find_mistakes(data, link_key=None):
-    """Returns the mistakes of a capture, at most one a line."""
-    reader, mistakes = Reader(), []
-    for line in read_lines(data):
-        form, line, fault = GRAMMAR.read(line)
-        fault = fault or reader.fault_of_meaning(form, line)
-        if fault:
-            mistakes.append(fault)
-    return mistakes
+def find_mistakes(data, link_key=None, first=1, most=None):
+    """Returns the mistakes of a capture from line `first` on, at most one a line, and no more than `most`."""
+    return grammar.find_mistakes(Reader(), data, first, most)

@@ -1,42 +1,13 @@
 """Says in a few words what the frames of a capture carry, as far as tc opened them."""
-from . import headers
+from . import headers, names
 from .addresses import content_of, payload_of
-
-NWK_COMMANDS = {
-    1: 'Route Request',
-    2: 'Route Reply',
-    3: 'Network Status',
-    4: 'Leave',
-    5: 'Route Record',
-    6: 'Rejoin Request',
-    7: 'Rejoin Response',
-    8: 'Link Status',
-    9: 'Network Report',
-    10: 'Network Update',
-    11: 'End Device Timeout Request',
-    12: 'End Device Timeout Response',
-    13: 'Link Power Delta',
-    14: 'Commissioning Request',
-    15: 'Commissioning Response',
-}
-APS_COMMANDS = {
-    5: 'Transport-Key',
-    6: 'Update-Device',
-    7: 'Remove-Device',
-    8: 'Request-Key',
-    9: 'Switch-Key',
-    0x0E: 'Tunnel',
-    0x0F: 'Verify-Key',
-    0x10: 'Confirm-Key',
-}
-KEY_TYPES = {1: 'network key', 3: 'application key', 4: 'link key'}
-
 
 def command_words(content):
     """Returns what an APS command is, and of a Transport-Key which key it carries."""
-    name = APS_COMMANDS.get(content[0], f'APS command {content[0]:02X}')
+    name = names.aps_command(content)
     if content[0] == 5 and len(content) >= 18:
-        return f'{name}: {KEY_TYPES.get(content[1], f"key of type {content[1]}")} {content[2:18].hex().upper()}'
+        kind = names.KEY_TYPES.get(content[1], f'key of type {content[1]}')
+        return f'{name}: {kind} {content[2:18].hex().upper()}'
     return name
 
 
@@ -56,7 +27,7 @@ def payload_words(payload, layers):
         if content and content[0] == headers.TUNNEL:
             return tunnel_words(layers)
         return command_words(content) if content else 'sealed command'
-    return f'data, cluster {aps.cluster:04X}, ' + ('sealed' if content is None else f'{len(content)} bytes')
+    return names.data_words(aps.profile, aps.cluster, content)
 
 
 def describe(frame, layers):
@@ -66,7 +37,7 @@ def describe(frame, layers):
         if payload is None:
             return ''
         if frame.nwk.kind == headers.COMMAND:
-            return NWK_COMMANDS.get(payload[0], f'NWK command {payload[0]:02X}') if payload else 'empty command'
+            return names.network_command(payload)
         return payload_words(payload, layers)
     except headers.Malformed:
         return ''

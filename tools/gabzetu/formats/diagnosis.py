@@ -24,6 +24,7 @@ OTHERS = [
     (b'\x0a\x0d\x0d\x0a', 'a pcapng file: `gabzetu open` reads it'),
     (OF_TRANSCRIPT, 'a transcript: `gabzetu audit` judges it'),
     (b'1 nwk ', "an inspector's report"),
+    (b'start\n> ', 'a log of tc_centre: `gabzetu hub-log` makes its transcript'),
     (b'{"active"', 'a backup: `restore SKIP BACKUP` in a script takes it'),
     (b'{', 'a JSON text'),
 ]
@@ -61,7 +62,8 @@ def score(kind, lines):
     """Returns how well lines fit a kind: a line that has a form of it counts twice, one with a first word of it
     once."""
     table = READERS[kind].GRAMMAR
-    return sum(2 if table.read(line)[0] else 1 if line.words[0].text in table.firsts else 0 for line in lines)
+    known = [line for line in lines if line.words[0].text in table.firsts]
+    return sum(2 if table.read(line)[0] else 1 for line in known)
 
 
 def scores_of(data):
@@ -100,15 +102,17 @@ def other_than(kind, path, data):
     return other_kind_of(data) or (USES.get(kind_by_lines(path, data)) if fits_better else None)
 
 
-def find_mistakes(kind, data):
-    """Returns the mistakes of a text of this kind, in the order of its lines, at most one a line."""
+def find_mistakes(kind, data, first=1, most=None):
+    """Returns the mistakes of a text of this kind from line `first` on, at most one a line, and no more than `most`.
+
+    tc took the lines before `first`."""
     if len(data) > LONGEST:
         return []
-    return READERS[kind].find_mistakes(data, LinkKeys())
+    return READERS[kind].find_mistakes(data, LinkKeys(), first, most)
 
 
 def hints(kind, given, line):
     """Returns what is wrong with a line, as `LINE:COLUMN: 'text': message`; nothing where the reader finds nothing."""
     if kind not in READERS:
         return []
-    return [grammar.describe(it) for it in find_mistakes(kind, given) if it.line == line]
+    return [grammar.describe(it) for it in find_mistakes(kind, given, line, 1) if it.line == line]

@@ -4,6 +4,7 @@ lists of stores.
 Each reader takes the words of a line and returns a dict whose `kind` is the kind of the line, or none where the line
 is no such line. Counters and numbers are numbers, `yes` and `no` are true and false, all else is text as it was
 written."""
+from .numbers import read_number
 
 NUMBERS = {
     'limit',
@@ -140,8 +141,8 @@ def shown(form):
 
 def value_of(name, word):
     """Returns a word as the value of its field."""
-    if name in NUMBERS and word.isdigit():
-        return int(word)
+    if name in NUMBERS and read_number(word) is not None:
+        return read_number(word)
     return TRUTHS.get(word, word) if name in ('ideal', 'private') else word
 
 
@@ -176,9 +177,9 @@ def read_by(table, words):
 
 def read_numbered(name, table, words):
     """Returns the fields of a line that begins with a number, which is the field `name`, and its kind; or none."""
-    if len(words) < 2 or not words[0].isdigit():
+    if len(words) < 2 or read_number(words[0]) is None:
         return None
-    return named({name: int(words[0]), 'kind': words[1]}, table.get(words[1], []), words[2:])
+    return named({name: read_number(words[0]), 'kind': words[1]}, table.get(words[1], []), words[2:])
 
 
 def read_transcript_line(words):

@@ -3,9 +3,10 @@ contents."""
 import collections
 import struct
 
+from .names import KEY_TYPES, aps_command, network_command
+
 LEAVE, UPDATE, REMOVE, REQUEST, SWITCH, TUNNEL, VERIFY, CONFIRM, TRANSPORT = 4, 6, 7, 8, 9, 0x0E, 0x0F, 0x10, 5
 DATA, COMMAND, ACK = 0, 1, 2
-KEY_TYPES = {1: 'network key', 3: 'application key', 4: 'link key'}
 
 # One layer of a frame. to: the short destination of NWK, else none; header: as it is authenticated where it is sealed,
 # in digits; counter: none where it isn't sealed; payload: none where it is sealed
@@ -114,7 +115,7 @@ class Reader:
             if content is None:
                 return ['sealed'], counters
             if nwk.kind == COMMAND:
-                return ['Leave' if content[:1] == bytes([LEAVE]) else f'NWK command {content[:1].hex()}'], counters
+                return [network_command(content)], counters
             return self.describe_aps(event, content, counters)
         except (Malformed, IndexError) as why:
             return [f'{counted(len(data))}, ' + (str(why) if isinstance(why, Malformed) else 'command cut')], []
@@ -150,4 +151,4 @@ class Reader:
             return [f'Switch-Key: {it[1]}'], counters
         if kind == CONFIRM:
             return [f'Confirm-Key: status {it[1]}'], counters
-        return ['Verify-Key' if kind == VERIFY else f'APS command {it[:1].hex().upper()}'], counters
+        return [aps_command(it)], counters

@@ -3,6 +3,7 @@
 A form is a text such as `deliver FRAME NAME`: words in lower case are those very words, others are places, whose
 kinds of words the table has by their name."""
 import collections
+import io
 import re
 
 from .words import Literal, Rest, counted, near
@@ -16,6 +17,8 @@ Line = collections.namedtuple('Line', 'number text words')
 Word = collections.namedtuple('Word', 'text column')
 
 LONGEST_SHOWN = 40
+# What is looked at of a line. Only a line with a backup may be longer.
+LONGEST_LINE, MOST_WORDS, BACKUP = 4096, 4096, 'restore '
 
 
 def printable(text):
@@ -59,21 +62,49 @@ class Form:
 def split_line(number, text):
     """Returns a line with its words and their columns. Words are separated by one space each."""
     words, column = [], 1
-    for word in text.split(' '):
+    text = text if text.startswith(BACKUP) else text[:LONGEST_LINE]
+    for word in text.split(' ', MOST_WORDS):
         words.append(Word(word, column))
         column += len(word) + 1
     return Line(number, text, words)
 
 
-def read_lines(data):
-    """Yields the lines of a text that say something, decoded byte by byte. Empty lines and comments are passed
-    over."""
-    pieces = data.decode('latin-1').split('\n')
-    for number, text in enumerate(pieces, 1):
-        if text.endswith('\r') and number < len(pieces):
-            text = text[:-1]
+def read_texts(data):
+    """Yields number and text of the lines that say something, decoded byte by byte. Empty lines and comments are
+    passed over."""
+    for number, line in enumerate(io.BytesIO(data), 1):
+        text = line.decode('latin-1')
+        text = text[: -2 if text.endswith('\r\n') else -1] if text.endswith('\n') else text
         if text and not text.startswith('#'):
-            yield split_line(number, text)
+            yield number, text
+
+
+def read_lines(data):
+    """Yields the lines of a text that say something, with their words."""
+    for number, text in read_texts(data):
+        yield split_line(number, text)
+
+
+def find_mistakes(reader, data, first=1, most=None):
+    """Returns the mistakes of a text from line `first` on, at most one a line, and no more than `most`.
+
+    The reader only skims the lines before `first`, because tc took them."""
+    found = []
+    for number, text in read_texts(data):
+        if number < first:
+            reader.skim(number, text)
+            continue
+        fault = reader.fault(split_line(number, text))
+        found += [fault] if fault else []
+        if most is not None and len(found) >= most:
+            return found
+    end = None if found else reader.fault_of_end(data)
+    return [end] if end else found
+
+
+def number_of_end(data):
+    """Returns the number of the line that would follow a text."""
+    return data.count(b'\n') + (1 if data and not data.endswith(b'\n') else 0) + 1
 
 
 def mistake(line, column, text, message, cause='syntax', earlier=None):
@@ -89,10 +120,10 @@ LAYOUTS = [
     (re.compile('\r'), 'a carriage return that is not the one before a line feed'),
     (re.compile('\t'), 'a tab; words are separated by one space'),
     (re.compile('\xc2\xa0'), 'a no-break space; words are separated by one plain space'),
-    (re.compile(' +(#|//|;)'), 'a comment is a line of its own that begins with #'),
+    (re.compile('(?<! ) +(#|//|;)'), 'a comment is a line of its own that begins with #'),
     (re.compile('^(//|;|--|/\\*)'), 'a comment begins with #'),
     (re.compile('^ +'), 'a line begins with its first word, without spaces before it'),
-    (re.compile(' +$'), 'a line ends with its last word, without spaces after it'),
+    (re.compile('(?<! ) +$'), 'a line ends with its last word, without spaces after it'),
     (re.compile('  +'), 'words are separated by one space, and here are more'),
     (re.compile('[\x01-\x1f\x7f]'), 'a control character; a line has words and single spaces alone'),
     (re.compile('[\x80-\xff]+'), 'only a comment may have characters that are not ASCII'),

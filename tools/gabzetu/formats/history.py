@@ -5,6 +5,7 @@ line says."""
 import collections
 
 from . import frames, transcripts
+from .numbers import read_number
 from ..errors import UNREADABLE, Stop
 from ..output import read_input
 
@@ -111,7 +112,7 @@ class History:
         none."""
         if self.schedule is not None:
             words = self.schedule.events.get(event, [])
-            number = int(words[1]) if words[:1] == ['deliver'] and len(words) == 3 and words[1].isdigit() else None
+            number = read_number(words[1]) if words[:1] == ['deliver'] and len(words) == 3 else None
             return number if self.sent_at.get(number, event) < event else None
         accepted = [words for words in lines if words[0] == 'accept']
         return self.carrier(event, accepted[0]) if accepted else None

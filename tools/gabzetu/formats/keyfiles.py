@@ -1,16 +1,25 @@
 """Reads keys from files of other programs: coordinator backups, settings of Zigbee2MQTT, keys of Wireshark, reports
 and transcripts."""
+import contextlib
 import json
+import os
 import re
+import sqlite3
+from typing import Iterator, Optional, Tuple
+from urllib.parse import quote
 
 from ..errors import UNREADABLE, Stop
 from ..output import read_input
+from .numbers import read_hexadecimal, read_number
 
+SQLITE = b'SQLite format 3\0'
+# How settings of Zigbee2MQTT name a value of another file: '!secret.yaml network_key'.
+SECRET = re.compile(r'["\']?!(secrets?(?:\.yaml)?)[ \t]+([\w-]+)')
 KEY = re.compile('[0-9A-F]{32}')
 SEPARATORS = re.compile(r'[:\-\s]')
 MOST_LABEL = 100
 KNOWN = (
-    'a coordinator backup of zigpy, ZHA or Zigbee2MQTT, a backup of `gabzetu admin`, '
+    'a coordinator backup of zigpy, ZHA or Zigbee2MQTT, zigbee.db of zigpy, a backup of `gabzetu admin`, '
     'configuration.yaml of Zigbee2MQTT, zigbee_pc_keys of Wireshark, a report of inspect or sniff, and a transcript'
 )
 
@@ -88,8 +97,8 @@ def keys_of_json(value):
 
 
 def number_of(word):
-    """Returns the number that a word is, decimal or with 0x."""
-    return int(word, 16) if word[:2] in ('0x', '0X') else int(word)
+    """Returns the number that a word is, decimal or with 0x, or none."""
+    return read_hexadecimal(word[2:]) if word[:2] in ('0x', '0X') else read_number(word)
 
 
 def listed_numbers(text):
@@ -104,16 +113,32 @@ def listed_numbers(text):
     )
 
 
-def keys_of_settings(text):
+def member_of_settings(text: str, name: str) -> Optional[re.Match]:
+    """Returns where the value of a member of YAML is, in a line of its own or within braces; or none."""
+    return re.search(rf'(?:^|[{{,])[ \t]*{re.escape(name)}:[ \t]*([^\n]*)', text, re.M)
+
+
+def place_of_secret(text: str, path: str) -> Tuple[str, Optional[re.Match]]:
+    """Returns the text and the place of a network key, which may be a word for one in secret.yaml beside a file."""
+    place = member_of_settings(text, 'network_key')
+    named = SECRET.match(place[1]) if place else None
+    if not named or path == '-':
+        return text, place
+    other = os.path.join(os.path.dirname(path), named[1] if named[1].endswith('yaml') else f'{named[1]}.yaml')
+    text = read_input(other).decode('utf-8', 'replace')
+    return text, member_of_settings(text, named[2])
+
+
+def keys_of_settings(text, path='-'):
     """Yields the network key of Zigbee2MQTT's settings, 16 numbers in a list or a text of digits."""
-    place = re.search(r'^[ \t]*network_key:[ \t]*(.*)$', text, re.M)
+    text, place = place_of_secret(text, path)
     if not place:
         return
     numbers = listed_numbers(text[place.start(1) :])
-    if len(numbers) == 16 and max(numbers) < 256:
+    if len(numbers) == 16 and all(it is not None and it < 256 for it in numbers):
         yield bytes(numbers).hex(), 'network key of the settings'
     elif not numbers:
-        yield place[1].split('#')[0].strip(' \'"\r'), 'network key of the settings'
+        yield place[1].split('#')[0].strip(' \'"\r}'), 'network key of the settings'
 
 
 def keys_of_wireshark(text):
@@ -128,13 +153,13 @@ def keys_of_report(lines):
     for words in lines:
         if words[0] == 'key' and words[3:] == ['given']:
             yield words[2], f'key {words[1]}, given'
-        elif words[0] == 'key' and words[3:4] == ['found'] and words[4:5] and words[4].isdigit():
+        elif words[0] == 'key' and words[3:4] == ['found'] and words[4:5] and read_number(words[4]) is not None:
             yield words[2], f'key {words[1]}, found in frame {words[4]}'
 
 
 def keys_of_transcript(lines):
     """Yields the keys that nodes have from the start or take in, each with a word on where it comes from."""
-    for event, kind, *words in (words for words in lines if len(words) > 3 and words[0].isdigit()):
+    for event, kind, *words in (words for words in lines if len(words) > 3 and read_number(words[0]) is not None):
         if kind == 'given' and words[1] == 'net' and len(words) > 3:
             yield words[2], f'network key {words[3]} of the start'
         elif kind == 'given' and words[1] == 'link' and len(words) > 3:
@@ -147,21 +172,50 @@ def keys_of_transcript(lines):
             yield words[3], f'link key of {words[1]} with {words[2]}, event {event}'
 
 
+def fields_of_line(line):
+    """Returns the fields of a JSON line, or none of one that is no JSON."""
+    try:
+        return json.loads(line)
+    except (ValueError, RecursionError):
+        return {}
+
+
 def keys_of_opened(text):
     """Yields the keys of what `gabzetu open` writes: its listing, or its JSON lines."""
     for number, key, words in re.findall(r'^  key +(\d+) +([0-9A-F]{32})  (.+)$', text, re.M):
         yield key, f'key {number}, {words.split(", which key")[0]}'
     for line in re.findall(r'^\{"kind": "key", .*\}$', text, re.M):
-        fields = json.loads(line)
+        fields = fields_of_line(line)
         yield fields.get('key'), f'key {fields.get("k")}, {fields.get("origin")}'
 
 
-def keys_of_text(text):
+def keys_of_database(path: str) -> Iterator[tuple]:
+    """Yields the keys of the latest backup in zigbee.db, the database of zigpy."""
+    with contextlib.closing(sqlite3.connect(f'file:{quote(path)}?mode=ro&immutable=1', uri=True)) as database:
+        names = database.execute("select name from sqlite_master where name glob 'network_backups_v[0-9]*'").fetchall()
+        for name in sorted((it[0] for it in names), key=lambda it: (len(it), it), reverse=True)[:1]:
+            row = database.execute(f'select backup_json from "{name}" order by id desc limit 1').fetchone()
+            yield from keys_of_json(json.loads(row[0])) if row else ()
+
+
+def labelled_keys(path: str) -> Iterator[tuple]:
+    """Yields the keys of a file of any known form, each with a word on where it comes from."""
+    data = read_input(path)
+    if not data.startswith(SQLITE):
+        yield from keys_of_text(data.decode('utf-8-sig'), path)
+        return
+    try:
+        yield from keys_of_database(path)
+    except (sqlite3.Error, ValueError, RecursionError) as error:
+        raise Stop(f'{path}: the database cannot be read: {error}', UNREADABLE) from error
+
+
+def keys_of_text(text, path='-'):
     """Yields the keys of a text of any known form."""
     try:
         yield from keys_of_json(json.loads(text))
         return
-    except ValueError:
+    except (ValueError, RecursionError):
         pass
     lines = [words for words in map(str.split, text.splitlines()) if words]
     for reader, value in (
@@ -169,19 +223,19 @@ def keys_of_text(text):
         (keys_of_report, lines),
         (keys_of_transcript, lines),
         (keys_of_opened, text),
-        (keys_of_settings, text),
     ):
         yield from reader(value)
+    yield from keys_of_settings(text, path)
 
 
 def read_key_file(path):
     """Returns the keys of a file, each with a word on where it comes from. Stops where there is none."""
     try:
-        text = read_input(path).decode('utf-8-sig')
+        found = list(labelled_keys(path))
     except UnicodeDecodeError as error:
         raise Stop(f'{path}: this is no text: known are {KNOWN}', UNREADABLE) from error
     labels = {}
-    for text_of_key, label in keys_of_text(text):
+    for text_of_key, label in found:
         key = normal_key(text_of_key)
         if key:
             labels.setdefault(key, printable(label))

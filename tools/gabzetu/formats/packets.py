@@ -6,9 +6,11 @@ import io
 import logging
 import os
 import stat
+import struct
 import sys
 import time
 import zlib
+from typing import NamedTuple
 
 from ..errors import MISSING, UNREADABLE, Stop, reason_of
 
@@ -17,14 +19,32 @@ PAUSE = 0.1
 LONGEST = 1 << 24
 BUFFER = 1 << 16
 GZIP = b'\x1f\x8b'
+# Of pcapng: the option with the seconds that an interface adds, and the custom blocks. Wireshark counts these as
+# packets, so they have numbers here too.
+TIME_OFFSET, CUSTOM_BLOCKS = 14, (0x0BAD, 0x40000BAD)
 
 # number: from 1, as other tools count; time: in seconds; link: the link type; kept: the bytes that are there; whole:
 # how many bytes the packet had
 Packet = collections.namedtuple('Packet', 'number time link kept whole')
 
 
+
+class NoPacket(NamedTuple):
+    """What a block without a packet has in place of the data of one. No link type has this number."""
+
+    linktype: int = 0xFFFF
+    wirelen: int = 0
+
+
+NO_PACKET = NoPacket()
+
+
 class Ended(Exception):
-    """A capture whose last packet isn't whole; it says how many whole packets are before it."""
+    """A capture that can't be read on: its last packet isn't whole, or is of an interface that isn't described."""
+
+    def __init__(self, reason: str = 'the file ends within it'):
+        super().__init__(reason)
+        self.reason = reason
 
 
 def import_scapy():
@@ -108,25 +128,44 @@ def readers_of(scapy):
     class Pcapng(scapy.utils.RawPcapNgReader):
         def _read_block(self, *size):
             self.begin = self.f.position
+            self.blocktypes.update(dict.fromkeys(CUSTOM_BLOCKS, lambda block, size: (b'', NO_PACKET)))
             return super()._read_block(*size)
 
         def _read_block_shb(self):
-            self.interfaces = []
+            self.interfaces, self.offsets = [], []
             super()._read_block_shb()
 
-        def _read_block_idb(self, *block):
-            super()._read_block_idb(*block)
+        def _read_block_idb(self, block, size):
+            super()._read_block_idb(block, size)
             link, snap, *more = self.interfaces[-1]
             self.interfaces[-1] = (link, snap or LONGEST, *more)  # 0 is no limit, and scapy takes it as one
+            self.offsets.append(offset_in(block[8:], self.endian))
+
+        def _check_interface_id(self, number):
+            if number >= len(self.interfaces):
+                raise Ended(f'it is of interface {number}, and the file describes {len(self.interfaces)}')
+            self.offset = self.offsets[number]
 
     return Pcap, Pcapng
 
 
+def offset_in(options, order):
+    """Returns the seconds that an interface adds to the times of its packets: the option if_tsoffset, or 0."""
+    while len(options) >= 4:
+        code, size = struct.unpack_from(order + 'HH', options)
+        if code == TIME_OFFSET and size == 8 and len(options) >= 12:
+            return struct.unpack_from(order + 'q', options, 4)[0]
+        options = options[4 + size + -size % 4 :] if code else b''
+    return 0
+
+
 def time_of(reader, meta):
     """Returns the seconds at which a packet was caught."""
+    if meta is NO_PACKET:
+        return 0
     if not hasattr(meta, 'tshigh'):
         return meta.sec + meta.usec / (1e9 if reader.nano else 1e6)
-    return ((meta.tshigh or 0) << 32 | (meta.tslow or 0)) / meta.tsresol
+    return reader.offset + ((meta.tshigh or 0) << 32 | (meta.tslow or 0)) / meta.tsresol
 
 
 def open_reader(path, source):
@@ -153,11 +192,11 @@ def read_records(path, reader):
     number = 0
     for number, (kept, meta) in enumerate(reader, 1):
         if len(kept) < min(getattr(meta, 'caplen', 0), 0xFFFF):
-            raise Ended(number - 1)
+            raise Ended()
         link = meta.linktype if hasattr(meta, 'linktype') else reader.linktype
         yield Packet(number, time_of(reader, meta), link & 0xFFFF, kept, meta.wirelen)
     if reader.f.position != reader.begin:
-        raise Ended(number)
+        raise Ended()
 
 
 def read_packets(path, source):

@@ -15,6 +15,7 @@ LEVELS = {
     6: 'ENC-MIC-64',
     7: 'ENC-MIC-128',
 }
+NETWORK = 1
 KINDS = {0: 'link key', 1: 'network key', 2: 'link key (transport)', 3: 'link key (load)'}
 
 
@@ -81,6 +82,18 @@ def why_aps(frame, layers, reason):
     return f'APS: {KINDS[aps.auxiliary.identifier]} of {nwk.source} and {nwk.to} is not known'
 
 
+def why_broken(frame, layers, kind):
+    """Returns why tc does not read a layer within the NWK layer."""
+    payload = payload_of(frame.nwk, layers) if kind == 'aps' else None
+    try:
+        auxiliary = headers.read_aps(payload).auxiliary if payload is not None else None
+    except headers.Malformed:
+        auxiliary = None
+    if auxiliary is not None and auxiliary.identifier == NETWORK:
+        return 'APS layer under the network key, which is not read'
+    return f'broken {kind.upper()} frame'
+
+
 def why_closed(frame, layers, known):
     """Returns the words for the first layer of a frame that tc did not open, or none where all are open."""
     if frame.nwk is None:
@@ -88,7 +101,7 @@ def why_closed(frame, layers, known):
     try:
         for it in layers:
             if it.reason == 'malformed':
-                return why_malformed(frame.payload) if it.kind == 'nwk' else f'broken {it.kind.upper()} frame'
+                return why_malformed(frame.payload) if it.kind == 'nwk' else why_broken(frame, layers, it.kind)
             if it.reason == 'no-key' and it.kind == 'nwk':
                 return why_nwk(frame, known)
             if it.reason in ('no-key', 'no-source'):

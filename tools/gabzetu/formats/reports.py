@@ -3,11 +3,12 @@ import collections
 import re
 import struct
 
-from . import frames
+from . import frames, headers, names
 from .checks import check_of
 from .fields import read_report_line
 from .links import LeftOut
 from .mac import read_data
+from .numbers import read_number
 from ..errors import UNREADABLE, Stop
 from ..output import read_input
 
@@ -77,7 +78,7 @@ def read_text_capture(text):
     found, number = [], None
     for line in text.splitlines():
         words, comment = line.split(), PACKET_NUMBER.match(line)
-        number = int(comment.group(1)) if comment else number
+        number = read_number(comment.group(1)) if comment else number
         if words[:1] == ['frame'] and len(words) == 2:
             found.append(Heard(number or len(found) + 1, None, None, bytes.fromhex(words[1].replace('-', ''))))
             number = None
@@ -148,6 +149,14 @@ class Reader(frames.Reader):
     def __init__(self, report, heard, names):
         self.names, self.keys = names, {it['k']: it['key'] for it in report.keys}
         self.set_terms({place: self.terms(report.layers.get(place, []), it.data) for place, it in heard.items()})
+
+    def describe_aps(self, event, data, counters):
+        """Returns the words on an APS frame, of a data frame those that `gabzetu open` has."""
+        texts, counters = super().describe_aps(event, data, counters)
+        aps = headers.read_aps(data)
+        if aps.kind != headers.DATA or texts == ['sealed']:
+            return texts, counters
+        return [names.data_words(aps.profile, aps.cluster, self.content(event, frames.read_aps(data)))], counters
 
     def terms(self, layers, data):
         """Returns the terms of a frame by their headers.

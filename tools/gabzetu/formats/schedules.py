@@ -4,7 +4,8 @@ The reader follows docs/FORMATS.md. It judges nothing: whether a text is a sched
 import collections
 import itertools
 
-from .grammar import Form, Grammar, by_other, mistake, read_lines
+from . import grammar
+from .grammar import Form, Grammar, by_other, mistake, number_of_end, split_line
 from .words import Bytes, Choice, Code, Digits, Eui, Name, Number, GREATEST, fault_of_code, suggestion, taken
 
 WELL_KNOWN = '5A6967426565416C6C69616E63653039'
@@ -171,18 +172,23 @@ class Reader:
         self.nodes, self.codes, self.netkeys, self.draws, self.counters = {}, {}, [], [], {}
         self.events = 0
         self.first_event = None
-        self.mistakes = []
 
-    def read(self, data):
-        """Returns the mistakes of a text in the order of its lines, at most one a line."""
-        for line in read_lines(data):
-            found, line, fault = GRAMMAR.read(line)
-            fault = self.with_short(fault) if fault else self.fault_of_meaning(found, line)
-            if fault:
-                self.mistakes.append(fault)
-        if not any(it.role == 'centre' for it in self.nodes.values()) and not self.mistakes:
-            self.mistakes.append(self.no_centre(data))
-        return self.mistakes
+    def skim(self, number, text):
+        """Takes a line that tc took: a declaration whole, and of an event that there is one."""
+        if text.partition(' ')[0] in DECLARED:
+            self.fault(split_line(number, text))
+        else:
+            self.first_event = self.first_event or number
+            self.events += 1
+
+    def fault(self, line):
+        """Takes a line, and returns its mistake, or none."""
+        found, line, fault = GRAMMAR.read(line)
+        return self.with_short(fault) if fault else self.fault_of_meaning(found, line)
+
+    def fault_of_end(self, data):
+        """Returns what a text without other mistakes lacks, or none."""
+        return None if any(it.role == 'centre' for it in self.nodes.values()) else self.no_centre(data)
 
     def with_short(self, fault):
         """Returns a mistake with the short address of the node whose name is in its place."""
@@ -194,8 +200,7 @@ class Reader:
     @staticmethod
     def no_centre(data):
         """Returns the mistake of a schedule without a centre."""
-        number = data.count(b'\n') + (1 if data and not data.endswith(b'\n') else 0) + 1
-        end = mistake(End(number), 1, '', '')
+        end = mistake(End(number_of_end(data)), 1, '', '')
         return end._replace(
             message="no line declares a centre, for example 'node c centre 00124B0000000001 0000 8 4'",
             text='end',
@@ -378,6 +383,6 @@ class Reader:
         return mistake(line, word.column, word.text, message, 'unknown-node', node.line)
 
 
-def find_mistakes(data, link_key):
-    """Returns the mistakes of a schedule, at most one a line."""
-    return Reader(link_key).read(data)
+def find_mistakes(data, link_key, first=1, most=None):
+    """Returns the mistakes of a schedule from line `first` on, at most one a line, and no more than `most`."""
+    return grammar.find_mistakes(Reader(link_key), data, first, most)

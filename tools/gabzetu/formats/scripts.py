@@ -3,7 +3,8 @@ text."""
 import collections
 import json
 
-from .grammar import Form, Grammar, by_other, mistake, read_lines
+from . import grammar
+from .grammar import Form, Grammar, by_other, mistake, number_of_end, split_line
 from .words import GREATEST, Choice, Code, Digits, Eui, Name, Number, Rest, fault_of_code, suggestion, taken
 
 MOST_PEERS, MOST_COMMANDS = 63, 10000
@@ -64,6 +65,7 @@ OTHERS = by_other(MEANT)
 GRAMMAR = Grammar(FORMS, OTHERS)
 BLOCKS = {'OUT': 65536, 'IN': 1024}
 
+End = collections.namedtuple('End', 'number')
 Station = collections.namedtuple('Station', 'line role eui short')
 
 
@@ -74,6 +76,26 @@ class Reader:
         self.stations = {}
         self.centre = self.first_command = None
         self.commands = 0
+
+    def skim(self, number, text):
+        """Takes a line that tc took: of a command only that there is one."""
+        if text.startswith(('centre ', 'peer ')):
+            self.fault(split_line(number, text))
+        else:
+            self.first_command = self.first_command or number
+            self.commands += 1
+
+    def fault(self, line):
+        """Takes a line, and returns its mistake, or none."""
+        form, line, fault = GRAMMAR.read(line)
+        return fault or self.fault_of_meaning(form, line)
+
+    def fault_of_end(self, data):
+        """Returns what a text without other mistakes lacks, or none."""
+        if self.centre is not None:
+            return None
+        what = "no line is the centre, for example 'centre c 00124B0000000001 8 4'"
+        return mistake(End(number_of_end(data)), 1, 'end', what, 'no-centre')
 
     def fault_of_meaning(self, form, line):
         """Returns the mistake of a line of a known form, or none."""
@@ -170,18 +192,6 @@ class Reader:
         return None
 
 
-def find_mistakes(data, link_key=None):
-    """Returns the mistakes of a script, at most one a line."""
-    reader, mistakes = Reader(), []
-    for line in read_lines(data):
-        form, line, fault = GRAMMAR.read(line)
-        fault = fault or reader.fault_of_meaning(form, line)
-        if fault:
-            mistakes.append(fault)
-    if reader.centre is None and not mistakes:
-        number = data.count(b'\n') + (1 if data and not data.endswith(b'\n') else 0) + 1
-        end = collections.namedtuple('End', 'number')(number)
-        mistakes.append(
-            mistake(end, 1, 'end', "no line is the centre, for example 'centre c 00124B0000000001 8 4'", 'no-centre')
-        )
-    return mistakes
+def find_mistakes(data, link_key=None, first=1, most=None):
+    """Returns the mistakes of a script from line `first` on, at most one a line, and no more than `most`."""
+    return grammar.find_mistakes(Reader(), data, first, most)

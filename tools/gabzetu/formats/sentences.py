@@ -1,5 +1,6 @@
 """What a line of a transcript says, in a sentence."""
 from . import frames, policy
+from .names import network_command
 
 STATES = {
     'fresh': 'has not joined',
@@ -49,7 +50,7 @@ class Speaker:
     def network_content(self, event, data, header):
         """Returns what a frame carries whose NWK layer is open."""
         if int(header[:2], 16) & 3 == frames.COMMAND:
-            return 'Leave' if data[:1] == bytes([frames.LEAVE]) else f'NWK command {data[:1].hex()}'
+            return network_command(data)
         return ', '.join(self.reader.describe_aps(event, data, [])[0])
 
     def say(self, fields):

@@ -6,6 +6,7 @@ import re
 from ..errors import UNREADABLE, Stop
 from ..output import read_input
 from .diagnosis import no_transcript
+from .numbers import read_number
 
 Node = collections.namedtuple('Node', 'name role eui short')
 
@@ -75,7 +76,8 @@ def is_line(line):
     """Returns whether a line, but the end line, has the form of a transcript's line."""
     number, _, rest = line.partition(' ')
     kind, _, words = rest.partition(' ')
-    return number.isdigit() and len(number) <= 10 and kind in PATTERNS and PATTERNS[kind].fullmatch(words) is not None
+    is_event = len(number) <= 10 and read_number(number) is not None
+    return is_event and kind in PATTERNS and PATTERNS[kind].fullmatch(words) is not None
 
 
 def parse_transcript(text, path):

@@ -7,14 +7,20 @@ import difflib
 import functools
 import re
 
+from .numbers import MOST_DIGITS, read_hexadecimal, read_number
+
 GREATEST = 4294967295
 LONGEST_NAME = 16
+# No longer word is looked for among the known ones.
+LONGEST_MEANT = 64
 CODE_SIZES = (8, 10, 14, 18)
 HEX_DIGITS = frozenset('0123456789abcdefABCDEF')
 
 
 def near(word, words):
     """Returns the word that is nearest to another one, or none where none is near."""
+    if len(word) > LONGEST_MEANT:
+        return None
     found = difflib.get_close_matches(word.lower(), list(words), 1, 0.6)
     return found[0] if found else None
 
@@ -70,15 +76,14 @@ class Number:
 
     def fault(self, word):
         """Returns what is wrong with a word, or none."""
-        if re.fullmatch('0[xX][0-9a-fA-F]+', word):
-            return f'numbers are decimal: write {int(word, 16)}'
+        if word[:2] in ('0x', '0X') and read_hexadecimal(word[2:]) is not None:
+            return f'numbers are decimal: write {read_hexadecimal(word[2:])}'
         if not re.fullmatch('[0-9]+', word):
             return f'{self.name} is {self.wanted}'
         if len(word) > 1 and word[0] == '0':
-            return f'a number has no leading zeros: write {word.lstrip("0") or "0"}'
-        if not self.low <= int(word) <= self.high:
-            return f'{self.name} is {self.wanted}'
-        return None
+            return f'a number has no leading zeros: write {word.lstrip("0")[:MOST_DIGITS] or "0"}'
+        number = read_number(word)
+        return None if number is not None and self.low <= number <= self.high else f'{self.name} is {self.wanted}'
 
 
 def fault_of_digits(word):

@@ -11,6 +11,8 @@ FORMAT, VERSION = 'zigpy/open-coordinator-backup', 1
 MOST_COUNTER, LEVEL = 0xFFFFFFFF, 5
 CHANNELS = range(11, 27)
 NO_EUI, NO_PAN = 'F' * 16, 'FFFF'
+# Greater ones are no address of a node: zigpy writes FFFE for one that it does not know.
+LAST_SHORT = 'FFF7'
 KEPT_AS_SEEDS = {'hashed_tclk', 'tclk_seed'}
 
 # coordinator: its EUI; key, sequence, counter: of the network; made: when the backup was made, or none; devices: in
@@ -63,6 +65,7 @@ def read_device(value, place):
         raise Bad(f'{place} should be an object')
     eui = get_digits(value, 'ieee_address', 16, f'{place}.')
     short = None if value.get('nwk_address') is None else get_digits(value, 'nwk_address', 4, f'{place}.')
+    short = None if short is not None and short > LAST_SHORT else short
     if value.get('link_key') is None:
         return Device(eui, short, None)
     link, place = get_object(value, 'link_key', f'{place}.'), f'{place}.link_key.'

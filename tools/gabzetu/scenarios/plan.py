@@ -20,12 +20,51 @@ Entry = collections.namedtuple('Entry', 'text origin')
 Played = collections.namedtuple('Played', 'groups frames')
 
 
+# names: whom the last frame reaches
+Hear = collections.namedtuple('Hear', 'names')
+
+# How much of a plan there is: of its lines, the comments that wait, and the events; and of its transcript
+Mark = collections.namedtuple('Mark', 'body pending events taken lines frames')
+
+# How often frame numbers are guessed before tc is asked event by event.
+MOST_GUESSES = 4
+
+
 class Refused(Exception):
     """A step of a line was refused: its event, and the fields of the refusal."""
 
     def __init__(self, event, fields):
         super().__init__(event)
         self.event, self.fields = event, fields
+
+
+def refusal_in(group):
+    """Returns the fields of the refusal among the lines of an event, or none."""
+    return next((it for it in group if it['kind'] == 'refuse'), None)
+
+
+def texts_of(step, frame):
+    """Returns the events that a step is: itself, or a delivery of the frame for each node that hears it."""
+    return [f'deliver {frame} {name}' for name in step.names] if isinstance(step, Hear) else [step]
+
+
+def shape_of(step):
+    """Returns what a step has in common with those that send as many frames."""
+    return ('hear', len(step.names)) if isinstance(step, Hear) else step.split(' ')[0]
+
+
+def guess(steps, base, counts):
+    """Returns the events of some steps, and of each the frame that it delivers or none.
+
+    `base` is the last frame before them, and `counts` has how many frames events sent; others are taken to send one."""
+    texts, frames, last = [], [], base
+    for step in steps:
+        frame = last if isinstance(step, Hear) else None
+        for text in texts_of(step, frame):
+            last += counts.get(len(texts), 1)
+            texts.append(text)
+            frames.append(frame)
+    return texts, frames
 
 
 class Plan:
@@ -40,7 +79,8 @@ class Plan:
         self.nodes, self.codes = {}, {}
         self.has_draws = self.has_begun = False
         self.played = None
-        self.lost = {}
+        self.taken, self.groups, self.lines, self.frames = '', collections.defaultdict(list), [], 0
+        self.lost, self.counts = {}, {}
         self.made = 0
 
     # ---- what is made from the seed
@@ -103,15 +143,80 @@ class Plan:
         """Adds an event that must not be refused, and returns the fields of its lines."""
         self.attempt(text)
         group = self.play().groups[self.events()]
-        refused = next((it for it in group if it['kind'] == 'refuse'), None)
+        refused = refusal_in(group)
         if refused:
             raise Refused(text, refused)
         return group
 
-    def take_back(self):
-        """Takes the last event back."""
-        self.body.pop()
-        self.played = None
+    def do_all(self, steps):
+        """Adds events and hearings, none of which may be refused, and returns the lines of each event.
+
+        The numbers of frames are guessed, so that tc plays all at once. If a guess fails, tc plays one by one."""
+        groups = self.do_at_once(steps)
+        return self.do_one_by_one(steps) if groups is None else groups
+
+    def do_one_by_one(self, steps):
+        """Adds events and hearings, each after tc played those before it, and returns the lines of each event."""
+        groups = []
+        for step in steps:
+            frame = self.last_frame() if isinstance(step, Hear) else None
+            groups += [self.do(text) for text in texts_of(step, frame)]
+        return groups
+
+    def do_at_once(self, steps):
+        """Adds events and hearings by guessed frame numbers, and returns the lines of each event; or none, and adds
+        nothing, if no guess is right."""
+        base, mark = self.play().frames, self.mark()
+        shape = tuple(shape_of(step) for step in steps)
+        for _ in range(MOST_GUESSES):
+            counts = self.counts.get(shape, {})
+            texts, frames = guess(steps, base, counts)
+            for text in texts:
+                self.attempt(text)
+            groups = self.groups_since(mark)
+            found, is_right = self.checked(texts, frames, groups, base, mark)
+            self.counts[shape] = {**counts, **found}
+            if is_right:
+                return groups
+            self.back_to(mark)
+        return None
+
+    def groups_since(self, mark):
+        """Returns the lines of the events that were added since a mark."""
+        groups = self.play().groups
+        return [groups[number] for number in range(mark.events + 1, self.events() + 1)]
+
+    def checked(self, texts, frames, groups, base, mark):
+        """Returns how many frames each event sent, up to the first wrong guess, and whether all guesses are right.
+
+        Raises Refused for a refusal before that, and takes back what follows the refused event."""
+        found, last = {}, base
+        for place, (text, frame, group) in enumerate(zip(texts, frames, groups)):
+            is_first = place == 0 or frames[place - 1] != frame
+            if frame is not None and is_first and (frame != last or frame == base):
+                return found, False
+            refused = refusal_in(group)
+            if refused:
+                self.back_to(mark)
+                for it in texts[: place + 1]:
+                    self.attempt(it)
+                raise Refused(text, refused)
+            found[place] = sum(it['kind'] in ('send', 'inject') for it in group)
+            last += found[place]
+        return found, True
+
+    def mark(self):
+        """Returns what is needed to take back all that is added after it."""
+        self.play()
+        return Mark(len(self.body), list(self.pending), self.events(), self.taken, len(self.lines), self.frames)
+
+    def back_to(self, mark):
+        """Takes back what was added since a mark."""
+        del self.body[mark.body :], self.lines[mark.lines :]
+        for number in [it for it in self.groups if it > mark.events]:
+            del self.groups[number]
+        self.pending, self.taken, self.frames = list(mark.pending), mark.taken, mark.frames
+        self.played = Played(self.groups, self.frames)
 
     # ---- what tc makes of it
 
@@ -141,15 +246,17 @@ class Plan:
             self.played = self.read(ran.output.decode('ascii'))
         return self.played
 
-    @staticmethod
-    def read(text):
-        """Returns what a transcript says of each event."""
-        groups, frames = collections.defaultdict(list), 0
-        for line in stories.read_text(text):
-            if stories.event_of(line) is not None:
-                groups[stories.event_of(line)].append(line.fields)
-                frames += line.fields['kind'] in ('send', 'inject')
-        return Played(groups, frames)
+    def read(self, text):
+        """Returns what a transcript says of each event. What an earlier one said too is not read again."""
+        body = text[: text.rindex('\n', 0, -1) + 1]  # the end line is another one each time
+        if not body.startswith(self.taken):
+            self.taken, self.groups, self.lines, self.frames = '', collections.defaultdict(list), [], 0
+        for line in stories.read_text(body[len(self.taken) :]):
+            self.groups[stories.event_of(line)].append(line.fields)
+            self.lines.append(line.fields)
+            self.frames += line.fields['kind'] in ('send', 'inject')
+        self.taken = body
+        return Played(self.groups, self.frames)
 
     def refusal(self, ran, entries, data):
         """Returns why tc refuses the schedule, at the line of the scenario that its line comes of."""
@@ -159,7 +266,7 @@ class Plan:
         number = int(words[1])
         if number <= len(entries):
             self.origin = entries[number - 1].origin
-        found = [it for it in diagnosis.find_mistakes('schedule', data) if it.line == number]
+        found = [it for it in diagnosis.find_mistakes('schedule', data, number, 1) if it.line == number]
         if not found:
             return self.stop(CAUSES['schedule'].get(words[2], words[2]))
         earlier = found[0].earlier and entries[found[0].earlier - 1].origin
@@ -186,8 +293,8 @@ class Plan:
 
     def fields(self):
         """Returns the fields of all lines so far, in order."""
-        groups = self.play().groups
-        return [it for event in sorted(groups) for it in groups[event]]
+        self.play()
+        return self.lines
 
     def state(self, name):
         """Returns the state of a router or device."""

@@ -1,13 +1,20 @@
 """What each line of a scenario becomes: the events of a schedule, whose frame numbers come of playing what is there
 so far."""
+import itertools
+
 from ..errors import WRONG_INPUT, Stop
 from ..formats import policy, schedules
 from ..formats.grammar import describe, read_lines
 from . import language
-from .plan import Plan, Refused
+from .plan import Hear, Plan, Refused
 
 # How many members a rollover can have.
 MOST_TOLD = 64
+
+
+def is_state_of(fields, name):
+    """Returns whether a line says what state a node has."""
+    return fields['kind'] == 'state' and fields['node'] == name
 
 
 class Steps:
@@ -52,12 +59,6 @@ class Steps:
 
     # ---- frames
 
-    def hear(self, *names):
-        """The last frame reaches these nodes, and none may refuse it."""
-        frame = self.plan.last_frame()
-        for name in names:
-            self.plan.do(f'deliver {frame} {name}')
-
     def deliver_last(self, values):
         """The last frame reaches these nodes, which may refuse it."""
         frame = self.plan.last_frame()
@@ -87,47 +88,62 @@ class Steps:
 
     def join(self, values):
         """The whole join."""
-        self.admit(values)
-        self.attach(values)
-        self.confirm(values)
+        if not self.join_at_once(values):
+            self.plan.do_all(self.admission(values) + self.attachment(values))
+            self.confirm(values)
+
+    def join_at_once(self, values):
+        """Adds the whole join if a device is `joined` once it has the network key, and returns whether it is so."""
+        name, mark = values['NAME'], self.plan.mark()
+        first = self.admission(values) + self.attachment(values)
+        try:
+            groups = self.plan.do_at_once([*first, *self.exchange(name), *self.exchange(name)])
+        except Refused:
+            groups = None
+        states = [it['state'] for group in (groups or [])[: len(first)] for it in group if is_state_of(it, name)]
+        if states[-1:] == ['joined']:
+            return True
+        self.plan.back_to(mark)
+        return False
 
     def admit(self, values):
         """The centre admits a device, unless it is a member, and the device knocks."""
+        self.plan.do_all(self.admission(values))
+
+    def admission(self, values):
+        """Returns the steps of `admit`."""
         name = values['NAME']
         if name not in self.plan.codes:
             self.plan.node(name)
             raise self.plan.stop(f"'{name}' has no install code: write 'code {name} auto' among the declarations")
-        if name not in self.plan.members():
-            self.plan.do(f'provision {name} {self.plan.codes[name]}')
-        self.plan.do(f'knock {name}')
+        is_member = name in self.plan.members()
+        return [*([] if is_member else [f'provision {name} {self.plan.codes[name]}']), f'knock {name}']
 
-    def attach(self, values, way='join'):
+    def attach(self, values):
         """A device comes to a parent, and gets the network key."""
+        self.plan.do_all(self.attachment(values))
+
+    def attachment(self, values, way='join'):
+        """Returns the steps of `attach`."""
         name, centre = values['NAME'], self.plan.centre()
         parent = values.get('PARENT', centre)
-        self.plan.do(f'child {parent} {name} {way}')
-        self.hear(*([name] if parent == centre else [centre]))
-        if parent != centre:
-            self.hear(parent)
-            self.hear(name)
+        hearers = [name] if parent == centre else [centre, parent, name]
+        return [f'child {parent} {name} {way}', *(Hear([it]) for it in hearers)]
 
     def confirm(self, values):
         """A device gets its link key, and verifies it."""
-        name, centre = values['NAME'], self.plan.centre()
-        if self.plan.state(name) == 'confirmed':
+        name, state = values['NAME'], self.plan.state(values['NAME'])
+        if state == 'confirmed':
             raise self.plan.stop(f"'{name}' is confirmed already")
-        if self.plan.state(name) == 'joined':
-            self.plan.do(f'timer {name}')
-            self.hear(centre)
-            self.hear(name)
-        self.plan.do(f'timer {name}')
-        self.hear(centre)
-        self.hear(name)
+        self.plan.do_all(self.exchange(name) * (2 if state == 'joined' else 1))
+
+    def exchange(self, name):
+        """Returns the steps by which a device asks the centre, and hears its answer."""
+        return [f'timer {name}', Hear([self.plan.centre()]), Hear([name])]
 
     def return_(self, values):
         """A device rejoins."""
-        self.plan.do(f'rejoin {values["NAME"]}')
-        self.attach(values, 'rejoin')
+        self.plan.do_all([f'rejoin {values["NAME"]}', *self.attachment(values, 'rejoin')])
         if self.plan.state(values['NAME']) != 'confirmed':
             self.confirm(values)
 
@@ -135,8 +151,7 @@ class Steps:
 
     def remove(self, values):
         """The centre removes a device, which hears it."""
-        self.plan.do(f'remove {values["NAME"]} via {self.plan.centre()}')
-        self.hear(values['NAME'])
+        self.plan.do_all([f'remove {values["NAME"]} via {self.plan.centre()}', Hear([values['NAME']])])
 
     def rollover(self, values):
         """A whole rollover of the network key."""
@@ -145,41 +160,62 @@ class Steps:
             self.plan.node(name)
         self.plan.do('roll')
         told = self.tell_members(asleep)
-        self.plan.do('switch')
-        self.hear(*(it for it in told if it not in asleep))
+        awake = [it for it in told if it not in asleep]
+        self.plan.do_all(['switch', *([Hear(awake)] if awake else [])])
 
     def tell_members(self, asleep):
         """The centre tells each member of the new key, and those that aren't asleep hear it. Returns whom it told,
         in order."""
-        names = {words[1].upper(): name for name, words in self.plan.nodes.items()}
+        timer, mark, told = f'timer {self.plan.centre()}', self.plan.mark(), self.next_told()
+        steps = [it for name in told for it in [timer, *([] if name in asleep else [Hear([name])])]]
+        try:
+            groups = self.plan.do_all(steps)
+        except Refused:
+            groups = []
+        if self.names_told(groups) == told:
+            return told
+        self.plan.back_to(mark)
+        return self.tell_one_by_one(asleep)
+
+    def next_told(self):
+        """Returns whom the centre would tell next, in order: its timer is tried, and taken back."""
+        mark = self.plan.mark()
+        for _ in self.plan.members()[:MOST_TOLD]:
+            self.plan.attempt(f'timer {self.plan.centre()}')
+        told = self.names_told(self.plan.groups_since(mark))
+        self.plan.back_to(mark)
+        return told
+
+    def tell_one_by_one(self, asleep):
+        """Tells the members as `tell_members` does, if hearing changes who is told next."""
         told = []
         for _ in range(MOST_TOLD):
+            mark = self.plan.mark()
             try:
-                group = self.plan.do(f'timer {self.plan.centre()}')
+                names = self.names_told([self.plan.do(f'timer {self.plan.centre()}')])
             except Refused as refused:
                 if refused.fields['reason'] != 'wrong-state':
                     raise
-                self.plan.take_back()
+                self.plan.back_to(mark)
                 break
-            name = next(names[it['device']] for it in group if it['kind'] == 'told')
-            told.append(name)
-            if name not in asleep:
-                self.hear(name)
+            told += names
+            self.plan.do_all([Hear([it]) for it in names if it not in asleep])
         return told
+
+    def names_told(self, groups):
+        """Returns the names of those whom the centre told in some events."""
+        names = {words[1].upper(): name for name, words in self.plan.nodes.items()}
+        return [names[it['device']] for group in groups for it in group if it['kind'] == 'told']
 
     def pair(self, values):
         """Two devices get a key of their own."""
-        name, partner = values['NAME'], values['PARTNER']
-        self.plan.do(f'ask {name} {partner}')
-        self.hear(self.plan.centre())
-        self.hear(name)
-        self.plan.do(f'share {partner} {name}')
-        self.hear(partner)
+        name, partner, centre = values['NAME'], values['PARTNER'], self.plan.centre()
+        self.plan.do_all([f'ask {name} {partner}', Hear([centre]), Hear([name])])
+        self.plan.do_all([f'share {partner} {name}', Hear([partner])])
 
     def restart(self, values):
         """A node loses its power and starts again."""
-        self.plan.do(f'reset {values["NAME"]}')
-        self.plan.do(f'boot {values["NAME"]}')
+        self.plan.do_all([f'reset {values["NAME"]}', f'boot {values["NAME"]}'])
 
 
 def take_line(plan, steps, line):
@@ -223,9 +259,10 @@ def text_lines(data):
         yield number, text.rstrip('\r'), said.get(number)
 
 
-def faults_of(data):
-    """Returns the mistakes of the lines of a scenario that have no form."""
-    return [fault for _, _, fault in map(language.GRAMMAR.read, read_lines(data)) if fault]
+def faults_of(data, most=100):
+    """Returns the first mistakes of the lines of a scenario that have no form."""
+    faults = (fault for _, _, fault in map(language.GRAMMAR.read, read_lines(data)) if fault)
+    return list(itertools.islice(faults, most))
 
 
 def check_words(name, data):

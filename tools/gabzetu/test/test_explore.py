@@ -45,6 +45,20 @@ const fill = (name, value) => {
   fill('key', 'A0A1A2A3A4A5A6A7A8A9AAABACADAEAF');
   fill('node', '1');
   await press('/');
+  const list = document.getElementById('rows');
+  for (const key of ['ArrowDown', 'Home', 'End']) {
+    list.focus();
+    list.dispatchEvent(new KeyboardEvent('keydown', { key, bubbles: true }));
+    await wait();
+    const row = document.getElementById(list.getAttribute('aria-activedescendant'));
+    notes.push(`${key} ${location.hash} ${row.getAttribute('role')} ${row.getAttribute('aria-selected')}`);
+  }
+  const tab = document.getElementById('tab-event');
+  tab.focus();
+  tab.dispatchEvent(new KeyboardEvent('keydown', { key: 'ArrowRight', bubbles: true }));
+  await wait();
+  const chosen = document.querySelector('[role=tab][aria-selected=true]');
+  notes.push(`tab ${chosen.id} ${document.activeElement.id} ${document.getElementById('panel').getAttribute('role')}`);
   document.documentElement.dataset.notes = JSON.stringify(notes);
 })();
 """
@@ -61,6 +75,10 @@ SHOWN = [
     'key A0A1A2A3A4A5A6A7A8A9AAABACADAEAF: 6 of 17 events',
     'node 1: 3 of 17 events',
     '/ #e3 word, address, digits (/)',
+    'ArrowDown #e4 option true',
+    'Home #e3 option true',
+    'End #e5 option true',
+    'tab tab-state tab-state tabpanel',
 ]
 
 
@@ -91,6 +109,9 @@ class Pages(Explored):
         with open(self.explore(example('join.transcript')), encoding='utf-8') as file:
             page = file.read()
         self.assertIn("default-src 'none'", page)
+        self.assertIn('<meta name="viewport"', page)
+        self.assertIn('role="listbox" tabindex="0"', page)
+        self.assertIn(':focus-visible', page)
         self.assertNotRegex(page, r'https?:|src=|@import|url\(')
 
     def test_wrong_schedules_are_refused(self):

@@ -111,6 +111,18 @@ class ManPage(unittest.TestCase):
         self.assertEqual(said.stderr, b'')
 
 
+class ManPages(Folder):
+    def test_each_command_has_one(self):
+        ran = run('man', '--folder', self.folder)
+        self.assertEqual((ran.status, ran.output, ran.said), (0, '', ''))
+        wanted = ['gabzetu.1', *(f'gabzetu-{it.replace("_", "-")}.1' for it in cli.command_names())]
+        self.assertEqual(sorted(os.listdir(self.folder)), sorted(wanted))
+        with open(self.path('gabzetu-campaigns.1'), encoding='utf-8') as file:
+            page = file.read()
+        self.assertIn('.SH OPTIONS', page)
+        self.assertRegex(page, r'\.nf\n  gabzetu campaigns runs COUNT START RESULTS .*\n')
+
+
 class Completions(Folder):
     def completions(self, shell):
         return self.write(f'completions.{shell}', run('completions', shell).output)
@@ -126,7 +138,7 @@ class Completions(Folder):
     def test_bash(self):
         self.assertEqual(self.complete_by_bash('pl'), ['play'])
         self.assertEqual(self.complete_by_bash('check', '--kind', 's'), ['schedule', 'script'])
-        self.assertEqual(self.complete_by_bash('play', '--'), ['--help', '--output', '--json'])
+        self.assertEqual(self.complete_by_bash('play', '--'), ['--help', '--output', '--json', '--debug'])
         self.assertEqual(self.complete_by_bash('completions', 'z'), ['zsh'])
         self.assertEqual(self.complete_by_bash('help', 'sched'), ['schedule'])
         self.assertEqual(self.complete_by_bash('play', example('join.s')), [example('join.sched')])

@@ -1,13 +1,51 @@
 """Tests of the files that keys come from."""
+import contextlib
 import json
+import os
+import sqlite3
 
+from gabzetu import TOP
 from gabzetu.errors import Stop
+from gabzetu.formats import keyfiles
 from gabzetu.formats.keyfiles import read_key_file
 from gabzetu.test.captures import data
 from gabzetu.test.support import Folder, example
 
 KEY, OTHER = '01030507090B0D0F00020406080A0C0D', '0D0C0A08060402000F0D0B0907050301'
 LIST = '1, 3, 5, 7, 9, 11, 13, 15, 0, 2, 4, 6, 8, 10, 12, 13'
+
+
+class OtherSources(Folder):
+    """Settings that name a key elsewhere, or have it within braces, and the database of zigpy."""
+
+    def test_secrets_of_zigbee2mqtt(self):
+        self.write('secret.yaml', 'user: me\nnetwork_key: [1, 2, 3, 4, 5, 6, 7, 8, 9, 10, 11, 12, 13, 14, 15, 16]\n')
+        for word in ("'!secret.yaml network_key'", '!secret network_key'):
+            path = self.write('configuration.yaml', f'advanced:\n  network_key: {word}\n')
+            self.assertEqual(list(keyfiles.read_key_file(path)), ['0102030405060708090A0B0C0D0E0F10'])
+        path = self.write('configuration.yaml', 'advanced:\n  network_key: !secret other\n')
+        self.assertRaises(Stop, keyfiles.read_key_file, path)
+
+    def test_settings_within_braces(self):
+        numbers = ', '.join(map(str, range(1, 17)))
+        path = self.write('configuration.yaml', f'advanced: {{channel: 11, network_key: [{numbers}]}}\n')
+        self.assertEqual(list(keyfiles.read_key_file(path)), ['0102030405060708090A0B0C0D0E0F10'])
+
+    def test_database_of_zigpy(self):
+        path = self.path('zigbee.db')
+        with open(os.path.join(TOP, 'tools', 'data', 'zha.json'), encoding='utf-8') as file:
+            backup = json.load(file)
+        backup = backup.get('backup', backup)
+        with contextlib.closing(sqlite3.connect(path)) as database:
+            database.execute('create table network_backups_v13 (id integer primary key, backup_json text)')
+            database.execute('insert into network_backups_v13 (backup_json) values (?)', (json.dumps(backup),))
+            database.commit()
+        wanted = keyfiles.read_key_file(os.path.join(TOP, 'tools', 'data', 'zha.json'))
+        self.assertEqual(keyfiles.read_key_file(path), wanted)
+        broken = self.path('broken.db')
+        with open(broken, 'wb') as file:
+            file.write(keyfiles.SQLITE + bytes(100))
+        self.assertRaises(Stop, keyfiles.read_key_file, broken)
 
 
 class KeyFiles(Folder):

@@ -187,7 +187,10 @@ class Open(Folder):
         line = next(it for it in lines if it.startswith('packet 13 '))
         self.assertEqual(
             line.split(),
-            'packet 13 pan 1A62 1A2B > 0000 nwk key 3, aps key 1 data data, cluster 0500, 5 bytes'.split(),
+            (
+                'packet 13 pan 1A62 1A2B > 0000 nwk key 3, aps key 1 data '
+                'data, cluster 0500 Intruder Alarm System Zone, command 00 of the cluster, 5 bytes'
+            ).split(),
         )
         self.assertIn(f'  key 4   {SECOND}  found in packet 28, which key 3 opened', lines)
         self.assertIn('30 packets, 23 frames: 16 opened, 0 opened in part, 7 closed, 0 not secured', lines)

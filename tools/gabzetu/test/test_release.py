@@ -39,7 +39,9 @@ INSTALLED = '''
 ./usr/share/doc/gabzetu/copyright
 ./usr/share/doc/gabzetu/gate.txt
 ./usr/share/doc/gabzetu/SHA256SUMS
+./usr/share/doc/gabzetu/changelog.gz
 ./usr/share/man/man1/gabzetu.1.gz
+./usr/share/man/man1/gabzetu-watch.1.gz
 ./usr/share/bash-completion/completions/gabzetu
 ./usr/share/zsh/vendor-completions/_gabzetu
 ./usr/share/fish/vendor_completions.d/gabzetu.fish
@@ -52,7 +54,7 @@ def git(folder, *words):
 
 def make_repository(folder):
     """Writes and commits what a release takes from a repository."""
-    for name in ('gabzetu', 'VERSION', 'README.md', 'tools/release', 'tools/hub-log'):
+    for name in ('gabzetu', 'VERSION', 'README.md', 'CHANGELOG.md', 'tools/release', 'tools/hub-log'):
         os.makedirs(os.path.dirname(os.path.join(folder, name)), exist_ok=True)
         shutil.copy(os.path.join(TOP, name), os.path.join(folder, name))
     for name in ('docs', 'examples', 'tools/gabzetu', 'tools/releasing', 'tools/hub'):
@@ -67,14 +69,26 @@ def make_repository(folder):
     git(folder, 'commit', '-q', '-m', 'all')
 
 
-def release(top, *words, program=STAND_IN, version=None):
+def gate_of(top, program):
+    """Returns the log of a gate over what is committed in a repository, and over programs."""
+    commit = subprocess.run(['git', 'rev-parse', 'HEAD'], cwd=top, stdout=subprocess.PIPE, encoding='ascii', check=True)
+    rows = [f'release: gate of commit {commit.stdout.strip()}']
+    for name, path in (('tc', program), ('tc_centre', STAND_IN)):
+        with open(path, 'rb') as file:
+            rows.append(f'release: sha256 of {name}: {hashlib.sha256(file.read()).hexdigest()}')
+    return '\n'.join([*rows, GATE])
+
+
+def release(top, *words, program=STAND_IN, version=None, gate=None):
     """Runs tools/release of a repository. Returns its status and what it said."""
+    log = os.path.join(os.path.dirname(top), 'gate.log')
+    with open(log, 'w', encoding='ascii') as file:
+        file.write(gate_of(top, program) if gate is None else gate)
     with open(os.path.join(top, 'VERSION'), encoding='ascii') as file:
         version = version or file.read().strip()
-    words = [version, '--gate', '-', '--kit', 'kit 1', '--program', program, '--centre', STAND_IN, '--no-root', *words]
+    words = [version, '--gate', log, '--kit', 'kit 1', '--program', program, '--centre', STAND_IN, '--no-root', *words]
     ran = subprocess.run(
         [os.path.join(top, 'tools', 'release'), *words],
-        input=GATE,
         stdout=subprocess.PIPE,
         stderr=subprocess.STDOUT,
         encoding='utf-8',
@@ -167,6 +181,29 @@ class Release(unittest.TestCase):
                 file.write(before)
         self.assertEqual(status, 65)
         self.assertIn('README.md was edited after the commit', said)
+
+    def test_refuses_a_log_of_something_else(self):
+        log = gate_of(self.top, STAND_IN)
+        for text, why in (
+            (GATE, 'this gate is of no commit'),
+            (log.replace('gate of commit ', 'gate of commit 0'), 'this gate is of 0'),
+            (log.replace('sha256 of tc: ', 'sha256 of tc: 0'), 'not of the program tc that is to be released'),
+        ):
+            status, said = release(self.top, gate=text)
+            self.assertEqual(status, 65)
+            self.assertIn(why, said)
+
+    @unittest.skipUnless(shutil.which('ssh-keygen'), 'ssh-keygen is missing')
+    def test_signs_the_sums(self):
+        key, out = os.path.join(self.holder.name, 'key'), os.path.join(self.holder.name, 'signed')
+        subprocess.run(['ssh-keygen', '-q', '-t', 'ed25519', '-N', '', '-f', key], check=True)
+        self.assertEqual(release(self.top, '-o', out, '--sign', key)[0], 0)
+        with open(f'{key}.pub', encoding='ascii') as file, open(f'{key}.allowed', 'w', encoding='ascii') as allowed:
+            allowed.write(f'gabzetu {file.read()}')
+        words = ['ssh-keygen', '-Y', 'verify', '-f', f'{key}.allowed', '-I', 'gabzetu', '-n', 'file']
+        with open(os.path.join(out, 'SHA256SUMS'), 'rb') as sums:
+            ran = subprocess.run([*words, '-s', os.path.join(out, 'SHA256SUMS.sig')], stdin=sums, check=False)
+        self.assertEqual(ran.returncode, 0)
 
     def test_refuses_another_version(self):
         status, said = release(self.top, version='77.0')

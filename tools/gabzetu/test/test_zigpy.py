@@ -119,6 +119,15 @@ class FromZigpy(Folder):
         self.assertIn('the backup has no date', ran.said)
         self.assertEqual(self.convert(value, '--skip', '-1').status, 64)
 
+    def test_addresses_that_nobody_has_are_unknown(self):
+        """zigpy writes FFFE for a device whose short address it does not know."""
+        for short in ('fffe', 'FFFF', '0xfffe'):
+            value = read(data('zigbee2mqtt.json'))
+            value['devices'][0]['nwk_address'] = short
+            ran = self.convert(value)
+            self.assertEqual(ran.status, 0, ran.said)
+            self.assertIn('no peer line for 1 device without a short address', ran.said)
+
     def test_what_the_store_refuses_is_refused(self):
         value = read(data('zigbee2mqtt.json'))
         value['devices'][1]['link_key'] = dict(value['devices'][0]['link_key'])
@@ -214,7 +223,9 @@ class ToZigpy(Folder):
                     '--skip',
                     '0',
                 )
-                self.assertEqual((ran.status, ran.said), (0, ''))
+                self.assertEqual(ran.status, 0)
+                self.assertIn('the update identifier of the network is not known: 0 is written', ran.said)
+                self.assertRegex(ran.said, 'not carried: [12] devices? of the script without a link key in the backup')
                 after = json.loads(ran.output)
                 for member in (
                     'coordinator_ieee',

@@ -30,7 +30,11 @@ function makeButton(text, act) {
 /** Returns a table with a row of heads. Cells are texts or elements. */
 function makeTable(heads, rows) {
   const table = make('table', '');
-  table.append(make('tr', '', ...heads.map((it) => make('th', '', it))));
+  table.append(make('tr', '', ...heads.map((it) => {
+    const head = make('th', '', it);
+    head.scope = 'col';
+    return head;
+  })));
   table.append(...rows);
   return table;
 }
@@ -119,17 +123,51 @@ class Tabs {
   constructor(fill, choose) {
     this.fill = fill;
     this.buttons = new Map(Object.keys(fill).map((name) => [name, makeButton(name, () => choose(name))]));
+    for (const [name, button] of this.buttons) {
+      button.id = `tab-${name.toLowerCase()}`;
+      button.setAttribute('role', 'tab');
+      button.setAttribute('aria-controls', 'panel');
+    }
     place('tabs').append(...this.buttons.values());
+    place('tabs').addEventListener('keydown', (event) => this.move(event));
     [this.name] = Object.keys(fill);
+  }
+
+  /** Goes to another tab by an arrow key, as lists of tabs do. */
+  move(event) {
+    const names = [...this.buttons.keys()];
+    const steps = { ArrowRight: 1, ArrowLeft: -1 };
+    if (!(event.key in steps)) return;
+    event.preventDefault();
+    event.stopPropagation();
+    const name = names[(names.indexOf(this.name) + steps[event.key] + names.length) % names.length];
+    this.buttons.get(name).click();
+    this.buttons.get(name).focus();
   }
 
   /** Fills the panel by the chosen tab, or by another one. */
   show(name) {
     this.name = name || this.name;
-    for (const [name, button] of this.buttons) button.classList.toggle('chosen', name === this.name);
+    for (const [name, button] of this.buttons) {
+      button.classList.toggle('chosen', name === this.name);
+      button.setAttribute('aria-selected', name === this.name);
+      button.tabIndex = name === this.name ? 0 : -1;
+    }
+    place('panel').setAttribute('aria-labelledby', `tab-${this.name.toLowerCase()}`);
     place('panel').replaceChildren(...this.fill[this.name]());
     place('panel').scrollTop = 0;
   }
+}
+
+/** Lets the arrows, Home, End and the page keys move among the rows while the list of rows has the focus. */
+function onRowKeys(step) {
+  const many = 1e9;
+  const steps = { ArrowDown: 1, ArrowUp: -1, PageDown: 10, PageUp: -10, Home: -many, End: many };
+  place('rows').addEventListener('keydown', (event) => {
+    if (!(event.key in steps) || event.ctrlKey || event.metaKey || event.altKey) return;
+    event.preventDefault();
+    step(steps[event.key]);
+  });
 }
 
 /** Calls an act for a key, unless the user is writing in a field. */

@@ -100,8 +100,10 @@ class Lanes {
     box.style.width = `${this.total}px`;
     const corner = make('div', 'corner', data.kind === 'run' ? 'event' : 'packet');
     box.replaceChildren(corner, ...this.heads.map((head, lane) => {
-      const element = make('div', 'head', make('b', '', head.name), make('span', '', head.more));
+      const element = make('button', 'head', make('b', '', head.name), make('span', '', head.more));
+      element.type = 'button';
       element.title = head.title;
+      element.setAttribute('aria-label', head.title);
       element.style.left = `${this.margin + lane * this.width}px`;
       element.style.width = `${this.width}px`;
       element.addEventListener('click', head.act);
@@ -112,6 +114,7 @@ class Lanes {
   makeLife(lane) {
     const life = make('div', 'life');
     life.style.left = `${this.middle(lane)}px`;
+    life.setAttribute('aria-hidden', true);
     return life;
   }
 
@@ -167,6 +170,12 @@ class Lanes {
     mark.title = `${row.note}\n${row.outcome}`;
     const element = make('div', 'row', mark);
     element.dataset.target = row.target;
+    element.id = `row-${row.target}`;
+    element.setAttribute('role', 'option');
+    element.setAttribute('aria-posinset', i + 1);
+    element.setAttribute('aria-setsize', this.count);
+    element.setAttribute('aria-selected', row.target === this.chosen);
+    element.setAttribute('aria-label', `${row.mark} ${row.note} ${row.outcome}`);
     element.style.top = `${this.tops[i]}px`;
     element.style.height = `${this.tops[i + 1] - this.tops[i]}px`;
     element.classList.toggle('chosen', row.target === this.chosen);
@@ -226,7 +235,11 @@ class Lanes {
   /** Marks the row of a target, and brings it into view, and of its lanes the first. */
   mark(target, i) {
     this.chosen = target;
-    for (const row of this.box.querySelectorAll('.row.chosen')) row.classList.remove('chosen');
+    for (const row of this.box.querySelectorAll('.row.chosen')) {
+      row.classList.remove('chosen');
+      row.setAttribute('aria-selected', false);
+    }
+    this.box.removeAttribute('aria-activedescendant');
     if (i < 0) return;
     const [top, bottom] = [this.tops[i], this.tops[i + 1]];
     const room = this.scroller.clientHeight - 40;
@@ -235,7 +248,10 @@ class Lanes {
     this.showLane(this.rowAt(i));
     this.drawSeen();
     const row = this.box.children[this.lives + i - this.first];
-    if (row) row.classList.add('chosen');
+    if (!row) return;
+    row.classList.add('chosen');
+    row.setAttribute('aria-selected', true);
+    this.box.setAttribute('aria-activedescendant', row.id);
   }
 
   showLane(row) {

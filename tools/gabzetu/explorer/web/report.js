@@ -123,7 +123,7 @@ function showPacket() {
   return [make('h2', '', 'How to read this page'),
     make('p', '', 'Lanes are short addresses, rows are packets. The colour of an arrow is that of the key that opened '
       + 'the packet; a grey one stayed closed.'),
-    make('p', '', 'j and k go to the next and the previous packet, / to the field for text. '
+    make('p', '', 'j and k, or the arrows in the list, go to the next and the previous packet, / to the field for text. '
       + '#p28 in the address is packet 28.'),
     ...(data.hasCapture ? [] : [make('p', 'quiet', 'The report alone shows no destinations and no packet numbers of '
       + 'the file. Make the page with --capture to see them.')])];
@@ -182,6 +182,7 @@ function makeFilters() {
   filter.text = addField('text', 'word, address, digits (/)', 20, draw);
   const count = make('span', 'quiet');
   count.id = 'count';
+  count.setAttribute('role', 'status');
   place('filters').append(count, makeButton('show all', clearFilters));
   return filter;
 }
@@ -227,5 +228,6 @@ fillBar();
 draw();
 readAddress();
 window.addEventListener('hashchange', readAddress);
+onRowKeys(step);
 onKeys({ j: () => step(1), k: () => step(-1), '/': () => filters.text.focus() });
 document.documentElement.dataset.drawn = `${shown.length} rows in ${Math.round(performance.now() - started)} ms`;

@@ -273,7 +273,7 @@ function makeHint() {
       make('li', 'tone-bad', 'red: a refusal'),
       make('li', 'tone-lost', 'grey and dashed: a frame that nobody got'),
       make('li', '', 'yellow boxes: changes of keys; blue boxes: boots')),
-    make('p', '', 'j and k go to the next and the previous row, / to the field for text. '
+    make('p', '', 'j and k, or the arrows in the list, go to the next and the previous row, / to the field for text. '
       + '#e12 in the address is event 12.'),
     ...(data.hasSchedule ? [] : [make('p', 'quiet', 'Without the schedule that was played, the page doesn\'t show of '
       + 'which frame a refusal at NWK is. '
@@ -371,6 +371,7 @@ function makeFilters() {
   filter.fold = addTick('fold equal refusals', true, () => { unfolded = new Set(); draw(); });
   place('filters').append(make('span', 'quiet'), makeButton('show all', clearFilters));
   place('filters').querySelector('span').id = 'count';
+  place('count').setAttribute('role', 'status');
   return filter;
 }
 
@@ -436,5 +437,6 @@ fillBar();
 draw();
 readAddress();
 window.addEventListener('hashchange', readAddress);
+onRowKeys(step);
 onKeys({ j: () => step(1), k: () => step(-1), '/': () => filters.text.focus() });
 document.documentElement.dataset.drawn = `${shown.length} rows in ${Math.round(performance.now() - started)} ms`;

@@ -1,0 +1,1 @@
+"""What a real network does wrong, as far as a capture shows it: `gabzetu watch`."""
