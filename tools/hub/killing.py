@@ -11,7 +11,7 @@ import subprocess
 import tempfile
 import threading
 import time
-from typing import IO
+from typing import IO, List
 
 SECONDS = 120
 # An answer that came out before it was stored would be missing after these.
@@ -72,7 +72,8 @@ def traced(words: list[str], given: bytes, last: int | None = None) -> tuple[Kil
     with tempfile.TemporaryFile() as source, tempfile.TemporaryFile() as sink:
         source.write(given)
         source.seek(0)
-        pid, sizes = started(words, source, sink), []
+        pid = started(words, source, sink)
+        sizes: List[int] = []
         status = os.waitpid(pid, 0)[1]
         if os.WIFSTOPPED(status) and trace(OPTIONS, pid, KILL_AT_EXIT):
             status = follow(pid, sink, sizes, last)

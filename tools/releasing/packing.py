@@ -124,9 +124,8 @@ def sign(path: str, key: Optional[str]) -> None:
     if key is None:
         return
     words = ['ssh-keygen', '-q', '-Y', 'sign', '-f', key, '-n', 'file', path]
-    pipes = {'stdin': subprocess.DEVNULL, 'stdout': subprocess.PIPE, 'stderr': subprocess.STDOUT}
     try:
-        ran = subprocess.run(words, check=False, **pipes)
+        ran = subprocess.run(words, check=False, stdin=subprocess.DEVNULL, stdout=subprocess.PIPE, stderr=subprocess.STDOUT)
     except FileNotFoundError as error:
         raise Stop('ssh-keygen is missing: apt-get install openssh-client', MISSING) from error
     if ran.returncode or not os.path.exists(f'{path}.sig'):

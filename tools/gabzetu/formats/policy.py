@@ -40,7 +40,7 @@ def tables_of(page: str, *head: str) -> List[List[Row]]:
 def events() -> Dict[Tuple[str, str], Row]:
     """Returns the rules of a node's own events: (event, of) -> (refused, in this order; otherwise)."""
     (rows,) = tables_of(read_page(), 'Event', 'Of')
-    return {row[:2]: row[2:4] for row in rows}
+    return {(row[0], row[1]): row[2:4] for row in rows}
 
 
 @functools.lru_cache(maxsize=None)
@@ -139,4 +139,5 @@ def sentence_of_refusal(refused: Optional[str], layer: str, reason: str, is_judg
     words = judging().get(layer, {})
     if is_judged and reason in words:
         return PLAIN.get((layer, reason), words[reason])
-    return (clause_of(refused, reason) if refused else None) or REASONS.get(reason, reason)
+    clause: Optional[str] = clause_of(refused, reason) if refused else None
+    return clause or str(REASONS.get(reason, reason))
