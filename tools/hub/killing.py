@@ -54,6 +54,23 @@ def run(program: str, store: str, lines: list[str], delay: float | None = None) 
     return Killed(out[0], process.returncode), time.monotonic() - began
 
 
+def run_until(program: str, store: str, lines: list[str], size: int) -> Killed:
+    """Runs a session that is given all its lines at once, and kills it when it has written so many bytes."""
+    with tempfile.TemporaryFile() as source, tempfile.TemporaryFile() as sink:
+        source.write(text_of(lines))
+        source.seek(0)
+        # this process comes first on a busy processor, or the session ends before its output is looked at
+        process = subprocess.Popen([program, store], stdin=source, stdout=sink, preexec_fn=lambda: os.nice(19))
+        end = time.monotonic() + SECONDS
+        # without a pause: an event takes some ten microseconds
+        while os.fstat(sink.fileno()).st_size < size and process.poll() is None and time.monotonic() < end:
+            pass
+        process.kill()
+        process.wait()
+        sink.seek(0)
+        return Killed(sink.read(), process.returncode)
+
+
 def trace(request: int, pid: int, more: int | None = None) -> bool:
     """Makes a call of ptrace, and returns whether it was carried out."""
     return LIBC.ptrace(request, pid, None, more) == 0
