@@ -277,7 +277,8 @@ module _ {D W : Type 0} (x : Outside D W) (input : Input) (old : D) (before : W)
     }
 
     -- a fault that none of the three gives, where none of them fails
-    ends_itself : (next : Input) (disk2 : D) (out2 : W) (f : LiveFault) → IsLiveFault x input old before next disk2 out2 f
+    ends_itself : (next : Input) (disk2 : D) (out2 : W) (f : LiveFault)
+        → IsLiveFault x input old before next disk2 out2 f
         → (Rose input.faults next.faults → ⊥) → (Rose (x.faults before) (x.faults out2) → ⊥)
         → (Rose (x.state old).faults (x.state disk2).faults → ⊥) → EndsItself (Err f)
     ends_itself next disk2 out2 Read h a b c = a h
@@ -522,7 +523,8 @@ module _ {D W : Type 0} (x : Outside D W) (input : Input) (old : D) (before : W)
           faults = serve_fault text disk2 out2 f fault;
           worn = λ e told can.
               worn_at text taken disk2 out2 is
-              (subst (IsServeFault x text session disk out disk2 out2) (same_err f Worn e) fault) (now.so_far told can);
+              (subst (IsServeFault x text session disk out disk2 out2) (same_err f Worn e) fault)
+              (now.so_far told can);
           told_worn = λ e.
               writes_worn text taken disk2 out2 is
               (subst (IsServeFault x text session disk out disk2 out2) (same_err f Worn e) fault);

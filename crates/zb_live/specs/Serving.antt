@@ -40,12 +40,12 @@ IsLiveFault x input old before rest new after NoMemory = Unrisen (x.state old).f
 -- The last of these lines had something to store: the policy's answer to it, in the session after the lines before it,
 -- has changes. All that those write was written.
 pub record IsWornAt {D W : Type 0} (x : Outside D W) (found : Found) (lines : List Bytes) (before after : W) : Type 0
-    where
-  pub front : List Bytes
-  pub line : Bytes
-  pub split : lines ≡ front ++ line ∷ []
-  pub changes : HasChanges (meaning_of line) (served found front fresh).after
-  pub written : Appends (x.taken before) (x.taken after) (served found front fresh).text
+  where
+    pub front : List Bytes
+    pub line : Bytes
+    pub split : lines ≡ front ++ line ∷ []
+    pub changes : HasChanges (meaning_of line) (served found front fresh).after
+    pub written : Appends (x.taken before) (x.taken after) (served found front fresh).text
 
 -- An end that no fault of the input, the output or the store gives.
 abbrev pub EndsItself : Ended → Type 0
@@ -89,8 +89,9 @@ pub record Lives {D W : Type 0} (x : Outside D W) (input : Input) (old : D) (bef
   pub worn : result ≡ Err Worn → IsTrue x.tells.content → CanBeServed (x.state old)
       → IsWornAt x (found_on (x.state old).seen) lines before after
   pub told_worn : result ≡ Err Worn → WritesWorn lines (x.taken before) (x.taken after)
-  -- A fault of the input, the output or the store is reported as nothing else: the count of faults is as it was at each
-  -- other end. So where none of the three fails, the session ends well, or as a line, the store or the memory gives it.
+  -- A fault of the input, the output or the store is reported as nothing else: the count of faults is as it was at
+  -- each other end. So if none of the three fails, the session ends well, or as a line, the store or the memory gives
+  -- it.
   pub unread : result ≢ Err Read → Unrisen input.faults rest.faults
   pub unwritten : result ≢ Err Write → Unrisen (x.faults before) (x.faults after)
   pub unrisen : result ≢ Err Disk → Unrisen (x.state old).faults (x.state new).faults

@@ -326,8 +326,8 @@ impl Session {
         ensures store { OnOk result (CanGoOn self.new) }
         ensures waits { OnOk result (self.new.centre ≡ None
             → (self.old.centre ≡ None) × IsStill (D.state disk.old) (D.state disk.new)) }
-        ensures faults { IfErr result (IsLineFault D.tells (Some (Happens (event_of event))) self.old (D.state disk.old)
-            (D.state disk.new)) }
+        ensures faults { IfErr result (IsLineFault D.tells (Some (Happens (event_of event))) self.old
+            (D.state disk.old) (D.state disk.new)) }
         ensures count { (D.state disk.old).faults ≤ (D.state disk.new).faults }
         ensures unrisen { result ≢ Err AdminFault.Disk
             → Unrisen (D.state disk.old).faults (D.state disk.new).faults }

@@ -49,7 +49,8 @@ returns-in_err-serve_line-in-Some g c =
     c.serve_line.new.output c.in_err-serve_line-in-Some.field-0.0
     (c.without_carriage_return.ensures ∙ ap strip_carriage_return c.as_slice.ensures.value) next
     c.in_err-serve_line-in-Some.ensures.served c.in_err-serve_line-in-Some.ensures.faults
-    c.in_err-serve_line-in-Some.ensures.unwritten c.in_err-serve_line-in-Some.ensures.unrisen c.in_err-serve_line-in-Some.ensures.told_front)
+    c.in_err-serve_line-in-Some.ensures.unwritten c.in_err-serve_line-in-Some.ensures.unrisen
+    c.in_err-serve_line-in-Some.ensures.told_front)
 
 pub returns-in_err-read_on-in-None : goal.returns-in_err-read_on-in-None
 returns-in_err-read_on-in-None g c =
@@ -116,7 +117,8 @@ loop-preserved-in-None g c =
     c.take_line.new.self.held.items rest c.loop.disk c.loop.output c.loop.invariant.0 next in (
       reads_on x input c.args.disk.now c.args.output.now c.loop.session c.take_line.new.self.held.items rest
           c.loop.disk c.loop.output held.0 c.read_on.new.self.held.items rest2 _
-          held.1 (c.in_ok-read_on-in-None.ensures.unrisen (λ is. cc is)) c.read_on.ensures.few c.in_ok-read_on-in-None.ensures.bytes,
+          held.1 (c.in_ok-read_on-in-None.ensures.unrisen (λ is. cc is)) c.read_on.ensures.few
+          c.in_ok-read_on-in-None.ensures.bytes,
       c.loop.invariant.1,
       c.loop.invariant.2,
     )
