@@ -7,7 +7,7 @@ use Rattle.zb_live.specs.Alive.{HasFollowed, living_of}
 use Rattle.zb_live.specs.Living.{Living, done, fresh}
 use Rattle.zb_live.specs.declared.session.Session.{Session}
 use Rattle.zb_live.proofs.MomentLemmas.{front_behind, front_of_all}
-use Rattle.zb_live.specs.Following.{Writes, WritesAll, WritesFront}
+use Rattle.zb_live.specs.Following.{Leads, Writes, WritesAll, WritesFront}
 use Rattle.zb_live.specs.ServedLines.{HasWritten, HasWrittenFront}
 use Rattle.zb_live.specs.Serving.{Ended}
 use Rattle.zb_model.specs.Data.{Bytes}
@@ -38,18 +38,39 @@ line_untold line session before = (None, (0, Appends-nil before))
 
 -- ---- lines, one after the other
 
--- What was written so far, and what further lines write, is what all of them write.
+-- What was written so far, and what further lines write, is what all of them write. The lines lead to this session.
 pub record IsTold (lines : List Bytes) (before out : Option Bytes) (v : Living) : Type 0 where
   pub text : Bytes
   pub written : Appends before out text
   pub leads : (rest : List Bytes) (more : Bytes) → Writes rest v more → Writes (lines ++ rest) fresh (text ++ more)
+  pub reached : Leads lines fresh text v
 
 pub told_none : (v : Living) (before : Option Bytes) → v ≡ fresh → IsTold [] before before v
 told_none v before is = record {
   text = [];
   written = Appends-nil before;
   leads = λ rest more writes. subst (λ (w : Living). Writes rest w more) is writes;
+  reached = (refl, is);
 }
+
+-- a line more leads one line further
+leads_more : (lines : List Bytes) (a v w : Living) (text line : Bytes) (found : Option NodeState)
+    → Leads lines a text v → w ≡ (done (Ok found) line v).after
+    → Leads (lines ++ line ∷ []) a (text ++ (done (Ok found) line v).text) w
+leads_more [] a v w text line found (none, same) is = (
+  found,
+  [],
+  ap (λ (l : Bytes). l ++ (done (Ok found) line v).text) none
+      ∙ ap (λ (b : Living). (done (Ok found) line b).text) same ∙ sym (append-nil (done (Ok found) line a).text),
+  (refl, is ∙ ap (λ (b : Living). (done (Ok found) line b).after) same),
+)
+leads_more (first ∷ lines) a v w text line found (g, more, cut, rest) is = (
+  g,
+  more ++ (done (Ok found) line v).text,
+  ap (λ (l : Bytes). l ++ (done (Ok found) line v).text) cut
+      ∙ append_assoc (done (Ok g) first a).text more (done (Ok found) line v).text,
+  leads_more lines (done (Ok g) first a).after v w more line found rest is,
+)
 
 module _ (lines : List Bytes) (before out : Option Bytes) (v : Living) (told : IsTold lines before out v) where
   pub told_all : WritesAll lines before out
@@ -83,6 +104,7 @@ module _ (lines : List Bytes) (before out : Option Bytes) (v : Living) (told : I
       text = told.text ++ said;
       written = Appends-trans before out after told.text said told.written written;
       leads = lead_more w is;
+      reached = leads_more lines fresh v w told.text line found told.reached is;
     }
 
     -- the session ends at it

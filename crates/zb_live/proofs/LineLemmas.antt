@@ -1,10 +1,11 @@
 -- The whole lines of a text, and what a feed takes of it.
-use Rattle.std.proofs.Common.{◌≡◌, ℕ, zero, suc, ◌<◌, ◌≤◌, ◌==◌, Bool, true, false, List, [], ◌∷◌, ◌++◌, length, get_or, take, drop, Some, None, refl, sym, ap, ◌∙◌, subst, arith, append_assoc, append-nil, position, cond, nat_lt, eqb-true}
+use Rattle.std.proofs.Common.{◌≡◌, ℕ, zero, suc, ◌-◌, ◌<◌, ◌≤◌, ◌==◌, Bool, true, false, List, [], ◌∷◌, ◌++◌, length, get_or, take, drop, Some, None, refl, sym, ap, ◌∙◌, subst, arith, append_assoc, append-nil, position, cond, nat_lt, eqb-true}
 use Rattle.std.proofs.lemmas.Bool.Decides.{nat_tests}
 use Rattle.std.proofs.lemmas.List.Quantifiers.{position-Some}
 use Rattle.std.proofs.lemmas.List.{length-take-le, take-append-drop}
 use Rattle.std.proofs.lemmas.List.Sums.{fails_before_first}
-use Rattle.std.specs.List.{position_or_len}
+use Rattle.std.specs.List.{AllByRecursion, position_or_len}
+use Rattle.std.specs.Prelude.{if◌then◌else◌, slice_index}
 use Rattle.std.specs.Str.Lines.{strip_carriage_return}
 use Rattle.zb_live.specs.Feeding.{BeginsLong, IsInLine}
 use Rattle.zb_live.specs.WholeLines.{longest_line, whole_from, whole_lines}
@@ -120,3 +121,21 @@ long_before held more l = record {
   in_line = l.in_line;
   long = l.long;
 }
+
+-- ---- how long lines are
+
+-- a line without its carriage return isn't longer
+pub stripped_short : (line : List ℕ) → length (strip_carriage_return line) ≤ length line
+stripped_short line = by (slice_index line (length line - 1) == 13)
+  where
+    by : (b : Bool) → length (if b then take (length line - 1) line else line) ≤ length line
+    by true = omega (arith, length-take-le (length line - 1) line (omega arith))
+    by false = omega arith
+
+abbrev pub AreShort : List (List ℕ) → Type 0
+AreShort lines = AllByRecursion (λ (line : List ℕ). length line ≤ longest_line) lines
+
+pub short_more : (lines : List (List ℕ)) (line : List ℕ) → AreShort lines → length line ≤ longest_line
+    → AreShort (lines ++ strip_carriage_return line ∷ [])
+short_more [] line all one = (omega (arith, one, stripped_short line), tt)
+short_more (first ∷ lines) line (short, all) one = (short, short_more lines line all one)

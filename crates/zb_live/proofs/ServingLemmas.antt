@@ -15,17 +15,18 @@ use Rattle.zb_disk.specs.View.{IsStill, LeavesOnly, View}
 use Rattle.zb_host.specs.Hosts.{Hosted}
 use Rattle.zb_live.proofs.SessionLemmas.{held}
 use Rattle.zb_live.specs.Alive.{HasTaken, CrashLeaves, LeavesEither, IsAlive, IsCentreOf, IsLineFault, living_of, tables_of}
-use Rattle.zb_live.specs.Living.{Done, Found, Living, counted, done, fresh, happened, next as next_number, on_meaning, on_open, on_stage, served, setting_of}
+use Rattle.zb_live.specs.Living.{Done, Found, HasChanges, Living, counted, done, fresh, happened, next as next_number, on_meaning, on_open, on_stage, served, setting_of}
 use Rattle.zb_live.specs.Events.{task_for}
 use Rattle.zb_live.specs.declared.session.Session.{Session}
-use Rattle.zb_live.proofs.LineLemmas.{lines_then, long_before, no_lines}
+use Rattle.zb_live.proofs.LineLemmas.{AreShort, lines_then, long_before, no_lines, short_more}
 use Rattle.zb_live.proofs.FollowLemmas.{IsTold, told_all, told_cut, told_front, told_more, told_none}
 use Rattle.zb_live.proofs.MomentLemmas.{SoFar, called, front_cut, front_of_all, nothing_cut, nothing_yet, one_more, read_more, told}
 use Rattle.zb_live.specs.Faults.{fault_of}
 use Rattle.zb_live.specs.Feeding.{IsInLine, IsTakeFault, IsNext, TakesFew}
 use Rattle.zb_live.specs.Moments.{AnsweredFirst, Goes, Input, Moment}
 use Rattle.zb_live.specs.ServedLines.{HasServedLine, HasWritten, HasWrittenFront, IsServeFault}
-use Rattle.zb_live.specs.Serving.{Ended, IsLiveFault, Lives}
+use Rattle.zb_live.specs.Following.{WritesWorn}
+use Rattle.zb_live.specs.Serving.{Ended, EndsItself, IsLiveFault, IsWornAt, Lives}
 use Rattle.zb_live.specs.WholeLines.{whole_lines}
 use Rattle.zb_live.specs.declared.fault.LiveFault.{LiveFault}
 use Rattle.zb_live.specs.declared.fault.LiveFault.TheVariants.{Read, TooLong, Write, Disk, NoStore, BadStore, Worn, NoMemory}
@@ -38,6 +39,14 @@ use Rattle.zb_stored_tables.specs.Cores.{CoreValue}
 
 rose_later : (a b n : ℕ) → a ≤ b → Rose b n → Rose a n
 rose_later a b n le rose = omega (arith, le, rose)
+
+-- ---- ends
+
+same_err : {T : Type 0} (f g : LiveFault) → ◌≡◌ {A = Result T LiveFault} (Err f) (Err g) → f ≡ g
+same_err f g e = cc
+
+err_is : (f g : LiveFault) → f ≡ g → ◌≡◌ {A = Ended} (Err f) (Err g)
+err_is f g e = ap (λ (h : LiveFault). Err h) e
 
 -- ---- what a crash leaves, by what was there at first
 
@@ -110,9 +119,10 @@ module _ {D W : Type 0} (x : Outside D W) (input : Input) (old : D) (before : W)
         (living_of session) old disk out rest
     pub wrote : IsTold lines (x.taken before) (x.taken out) (living_of session)
     pub waits : session.centre ≡ None → IsStill (x.state old) (x.state disk)
+    pub short : AreShort lines
+    pub unread : Unrisen input.faults rest.faults
+    pub unwritten : Unrisen (x.faults before) (x.faults out)
     pub unrisen : Unrisen (x.state old).faults (x.state disk).faults
-    pub later : x.faults before ≤ x.faults out
-    pub input_later : input.faults ≤ rest.faults
 
   pub begins : (session : Session) (hold : Bytes) → living_of session ≡ fresh → session.centre ≡ None → hold ≡ []
       → Loop session hold input old before
@@ -131,9 +141,10 @@ module _ {D W : Type 0} (x : Outside D W) (input : Input) (old : D) (before : W)
         (sym is) (nothing_yet x found (x.state old) input before old);
     wrote = told_none (living_of session) (x.taken before) is;
     waits = λ e. still_refl (x.state old);
+    short = tt;
+    unread = refl;
+    unwritten = refl;
     unrisen = refl;
-    later = omega arith;
-    input_later = omega arith;
   }
 
   -- no line came whole, and what is held is as it was
@@ -196,12 +207,12 @@ module _ {D W : Type 0} (x : Outside D W) (input : Input) (old : D) (before : W)
         read_more x found (x.state old) input before now.lines (living_of session) old disk out rest next s
         (answered_first next none few s)
 
-    pub reads_on : (hold2 : Bytes) (next : Input) (came : Bool) → IsInLine hold → rest.faults ≤ next.faults
+    pub reads_on : (hold2 : Bytes) (next : Input) (came : Bool) → IsInLine hold → Unrisen rest.faults next.faults
         → ((bytes : Bytes) → rest.rest ≡ Some bytes → TakesFew bytes next.rest)
         → ((bytes : Bytes) → rest.rest ≡ Some bytes → (left : Bytes) × (next.rest ≡ Some left)
         × (hold ++ bytes ≡ hold2 ++ left) × (came ≡ false → left ≡ []))
         → Loop session hold2 next disk out
-    reads_on hold2 next came none later few read = record {
+    reads_on hold2 next came none unread few read = record {
       lines = now.lines;
       come = λ bytes known.
           let h = now.come bytes known in
@@ -217,9 +228,10 @@ module _ {D W : Type 0} (x : Outside D W) (input : Input) (old : D) (before : W)
       so_far = read_so_far next none few;
       wrote = now.wrote;
       waits = now.waits;
+      short = now.short;
+      unread = unread ∙ now.unread;
+      unwritten = now.unwritten;
       unrisen = now.unrisen;
-      later = now.later;
-      input_later = omega (arith, now.input_later, later);
     }
 
     -- the lines that were taken are the first whole lines of the input
@@ -229,12 +241,12 @@ module _ {D W : Type 0} (x : Outside D W) (input : Input) (old : D) (before : W)
         now.come bytes known in (whole_lines (hold ++ h.left), ap whole_lines h.whole ∙ h.lines_are (hold ++ h.left))
 
     -- the input ended
-    pub ends : (hold2 : Bytes) (next : Input) (came : Bool) → IsInLine hold
+    pub ends : (hold2 : Bytes) (next : Input) (came : Bool) → IsInLine hold → Unrisen rest.faults next.faults
         → ((bytes : Bytes) → rest.rest ≡ Some bytes → TakesFew bytes next.rest)
         → ((bytes : Bytes) → rest.rest ≡ Some bytes → (left : Bytes) × (next.rest ≡ Some left)
         × (hold ++ bytes ≡ hold2 ++ left) × (came ≡ false → left ≡ []))
         → came ≡ false → hold2 ≡ hold → Lives x input old before (Ok tt) next disk out
-    ends hold2 next came none few read ended same = record {
+    ends hold2 next came none unread few read ended same = record {
       lines = now.lines;
       taken = taken_so_far;
       all = λ bytes known.
@@ -254,16 +266,38 @@ module _ {D W : Type 0} (x : Outside D W) (input : Input) (old : D) (before : W)
           (at_first (x.state old) (x.state disk) (living_of session).tables image closed
           (held found session (x.state disk) (now.alive told can) image there));
       moments = λ told can. let s = read_so_far next none few told can in (s.between, s.goes);
+      short = now.short;
       faults = tt;
+      worn = λ is told can. absurd (cc is);
+      told_worn = λ is. absurd (cc is);
+      unread = λ not. unread ∙ now.unread;
+      unwritten = λ not. now.unwritten;
       unrisen = λ not. now.unrisen;
+      complete = λ a b c. tt;
     }
+
+    -- a fault that none of the three gives, where none of them fails
+    ends_itself : (next : Input) (disk2 : D) (out2 : W) (f : LiveFault)
+        → IsLiveFault x input old before next disk2 out2 f
+        → (Rose input.faults next.faults → ⊥) → (Rose (x.faults before) (x.faults out2) → ⊥)
+        → (Rose (x.state old).faults (x.state disk2).faults → ⊥) → EndsItself (Err f)
+    ends_itself next disk2 out2 Read h a b c = a h
+    ends_itself next disk2 out2 TooLong h a b c = tt
+    ends_itself next disk2 out2 Write h a b c = b h
+    ends_itself next disk2 out2 Disk h a b c = c h
+    ends_itself next disk2 out2 NoStore h a b c = tt
+    ends_itself next disk2 out2 (BadStore at) h a b c = tt
+    ends_itself next disk2 out2 Worn h a b c = tt
+    ends_itself next disk2 out2 NoMemory h a b c = tt
 
     -- the session ended between two lines
     ends_between : (next : Input) (f : LiveFault)
         → (IsTrue x.tells.content → CanBeServed (x.state old) → SoFar x found (x.state old) input before now.lines
         (living_of session) old disk out next)
-        → IsLiveFault x input old before next disk out f → Lives x input old before (Err f) next disk out
-    ends_between next f so_far fault = record {
+        → IsLiveFault x input old before next disk out f → (f ≡ Worn → ⊥)
+        → ((◌≡◌ {A = Ended} (Err f) (Err Read) → ⊥) → Unrisen input.faults next.faults)
+        → Lives x input old before (Err f) next disk out
+    ends_between next f so_far fault sound unread = record {
       lines = now.lines;
       taken = taken_so_far;
       all = tt;
@@ -274,8 +308,14 @@ module _ {D W : Type 0} (x : Outside D W) (input : Input) (old : D) (before : W)
       told_front = told_front now.lines (x.taken before) (x.taken out) (living_of session) now.wrote;
       last = tt;
       moments = λ told can. let s = so_far told can in (s.between, s.goes);
+      short = now.short;
       faults = fault;
+      worn = λ is told can. absurd (sound (same_err f Worn is));
+      told_worn = λ is. absurd (sound (same_err f Worn is));
+      unread = unread;
+      unwritten = λ not. now.unwritten;
       unrisen = λ not. now.unrisen;
+      complete = ends_itself next disk out f fault;
     }
 
     -- the next line is too long, or there is no memory for it
@@ -291,24 +331,29 @@ module _ {D W : Type 0} (x : Outside D W) (input : Input) (old : D) (before : W)
     line_fault_is NoMemory h = now.unrisen
 
     pub ends_at_long : (f : LiveFault) → IsTakeFault hold f → Lives x input old before (Err f) rest disk out
-    ends_at_long f h = ends_between rest f now.so_far (line_fault_is f h)
+    ends_at_long f h = ends_between rest f now.so_far (line_fault_is f h) (λ is. subst (IsTakeFault hold) is h)
+        (λ not. now.unread)
 
     -- the input couldn't be read
     pub ends_unread : (next : Input) (f : LiveFault) → IsInLine hold
         → ((bytes : Bytes) → rest.rest ≡ Some bytes → TakesFew bytes next.rest)
-        → (f ≡ Read → Rose rest.faults next.faults) → (f ≡ Read) ⊎ (f ≡ NoMemory)
-        → Lives x input old before (Err f) next disk out
-    ends_unread next f none few rose (inl is) =
+        → (f ≡ Read → Rose rest.faults next.faults)
+        → ((◌≡◌ {A = Result Bool LiveFault} (Err f) (Err Read) → ⊥) → Unrisen rest.faults next.faults)
+        → (f ≡ Read) ⊎ (f ≡ NoMemory) → Lives x input old before (Err f) next disk out
+    ends_unread next f none few rose same (inl is) =
         ends_between next f (read_so_far next none few)
         (subst (IsLiveFault x input old before next disk out) (sym is)
-        (rose_later input.faults rest.faults next.faults now.input_later (rose is)))
-    ends_unread next f none few rose (inr is) =
+        (rose_later input.faults rest.faults next.faults (omega (arith, now.unread)) (rose is)))
+        (λ worn. let no : Read ≡ Worn = sym is ∙ worn in cc no) (λ not. absurd (not (err_is f Read is)))
+    ends_unread next f none few rose same (inr is) =
         ends_between next f (read_so_far next none few)
         (subst (IsLiveFault x input old before next disk out) (sym is) now.unrisen)
+        (λ worn. let no : NoMemory ≡ Worn = sym is ∙ worn in cc no)
+        (λ not. same (λ e. let no : NoMemory ≡ Read = sym is ∙ same_err f Read e in cc no) ∙ now.unread)
 
     -- there are no more lines than the loop takes
     pub ends_over : Lives x input old before (Err NoMemory) rest disk out
-    ends_over = ends_between rest NoMemory now.so_far now.unrisen
+    ends_over = ends_between rest NoMemory now.so_far now.unrisen (λ worn. cc worn) (λ not. now.unread)
 
     -- ---- a line
 
@@ -349,9 +394,9 @@ module _ {D W : Type 0} (x : Outside D W) (input : Input) (old : D) (before : W)
         → (IsTrue x.tells.content → (f : Found) → IsAlive f session (x.state disk)
         → HasServedLine x f session (done f text (living_of session)) disk out (Ok tt) session2 disk2 out2)
         → (session2.centre ≡ None → (session.centre ≡ None) × IsStill (x.state disk) (x.state disk2))
-        → Unrisen (x.state disk).faults (x.state disk2).faults → x.faults out ≤ x.faults out2
+        → Unrisen (x.state disk).faults (x.state disk2).faults → Unrisen (x.faults out) (x.faults out2)
         → HasWritten text session (x.taken out) session2 (x.taken out2) → Loop session2 hold2 rest disk2 out2
-    goes_on hold2 line text session2 disk2 out2 is next served_it waits unrisen later writes =
+    goes_on hold2 line text session2 disk2 out2 is next served_it waits unrisen unwritten writes =
         let taken = strip_carriage_return line.items in
         let each : (told : IsTrue x.tells.content) (can : CanBeServed (x.state old))
         → HasServedLine x found session (done found taken (living_of session)) disk out (Ok tt) session2 disk2
@@ -382,27 +427,59 @@ module _ {D W : Type 0} (x : Outside D W) (input : Input) (old : D) (before : W)
               told_more now.lines (x.taken before) (x.taken out) (living_of session) now.wrote taken w.0
               (x.taken out2) (living_of session2) w.2 w.1;
           waits = λ e. let w = waits e in still_trans (x.state old) (x.state disk) (x.state disk2) (now.waits w.0) w.1;
+          short = short_more now.lines line.items now.short next.2;
+          unread = now.unread;
+          unwritten = unwritten ∙ now.unwritten;
           unrisen = unrisen ∙ now.unrisen;
-          later = omega (arith, now.later, later);
-          input_later = now.input_later;
         }
 
     -- the session ended at the line
-    serve_fault : (disk2 : D) (out2 : W) (f : LiveFault) → IsServeFault x session disk out disk2 out2 f
-        → IsLiveFault x input old before rest disk2 out2 f
-    serve_fault disk2 out2 Read h = absurd h
-    serve_fault disk2 out2 TooLong h = absurd h
-    serve_fault disk2 out2 Write h = rose_later (x.faults before) (x.faults out) (x.faults out2) now.later h
-    serve_fault disk2 out2 Disk h = rose_later (x.state old).faults (x.state disk).faults (x.state disk2).faults
-        (omega (arith, now.unrisen)) h
-    serve_fault disk2 out2 NoStore h = λ told. ap found_on (sym (now.waits h.0).same.seen) ∙ h.1 told
-    serve_fault disk2 out2 (BadStore at) h = λ told. ap found_on (sym (now.waits h.0).same.seen) ∙ h.1 told
-    serve_fault disk2 out2 Worn h = λ told can.
-        let up : IsUp (setting_of session.network) h.0.core.tables h.0 (x.state disk) =
-        subst (λ (o : Option (Hosted CoreValue)). IsCentreOf found session.network o (x.state disk)) h.1
+    serve_fault : (text : Bytes) (disk2 : D) (out2 : W) (f : LiveFault)
+        → IsServeFault x text session disk out disk2 out2 f → IsLiveFault x input old before rest disk2 out2 f
+    serve_fault text disk2 out2 Read h = absurd h
+    serve_fault text disk2 out2 TooLong h = absurd h
+    serve_fault text disk2 out2 Write h = rose_later (x.faults before) (x.faults out) (x.faults out2)
+        (omega (arith, now.unwritten)) h
+    serve_fault text disk2 out2 Disk h = rose_later (x.state old).faults (x.state disk).faults (x.state disk2).faults
+        (omega (arith, now.unrisen)) h.1
+    serve_fault text disk2 out2 NoStore h = λ told. ap found_on (sym (now.waits h.1.0).same.seen) ∙ h.1.1 told
+    serve_fault text disk2 out2 (BadStore at) h = λ told. ap found_on (sym (now.waits h.1.0).same.seen) ∙ h.1.1 told
+    serve_fault text disk2 out2 Worn h = λ told can.
+        let w = h.1 in
+        let up : IsUp (setting_of session.network) w.0.core.tables w.0 (x.state disk) =
+        subst (λ (o : Option (Hosted CoreValue)). IsCentreOf found session.network o (x.state disk)) w.1
         (now.alive told can) in
-        h.2 told (setting_of session.network) h.0.core.tables up
-    serve_fault disk2 out2 NoMemory h = h ∙ now.unrisen
+        w.2 told (setting_of session.network) w.0.core.tables up
+    serve_fault text disk2 out2 NoMemory h = h.1 ∙ now.unrisen
+
+    -- it had something to store
+    worn_at : (text taken : Bytes) (disk2 : D) (out2 : W) → text ≡ taken
+        → IsServeFault x text session disk out disk2 out2 Worn
+        → SoFar x found (x.state old) input before now.lines (living_of session) old disk out rest
+        → IsWornAt x found (now.lines ++ taken ∷ []) before out2
+    worn_at text taken disk2 out2 is h s = record {
+      front = now.lines;
+      line = taken;
+      split = refl;
+      changes = subst (λ (v : Living). HasChanges (meaning_of taken) v) s.session
+          (subst (λ (l : Bytes). HasChanges (meaning_of l) (living_of session)) is h.1.3);
+      written = subst (λ (w : W). Appends (x.taken before) (x.taken w) (served found now.lines fresh).text) (sym h.0)
+          s.written;
+    }
+
+    writes_worn : (text taken : Bytes) (disk2 : D) (out2 : W) → text ≡ taken
+        → IsServeFault x text session disk out disk2 out2 Worn
+        → WritesWorn (now.lines ++ taken ∷ []) (x.taken before) (x.taken out2)
+    writes_worn text taken disk2 out2 is h = record {
+      front = now.lines;
+      line = taken;
+      split = refl;
+      text = now.wrote.text;
+      reached = living_of session;
+      leads = now.wrote.reached;
+      changes = subst (λ (l : Bytes). HasChanges (meaning_of l) (living_of session)) is h.1.3;
+      written = subst (λ (w : W). Appends (x.taken before) (x.taken w) now.wrote.text) (sym h.0) now.wrote.written;
+    }
 
     -- how a session ends at a line
     abbrev Cut : Bytes → D → W → Type 0
@@ -417,10 +494,11 @@ module _ {D W : Type 0} (x : Outside D W) (input : Input) (old : D) (before : W)
         (f : LiveFault) → text ≡ strip_carriage_return line.items → IsNext hold (Some line) hold2
         → (IsTrue x.tells.content → (g : Found) → IsAlive g session (x.state disk)
         → HasServedLine x g session (done g text (living_of session)) disk out (Err f) session2 disk2 out2)
-        → IsServeFault x session disk out disk2 out2 f
+        → IsServeFault x text session disk out disk2 out2 f
+        → ((◌≡◌ {A = Ended} (Err f) (Err Write) → ⊥) → Unrisen (x.faults out) (x.faults out2))
         → ((◌≡◌ {A = Ended} (Err f) (Err Disk) → ⊥) → Unrisen (x.state disk).faults (x.state disk2).faults)
         → HasWrittenFront text session (x.taken out) (x.taken out2) → Lives x input old before (Err f) rest disk2 out2
-    ends_at hold2 line text session2 disk2 out2 f is next served_it fault stands writes =
+    ends_at hold2 line text session2 disk2 out2 f is next served_it fault unwritten stands writes =
         let taken = strip_carriage_return line.items in
         let each : (told : IsTrue x.tells.content) (can : CanBeServed (x.state old))
         → HasServedLine x found session (done found taken (living_of session)) disk out (Err f) session2 disk2
@@ -441,8 +519,19 @@ module _ {D W : Type 0} (x : Outside D W) (input : Input) (old : D) (before : W)
               w.1;
           last = tt;
           moments = λ told can. way_at taken disk2 out2 f session2 (now.so_far told can) (each told can);
-          faults = serve_fault disk2 out2 f fault;
+          short = short_more now.lines line.items now.short next.2;
+          faults = serve_fault text disk2 out2 f fault;
+          worn = λ e told can.
+              worn_at text taken disk2 out2 is
+              (subst (IsServeFault x text session disk out disk2 out2) (same_err f Worn e) fault)
+              (now.so_far told can);
+          told_worn = λ e.
+              writes_worn text taken disk2 out2 is
+              (subst (IsServeFault x text session disk out disk2 out2) (same_err f Worn e) fault);
+          unread = λ not. now.unread;
+          unwritten = λ not. unwritten not ∙ now.unwritten;
           unrisen = λ not. stands not ∙ now.unrisen;
+          complete = ends_itself rest disk2 out2 f (serve_fault text disk2 out2 f fault);
         }
       where
         front_at : (taken : Bytes) (disk2 : D) (out2 : W) (f : LiveFault) (session2 : Session)
@@ -542,21 +631,21 @@ module _ {D W : Type 0} (x : Outside D W) (f : Found) (session next : Session) (
       (x.state new) text → HasServedLine x f session d old out (Err g) next new out
   line_cut fault g h = record { alive = tt; after_it = tt; between = h.between; lines = tt; cut = inl refl }
 
-pub line_fault : {D W : Type 0} (x : Outside D W) (session : Session) (old new : D) (out sink : W)
+pub line_fault : {D W : Type 0} (x : Outside D W) (line : Bytes) (session : Session) (old new : D) (out : W)
     (fault : AdminFault) (g : LiveFault) → g ≡ fault_of fault
-    → IsLineFault x.tells session (x.state old) (x.state new) fault
-    → IsServeFault x session old out new sink g
-line_fault x session old new out sink fault g is h = subst (IsServeFault x session old out new sink) (sym is)
+    → IsLineFault x.tells (meaning_of line) session (x.state old) (x.state new) fault
+    → IsServeFault x line session old out new out g
+line_fault x line session old new out fault g is h = subst (IsServeFault x line session old out new out) (sym is)
     (by fault h)
   where
-    by : (k : AdminFault) → IsLineFault x.tells session (x.state old) (x.state new) k
-        → IsServeFault x session old out new sink (fault_of k)
-    by store.Disk h = h
-    by store.NoStore h = h
-    by (store.BadStore at) h = h
-    by store.Worn h = h
+    by : (k : AdminFault) → IsLineFault x.tells (meaning_of line) session (x.state old) (x.state new) k
+        → IsServeFault x line session old out new out (fault_of k)
+    by store.Disk h = (refl, h)
+    by store.NoStore h = (refl, h)
+    by (store.BadStore at) h = (refl, h)
+    by store.Worn h = (refl, h)
     by store.Write h = absurd h
-    by store.NoMemory h = h
+    by store.NoMemory h = (refl, h)
 
 -- a fault of a line, as it is told
 pub line_stands : (fault : AdminFault) (g : LiveFault) (old new : ℕ) → g ≡ fault_of fault
@@ -570,11 +659,18 @@ line_stands fault g old new is stands not = stands (λ e. not (told_as (same e))
     told_as : fault ≡ store.Disk → ◌≡◌ {A = Ended} (Err g) (Err Disk)
     told_as e = ap (λ (x : LiveFault). Err x) (is ∙ ap fault_of e)
 
-pub write_fault : {D W : Type 0} (x : Outside D W) (session : Session) (old new : D) (out sink : W)
+pub write_fault : {D W : Type 0} (x : Outside D W) (line : Bytes) (session : Session) (old new : D) (out sink : W)
     (r : Result (Unit {0}) LiveFault) → IfErr r (λ f. (f ≡ Write) × Rose (x.faults out) (x.faults sink))
-    → IfErr r (IsServeFault x session old out new sink)
-write_fault x session old new out sink (Ok tt) h = tt
-write_fault x session old new out sink (Err f) h = subst (IsServeFault x session old out new sink) (sym h.0) h.1
+    → IfErr r (IsServeFault x line session old out new sink)
+write_fault x line session old new out sink (Ok tt) h = tt
+write_fault x line session old new out sink (Err f) h = subst (IsServeFault x line session old out new sink) (sym h.0)
+    h.1
+
+-- what a line writes is written, but at this fault
+pub written_but : (r : Ended) (before after : ℕ) → OnOk r (Unrisen before after)
+    → IfErr r (λ f. (f ≡ Write) × Rose before after) → (r ≡ Err Write → ⊥) → Unrisen before after
+written_but (Ok tt) before after same h not = same
+written_but (Err f) before after same h not = absurd (not (err_is f Write h.0))
 
 pub always : {T E P : Type 0} (r : Result T E) → P → OnOk r P
 always (Ok x) p = p

@@ -1,6 +1,6 @@
 -- A session before and after a line.
 use Rattle.std.proofs.Common.{◌≡◌, ℕ, inl, inr, ◌++◌, Bool, true, false, List, [], ◌∷◌, Option, Some, None, Result, Ok, Err, IfErr, IfOk, OnOk, OnErr, IsTrue, append_assoc, append-nil, refl, sym, ap, ◌∙◌, subst, map, length, get_or, arith}
-use Rattle.std.specs.Prelude.{◌==◌, bytes_eq, if◌then◌else◌, nat_eq, not, is_some, slice_get}
+use Rattle.std.specs.Prelude.{◌==◌, ◌≢◌, bytes_eq, if◌then◌else◌, nat_eq, not, is_some, slice_get}
 use Rattle.std.proofs.lemmas.Bool.{false≢true}
 use Rattle.std.proofs.lemmas.Bool.Decides.{nat_tests}
 use Rattle.std.proofs.lemmas.Slice.Eq.{bytes_eq-Decides}
@@ -23,7 +23,7 @@ use Rattle.zb_host.specs.Hosts.{Hosted}
 use Rattle.zb_live.specs.Alive.{CanServe, HasFollowed, HasSaid, HasTaken, CrashLeaves, LeavesEither, IsAlive, IsCentreOf, IsDeclared, IsLineFault, IsWaiting, answer_text, done_by, living_of, tables_of}
 use Rattle.zb_live.specs.Happening.{HasAnswered, HasHappened, IsHappeningFault}
 use Rattle.zb_live.specs.Events.{task_for}
-use Rattle.zb_live.specs.Living.{Done, Found, Living, after_event, counted, declared, done, first_station, happened, next as next_number, on_meaning, on_stage, opened, refused, says_nothing, setting_of, station}
+use Rattle.zb_live.specs.Living.{Done, Found, HasChanges, Living, after_event, counted, declared, done, first_station, happened, next as next_number, on_meaning, on_stage, opened, refused, says_nothing, setting_of, station}
 use Rattle.zb_live.specs.Shown.{Prints, event_lines, shown_text}
 use Rattle.zb_live.specs.declared.session.Session.{Session}
 use Rattle.zb_live.specs.Answers.{ok_text, refused_text}
@@ -168,10 +168,10 @@ said number sentence found old next v front text (Ok done) is alive only_now =
 said number sentence found old next v front text (Err f) is alive only_now = said_short number sentence found old next
     v front text f alive only_now
 
-pub short_fault : (tells : Telling) (session : Session) (old : View) (r : Result (Unit {0}) AdminFault) → IsShort r
-    → IfErr r (IsLineFault tells session old old)
-short_fault tells session old (Ok done) short = tt
-short_fault tells session old (Err f) short = subst (IsLineFault tells session old old) (sym short) refl
+pub short_fault : (tells : Telling) (says : Option Sentence) (session : Session) (old : View)
+    (r : Result (Unit {0}) AdminFault) → IsShort r → IfErr r (IsLineFault tells says session old old)
+short_fault tells says session old (Ok done) short = tt
+short_fault tells says session old (Err f) short = subst (IsLineFault tells says session old old) (sym short) refl
 
 -- ---- the network
 
@@ -351,15 +351,39 @@ pub told_short : (tells : Telling) (old new : View) (host : Hosted CoreValue) (r
 told_short tells old new host (Ok sends) short same = tt
 told_short tells old new host (Err f) short same = subst (IsHappeningFault tells old new host) (sym short) same
 
-pub happening_fault : (tells : Telling) (session : Session) (old new : View) (host : Hosted CoreValue)
-    (f : AdminFault) → session.centre ≡ Some host → IsHappeningFault tells old new host f
-    → IsLineFault tells session old new f
-happening_fault tells session old new host Disk is h = h no_setting
-happening_fault tells session old new host NoStore is h = absurd (h no_setting)
-happening_fault tells session old new host (BadStore at) is h = absurd (h no_setting)
-happening_fault tells session old new host Worn is h = (host, is, λ told c s up. h c told s up)
-happening_fault tells session old new host Write is h = absurd (h no_setting)
-happening_fault tells session old new host NoMemory is h = h
+pub happening_fault : (tells : Telling) (says : Option Sentence) (session : Session) (old new : View)
+    (host : Hosted CoreValue) (f : AdminFault) → session.centre ≡ Some host → IsHappeningFault tells old new host f
+    → (f ≡ Worn → HasChanges says (living_of session)) → IsLineFault tells says session old new f
+happening_fault tells says session old new host Disk is h stores = h no_setting
+happening_fault tells says session old new host NoStore is h stores = absurd (h no_setting)
+happening_fault tells says session old new host (BadStore at) is h stores = absurd (h no_setting)
+happening_fault tells says session old new host Worn is h stores =
+    (host, is, λ told c s up. h c told s up, stores refl)
+happening_fault tells says session old new host Write is h stores = absurd (h no_setting)
+happening_fault tells says session old new host NoMemory is h stores = h
+
+-- an event at which the store is worn has something to store
+pub event_stores : (session : Session) (event : Event) (task : Task) (host : Hosted CoreValue) (f : AdminFault)
+    → session.centre ≡ Some host → task_for session.network.stations event ≡ Ok task
+    → host.core.setting ≡ setting_of session.network
+    → (f ≡ Worn → (c : Setting) (s : NodeState) → host.core ≡ record { setting = c; tables = s }
+    → (answer real c s task).edits ≢ [])
+    → f ≡ Worn → HasChanges (Some (Happens event)) (living_of session)
+event_stores session event task host f up is_task set stores is = record {
+  event = event;
+  is_event = refl;
+  found = host.core.tables;
+  is_open = ap tables_of up;
+  task = task;
+  is_task = is_task;
+  changes = stores is (setting_of session.network) host.core.tables
+      (ap (λ (x : Setting). let core : CoreValue = record { setting = x; tables = host.core.tables } in core) set);
+}
+
+-- where memory is short the store isn't worn
+pub short_unworn : {T : Type 0} (P : Type 0) (r : Result T AdminFault) → IsShort r → IfErr r (λ f. f ≡ Worn → P)
+short_unworn P (Ok x) short = tt
+short_unworn P (Err f) short = λ is. let no : NoMemory ≡ Worn = sym short ∙ is in absurd (cc no)
 
 module _ (number : ℕ) (found : Found) (old : Session) (event : Event) (task : Task) (host host2 : Hosted CoreValue)
     (is_up : old.centre ≡ Some host) (stands_for : task_for old.network.stations event ≡ Ok task)
@@ -681,19 +705,37 @@ line_is found line old n sentence count value =
     ap (λ (m : Option Sentence). on_meaning (next_number old.lines) found m (counted (living_of old))) value
     ∙ ap (λ k. on_meaning k found (Some sentence) (record (living_of old) { lines = k })) (sym count)
 
-pub counted_fault : (tells : Telling) (n : ℕ) (session : Session) (old new : View) (f : AdminFault)
-    → IsLineFault tells (record session { lines = n }) old new f → IsLineFault tells session old new f
-counted_fault tells n session old new Disk h = h
-counted_fault tells n session old new NoStore h = h
-counted_fault tells n session old new (BadStore at) h = h
-counted_fault tells n session old new Worn h = h
-counted_fault tells n session old new Write h = h
-counted_fault tells n session old new NoMemory h = h
+-- what a line has to store doesn't depend on how many came
+counted_changes : (n : ℕ) (says : Option Sentence) (session : Session)
+    → HasChanges says (living_of (record session { lines = n })) → HasChanges says (living_of session)
+counted_changes n says session h = record {
+  event = h.event;
+  is_event = h.is_event;
+  found = h.found;
+  is_open = h.is_open;
+  task = h.task;
+  is_task = h.is_task;
+  changes = h.changes;
+}
 
-pub counted_faults : (tells : Telling) (n : ℕ) (session : Session) (old new : View) (r : Result (Unit {0}) AdminFault)
-    → IfErr r (IsLineFault tells (record session { lines = n }) old new) → IfErr r (IsLineFault tells session old new)
-counted_faults tells n session old new (Ok done) h = tt
-counted_faults tells n session old new (Err f) h = counted_fault tells n session old new f h
+pub counted_fault : (tells : Telling) (n : ℕ) (says : Option Sentence) (session : Session) (old new : View)
+    (f : AdminFault) → IsLineFault tells says (record session { lines = n }) old new f
+    → IsLineFault tells says session old new f
+counted_fault tells n says session old new Disk h = h
+counted_fault tells n says session old new NoStore h = h
+counted_fault tells n says session old new (BadStore at) h = h
+counted_fault tells n says session old new Worn h = (h.0, h.1, h.2, counted_changes n says session h.3)
+counted_fault tells n says session old new Write h = h
+counted_fault tells n says session old new NoMemory h = h
+
+pub counted_faults : (tells : Telling) (n : ℕ) (says : Option Sentence) (sentence : Sentence) (session : Session)
+    (old new : View) (r : Result (Unit {0}) AdminFault) → says ≡ Some sentence
+    → IfErr r (IsLineFault tells (Some sentence) (record session { lines = n }) old new)
+    → IfErr r (IsLineFault tells says session old new)
+counted_faults tells n says sentence session old new (Ok done) is h = tt
+counted_faults tells n says sentence session old new (Err f) is h =
+    subst (λ (m : Option Sentence). IsLineFault tells m session old new f) (sym is)
+    (counted_fault tells n (Some sentence) session old new f h)
 
 unread_is : (found : Found) (line : List ℕ) (old : Session) (n : ℕ) → n ≡ next_number old.lines → meaning_of line
     ≡ None → done found line (living_of old) ≡ refused n cause.Syntax (living_of (record old { lines = n }))

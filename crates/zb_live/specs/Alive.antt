@@ -9,7 +9,7 @@ use Rattle.zb_centre_store.specs.declared.fault.AdminFault.{AdminFault}
 use Rattle.zb_centre_store.specs.declared.fault.AdminFault.TheVariants.{Disk, NoStore, BadStore, Worn, Write, NoMemory}
 use Rattle.zb_disk.specs.View.{Telling, View, LeavesOnly}
 use Rattle.zb_host.specs.Hosts.{Hosted}
-use Rattle.zb_live.specs.Living.{Done, Found, Living, cause_of, on_stage, setting_of}
+use Rattle.zb_live.specs.Living.{Done, Found, HasChanges, Living, cause_of, on_stage, setting_of}
 use Rattle.zb_live.specs.declared.session.Session.{Session}
 use Rattle.zb_live.specs.Answers.{ok_text, refused_text}
 use Rattle.zb_live.specs.Said.{Sentence}
@@ -108,15 +108,16 @@ CanServe network (Some host) = (is_some host.store ≡ true) × (has_centre netw
 abbrev pub CanGoOn : Session → Type 0
 CanGoOn session = CanServe session.network session.centre
 
--- When each fault of a line comes. Those of a store that is no centre's come only before the session is open.
-abbrev pub IsLineFault : Telling → Session → View → View → AdminFault → Type 0
-IsLineFault tells session old new Disk = Rose old.faults new.faults
-IsLineFault tells session old new NoStore = (session.centre ≡ None)
+-- When each fault of a line comes that says this. Those of a store that is no centre's come only before the session is
+-- open, and the store is worn only where the line has something to store.
+abbrev pub IsLineFault : Telling → Option Sentence → Session → View → View → AdminFault → Type 0
+IsLineFault tells says session old new Disk = Rose old.faults new.faults
+IsLineFault tells says session old new NoStore = (session.centre ≡ None)
     × (IsTrue tells.content → found_on old.seen ≡ Err NoStore)
-IsLineFault tells session old new (BadStore at) = (session.centre ≡ None)
+IsLineFault tells says session old new (BadStore at) = (session.centre ≡ None)
     × (IsTrue tells.content → found_on old.seen ≡ Err (BadStore at))
-IsLineFault tells session old new Worn = (host : Hosted CoreValue) × (session.centre ≡ Some host)
+IsLineFault tells says session old new Worn = (host : Hosted CoreValue) × (session.centre ≡ Some host)
     × (IsTrue tells.content → (c : Setting) (s : NodeState) → IsUp c s host old → (z : Standing)
-    × (stands new.seen ≡ Some z) × IsWornOut z)
-IsLineFault tells session old new Write = ⊥
-IsLineFault tells session old new NoMemory = Unrisen old.faults new.faults
+    × (stands new.seen ≡ Some z) × IsWornOut z) × HasChanges says (living_of session)
+IsLineFault tells says session old new Write = ⊥
+IsLineFault tells says session old new NoMemory = Unrisen old.faults new.faults

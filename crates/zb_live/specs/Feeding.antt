@@ -11,10 +11,11 @@ abbrev pub IsInLine : List ℕ → Type 0
 IsInLine bytes = AllByRecursion (λ (byte : ℕ). (byte == 10) ≡ false) bytes
 
 -- A line was taken off the beginning of what was held, with its line feed. Or nothing was taken, and none of what is
--- held is a line feed.
+-- held is a line feed. Neither is longer than a line may be.
 abbrev pub IsNext : List ℕ → Option (Vec ℕ Global) → List ℕ → Type 0
 IsNext held (Some line) left = (held ≡ line.items ++ 10 ∷ left) × IsInLine line.items
-IsNext held None left = (left ≡ held) × IsInLine held
+    × (length line.items ≤ longest_line)
+IsNext held None left = (left ≡ held) × IsInLine held × (length held ≤ longest_line)
 
 -- these bytes begin with more bytes of one line than a line may have
 pub record BeginsLong (all : List ℕ) : Type 0 where

@@ -1,5 +1,5 @@
 -- A session: what stands of it between two lines, and what a line does to it and writes.
-use Rattle.std.specs.Prelude.{ℕ, ◌+◌, ◌++◌, min, if◌then◌else◌, is_some, map, List, [], ◌∷◌, Option, Some, None, Result, Ok, Err}
+use Rattle.std.specs.Prelude.{ℕ, ◌≡◌, ◌≢◌, ◌+◌, ◌++◌, min, if◌then◌else◌, is_some, map, List, [], ◌∷◌, Option, Some, None, Result, Ok, Err}
 use Rattle.zb_backup.specs.Format.{backup_text}
 use Rattle.zb_centre_store.specs.Calls.{tables_after}
 use Rattle.zb_centre_store.specs.Rows.{listed}
@@ -8,7 +8,7 @@ use Rattle.zb_live.specs.Events.{task_for}
 use Rattle.zb_live.specs.Shown.{event_lines, shown_text}
 use Rattle.zb_live.specs.Answers.{ok_text, refused_text}
 use Rattle.zb_live.specs.Grammar.{meaning_of}
-use Rattle.zb_live.specs.Said.{Sentence, Quiet, Founds, Introduces, Logs, Opens, Happens, Lists, BacksUp}
+use Rattle.zb_live.specs.Said.{Event, Sentence, Quiet, Founds, Introduces, Logs, Opens, Happens, Lists, BacksUp}
 use Rattle.zb_live.specs.declared.cause.Cause.{Cause}
 use Rattle.zb_live.specs.declared.cause.Cause.TheVariants as cause
 use Rattle.zb_live.specs.declared.line.Log.{Log}
@@ -191,3 +191,13 @@ served found (line ∷ more) v =
     let d = done found line v in
     let rest = served found more d.after in
     record { text = d.text ++ rest.text; after = rest.after }
+
+-- A line has something to store: it is an event of an open session, and the policy's answer to it has changes.
+pub record HasChanges (says : Option Sentence) (v : Living) : Type 0 where
+  pub event : Event
+  pub is_event : says ≡ Some (Happens event)
+  pub found : NodeState
+  pub is_open : v.tables ≡ Some found
+  pub task : Task
+  pub is_task : task_for v.network.stations event ≡ Ok task
+  pub changes : (answer_to v found task).edits ≢ []

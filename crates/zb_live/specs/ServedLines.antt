@@ -6,6 +6,7 @@ use Rattle.zb_centre_store.specs.Outside.{Outside}
 use Rattle.zb_centre_store.specs.declared.fault.AdminFault.TheVariants as store
 use Rattle.zb_disk.specs.View.{IsStill, LeavesOnly}
 use Rattle.zb_live.specs.Alive.{CrashLeaves, LeavesEither, IsAlive, IsLineFault, living_of}
+use Rattle.zb_live.specs.Grammar.{meaning_of}
 use Rattle.zb_live.specs.Living.{Done, Found, done}
 use Rattle.zb_live.specs.declared.session.Session.{Session}
 use Rattle.zb_live.specs.declared.fault.LiveFault.{LiveFault}
@@ -38,16 +39,18 @@ abbrev pub HasWrittenFront : Bytes → Session → Option Bytes → Option Bytes
 HasWrittenFront line session before after =
     (found : Option NodeState) × AppendsFront before after (done (Ok found) line (living_of session)).text
 
--- when each fault comes
-abbrev pub IsServeFault : {D W : Type 0} → Outside D W → Session → D → W → D → W → LiveFault → Type 0
-IsServeFault x session old before new after Read = ⊥
-IsServeFault x session old before new after TooLong = ⊥
-IsServeFault x session old before new after Write = Rose (x.faults before) (x.faults after)
-IsServeFault x session old before new after Disk = IsLineFault x.tells session (x.state old) (x.state new) store.Disk
-IsServeFault x session old before new after NoStore = IsLineFault x.tells session (x.state old) (x.state new)
-    store.NoStore
-IsServeFault x session old before new after (BadStore at) = IsLineFault x.tells session (x.state old) (x.state new)
-    (store.BadStore at)
-IsServeFault x session old before new after Worn = IsLineFault x.tells session (x.state old) (x.state new) store.Worn
-IsServeFault x session old before new after NoMemory = IsLineFault x.tells session (x.state old) (x.state new)
-    store.NoMemory
+-- When each fault comes. Where the store fails, or memory is short, nothing is written.
+abbrev pub IsServeFault : {D W : Type 0} → Outside D W → Bytes → Session → D → W → D → W → LiveFault → Type 0
+IsServeFault x line session old before new after Read = ⊥
+IsServeFault x line session old before new after TooLong = ⊥
+IsServeFault x line session old before new after Write = Rose (x.faults before) (x.faults after)
+IsServeFault x line session old before new after Disk = (after ≡ before)
+    × IsLineFault x.tells (meaning_of line) session (x.state old) (x.state new) store.Disk
+IsServeFault x line session old before new after NoStore = (after ≡ before)
+    × IsLineFault x.tells (meaning_of line) session (x.state old) (x.state new) store.NoStore
+IsServeFault x line session old before new after (BadStore at) = (after ≡ before)
+    × IsLineFault x.tells (meaning_of line) session (x.state old) (x.state new) (store.BadStore at)
+IsServeFault x line session old before new after Worn = (after ≡ before)
+    × IsLineFault x.tells (meaning_of line) session (x.state old) (x.state new) store.Worn
+IsServeFault x line session old before new after NoMemory = (after ≡ before)
+    × IsLineFault x.tells (meaning_of line) session (x.state old) (x.state new) store.NoMemory

@@ -1,16 +1,18 @@
 -- What serving a session does to its input, the disk and the output.
-use Rattle.std.specs.Prelude.{ℕ, ◌≡◌, ◌≢◌, ◌++◌, List, [], Some, Result, Err, IfErr, OnOk, OnErr, IsTrue}
+use Rattle.std.specs.Prelude.{ℕ, ◌≡◌, ◌≢◌, ◌≤◌, ◌++◌, length, List, [], ◌∷◌, Some, Result, Err, IfErr, OnOk, OnErr, IsTrue, ⊤}
+use Rattle.std.specs.List.{AllByRecursion}
 use Rattle.std.specs.Io.KnownBytes.{Appends}
 use Rattle.zb_base.specs.Outside.{AppendsFront, Rose, Unrisen}
 use Rattle.zb_centre_store.specs.Outside.{Outside}
 use Rattle.zb_centre_store.specs.Standing.{CanBeServed, IsWornOut, found_on}
 use Rattle.zb_centre_store.specs.declared.fault.AdminFault.TheVariants as store
 use Rattle.zb_live.specs.Alive.{CrashLeaves}
-use Rattle.zb_live.specs.Living.{fresh, served}
+use Rattle.zb_live.specs.Living.{Found, HasChanges, fresh, served}
 use Rattle.zb_live.specs.Feeding.{BeginsLong}
-use Rattle.zb_live.specs.Following.{WritesAll, WritesFront}
+use Rattle.zb_live.specs.Following.{WritesAll, WritesFront, WritesWorn}
+use Rattle.zb_live.specs.Grammar.{meaning_of}
 use Rattle.zb_live.specs.Moments.{Goes, Input, Moment}
-use Rattle.zb_live.specs.WholeLines.{whole_lines}
+use Rattle.zb_live.specs.WholeLines.{longest_line, whole_lines}
 use Rattle.zb_live.specs.declared.fault.LiveFault.{LiveFault}
 use Rattle.zb_live.specs.declared.fault.LiveFault.TheVariants.{Read, TooLong, Write, Disk, NoStore, BadStore, Worn, NoMemory}
 use Rattle.zb_model.specs.Data.{Bytes}
@@ -20,7 +22,7 @@ abbrev pub Ended : Type 0
 Ended = Result (Unit {0}) LiveFault
 
 -- When each fault comes. Those of a store that is no centre's tell what was found on the disk. Where memory is short
--- the disk's count of faults stands.
+-- the disk's count of faults is as it was.
 abbrev pub IsLiveFault : {D W : Type 0} → Outside D W → Input → D → W → Input → D → W → LiveFault → Type 0
 IsLiveFault x input old before rest new after Read = Rose input.faults rest.faults
 IsLiveFault x input old before rest new after TooLong = (bytes : Bytes) → input.rest ≡ Some bytes
@@ -34,6 +36,23 @@ IsLiveFault x input old before rest new after (BadStore at) = IsTrue x.tells.con
 IsLiveFault x input old before rest new after Worn = IsTrue x.tells.content → CanBeServed (x.state old)
     → (z : Standing) × (stands (x.state new).seen ≡ Some z) × IsWornOut z
 IsLiveFault x input old before rest new after NoMemory = Unrisen (x.state old).faults (x.state new).faults
+
+-- The last of these lines had something to store: the policy's answer to it, in the session after the lines before it,
+-- has changes. All that those write was written.
+pub record IsWornAt {D W : Type 0} (x : Outside D W) (found : Found) (lines : List Bytes) (before after : W) : Type 0
+  where
+    pub front : List Bytes
+    pub line : Bytes
+    pub split : lines ≡ front ++ line ∷ []
+    pub changes : HasChanges (meaning_of line) (served found front fresh).after
+    pub written : Appends (x.taken before) (x.taken after) (served found front fresh).text
+
+-- An end that no fault of the input, the output or the store gives.
+abbrev pub EndsItself : Ended → Type 0
+EndsItself (Err Read) = ⊥
+EndsItself (Err Write) = ⊥
+EndsItself (Err Disk) = ⊥
+EndsItself _ = ⊤
 
 -- A session was served.
 pub record Lives {D W : Type 0} (x : Outside D W) (input : Input) (old : D) (before : W) (result : Ended)
@@ -61,7 +80,20 @@ pub record Lives {D W : Type 0} (x : Outside D W) (input : Input) (old : D) (bef
   pub moments : IsTrue x.tells.content → CanBeServed (x.state old)
       → (between : List (Moment D W)) × Goes x (found_on (x.state old).seen) (x.state old) input lines before
       (record { disk = old; out = before; input = input }) between (record { disk = new; out = after; input = rest })
+  -- no line that was taken is longer than a line may be
+  pub short : AllByRecursion (λ (line : Bytes). length line ≤ longest_line) lines
   -- when each fault comes
   pub faults : IfErr result (IsLiveFault x input old before rest new after)
-  -- a fault of the store is reported as nothing else: its count of faults stands at each other answer
+  -- The store is worn only at a line that has something to store, the last that was taken. The second says so of any
+  -- store, going on from some tables where a line opens the session.
+  pub worn : result ≡ Err Worn → IsTrue x.tells.content → CanBeServed (x.state old)
+      → IsWornAt x (found_on (x.state old).seen) lines before after
+  pub told_worn : result ≡ Err Worn → WritesWorn lines (x.taken before) (x.taken after)
+  -- A fault of the input, the output or the store is reported as nothing else: the count of faults is as it was at
+  -- each other end. So if none of the three fails, the session ends well, or as a line, the store or the memory gives
+  -- it.
+  pub unread : result ≢ Err Read → Unrisen input.faults rest.faults
+  pub unwritten : result ≢ Err Write → Unrisen (x.faults before) (x.faults after)
   pub unrisen : result ≢ Err Disk → Unrisen (x.state old).faults (x.state new).faults
+  pub complete : (Rose input.faults rest.faults → ⊥) → (Rose (x.faults before) (x.faults after) → ⊥)
+      → (Rose (x.state old).faults (x.state new).faults → ⊥) → EndsItself result

@@ -1,6 +1,6 @@
 //! The lines of an input, as they come.
-ghost use Rattle.std.specs.Prelude.{◌≡◌, ◌≤◌, ◌<◌, ◌==◌, ◌⊎◌, ◌++◌, ◌∷◌, [], ℕ, List, Some, false, length, position, get_or, IfOk, IfErr};
-ghost use Rattle.zb_base.specs.Outside.{Rose};
+ghost use Rattle.std.specs.Prelude.{◌≡◌, ◌≢◌, ◌≤◌, ◌<◌, ◌==◌, ◌⊎◌, ◌++◌, ◌∷◌, [], ℕ, List, Some, Err, false, length, position, get_or, IfOk, IfErr};
+ghost use Rattle.zb_base.specs.Outside.{Rose, Unrisen};
 ghost use Rattle.zb_live.specs.Feeding.{IsTakeFault, IsNext, TakesFew};
 ghost use Rattle.zb_live.specs.declared.fault.LiveFault.TheVariants.{NoMemory as lacks, Read as read_fault};
 
@@ -48,7 +48,7 @@ impl Feed {
         Ok(mem::replace(&mut self.held, rest))
     }
 
-    /// Takes the next whole line off what came, without its line feed. It returns None where none is whole.
+    /// Takes the next whole line off what came, without its line feed. It returns None if none is whole.
     ///
     /// # Errors
     /// `TooLong`; `NoMemory`.
@@ -82,6 +82,7 @@ impl Feed {
         ensures read { IfErr result (λ fault. fault ≡ read_fault → Rose (R.faults input.old) (R.faults input.new)) }
         ensures other { IfErr result (λ fault. (fault ≡ read_fault) ⊎ (fault ≡ lacks)) }
         ensures later { R.faults input.old ≤ R.faults input.new }
+        ensures unrisen { result ≢ Err read_fault → Unrisen (R.faults input.old) (R.faults input.new) }
     {
         let mut buffer = [0; 4_096];
         match input.read(&mut buffer) {

@@ -28,11 +28,12 @@ fn without_carriage_return(line: &[u8]) -> &[u8]
     }
 }
 
-// Hands out what a line writes, where it writes something.
+// Hands out what a line writes, if it writes something.
 fn write_page<W: Sink>(page: &mut Vec<u8>, output: &mut W) -> Result<(), LiveFault>
     ensures whole { OnOk result (Appends (W.taken output.old) (W.taken output.new) page.old.items) }
     ensures empty { OnOk result (page.new.items ≡ []) }
     ensures front { OnErr result (AppendsFront (W.taken output.old) (W.taken output.new) page.old.items) }
+    ensures unwritten { OnOk result (Unrisen (W.faults output.old) (W.faults output.new)) }
     ensures fault { IfErr result (λ f. (f ≡ LiveFault.Write) × Rose (W.faults output.old) (W.faults output.new)) }
     ensures later { W.faults output.old ≤ W.faults output.new }
 {
@@ -69,8 +70,9 @@ fn serve_line<W: Sink, D: Disk>(
     ensures empty { OnOk result (page.new.items ≡ []) }
     ensures waits { OnOk result (session.new.centre ≡ None
         → (session.old.centre ≡ None) × IsStill (D.state disk.old) (D.state disk.new)) }
-    ensures faults { IfErr result (IsServeFault (outside D.tells D.state W.taken W.faults) session.old
+    ensures faults { IfErr result (IsServeFault (outside D.tells D.state W.taken W.faults) line.now session.old
         disk.old output.old disk.new output.new) }
+    ensures unwritten { result ≢ Err LiveFault.Write → Unrisen (W.faults output.old) (W.faults output.new) }
     ensures unrisen { result ≢ Err LiveFault.Disk
         → Unrisen (D.state disk.old).faults (D.state disk.new).faults }
     ensures later { W.faults output.old ≤ W.faults output.new }
@@ -87,11 +89,11 @@ fn serve_line<W: Sink, D: Disk>(
 /// whole lines that came were answered. What comes after the last line feed isn't carried out.
 ///
 /// # Errors
-/// - `Read`, `Write` or `Disk` where a call of the input, the output or the disk failed.
-/// - `TooLong` where a line has more than 1,048,576 bytes.
-/// - `NoStore` where the session is opened, the disk isn't empty and no slot is open.
-/// - `BadStore` where what is there is no record of a centre, with the place of the fault.
-/// - `Worn` where the whole record has to be written, and no generation is left.
+/// - `Read`, `Write` or `Disk` if a call of the input, the output or the disk failed.
+/// - `TooLong` if a line has more than 1,048,576 bytes.
+/// - `NoStore` if the session is opened, the disk isn't empty and no slot is open.
+/// - `BadStore` if what is there is no record of a centre, with the place of the fault.
+/// - `Worn` if an event has something to store, the whole record has to be written, and no generation is left.
 /// - `NoMemory`.
 pub fn live<R: Source, W: Sink, D: Disk>(
     alloc: Global,

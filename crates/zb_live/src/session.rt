@@ -1,5 +1,5 @@
 //! A session: what each line does to it.
-ghost use Rattle.std.specs.Prelude.{◌≡◌, ◌≢◌, ◌≤◌, ◌++◌, ℕ, List, None, Some, Ok, Err, is_some, true, IsTrue, OnOk, IfErr, IfOk};
+ghost use Rattle.std.specs.Prelude.{◌≡◌, ◌≢◌, ◌≤◌, ◌++◌, [], ℕ, List, None, Some, Ok, Err, is_some, true, IsTrue, OnOk, IfErr, IfOk};
 ghost use Rattle.zb_backup.specs.Format.{backup_text};
 ghost use Rattle.zb_base.specs.Outside.{Unrisen};
 ghost use Rattle.zb_centre_store.specs.Tasks.{task_of};
@@ -12,12 +12,14 @@ ghost use Rattle.zb_live.specs.Happening.{HasAnswered, HasHappened, IsHappeningF
 ghost use Rattle.zb_live.specs.Living.{Found, cause_of, done, fresh, next as next_number, setting_of};
 ghost use Rattle.zb_live.specs.Shown.{Prints, event_lines};
 ghost use Rattle.zb_live.specs.Answers.{ok_text, refused_text};
+ghost use Rattle.zb_live.specs.Grammar.{meaning_of};
 ghost use Rattle.zb_live.specs.Said.{Founds, Introduces, Logs, Opens, Happens, Lists, BacksUp, Joins};
 ghost use Rattle.zb_live.specs.Views.{event_of, sentence_of};
-ghost use Rattle.zb_model.specs.Answer.{Answer};
+ghost use Rattle.zb_model.specs.Answer.{Answer, answer};
 ghost use Rattle.zb_model.specs.Data.{Station};
 ghost use Rattle.zb_model.specs.Rules.{Setting};
 ghost use Rattle.zb_model.specs.State.{NodeState};
+ghost use Rattle.zb_model_real.specs.Real.{real};
 ghost use Rattle.zb_plan.specs.Answers.{IsAnswer};
 ghost use Rattle.zb_script.specs.Grammar.{is_joiner};
 ghost use Rattle.zb_script.specs.Judge.{has_centre};
@@ -175,6 +177,8 @@ fn happen<D: Disk>(
     ensures store { OnOk result (is_some host.new.store ≡ true) }
     ensures configured { OnOk result (host.new.core.setting ≡ host.old.core.setting) }
     ensures faults { IfErr result (IsHappeningFault D.tells (D.state disk.old) (D.state disk.new) host.old) }
+    ensures worn { IfErr result (λ fault. fault ≡ AdminFault.Worn → (c : Setting) (s : NodeState)
+        → host.old.core ≡ record { setting = c; tables = s } → (answer real c s (task_of event.now)).edits ≢ []) }
     ensures count { (D.state disk.old).faults ≤ (D.state disk.new).faults }
     ensures unrisen { result ≢ Err AdminFault.Disk
         → Unrisen (D.state disk.old).faults (D.state disk.new).faults }
@@ -282,7 +286,8 @@ impl Session {
         ensures store { OnOk result (CanGoOn self.new) }
         ensures waits { OnOk result (self.new.centre ≡ None
             → (self.old.centre ≡ None) × IsStill (D.state disk.old) (D.state disk.new)) }
-        ensures faults { IfErr result (IsLineFault D.tells self.old (D.state disk.old) (D.state disk.new)) }
+        ensures faults { IfErr result (IsLineFault D.tells (Some Opens) self.old (D.state disk.old)
+            (D.state disk.new)) }
         ensures count { (D.state disk.old).faults ≤ (D.state disk.new).faults }
         ensures unrisen { result ≢ Err AdminFault.Disk
             → Unrisen (D.state disk.old).faults (D.state disk.new).faults }
@@ -321,7 +326,8 @@ impl Session {
         ensures store { OnOk result (CanGoOn self.new) }
         ensures waits { OnOk result (self.new.centre ≡ None
             → (self.old.centre ≡ None) × IsStill (D.state disk.old) (D.state disk.new)) }
-        ensures faults { IfErr result (IsLineFault D.tells self.old (D.state disk.old) (D.state disk.new)) }
+        ensures faults { IfErr result (IsLineFault D.tells (Some (Happens (event_of event))) self.old
+            (D.state disk.old) (D.state disk.new)) }
         ensures count { (D.state disk.old).faults ≤ (D.state disk.new).faults }
         ensures unrisen { result ≢ Err AdminFault.Disk
             → Unrisen (D.state disk.old).faults (D.state disk.new).faults }
@@ -392,7 +398,8 @@ impl Session {
         ensures store { OnOk result (CanGoOn self.new) }
         ensures waits { OnOk result (self.new.centre ≡ None
             → (self.old.centre ≡ None) × IsStill (D.state disk.old) (D.state disk.new)) }
-        ensures faults { IfErr result (IsLineFault D.tells self.old (D.state disk.old) (D.state disk.new)) }
+        ensures faults { IfErr result (IsLineFault D.tells (Some (sentence_of line)) self.old (D.state disk.old)
+            (D.state disk.new)) }
         ensures count { (D.state disk.old).faults ≤ (D.state disk.new).faults }
         ensures unrisen { result ≢ Err AdminFault.Disk
             → Unrisen (D.state disk.old).faults (D.state disk.new).faults }
@@ -419,9 +426,9 @@ impl Session {
     /// What an event changes is stored once its lines stand on the page. After an error the session has ended.
     ///
     /// # Errors
-    /// - `Disk` where a call of the disk failed.
-    /// - `NoStore` and `BadStore` where the session is opened and the store is no centre's.
-    /// - `Worn` where the whole record has to be written, and no generation is left.
+    /// - `Disk` if a call of the disk failed.
+    /// - `NoStore` and `BadStore` if the session is opened and the store is no centre's.
+    /// - `Worn` if an event has something to store, the whole record has to be written, and no generation is left.
     /// - `NoMemory`.
     pub fn take<D: Disk>(
         &mut self,
@@ -441,7 +448,8 @@ impl Session {
         ensures store { OnOk result (CanGoOn self.new) }
         ensures waits { OnOk result (self.new.centre ≡ None
             → (self.old.centre ≡ None) × IsStill (D.state disk.old) (D.state disk.new)) }
-        ensures faults { IfErr result (IsLineFault D.tells self.old (D.state disk.old) (D.state disk.new)) }
+        ensures faults { IfErr result (IsLineFault D.tells (meaning_of line.now) self.old (D.state disk.old)
+            (D.state disk.new)) }
         ensures count { (D.state disk.old).faults ≤ (D.state disk.new).faults }
         ensures unrisen { result ≢ Err AdminFault.Disk
             → Unrisen (D.state disk.old).faults (D.state disk.new).faults }

@@ -49,7 +49,8 @@ returns-in_err-serve_line-in-Some g c =
     c.serve_line.new.output c.in_err-serve_line-in-Some.field-0.0
     (c.without_carriage_return.ensures ∙ ap strip_carriage_return c.as_slice.ensures.value) next
     c.in_err-serve_line-in-Some.ensures.served c.in_err-serve_line-in-Some.ensures.faults
-    c.in_err-serve_line-in-Some.ensures.unrisen c.in_err-serve_line-in-Some.ensures.told_front)
+    c.in_err-serve_line-in-Some.ensures.unwritten c.in_err-serve_line-in-Some.ensures.unrisen
+    c.in_err-serve_line-in-Some.ensures.told_front)
 
 pub returns-in_err-read_on-in-None : goal.returns-in_err-read_on-in-None
 returns-in_err-read_on-in-None g c =
@@ -65,7 +66,8 @@ returns-in_err-read_on-in-None g c =
     subst (λ (r : Ended). Lives x input c.args.disk.now c.args.output.now r rest2 c.loop.disk c.loop.output) (sym same)
     (ends_unread x input c.args.disk.now c.args.output.now c.loop.session c.take_line.new.self.held.items rest
     c.loop.disk c.loop.output held.0 rest2 c.in_err-read_on-in-None.field-0.0
-    held.1 c.read_on.ensures.few c.in_err-read_on-in-None.ensures.read c.in_err-read_on-in-None.ensures.other)
+    held.1 c.read_on.ensures.few c.in_err-read_on-in-None.ensures.read c.in_err-read_on-in-None.ensures.unrisen
+    c.in_err-read_on-in-None.ensures.other)
 
 pub returns-then-not-branch : goal.returns-then-not-branch
 returns-then-not-branch g c =
@@ -79,7 +81,8 @@ returns-then-not-branch g c =
     c.take_line.new.self.held.items rest c.loop.disk c.loop.output c.loop.invariant.0 next in
     ends x input c.args.disk.now c.args.output.now c.loop.session c.take_line.new.self.held.items rest c.loop.disk
     c.loop.output held.0 c.read_on.new.self.held.items rest2 _
-    held.1 c.read_on.ensures.few c.in_ok-read_on-in-None.ensures.bytes c.if-not-branch.true
+    held.1 (c.in_ok-read_on-in-None.ensures.unrisen (λ is. cc is)) c.read_on.ensures.few
+    c.in_ok-read_on-in-None.ensures.bytes c.if-not-branch.true
     (c.in_ok-read_on-in-None.ensures.none c.if-not-branch.true)
 
 pub loop-preserved : goal.loop-preserved
@@ -95,7 +98,8 @@ loop-preserved g c =
           c.serve_line.new.output
           (c.without_carriage_return.ensures ∙ ap strip_carriage_return c.as_slice.ensures.value) next
           c.in_ok-serve_line-in-Some.ensures.served c.in_ok-serve_line-in-Some.ensures.waits
-          (c.in_ok-serve_line-in-Some.ensures.unrisen (λ is. cc is)) c.in_ok-serve_line-in-Some.ensures.later
+          (c.in_ok-serve_line-in-Some.ensures.unrisen (λ is. cc is))
+          (c.in_ok-serve_line-in-Some.ensures.unwritten (λ is. cc is))
           c.in_ok-serve_line-in-Some.ensures.told,
       c.in_ok-serve_line-in-Some.ensures.store,
       c.in_ok-serve_line-in-Some.ensures.empty,
@@ -113,7 +117,8 @@ loop-preserved-in-None g c =
     c.take_line.new.self.held.items rest c.loop.disk c.loop.output c.loop.invariant.0 next in (
       reads_on x input c.args.disk.now c.args.output.now c.loop.session c.take_line.new.self.held.items rest
           c.loop.disk c.loop.output held.0 c.read_on.new.self.held.items rest2 _
-          held.1 c.read_on.ensures.later c.read_on.ensures.few c.in_ok-read_on-in-None.ensures.bytes,
+          held.1 (c.in_ok-read_on-in-None.ensures.unrisen (λ is. cc is)) c.read_on.ensures.few
+          c.in_ok-read_on-in-None.ensures.bytes,
       c.loop.invariant.1,
       c.loop.invariant.2,
     )

@@ -2,7 +2,7 @@ use Rattle.zb_centre_store.specs.Outside.{outside}
 use Rattle.zb_live.specs.Alive.{living_of}
 use Rattle.zb_live.specs.Living.{done}
 use Rattle.zb_live.proofs.FollowLemmas.{line_told, line_told_front, line_untold}
-use Rattle.zb_live.proofs.ServingLemmas.{always, line_cut, line_fault, line_stands, line_written, write_fault}
+use Rattle.zb_live.proofs.ServingLemmas.{always, line_cut, line_fault, line_stands, line_written, write_fault, written_but}
 use Rattle.zb_live.proofs.serving.serve_line.Goals as goal
 
 pub returns-in-Ok-clause-served : goal.returns-in-Ok-clause-served
@@ -25,8 +25,8 @@ returns-in-Ok-clause-unrisen g c = λ not. c.in-Ok.ensures.unrisen (λ is. cc is
 
 pub returns-in-Ok-clause-faults : goal.returns-in-Ok-clause-faults
 returns-in-Ok-clause-faults g c =
-    write_fault (outside g.D.Disk.tells g.D.Disk.state g.W.Sink.taken g.W.Sink.faults) c.args.session.now
-    c.args.disk.now c.take.new.disk c.args.output.now c.write_page.new.output c.write_page.result
+    write_fault (outside g.D.Disk.tells g.D.Disk.state g.W.Sink.taken g.W.Sink.faults) c.args.line.now
+    c.args.session.now c.args.disk.now c.take.new.disk c.args.output.now c.write_page.new.output c.write_page.result
     c.write_page.ensures.fault
 
 pub returns-in-Err-clause-served : goal.returns-in-Err-clause-served
@@ -39,9 +39,14 @@ returns-in-Err-clause-served g c = λ told found alive.
 
 pub returns-in-Err-clause-faults : goal.returns-in-Err-clause-faults
 returns-in-Err-clause-faults g c =
-    line_fault (outside g.D.Disk.tells g.D.Disk.state g.W.Sink.taken g.W.Sink.faults) c.args.session.now
-    c.args.disk.now c.take.new.disk c.args.output.now c.args.output.now c.in-Err.fault _ c.from.ensures
+    line_fault (outside g.D.Disk.tells g.D.Disk.state g.W.Sink.taken g.W.Sink.faults) c.args.line.now
+    c.args.session.now c.args.disk.now c.take.new.disk c.args.output.now c.in-Err.fault _ c.from.ensures
     c.in-Err.ensures.faults
+
+pub returns-in-Ok-clause-unwritten : goal.returns-in-Ok-clause-unwritten
+returns-in-Ok-clause-unwritten g c =
+    written_but c.write_page.result (g.W.Sink.faults c.args.output.now) (g.W.Sink.faults c.write_page.new.output)
+    c.write_page.ensures.unwritten c.write_page.ensures.fault
 
 pub returns-in-Err-clause-unrisen : goal.returns-in-Err-clause-unrisen
 returns-in-Err-clause-unrisen g c = line_stands c.in-Err.fault _ _ _ c.from.ensures c.in-Err.ensures.unrisen

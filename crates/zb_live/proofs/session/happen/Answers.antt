@@ -3,7 +3,7 @@ use Rattle.zb_centre_store.specs.Tasks.{task_of}
 use Rattle.zb_centre_store.specs.declared.fault.AdminFault.TheVariants.{Disk}
 use Rattle.zb_centre_store.proofs.StoreLemmas.{same_fault}
 use Rattle.zb_stored_tables.specs.Cores.{CoreValue}
-use Rattle.zb_live.proofs.SessionLemmas.{always, event_lines_lack, event_lines_stand, handled_fault, lines_answered, no_setting, told_short}
+use Rattle.zb_live.proofs.SessionLemmas.{always, event_lines_lack, event_lines_stand, handled_fault, lines_answered, no_setting, short_unworn, told_short}
 use Rattle.zb_live.proofs.session.happen.Goals as goal
 
 pub returns-in-Ok-clause-happened : goal.returns-in-Ok-clause-happened
@@ -55,6 +55,12 @@ returns-in-Ok-clause-answered g c = λ setting s core called centre.
     place.me.bytes c.args.host.now c.handle.new.host (g.D.Disk.state c.args.disk.now)
     (g.D.Disk.state c.handle.new.disk) c.in-Ok.plan c.tell.result c.args.page.now.items c.tell.new.page.items core
     (c.in-Ok.ensures.handled setting) c.tell.ensures.prints c.tell.ensures.sends called centre
+
+pub returns-in-Ok-clause-worn : goal.returns-in-Ok-clause-worn
+returns-in-Ok-clause-worn g c = short_unworn _ c.tell.result c.tell.ensures.short
+
+pub returns-in-Err-clause-worn : goal.returns-in-Err-clause-worn
+returns-in-Err-clause-worn g c = λ is setting s core. ((c.in-Err.ensures.handled setting).worn is).1 s core
 
 pub returns-in-Err-clause-answered : goal.returns-in-Err-clause-answered
 returns-in-Err-clause-answered g c =

@@ -9,9 +9,13 @@ returns-then-end-gt-LONGEST_LINE-clause-fault c =
 
 pub returns-in-Some-clause-next : goal.returns-in-Some-clause-next
 returns-in-Some-clause-next c =
-    taken_line c.args.self.now.held.items c.as_slice.result.now c.in_ok-line.line.items c.cut.new.self.held.items
-    c.in-Some.end c.as_slice.ensures.value (sym c.line_feed.ensures ∙ c.in-Some.is)
-    c.in_ok-line.ensures.line c.in_ok-line.ensures.long
+    let taken = taken_line c.args.self.now.held.items c.as_slice.result.now c.in_ok-line.line.items
+    c.cut.new.self.held.items c.in-Some.end c.as_slice.ensures.value (sym c.line_feed.ensures ∙ c.in-Some.is)
+    c.in_ok-line.ensures.line c.in_ok-line.ensures.long in (
+      taken.0,
+      taken.1,
+      omega (arith, c.in_ok-line.ensures.long, c.if-end-gt-LONGEST_LINE.false),
+    )
 
 pub returns-then-len-gt-LONGEST_LINE-clause-fault : goal.returns-then-len-gt-LONGEST_LINE-clause-fault
 returns-then-len-gt-LONGEST_LINE-clause-fault c =
@@ -23,4 +27,5 @@ returns-clause-next c = (
   refl,
   no_line c.args.self.now.held.items c.as_slice.result.now c.as_slice.ensures.value
       (sym c.line_feed.ensures ∙ c.in_default.is),
+  omega (arith, c.len.ensures, c.if-len-gt-LONGEST_LINE.false),
 )

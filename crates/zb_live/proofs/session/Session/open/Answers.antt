@@ -26,7 +26,7 @@ returns-then-is_open-clause-waits g c =
     always c.refuse.result (λ none. (none, still_refl (g.D.Disk.state c.args.disk.now)))
 
 pub returns-then-is_open-clause-faults : goal.returns-then-is_open-clause-faults
-returns-then-is_open-clause-faults g c = short_fault g.D.Disk.tells c.args.self.now (g.D.Disk.state c.args.disk.now)
+returns-then-is_open-clause-faults g c = short_fault g.D.Disk.tells _ c.args.self.now (g.D.Disk.state c.args.disk.now)
     c.refuse.result c.refuse.ensures.short
 
 pub returns-then-not-has_centre-clause-taken : goal.returns-then-not-has_centre-clause-taken
@@ -49,7 +49,7 @@ returns-then-not-has_centre-clause-waits g c = always c.refuse-then-not-has_cent
     (λ none. (none, still_refl (g.D.Disk.state c.args.disk.now)))
 
 pub returns-then-not-has_centre-clause-faults : goal.returns-then-not-has_centre-clause-faults
-returns-then-not-has_centre-clause-faults g c = short_fault g.D.Disk.tells c.args.self.now
+returns-then-not-has_centre-clause-faults g c = short_fault g.D.Disk.tells _ c.args.self.now
     (g.D.Disk.state c.args.disk.now) c.refuse-then-not-has_centre.result c.refuse-then-not-has_centre.ensures.short
 
 pub returns-in-Ok-Some-clause-taken : goal.returns-in-Ok-Some-clause-taken

@@ -15,8 +15,9 @@ returns-in-Some-clause-taken g c = λ told found alive.
 
 pub returns-in-Some-clause-faults : goal.returns-in-Some-clause-faults
 returns-in-Some-clause-faults g c =
-    counted_faults g.D.Disk.tells c.next_number-self.result c.args.self.now (g.D.Disk.state c.args.disk.now)
-    (g.D.Disk.state c.take_line.new.disk) c.take_line.result c.take_line.ensures.faults
+    counted_faults g.D.Disk.tells c.next_number-self.result _ (sentence_of c.in-Some.line) c.args.self.now
+    (g.D.Disk.state c.args.disk.now) (g.D.Disk.state c.take_line.new.disk) c.take_line.result
+    c.in-Some.ensures.value c.take_line.ensures.faults
 
 pub returns-in-None-clause-taken : goal.returns-in-None-clause-taken
 returns-in-None-clause-taken g c = λ told found alive.
@@ -31,7 +32,7 @@ pub returns-in-None-clause-waits : goal.returns-in-None-clause-waits
 returns-in-None-clause-waits g c = always c.refuse.result (λ none. (none, still_refl (g.D.Disk.state c.args.disk.now)))
 
 pub returns-in-None-clause-faults : goal.returns-in-None-clause-faults
-returns-in-None-clause-faults g c = short_fault g.D.Disk.tells c.args.self.now (g.D.Disk.state c.args.disk.now)
+returns-in-None-clause-faults g c = short_fault g.D.Disk.tells _ c.args.self.now (g.D.Disk.state c.args.disk.now)
     c.refuse.result c.refuse.ensures.short
 
 pub returns-in-Some-clause-follows : goal.returns-in-Some-clause-follows

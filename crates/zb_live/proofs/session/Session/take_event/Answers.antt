@@ -11,15 +11,20 @@ use Rattle.zb_live.specs.Said.{Happens}
 use Rattle.zb_live.specs.Views.{event_of}
 use Rattle.zb_model.specs.Rules.{Setting}
 use Rattle.zb_stored_tables.specs.Cores.{CoreValue}
-use Rattle.zb_live.proofs.SessionLemmas.{event_done, event_follows, happening_fault, on_ok, said_follows, said_up, up_here}
+use Rattle.zb_live.proofs.SessionLemmas.{event_done, event_follows, event_stores, happening_fault, on_ok, said_follows, said_up, up_here}
 use Rattle.zb_live.proofs.session.Session.take_event.Goals.{then-sends, else-sends}
 use Rattle.zb_live.proofs.session.Session.take_event.Goals as goal
 
 pub returns-in_err-sends-in-Ok-clause-faults : goal.returns-in_err-sends-in-Ok-clause-faults
 returns-in_err-sends-in-Ok-clause-faults g c =
-    let fault = happening_fault g.D.Disk.tells c.args.self.now (g.D.Disk.state c.args.disk.now)
-    (g.D.Disk.state c.happen.new.disk) c.in-Some.host c.in_err-sends-in-Ok.field-0.0 c.in-Some.is
-    c.in_err-sends-in-Ok.ensures.faults in
+    let old = c.args.self.now in
+    let host = c.in-Some.host in
+    let can = subst (CanServe old.network) c.in-Some.is c.requires in
+    let stores = event_stores old (event_of c.args.event) (task_of c.in-Ok.event) host c.in_err-sends-in-Ok.field-0.0
+    c.in-Some.is c.in-Ok.ensures can.2 c.in_err-sends-in-Ok.ensures.worn in
+    let fault = happening_fault g.D.Disk.tells (Some (Happens (event_of c.args.event))) old
+    (g.D.Disk.state c.args.disk.now) (g.D.Disk.state c.happen.new.disk) host c.in_err-sends-in-Ok.field-0.0
+    c.in-Some.is c.in_err-sends-in-Ok.ensures.faults stores in
     search (rules, fault)
 
 pub returns-after-sends-clause-taken : goal.returns-after-sends-clause-taken

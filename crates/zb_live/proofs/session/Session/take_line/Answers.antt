@@ -1,5 +1,5 @@
-use Rattle.std.proofs.Common.{Ok, ap, subst, sym}
-use Rattle.zb_live.specs.Alive.{HasTaken, done_by}
+use Rattle.std.proofs.Common.{IfErr, Ok, Some, ap, subst, sym}
+use Rattle.zb_live.specs.Alive.{HasTaken, IsLineFault, done_by}
 use Rattle.zb_live.specs.Views.{sentence_of}
 use Rattle.zb_live.specs.declared.line.Line.{Line}
 use Rattle.zb_live.proofs.SessionLemmas.{blank_said, follows_of, said, said_can, said_follows, said_taken, said_waits, short_fault}
@@ -32,7 +32,7 @@ returns-in-Centre-clause-waits g c = said_waits c.args.number _ c.args.self.now 
     c.args.page.now.items _ (g.D.Disk.state c.args.disk.now) c.take_centre.result c.take_centre.ensures.said
 
 pub returns-in-Centre-clause-faults : goal.returns-in-Centre-clause-faults
-returns-in-Centre-clause-faults g c = short_fault g.D.Disk.tells c.args.self.now (g.D.Disk.state c.args.disk.now)
+returns-in-Centre-clause-faults g c = short_fault g.D.Disk.tells _ c.args.self.now (g.D.Disk.state c.args.disk.now)
     c.take_centre.result c.take_centre.ensures.short
 
 pub returns-in-Peer-clause-taken : goal.returns-in-Peer-clause-taken
@@ -53,7 +53,7 @@ returns-in-Peer-clause-waits g c = said_waits c.args.number _ c.args.self.now c.
     c.args.page.now.items _ (g.D.Disk.state c.args.disk.now) c.take_peer.result c.take_peer.ensures.said
 
 pub returns-in-Peer-clause-faults : goal.returns-in-Peer-clause-faults
-returns-in-Peer-clause-faults g c = short_fault g.D.Disk.tells c.args.self.now (g.D.Disk.state c.args.disk.now)
+returns-in-Peer-clause-faults g c = short_fault g.D.Disk.tells _ c.args.self.now (g.D.Disk.state c.args.disk.now)
     c.take_peer.result c.take_peer.ensures.short
 
 pub returns-in-Log-clause-taken : goal.returns-in-Log-clause-taken
@@ -74,7 +74,7 @@ returns-in-Log-clause-waits g c = said_waits c.args.number _ c.args.self.now c.c
     c.args.page.now.items _ (g.D.Disk.state c.args.disk.now) c.choose_log.result c.choose_log.ensures.said
 
 pub returns-in-Log-clause-faults : goal.returns-in-Log-clause-faults
-returns-in-Log-clause-faults g c = short_fault g.D.Disk.tells c.args.self.now (g.D.Disk.state c.args.disk.now)
+returns-in-Log-clause-faults g c = short_fault g.D.Disk.tells _ c.args.self.now (g.D.Disk.state c.args.disk.now)
     c.choose_log.result c.choose_log.ensures.short
 
 pub returns-in-List-clause-taken : goal.returns-in-List-clause-taken
@@ -95,7 +95,7 @@ returns-in-List-clause-waits g c = said_waits c.args.number _ c.args.self.now c.
     (g.D.Disk.state c.args.disk.now) c.list.result c.list.ensures.said
 
 pub returns-in-List-clause-faults : goal.returns-in-List-clause-faults
-returns-in-List-clause-faults g c = short_fault g.D.Disk.tells c.args.self.now (g.D.Disk.state c.args.disk.now)
+returns-in-List-clause-faults g c = short_fault g.D.Disk.tells _ c.args.self.now (g.D.Disk.state c.args.disk.now)
     c.list.result c.list.ensures.short
 
 pub returns-in-Backup-clause-taken : goal.returns-in-Backup-clause-taken
@@ -116,7 +116,7 @@ returns-in-Backup-clause-waits g c = said_waits c.args.number _ c.args.self.now 
     _ (g.D.Disk.state c.args.disk.now) c.back_up.result c.back_up.ensures.said
 
 pub returns-in-Backup-clause-faults : goal.returns-in-Backup-clause-faults
-returns-in-Backup-clause-faults g c = short_fault g.D.Disk.tells c.args.self.now (g.D.Disk.state c.args.disk.now)
+returns-in-Backup-clause-faults g c = short_fault g.D.Disk.tells _ c.args.self.now (g.D.Disk.state c.args.disk.now)
     c.back_up.result c.back_up.ensures.short
 
 pub returns-in-Open-clause-taken : goal.returns-in-Open-clause-taken
@@ -126,6 +126,17 @@ returns-in-Open-clause-taken g c = λ told found alive.
     (g.D.Disk.state c.args.disk.now) c.args.page.now.items c.open.result c.open.new.self
     (g.D.Disk.state c.open.new.disk) c.open.new.page.items) (sym c.in-Open.is)
     (c.open.ensures.taken told found alive)
+
+pub returns-in-Open-clause-faults : goal.returns-in-Open-clause-faults
+returns-in-Open-clause-faults g c =
+    subst (λ (l : Line). IfErr c.open.result (IsLineFault g.D.Disk.tells (Some (sentence_of l)) c.args.self.now
+    (g.D.Disk.state c.args.disk.now) (g.D.Disk.state c.open.new.disk))) (sym c.in-Open.is) c.open.ensures.faults
+
+pub returns-in-Event-clause-faults : goal.returns-in-Event-clause-faults
+returns-in-Event-clause-faults g c =
+    subst (λ (l : Line). IfErr c.take_event.result (IsLineFault g.D.Disk.tells (Some (sentence_of l)) c.args.self.now
+    (g.D.Disk.state c.args.disk.now) (g.D.Disk.state c.take_event.new.disk))) (sym c.in-Event.is)
+    c.take_event.ensures.faults
 
 pub returns-in-Event-clause-taken : goal.returns-in-Event-clause-taken
 returns-in-Event-clause-taken g c = λ told found alive.
