@@ -7,7 +7,7 @@ use Rattle.zb_aps.specs.declared.fault.ApsError.{ApsError}
 use Rattle.zb_aps.specs.declared.frame.ApsFrame.{ApsFrame}
 use Rattle.zb_base.specs.declared.label.Layer.TheVariants as layer
 use Rattle.zb_base.specs.declared.label.Layer.{Layer}
-use Rattle.zb_delivery.specs.Taking.{PassesInClear}
+use Rattle.zb_delivery.specs.Receiving.{PassesInClear}
 use Rattle.zb_judge.specs.Verdicts.{carrier_seen, unsealed_seen}
 use Rattle.zb_judge.specs.declared.aps.Unsealed.{Unsealed}
 use Rattle.zb_nwk.specs.declared.frame.NwkFrame.{NwkFrame}

@@ -1,2 +1,2 @@
-mod Decisions
 mod Layers
+mod Plans

@@ -1,2 +1,2 @@
-pub mod Taking
+pub mod Receiving
 pub use Rattle.zb_rules.specs.Outcomes

@@ -2,9 +2,10 @@
 //! made after what was accepted.
 #![tactic(auto)]
 
-mod command;
+mod content;
 mod delivery;
-mod payload;
+mod judging;
+mod received;
 
 pub use delivery::plan_received;
 pub use zb_centre_rules::{

@@ -12,6 +12,7 @@ ghost use Rattle.zb_record.specs.RowViews.{link_key};
 ghost use Rattle.zb_judge.specs.Verdicts.{judged, unsealed_seen};
 
 use crate::counter::check_counter;
+use crate::known::Known;
 use crate::opening::open_aps;
 use zb_aps::{ApsAux, ApsFrame};
 use zb_base::{Eui, Place};
@@ -126,9 +127,7 @@ fn chosen<'a>(
 /// order.
 #[tactic(auto, unfolding(crate::specs::Steps::judge_aps, crate::specs::Steps::need, crate::specs::Steps::reject))]
 pub fn judge_aps(
-    network: &Network,
-    tables: &Tables,
-    memo: &KeyMemo,
+    known: &Known<'_>,
     frame: &NwkFrame,
     bytes: &[u8],
     part: &ApsFrame,
@@ -137,17 +136,18 @@ pub fn judge_aps(
     requires read { frame_of bytes.now ≡ Ok part.now }
     requires spells { Spells bytes.now part.now }
     ensures { judged unsealed_seen result
-        ≡ judge_aps real network.now tables.now (nwk_frame_shown frame.now) bytes.now (auxiliary aux.now) }
+        ≡ judge_aps real known.now.network.now known.now.tables.now (nwk_frame_shown frame.now) bytes.now
+        (auxiliary aux.now) }
 {
     let place = Place::Aps;
-    let Some(source) = source_of(network, frame, aux) else {
+    let Some(source) = source_of(known.network, frame, aux) else {
         return Err(Refusal::NoKey { place });
     };
     let mut opened = None;
-    let Some(row) = chosen(memo, tables, bytes, part, source, &mut opened) else {
+    let Some(row) = chosen(known.memo, known.tables, bytes, part, source, &mut opened) else {
         return Err(Refusal::NoKey { place });
     };
-    check_counter(network, place, row.floor, aux.counter)?;
+    check_counter(known.network, place, row.floor, aux.counter)?;
     let Some(term) = opened else {
         return Err(Refusal::BadMic { place });
     };

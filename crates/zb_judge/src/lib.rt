@@ -4,8 +4,10 @@
 
 mod aps;
 mod counter;
+mod known;
 mod nwk;
 mod opening;
 
 pub use aps::{Unsealed, judge_aps};
+pub use known::Known;
 pub use nwk::judge_nwk;

@@ -12,6 +12,7 @@ ghost use Rattle.zb_nwk.specs.Shape.{Spells};
 ghost use Rattle.zb_judge.specs.Verdicts.{carrier_seen, judged};
 
 use crate::counter::check_counter;
+use crate::known::Known;
 use crate::opening::open_nwk;
 use zb_aps::ApsFrame;
 use zb_base::{Eui, Label, Place, State};
@@ -107,9 +108,7 @@ fn was_removed(network: &Network, tables: &Tables, source: Eui) -> bool
 /// - no room for the sender's floor.
 #[tactic(auto, unfolding(crate::specs::Steps::judge_net, crate::specs::Steps::need, crate::specs::Steps::reject))]
 fn judge_net(
-    network: &Network,
-    tables: &Tables,
-    memo: &KeyMemo,
+    known: &Known<'_>,
     bytes: &[u8],
     frame: &NwkFrame,
     aux: &NwkAux,
@@ -118,21 +117,21 @@ fn judge_net(
     requires read { frame_of bytes.now ≡ Ok frame.now }
     requires spells { Spells bytes.now frame.now }
     ensures { judged (λ done. carrier_seen frame.now accepted.new) result ≡ carrier (nwk_frame_shown frame.now)
-        (judge_net real network.now tables.now bytes.now (nwk_auxiliary aux.now)) }
+        (judge_net real known.now.network.now known.now.tables.now bytes.now (nwk_auxiliary aux.now)) }
 {
     let place = Place::Nwk;
-    let Some(row) = usable_of(tables, aux.key_sequence) else {
+    let Some(row) = usable_of(known.tables, aux.key_sequence) else {
         return Err(Refusal::NoKey { place });
     };
-    check_counter(network, place, floor_of(row, aux.source), aux.counter)?;
-    *accepted = open_nwk(memo, bytes, frame, &row.key);
+    check_counter(known.network, place, floor_of(row, aux.source), aux.counter)?;
+    *accepted = open_nwk(known.memo, bytes, frame, &row.key);
     if accepted.is_none() {
         return Err(Refusal::BadMic { place });
     }
-    if !network.is_declared(aux.source) {
+    if !known.network.is_declared(aux.source) {
         return Err(Refusal::NotMember { place });
     }
-    if was_removed(network, tables, aux.source) {
+    if was_removed(known.network, known.tables, aux.source) {
         return Err(Refusal::NotMember { place });
     }
     if is_full_for(row, aux.source, aux.counter) {
@@ -146,28 +145,26 @@ fn judge_net(
 /// Requires the bytes that the frame was read from.
 #[tactic(auto, unfolding(crate::specs::Steps::reject))]
 fn judge_security(
-    network: &Network,
-    tables: &Tables,
-    memo: &KeyMemo,
+    known: &Known<'_>,
     bytes: &[u8],
     frame: &NwkFrame,
     accepted: &mut Option<Term>,
 ) -> Result<(), Refusal>
     requires read { frame_of bytes.now ≡ Ok frame.now }
     requires spells { Spells bytes.now frame.now }
-    ensures { judged (λ done. carrier_seen frame.now accepted.new) result ≡ judge_security real network.now tables.now
-        bytes.now (nwk_frame_shown frame.now) (option_map nwk_auxiliary frame.now.aux) }
+    ensures { judged (λ done. carrier_seen frame.now accepted.new) result ≡ judge_security real known.now.network.now
+        known.now.tables.now bytes.now (nwk_frame_shown frame.now) (option_map nwk_auxiliary frame.now.aux) }
 {
     match &frame.aux {
         None => {
             *accepted = None;
-            if may_pass_unsecured(network, tables, frame) {
+            if may_pass_unsecured(known.network, known.tables, frame) {
                 Ok(())
             } else {
                 Err(Refusal::Unsecured { place: Place::Nwk })
             }
         }
-        Some(aux) => judge_net(network, tables, memo, bytes, frame, aux, accepted),
+        Some(aux) => judge_net(known, bytes, frame, aux, accepted),
     }
 }
 
@@ -195,22 +192,21 @@ fn read_frame(bytes: &[u8], frame: &mut NwkFrame) -> Option<()>
 /// the security of the frame is refused for.
 #[tactic(auto, unfolding(crate::specs::Steps::judge_nwk, crate::specs::Steps::need, crate::specs::Steps::reject))]
 pub fn judge_nwk(
-    network: &Network,
-    tables: &Tables,
-    memo: &KeyMemo,
+    known: &Known<'_>,
     bytes: &[u8],
     frame: &mut NwkFrame,
     accepted: &mut Option<Term>,
 ) -> Result<(), Refusal>
     ensures { judged (λ _. carrier_seen frame.new accepted.new) result
-        ≡ judge_nwk real network.now tables.now bytes.now }
+        ≡ judge_nwk real known.now.network.now known.now.tables.now bytes.now }
 {
     if read_frame(bytes, frame).is_none() {
         return Err(Refusal::Malformed { place: Place::Nwk });
     }
+    let network = known.network;
     if frame.header.source.0 == network.short().0 || !network.hears(frame.header.destination) {
         return Err(Refusal::NotForMe { place: Place::Nwk });
     }
-    judge_security(network, tables, memo, bytes, frame, accepted)?;
+    judge_security(known, bytes, frame, accepted)?;
     Ok(())
 }

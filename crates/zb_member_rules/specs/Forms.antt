@@ -1,8 +1,8 @@
 -- The form in which a router or device takes each command, in the words of the policy.
-use Rattle.std.specs.Prelude.{ℕ, Bool, not, ◌&&◌, ◌||◌, nat_eq}
-use Rattle.zb_model.specs.Data.{ForData, ForLoad, ForTransport}
-use Rattle.zb_model.specs.Commands.{Heard, is_member, labelled, nwk_secured}
-use Rattle.zb_model.specs.Rules.{Setting, from_centre, is_router}
+use Rattle.std.specs.Prelude.{ℕ, Bool, not, ◌&&◌, ◌||◌, nat_eq, []}
+use Rattle.zb_model.specs.Data.{ForData, ForLoad, ForNetwork, ForTransport, Nwk}
+use Rattle.zb_model.specs.Commands.{Heard, is_member, labelled, nwk_secured, take_leave}
+use Rattle.zb_model.specs.Rules.{Outcome, Setting, from_centre, is_router}
 
 -- Transport-Key of a network key: sealed for transport, from the centre, to the node, naming the centre
 abbrev pub is_net_key_form : Setting → Heard → ℕ → ℕ → Bool
@@ -42,3 +42,18 @@ is_remove_form c m target =
     is_router c.me.role
     && (labelled ForData m.label
     && (from_centre c m.sender && not (nat_eq target c.me.eui || from_centre c target)))
+
+-- A Leave that came from a node: its rule asks the term that brought it for the source alone.
+abbrev pub leave_from : Setting → ℕ → ℕ → Outcome
+leave_from c sender options =
+    take_leave c
+    (record {
+      layer = Nwk;
+      base = [];
+      label = ForNetwork;
+      source = sender;
+      counter = 0;
+      control = 0;
+      header = [];
+      content = [];
+    }) options

@@ -7,4 +7,4 @@ mod plan;
 mod reserves;
 mod settling;
 
-pub use plan::{plan_of, plan_own, plan_refused, plan_say};
+pub use plan::{forget, plan_of, plan_own, plan_refusal, plan_say};

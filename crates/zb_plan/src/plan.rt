@@ -25,8 +25,8 @@ use zb_seal::{KeyMemo, Term};
 use zb_send::{Payload, copied};
 use zb_setting::Network;
 
-// Takes what stands in a place out of it, if anything does. A place where nothing stands isn't cleared again.
-fn forget<T: Drop>(place: &mut Option<T>)
+/// Empties a place. One that is empty already isn't cleared again, which would cost a write of all its bytes.
+pub fn forget<T: Drop>(place: &mut Option<T>)
     ensures { place.new ≡ None }
 {
     if place.is_some() {
@@ -71,8 +71,10 @@ fn keep(
     add_floors(changes, network, tables, nwk, aps);
 }
 
-/// Plans a refusal, after the terms that were accepted.
-fn plan_refusal(
+/// Plans a refusal, after the terms that were accepted and are in `plan`.
+///
+/// These and their floors stay, and nothing else changes. Requires terms of their layers.
+pub fn plan_refusal(
     network: &Network,
     tables: &Tables,
     refusal: Refusal,
@@ -224,19 +226,4 @@ pub fn plan_say(
             plan,
         ),
     }
-}
-
-/// Plans the refusal of a frame of which nothing is accepted. What stood in `plan` is gone.
-pub fn plan_refused(
-    network: &Network,
-    tables: &Tables,
-    refusal: Refusal,
-    plan: &mut Plan<Outcome<Term, Refusal>>,
-)
-    ensures { (p : Planned) → IsDecision (record { nwk = None; aps = None; effect = Err refusal }) p
-        → IsAnswer plan.new (answer_to real network.now tables.now p) }
-{
-    forget(&mut plan.out.accepted_nwk);
-    forget(&mut plan.out.accepted_aps);
-    plan_refusal(network, tables, refusal, plan);
 }
