@@ -18,7 +18,7 @@ use Rattle.zb_live.specs.WholeLines.{whole_lines}
 use Rattle.zb_live.specs.declared.fault.LiveFault.TheVariants as live
 
 lines_done : (text old : List ℕ) (rest : Input) (new : Medium) (answer : Written)
-    → Lives in_memory (input_of (Some text) 0) (disk_of old) unwritten (Ok tt) rest new answer
+    → Lives in_memory (input_of (Some text) 0 0) (disk_of old) unwritten (Ok tt) rest new answer
     → IsOfLines text old (Ok (record { store = new.bytes; answer = answer.text }))
 lines_done text old rest new answer lives =
     let all : whole_lines text ≡ lives.lines = (lives.all text refl).0 in
@@ -36,7 +36,7 @@ lines_done text old rest new answer lives =
     }
 
 of_lines : (text old : List ℕ) (rest : Input) (ended : Ended) (new : Medium) (answer : Written)
-    → Lives in_memory (input_of (Some text) 0) (disk_of old) unwritten ended rest new answer
+    → Lives in_memory (input_of (Some text) 0 0) (disk_of old) unwritten ended rest new answer
     → IsOfLines text old (made_of_lines ended new answer)
 of_lines text old rest (Ok tt) new answer lives = lines_done text old rest new answer lives
 of_lines text old rest (Err live.Read) new answer lives = tt
@@ -51,12 +51,14 @@ of_lines text old rest (Err live.NoMemory) new answer lives = tt
 pub lines_served : (text old : List ℕ) (input : Supply) (rest : Input) (disk new : Medium) (before answer : Written)
     (ended : Ended) (made : Result Made CallFault)
     → input ≡ record { rest = text; fails = []; calls = 0; faults = 0 } → disk ≡ disk_of old → before ≡ unwritten
-    → Lives in_memory (input_of (Some input.rest) input.faults) disk before ended rest new answer
+    → Lives in_memory (input_of (Some input.rest) input.calls input.faults) disk before ended rest new answer
     → made ≡ made_of_lines ended new answer → IsOfLines text old made
 lines_served text old input rest disk new before answer ended made input_is disk_is before_is lives is =
     subst (λ (r : Result Made CallFault). IsOfLines text old r) (sym is)
     (of_lines text old rest ended new answer
-    (subst (λ (b : Written). Lives in_memory (input_of (Some text) 0) (disk_of old) b ended rest new answer) before_is
-    (subst (λ (d : Medium). Lives in_memory (input_of (Some text) 0) d before ended rest new answer) disk_is
-    (subst (λ (i : Supply). Lives in_memory (input_of (Some i.rest) i.faults) disk before ended rest new answer)
+    (subst (λ (b : Written). Lives in_memory (input_of (Some text) 0 0) (disk_of old) b ended rest new answer)
+    before_is
+    (subst (λ (d : Medium). Lives in_memory (input_of (Some text) 0 0) d before ended rest new answer) disk_is
+    (subst (λ (i : Supply). Lives in_memory (input_of (Some i.rest) i.calls i.faults) disk before ended rest new
+    answer)
     input_is lives))))

@@ -19,7 +19,7 @@ use Rattle.zb_live.specs.declared.fault.LiveFault.TheVariants as live
 -- The lines were served over a store in memory, from the store's bytes on, to this end.
 pub record EndsLines (text old : List ℕ) (ended : Ended) (new : Medium) (answer : Written) : Type 0 where
   pub rest : Input
-  pub lives : Lives in_memory (input_of (Some text) 0) (disk_of old) unwritten ended rest new answer
+  pub lives : Lives in_memory (input_of (Some text) 0 0) (disk_of old) unwritten ended rest new answer
 
 -- All were served: the new bytes are what the store in memory reads, the answer is what was written.
 pub record ServesLines (text old : List ℕ) (made : Made) : Type 0 where

@@ -29,6 +29,11 @@ AppendsFront old new piece = (n : ℕ) × Appends old new (take n piece)
 abbrev pub has_number : List ℕ → ℕ → Bool
 has_number numbers number = list_any (λ n. n == number) numbers
 
+-- what a source over a reader counts: its calls, and those that failed
+pub record Counts : Type 0 where
+  pub calls : ℕ
+  pub faults : ℕ
+
 -- a source in memory: the bytes to come, the numbers from 1 of the calls that are to fail, and the counts so far
 pub record Supply : Type 0 where
   pub rest : List ℕ

@@ -12,10 +12,14 @@ use std::marker::Model;
 
 /// An input that is read from its beginning to its end.
 ///
-/// Its meanings are the bytes still to come, where it tells them, and a count of faults, which never falls.
+/// Its meanings are the bytes still to come, if it tells them, a count of its calls, and a count of faults, which
+/// never falls.
 pub trait Source {
-    // The bytes still to come, where the source tells them.
+    // The bytes still to come, if the source tells them.
     ghost rest: { Self → Option (List ℕ) };
+
+    // How often it was called. The count of an adapter stops at 2^64 - 1.
+    ghost calls: { Self → ℕ };
 
     // How many of its calls failed. The count of an adapter stops at 2^64 - 1.
     ghost faults: { Self → ℕ };
@@ -25,10 +29,11 @@ pub trait Source {
     /// 0 into a buffer that isn't empty is the end of the input.
     ///
     /// # Errors
-    /// `Failed` only where the count of faults rose; the rest stays as it was.
+    /// `Failed` only if the count of faults rose; the rest stays as it was.
     fn read(&mut self, buf: &mut [u8]) -> Result<usize, Failed>
         ensures bound { ReadsAtMost result buf.new }
         ensures bytes { ReadConsumes (rest self.old) (rest self.new) result buf.new }
+        ensures called { calls self.new ≡ risen (calls self.old) 1 }
         ensures cause { HasCause (faults self.old) (faults self.new) result };
 }
 
@@ -80,40 +85,57 @@ impl MemSource {
 
 /// A source over any reader of std, such as standard input.
 ///
-/// It tells nothing of content, and contracts see it as its count of faults.
+/// It tells nothing of content, and contracts see it as its counts of calls and faults.
 #[derive(Debug, Drop)]
 pub struct StdSource<R> {
     inner: R,
+    calls: u64,
     faults: u64,
 }
 
 impl<R> Model for StdSource<R> {
-    ghost Value = { ℕ };
+    ghost use Rattle.zb_base.specs.Outside.{Counts};
 
-    ghost view = { λ s. s.faults };
+    ghost Value = { Counts };
+
+    ghost view = { λ s. record {
+      calls = s.calls;
+      faults = s.faults;
+    } };
 }
 
 impl<R> StdSource<R> {
     /// Makes a source that reads what this reader gives.
     pub fn new(inner: R) -> StdSource<R>
-        ensures { result ≡ 0 }
+        ensures { result ≡ record { calls = 0; faults = 0 } }
     {
-        StdSource { inner, faults: 0 }
+        StdSource {
+            inner,
+            calls: 0,
+            faults: 0,
+        }
     }
 }
 
 impl<R: Read> Source for StdSource<R> {
     ghost rest = { λ _. None };
 
-    ghost faults = { λ s. s };
+    ghost calls = { λ s. s.calls };
+
+    ghost faults = { λ s. s.faults };
 
     fn read(&mut self, buf: &mut [u8]) -> Result<usize, Failed>
         ensures bound { ReadsAtMost result buf.new }
         ensures bytes { ReadConsumes None None result buf.new }
-        ensures cause { HasCause self.old self.new result }
-        // It counts each failed call once, and no other call.
-        ensures counted { self.new ≡ (if is_err result then risen self.old 1 else self.old) }
+        ensures called { self.new.calls ≡ risen self.old.calls 1 }
+        ensures cause { HasCause self.old.faults self.new.faults result }
+        // It counts each call once, and each failed call.
+        ensures counted { self.new ≡ record {
+          calls = risen self.old.calls 1;
+          faults = (if is_err result then risen self.old.faults 1 else self.old.faults);
+        } }
     {
+        self.calls = self.calls.saturating_add(1);
         match read_once(&mut self.inner, buf) {
             Ok(count) => Ok(count),
             Err(Failed) => {
@@ -127,11 +149,14 @@ impl<R: Read> Source for StdSource<R> {
 impl Source for MemSource {
     ghost rest = { λ s. Some s.rest };
 
+    ghost calls = { λ s. s.calls };
+
     ghost faults = { λ s. s.faults };
 
     fn read(&mut self, buf: &mut [u8]) -> Result<usize, Failed>
         ensures bound { ReadsAtMost result buf.new }
         ensures bytes { ReadConsumes (Some self.old.rest) (Some self.new.rest) result buf.new }
+        ensures called { self.new.calls ≡ risen self.old.calls 1 }
         ensures cause { HasCause self.old.faults self.new.faults result }
         // It fails exactly at the listed calls.
         ensures listed { is_err result ≡ has self.old.fails (risen self.old.calls 1) }

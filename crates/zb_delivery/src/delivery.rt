@@ -48,8 +48,8 @@ fn take(network: &Network, tables: &Tables, received: &Received) -> Result<Effec
     Ok(Effect::nothing())
 }
 
-/// Plans what was received, after the terms that were accepted of its frame and are in `plan`. The effect has its place
-/// here, so that a refusal clears none.
+/// Plans what was received, after the terms that were accepted of its frame and are in `plan`. The effect has its
+/// place here, so that a refusal clears none.
 fn plan_taken(known: &Known<'_>, received: &Received, plan: &mut Plan<Outcome<Term, Refusal>>)
     requires fits { IsFitting received.now.content }
     requires nwk { IsNwk plan.old.out.accepted_nwk }

@@ -2,7 +2,7 @@
 use Rattle.std.proofs.Common.{◌≡◌, ℕ, zero, suc, inl, inr, List, [], ◌∷◌, ◌++◌, length, take, Option, Some, refl, sym, ap, ◌∙◌, subst, append_assoc, append-nil}
 use Rattle.std.proofs.KnownBytes.{Appends-nil, Appends-trans}
 use Rattle.std.specs.Io.KnownBytes.{Appends}
-use Rattle.zb_base.specs.Outside.{AppendsFront}
+use Rattle.zb_base.specs.Outside.{AppendsFront, risen}
 use Rattle.zb_centre_store.specs.Outside.{Outside}
 use Rattle.zb_disk.proofs.Moments.{weakened}
 use Rattle.zb_disk.specs.View.{View, LeavesOnly}
@@ -75,7 +75,8 @@ module _ {D W : Type 0} (x : Outside D W) (found : Found) (first : View) (input 
       (Covers x found first (lines ++ more) before next.out) (covers_more lines more next.out) leaves)
   stretch_more lines more now next (writes text same unread front each) =
       writes text same unread front (λ image there. covers_more lines more next.out image (each image there))
-  stretch_more lines more now next (reads same unwritten first_answered) = reads same unwritten first_answered
+  stretch_more lines more now next (reads same unwritten once first_answered) =
+      reads same unwritten once first_answered
 
   goes_more : (lines more : List Bytes) (now : Moment D W) (between : List (Moment D W)) (last : Moment D W)
       → Goes x found first input lines before now between last → Goes x found first input (lines ++ more) before now
@@ -110,15 +111,15 @@ module _ {D W : Type 0} (x : Outside D W) (found : Found) (first : View) (input 
 
   -- the input was read, once the lines were answered
   pub read_more : (lines : List Bytes) (v : Living) (old disk : D) (out : W) (rest next : Input)
-      → SoFar lines v old disk out rest
+      → SoFar lines v old disk out rest → next.calls ≡ risen rest.calls 1
       → ((all : Bytes) → input.rest ≡ Some all → AnsweredFirst x found all before (present disk out rest)
       (present disk out next)) → SoFar lines v old disk out next
-  read_more lines v old disk out rest next s answered = record {
+  read_more lines v old disk out rest next s once answered = record {
     session = s.session;
     written = s.written;
     between = s.between ++ present disk out next ∷ [];
     goes = goes_on lines (begun old) s.between (present disk out rest) (present disk out next) s.goes
-        (reads refl refl answered);
+        (reads refl refl once answered);
   }
 
   module _ (lines : List Bytes) (line : Bytes) (v : Living) (old disk : D) (out : W) (rest : Input)

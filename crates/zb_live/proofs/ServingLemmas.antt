@@ -4,7 +4,7 @@ use Rattle.std.specs.Global.{Global}
 use Rattle.std.specs.Prelude.{is_some}
 use Rattle.std.specs.Io.KnownBytes.{Appends}
 use Rattle.std.specs.Str.Lines.{strip_carriage_return}
-use Rattle.zb_base.specs.Outside.{AppendsFront, Rose, Unrisen}
+use Rattle.zb_base.specs.Outside.{AppendsFront, Rose, Unrisen, risen}
 use Rattle.zb_centre_store.proofs.StoreLemmas.{was_there_still}
 use Rattle.zb_centre_store.specs.Outside.{Outside}
 use Rattle.zb_centre_store.specs.Standing.{CanBeServed, IsUp, found_on}
@@ -197,21 +197,21 @@ module _ {D W : Type 0} (x : Outside D W) (input : Input) (old : D) (before : W)
               (sym (all_answered none all h)) s.written;
         }
 
-    read_so_far : (next : Input) → IsInLine hold
+    read_so_far : (next : Input) → IsInLine hold → next.calls ≡ risen rest.calls 1
         → ((bytes : Bytes) → rest.rest ≡ Some bytes → TakesFew bytes next.rest) → IsTrue x.tells.content
         → CanBeServed (x.state old)
         → SoFar x found (x.state old) input before now.lines (living_of session) old disk out next
-    read_so_far next none few told can =
+    read_so_far next none once few told can =
         let s = now.so_far told can in
-        read_more x found (x.state old) input before now.lines (living_of session) old disk out rest next s
+        read_more x found (x.state old) input before now.lines (living_of session) old disk out rest next s once
         (answered_first next none few s)
 
     pub reads_on : (hold2 : Bytes) (next : Input) (came : Bool) → IsInLine hold → Unrisen rest.faults next.faults
-        → ((bytes : Bytes) → rest.rest ≡ Some bytes → TakesFew bytes next.rest)
+        → next.calls ≡ risen rest.calls 1 → ((bytes : Bytes) → rest.rest ≡ Some bytes → TakesFew bytes next.rest)
         → ((bytes : Bytes) → rest.rest ≡ Some bytes → (left : Bytes) × (next.rest ≡ Some left)
         × (hold ++ bytes ≡ hold2 ++ left) × (came ≡ false → left ≡ []))
         → Loop session hold2 next disk out
-    reads_on hold2 next came none unread few read = record {
+    reads_on hold2 next came none unread once few read = record {
       lines = now.lines;
       come = λ bytes known.
           let h = now.come bytes known in
@@ -224,7 +224,7 @@ module _ {D W : Type 0} (x : Outside D W) (input : Input) (old : D) (before : W)
             lines_are = h.lines_are;
           };
       alive = now.alive;
-      so_far = read_so_far next none few;
+      so_far = read_so_far next none once few;
       wrote = now.wrote;
       waits = now.waits;
       short = now.short;
@@ -241,11 +241,11 @@ module _ {D W : Type 0} (x : Outside D W) (input : Input) (old : D) (before : W)
 
     -- the input ended
     pub ends : (hold2 : Bytes) (next : Input) (came : Bool) → IsInLine hold → Unrisen rest.faults next.faults
-        → ((bytes : Bytes) → rest.rest ≡ Some bytes → TakesFew bytes next.rest)
+        → next.calls ≡ risen rest.calls 1 → ((bytes : Bytes) → rest.rest ≡ Some bytes → TakesFew bytes next.rest)
         → ((bytes : Bytes) → rest.rest ≡ Some bytes → (left : Bytes) × (next.rest ≡ Some left)
         × (hold ++ bytes ≡ hold2 ++ left) × (came ≡ false → left ≡ []))
         → came ≡ false → hold2 ≡ hold → Lives x input old before (Ok tt) next disk out
-    ends hold2 next came none unread few read ended same = record {
+    ends hold2 next came none unread once few read ended same = record {
       lines = now.lines;
       taken = taken_so_far;
       all = λ bytes known.
@@ -264,7 +264,7 @@ module _ {D W : Type 0} (x : Outside D W) (input : Input) (old : D) (before : W)
           (now.so_far told can).session
           (at_first (x.state old) (x.state disk) (living_of session).tables image closed
           (held found session (x.state disk) (now.alive told can) image there));
-      moments = λ told can. let s = read_so_far next none few told can in (s.between, s.goes);
+      moments = λ told can. let s = read_so_far next none once few told can in (s.between, s.goes);
       short = now.short;
       faults = tt;
       worn = λ is told can. absurd (cc is);
@@ -334,18 +334,18 @@ module _ {D W : Type 0} (x : Outside D W) (input : Input) (old : D) (before : W)
         (λ not. now.unread)
 
     -- the input couldn't be read
-    pub ends_unread : (next : Input) (f : LiveFault) → IsInLine hold
+    pub ends_unread : (next : Input) (f : LiveFault) → IsInLine hold → next.calls ≡ risen rest.calls 1
         → ((bytes : Bytes) → rest.rest ≡ Some bytes → TakesFew bytes next.rest)
         → (f ≡ Read → Rose rest.faults next.faults)
         → ((◌≡◌ {A = Result Bool LiveFault} (Err f) (Err Read) → ⊥) → Unrisen rest.faults next.faults)
         → (f ≡ Read) ⊎ (f ≡ NoMemory) → Lives x input old before (Err f) next disk out
-    ends_unread next f none few rose same (inl is) =
-        ends_between next f (read_so_far next none few)
+    ends_unread next f none once few rose same (inl is) =
+        ends_between next f (read_so_far next none once few)
         (subst (IsLiveFault x input old before next disk out) (sym is)
         (rose_later input.faults rest.faults next.faults (omega (arith, now.unread)) (rose is)))
         (λ worn. let no : Read ≡ Worn = sym is ∙ worn in cc no) (λ not. absurd (not (err_is f Read is)))
-    ends_unread next f none few rose same (inr is) =
-        ends_between next f (read_so_far next none few)
+    ends_unread next f none once few rose same (inr is) =
+        ends_between next f (read_so_far next none once few)
         (subst (IsLiveFault x input old before next disk out) (sym is) now.unrisen)
         (λ worn. let no : NoMemory ≡ Worn = sym is ∙ worn in cc no)
         (λ not. same (λ e. let no : NoMemory ≡ Read = sym is ∙ same_err f Read e in cc no) ∙ now.unread)

@@ -2,7 +2,7 @@
 -- input still had.
 use Rattle.std.specs.Prelude.{ℕ, ◌≡◌, ◌≤◌, ◌++◌, List, [], ◌∷◌, length, Option, Some}
 use Rattle.std.specs.Io.KnownBytes.{Appends}
-use Rattle.zb_base.specs.Outside.{AppendsFront}
+use Rattle.zb_base.specs.Outside.{AppendsFront, risen}
 use Rattle.zb_centre_store.specs.Outside.{Outside}
 use Rattle.zb_disk.specs.View.{View, LeavesOnly}
 use Rattle.zb_live.specs.Alive.{CrashLeaves}
@@ -11,13 +11,14 @@ use Rattle.zb_live.specs.WholeLines.{whole_lines}
 use Rattle.zb_model.specs.Data.{Bytes}
 use Rattle.zb_live.specs.Feeding.{most_read}
 
--- what definitions have of a source: the bytes that are still to come, and its count of faults
+-- what definitions have of a source: the bytes that are still to come, and its counts of calls and faults
 pub record Input : Type 0 where
   pub rest : Option Bytes
+  pub calls : ℕ
   pub faults : ℕ
 
-abbrev pub input_of : Option Bytes → ℕ → Input
-input_of rest faults = record { rest = rest; faults = faults }
+abbrev pub input_of : Option Bytes → ℕ → ℕ → Input
+input_of rest calls faults = record { rest = rest; calls = calls; faults = faults }
 
 -- the disk, the output and the input at a moment
 pub record Moment (D W : Type 0) : Type 0 where
@@ -50,7 +51,7 @@ pub record AnsweredFirst {D W : Type 0} (x : Outside D W) (found : Found) (all :
 
 -- From one moment to a later one. The disk is called, and nothing is written or read. Or something is written, and the
 -- disk and the input stay as they are. A crash at any moment in between leaves an image that covers what was written
--- by then. Or the input is read, once all whole lines that came were answered.
+-- by then. Or the input is read by one call, after all whole lines that came were answered.
 pub data Stretch {D W : Type 0} (x : Outside D W) (found : Found) (first : View) (input : Input) (lines : List Bytes)
     (before : W) (now next : Moment D W) : Type 0 where
   calls : next.out ≡ now.out → next.input ≡ now.input → LeavesOnly (x.state now.disk) (x.state next.disk)
@@ -60,7 +61,7 @@ pub data Stretch {D W : Type 0} (x : Outside D W) (found : Found) (first : View)
       → AppendsFront (x.taken now.out) (x.taken next.out) text
       → ((image : List ℕ) → (x.state next.disk).images image → Covers x found first lines before next.out image)
       → Stretch x found first input lines before now next
-  reads : next.disk ≡ now.disk → next.out ≡ now.out
+  reads : next.disk ≡ now.disk → next.out ≡ now.out → next.input.calls ≡ risen now.input.calls 1
       → ((all : Bytes) → input.rest ≡ Some all → AnsweredFirst x found all before now next)
       → Stretch x found first input lines before now next
 

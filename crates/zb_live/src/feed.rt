@@ -1,6 +1,6 @@
 //! The lines of an input, as they come.
 ghost use Rattle.std.specs.Prelude.{◌≡◌, ◌≢◌, ◌≤◌, ◌<◌, ◌==◌, ◌⊎◌, ◌++◌, ◌∷◌, [], ℕ, List, Some, Err, false, length, position, get_or, IfOk, IfErr};
-ghost use Rattle.zb_base.specs.Outside.{Rose, Unrisen};
+ghost use Rattle.zb_base.specs.Outside.{Rose, Unrisen, risen};
 ghost use Rattle.zb_live.specs.Feeding.{IsTakeFault, IsNext, TakesFew};
 ghost use Rattle.zb_live.specs.declared.fault.LiveFault.TheVariants.{NoMemory as lacks, Read as read_fault};
 
@@ -74,6 +74,7 @@ impl Feed {
     /// # Errors
     /// `Read`; `NoMemory`.
     pub fn read_on<R: Source>(&mut self, input: &mut R) -> Result<bool, LiveFault>
+        ensures called { R.calls input.new ≡ risen (R.calls input.old) 1 }
         ensures few { (bytes : List ℕ) → R.rest input.old ≡ Some bytes → TakesFew bytes (R.rest input.new) }
         ensures bytes { IfOk result (λ came. (bytes : List ℕ) → R.rest input.old ≡ Some bytes
             → (left : List ℕ) × (R.rest input.new ≡ Some left)

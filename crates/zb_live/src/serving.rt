@@ -85,8 +85,9 @@ fn serve_line<W: Sink, D: Disk>(
 
 /// Serves the lines of an input over the store on a disk, and writes what they answer.
 ///
-/// Each line is carried out and stored, and then what it writes goes out by one write. The input is read only once all
-/// whole lines that came were answered. What comes after the last line feed isn't carried out.
+/// Each line is carried out and stored, and then what it writes goes out by one write. The input is read only after
+/// all
+/// whole lines that came were answered, and then by one call. What comes after the last line feed isn't carried out.
 ///
 /// # Errors
 /// - `Read`, `Write` or `Disk` if a call of the input, the output or the disk failed.
@@ -101,8 +102,9 @@ pub fn live<R: Source, W: Sink, D: Disk>(
     output: &mut W,
     disk: &mut D,
 ) -> Result<(), LiveFault>
-    ensures { Lives (outside D.tells D.state W.taken W.faults) (input_of (R.rest input.old) (R.faults input.old))
-        disk.old output.old result (input_of (R.rest input.new) (R.faults input.new)) disk.new output.new }
+    ensures { Lives (outside D.tells D.state W.taken W.faults)
+        (input_of (R.rest input.old) (R.calls input.old) (R.faults input.old)) disk.old output.old result
+        (input_of (R.rest input.new) (R.calls input.new) (R.faults input.new)) disk.new output.new }
 {
     let mut session = Session::new(alloc);
     let mut feed = Feed::new(alloc);

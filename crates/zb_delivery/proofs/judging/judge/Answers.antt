@@ -17,7 +17,8 @@ returns-in_err-judge_carrier-clause-plan c = λ d.
     c.in_err-judge_carrier.field-0.0 _ c.from_residual.ensures.1
     (frame_refused c.args.known.now.network.now c.args.known.now.tables.now d c.args.bytes.now
     c.judge_carrier.new.out.accepted_nwk c.judge_carrier.new.out.accepted_aps
-    c.in_err-judge_carrier.field-0.0 c.in_err-judge_carrier.ensures.refused c.in_err-judge_carrier.ensures.aps c.in_err-judge_carrier.ensures.carrier)
+    c.in_err-judge_carrier.field-0.0 c.in_err-judge_carrier.ensures.refused c.in_err-judge_carrier.ensures.aps
+    c.in_err-judge_carrier.ensures.carrier)
 
 pub returns-in_err-judge_carrier-clause-nwk : goal.returns-in_err-judge_carrier-clause-nwk
 returns-in_err-judge_carrier-clause-nwk c = rw c.in_err-judge_carrier.ensures.refused tt
@@ -28,7 +29,8 @@ returns-in_err-judge_carrier-clause-aps c = rw c.in_err-judge_carrier.ensures.ap
 pub returns-in_err-leave-clause-plan : goal.returns-in_err-leave-clause-plan
 returns-in_err-leave-clause-plan c = λ d.
     refused_exit c.args.known.now.network.now c.args.known.now.tables.now d
-    (terms c.judge_carrier.new.out.accepted_nwk c.judge_carrier.new.out.accepted_aps) c.from_residual-in_err-leave.result
+    (terms c.judge_carrier.new.out.accepted_nwk c.judge_carrier.new.out.accepted_aps)
+    c.from_residual-in_err-leave.result
     c.in_err-leave.field-0.0 _ c.from_residual-in_err-leave.ensures.1
     (leave_refused_exit c.args.known.now.network.now c.args.known.now.tables.now d c.args.bytes.now
     c.judge_carrier.new.frame c.judge_carrier.new.out.accepted_nwk c.judge_carrier.new.out.accepted_aps
@@ -36,7 +38,8 @@ returns-in_err-leave-clause-plan c = λ d.
     (c.in_err-leave.ensures c.args.known.now.network.now c.args.known.now.tables.now d))
 
 pub returns-in_err-leave-clause-nwk : goal.returns-in_err-leave-clause-nwk
-returns-in_err-leave-clause-nwk c = accepted_nwk c.args.known.now.network.now c.args.known.now.tables.now c.args.bytes.now c.judge_carrier.new.frame
+returns-in_err-leave-clause-nwk c = accepted_nwk c.args.known.now.network.now c.args.known.now.tables.now
+    c.args.bytes.now c.judge_carrier.new.frame
     c.judge_carrier.new.out.accepted_nwk c.in_ok-judge_carrier.ensures.carrier
 
 pub returns-in_err-leave-clause-aps : goal.returns-in_err-leave-clause-aps
@@ -47,10 +50,12 @@ returns-in-Some-clause-plan c = λ d.
     leave_exit c.args.known.now.network.now c.args.known.now.tables.now d c.args.bytes.now
     c.judge_carrier.new.frame c.judge_carrier.new.out.accepted_nwk c.judge_carrier.new.out.accepted_aps
     c.in_ok-leave.leave c.in-Some.sender c.in-Some.options c.in_ok-judge_carrier.ensures.carrier
-    c.in_ok-judge_carrier.ensures.aps c.in-Some.is (c.in_ok-leave.ensures c.args.known.now.network.now c.args.known.now.tables.now d)
+    c.in_ok-judge_carrier.ensures.aps c.in-Some.is (c.in_ok-leave.ensures c.args.known.now.network.now
+    c.args.known.now.tables.now d)
 
 pub returns-in-Some-clause-nwk : goal.returns-in-Some-clause-nwk
-returns-in-Some-clause-nwk c = accepted_nwk c.args.known.now.network.now c.args.known.now.tables.now c.args.bytes.now c.judge_carrier.new.frame
+returns-in-Some-clause-nwk c = accepted_nwk c.args.known.now.network.now c.args.known.now.tables.now c.args.bytes.now
+    c.judge_carrier.new.frame
     c.judge_carrier.new.out.accepted_nwk c.in_ok-judge_carrier.ensures.carrier
 
 pub returns-in-Some-clause-aps : goal.returns-in-Some-clause-aps
@@ -71,7 +76,8 @@ returns-then-is_none-clause-plan c = λ d.
     c.in_ok-judge_carrier.ensures.aps (rw c.payload_of.ensures at read)
 
 pub returns-then-is_none-clause-nwk : goal.returns-then-is_none-clause-nwk
-returns-then-is_none-clause-nwk c = accepted_nwk c.args.known.now.network.now c.args.known.now.tables.now c.args.bytes.now c.judge_carrier.new.frame
+returns-then-is_none-clause-nwk c = accepted_nwk c.args.known.now.network.now c.args.known.now.tables.now
+    c.args.bytes.now c.judge_carrier.new.frame
     c.judge_carrier.new.out.accepted_nwk c.in_ok-judge_carrier.ensures.carrier
 
 pub returns-then-is_none-clause-aps : goal.returns-then-is_none-clause-aps
