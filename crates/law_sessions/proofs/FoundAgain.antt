@@ -72,7 +72,7 @@ store_found s z kept e = by_state (state_given Centre z.content (concat z.payloa
     by_state (Ok t) is e = by_widths t (fits_widths t) is refl e
     by_state (Err at) is e = absurd (cc)
 
-slot_of_none : (second : Bool) → 0 < length (slot second []) → ⊥
+pub slot_of_none : (second : Bool) → 0 < length (slot second []) → ⊥
 unfolding slot
 slot_of_none true lt = omega (arith, lt)
 slot_of_none false lt = omega (arith, lt)

@@ -18,3 +18,4 @@ mod RuledSessions
 mod OnDisk
 mod Offered
 mod RunLemmas
+mod Lefts

@@ -4,3 +4,4 @@ pub mod Logs
 pub mod Making
 pub mod Offers
 pub mod Runs
+pub mod Leaving

@@ -3,6 +3,7 @@
 #![tactic(auto)]
 
 mod admin_runs;
+mod programs;
 
 ghost use Rattle.std.specs.Prelude.{◌≡◌, ℕ, true, is_some, map, List, [], Option, Some, Ok};
 ghost use Rattle.law_run.specs.Commanding.{OneCentre};
@@ -31,6 +32,8 @@ ghost use Rattle.zb_stored_tables.specs.Stored.{IsKept};
 pub use admin_runs::{
     no_counter_comes_twice_in_all_runs, no_counter_of_admin_comes_again_after_a_restore,
 };
+pub use programs::what_live_leaves_is_a_session;
+
 use law_real_runs::only_confirmations_read_as_such;
 use zb_keys::start_lines_give_the_first_state;
 

@@ -197,7 +197,7 @@ same_empty old new still empty =
     }
 
 pub there : (v : View) → CanBeServed v → (image : List ℕ) → v.images image → WasThereOrEmpty v image
-there v (inl empty) image is = inl (empty.images image is)
+there v (inl empty) image is = inl (empty.seen, empty.images image is)
 there v (inr whole) image is = let s = whole image is in inr (s.0, s.1, (image, is, s.1))
 
 found_none : (bytes : List ℕ) → bytes ≡ [] → found_on bytes ≡ Ok None
@@ -309,7 +309,7 @@ no_size v size some is none = some (is ∙ ap length none)
 
 pub was_there_still : (old mid : View) → IsStill old mid → (image : List ℕ) → WasThereOrEmpty mid image
     → WasThereOrEmpty old image
-was_there_still old mid still image (inl none) = inl none
+was_there_still old mid still image (inl none) = inl (sym still.same.seen ∙ none.0, none.1)
 was_there_still old mid still image (inr was) = was_still old mid still image was
 
 pub can_still : (old mid : View) → IsStill old mid → CanBeServed old → CanBeServed mid

@@ -67,9 +67,9 @@ IsJudgeFault tells old new Worn = ⊥
 IsJudgeFault tells old new Write = ⊥
 IsJudgeFault tells old new NoMemory = Unrisen old.faults new.faults
 
--- while a store is judged, an image is empty, or represents the same as some image before
+-- While a store is opened, an image represents the same as some image before. It is empty only if the disk was empty.
 abbrev pub WasThereOrEmpty : View → List ℕ → Type 0
-WasThereOrEmpty old image = (image ≡ []) ⊎ WasThere old image
+WasThereOrEmpty old image = ((old.seen ≡ []) × (image ≡ [])) ⊎ WasThere old image
 
 pub record IsJudged (tells : Telling) (c : Setting) (old : View)
     (result : Result (Option (Hosted CoreValue)) AdminFault) (new : View) : Type 0 where
