@@ -56,7 +56,7 @@ module _ {D W : Type 0} (x : Outside D W) (input : Input) (old : D) (before : W)
       (of_session lines next.out) leaves)
   one_stretch lines now next so_far (writes text same unread more each) =
       subst (λ (d : D). LeavesOnly (x.state old) (x.state d) (IsOfSession image)) (sym same) so_far
-  one_stretch lines now next so_far (reads same unwritten answered) =
+  one_stretch lines now next so_far (reads same unwritten once answered) =
       subst (λ (d : D). LeavesOnly (x.state old) (x.state d) (IsOfSession image)) (sym same) so_far
 
   all_along : (lines : List Bytes) (now : Moment D W) (moments : List (Moment D W)) (last : Moment D W)
