@@ -16,7 +16,7 @@ use Rattle.zb_model.specs.Data.{Bytes}
 use Rattle.zb_model.specs.State.{NodeState}
 use Rattle.zb_store.specs.Layout.{IsWhole, Standing}
 
-found_whole : (bytes : List ℕ) (s : Standing) → IsWhole s bytes → found_on bytes ≡ found_store (Some s)
+pub found_whole : (bytes : List ℕ) (s : Standing) → IsWhole s bytes → found_on bytes ≡ found_store (Some s)
 unfolding found_on
 found_whole [] s whole = absurd (slot_of_none (not s.second) whole.other_gate)
 found_whole (byte ∷ bytes) s whole = ap found_store whole.stands

@@ -19,3 +19,4 @@ mod OnDisk
 mod Offered
 mod RunLemmas
 mod Lefts
+mod LeftsOfRuns
