@@ -1,5 +1,5 @@
 -- Each image that a run of `live` leaves is that of a session of some first lines of its input.
-use Rattle.std.proofs.Common.{◌≡◌, inl, inr, ℕ, List, [], ◌∷◌, not, Option, Some, None, Ok, Err, OnOk, IsTrue, refl, sym, ap, ◌∙◌, subst}
+use Rattle.std.proofs.Common.{◌≡◌, inl, inr, ℕ, List, [], ◌∷◌, not, Option, Some, None, Ok, Err, OnOk, IsTrue, sym, ap, ◌∙◌, subst}
 use Rattle.law_sessions.specs.Leaving.{IsOfSession, IsOnly}
 use Rattle.law_sessions.specs.Sessions.{AreSessions, IsLeft}
 use Rattle.law_sessions.proofs.FoundAgain.{slot_of_none}

@@ -1,5 +1,5 @@
 -- Each image that a run of `admin` leaves, over a store, is that of a run of some first commands of its script.
-use Rattle.std.proofs.Common.{◌≡◌, inl, inr, ℕ, Bool, true, false, if◌then◌else◌, List, [], ◌∷◌, Option, Some, None, Result, Ok, Err, refl, sym, ap, ◌∙◌, subst}
+use Rattle.std.proofs.Common.{◌≡◌, inl, inr, ℕ, Bool, true, false, if◌then◌else◌, List, [], Option, Some, None, Result, Ok, Err, sym, ap, ◌∙◌, subst}
 use Rattle.std.specs.List.{concat}
 use Rattle.law_sessions.specs.Leaving.{AreKeptAlong, IsOfRun, IsOnly}
 use Rattle.law_sessions.specs.Runs.{AreRuns, KeepsTables}
@@ -11,7 +11,7 @@ use Rattle.zb_centre_store.specs.Outside.{Outside}
 use Rattle.zb_centre_store.specs.Standing.{StandsAs, found_on, found_store, found_tables}
 use Rattle.zb_centre_store.specs.declared.fault.AdminFault.{AdminFault}
 use Rattle.zb_centre_store.specs.declared.fault.AdminFault.TheVariants.{BadStore}
-use Rattle.zb_host.specs.Plans.{Restored, gives, bad}
+use Rattle.zb_host.specs.Plans.{gives, bad}
 use Rattle.zb_model.specs.Data.{Centre}
 use Rattle.zb_model.specs.Record.{record_of}
 use Rattle.zb_model.specs.State.{NodeState}

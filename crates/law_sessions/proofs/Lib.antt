@@ -20,3 +20,4 @@ mod Offered
 mod RunLemmas
 mod Lefts
 mod LeftsOfRuns
+mod FirstFound

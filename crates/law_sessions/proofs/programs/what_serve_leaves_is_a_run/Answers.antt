@@ -1,4 +1,4 @@
-use Rattle.std.proofs.Common.{◌≡◌, Some, Ok, ◌∙◌, sym, ap}
+use Rattle.std.proofs.Common.{Some, ◌∙◌, ap}
 use Rattle.law_sessions.specs.Leaving.{IsOfRun}
 use Rattle.law_sessions.proofs.LeftsOfRuns.{of_run}
 use Rattle.law_sessions.proofs.programs.what_serve_leaves_is_a_run.Goals as goal
