@@ -1,5 +1,5 @@
 -- Each image that a run of `live` leaves is that of a session of some first lines of its input.
-use Rattle.std.proofs.Common.{◌≡◌, inl, inr, ℕ, List, [], ◌∷◌, not, Option, Some, None, Ok, Err, OnOk, IsTrue, refl, sym, ap, ◌∙◌, subst}
+use Rattle.std.proofs.Common.{◌≡◌, inl, inr, ℕ, List, [], ◌∷◌, not, Option, Some, None, Ok, Err, OnOk, IsTrue, sym, ap, ◌∙◌, subst}
 use Rattle.law_sessions.specs.Leaving.{IsOfSession, IsOnly}
 use Rattle.law_sessions.specs.Sessions.{AreSessions, IsLeft}
 use Rattle.law_sessions.proofs.FoundAgain.{slot_of_none}
@@ -16,7 +16,7 @@ use Rattle.zb_model.specs.Data.{Bytes}
 use Rattle.zb_model.specs.State.{NodeState}
 use Rattle.zb_store.specs.Layout.{IsWhole, Standing}
 
-found_whole : (bytes : List ℕ) (s : Standing) → IsWhole s bytes → found_on bytes ≡ found_store (Some s)
+pub found_whole : (bytes : List ℕ) (s : Standing) → IsWhole s bytes → found_on bytes ≡ found_store (Some s)
 unfolding found_on
 found_whole [] s whole = absurd (slot_of_none (not s.second) whole.other_gate)
 found_whole (byte ∷ bytes) s whole = ap found_store whole.stands

@@ -19,3 +19,5 @@ mod OnDisk
 mod Offered
 mod RunLemmas
 mod Lefts
+mod LeftsOfRuns
+mod FirstFound

@@ -192,7 +192,7 @@ start_is gives network key sessions (p ∷ ps) same is differ =
     (nat_eq-refl p.eui))
     ∙ ap (λ (r : model.Role). first_state r (Some (key, 0)) None 0 0) is.0
 
-first_again : (key : Bytes) → shown (after_boot (first_tables key)) ≡ first_tables key
+pub first_again : (key : Bytes) → shown (after_boot (first_tables key)) ≡ first_tables key
 unfolding first_state with_declared with_given_net after_boot shown
 first_again key = refl
 

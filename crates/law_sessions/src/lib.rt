@@ -5,13 +5,14 @@
 mod admin_runs;
 mod programs;
 
-ghost use Rattle.std.specs.Prelude.{◌≡◌, ℕ, true, is_some, map, List, [], Option, Some, Ok};
+ghost use Rattle.std.specs.Prelude.{◌≡◌, ℕ, true, is_some, length, map, List, [], Option, Some, Ok};
 ghost use Rattle.law_run.specs.Commanding.{OneCentre};
 ghost use Rattle.law_sessions.specs.Hubs.{without_numbers};
 ghost use Rattle.law_sessions.specs.Logs.{AllHaveSetting, HubHolds, IsHubOf, hub_log, log_on};
 ghost use Rattle.law_sessions.specs.Making.{IsHeader, found_first, hub_of, hub_schedule};
 ghost use Rattle.law_sessions.specs.Offers.{IsFree, IsUndrawn};
 ghost use Rattle.law_sessions.specs.Sessions.{AreKept, AreSessions, NoneAgain, NoneTwice, Session, left_by_all, sealed_on, sessions_seal};
+ghost use Rattle.zb_centre_store.specs.Makings.{first_tables};
 ghost use Rattle.zb_centre_store.specs.Standing.{StandsAs, found_on};
 ghost use Rattle.zb_live.specs.Shown.{event_lines};
 ghost use Rattle.zb_live.specs.Living.{Found, fresh, served, setting_of};
@@ -32,9 +33,8 @@ ghost use Rattle.zb_stored_tables.specs.Stored.{IsKept};
 pub use admin_runs::{
     no_counter_comes_twice_in_all_runs, no_counter_of_admin_comes_again_after_a_restore,
 };
-pub use programs::what_live_leaves_is_a_session;
-
 use law_real_runs::only_confirmations_read_as_such;
+pub use programs::{what_live_leaves_is_a_session, what_serve_leaves_is_a_run};
 use zb_keys::start_lines_give_the_first_state;
 
 /// States that the lines of an event have just the terms that its answer seals, in their order.
@@ -138,6 +138,14 @@ pub fn a_hub_that_init_made_is_a_node_of_a_schedule()
 {
     start_lines_give_the_first_state();
 }
+
+/// States that a store that `init` made is found with the first tables, which have the network key of `init`.
+///
+/// So a hub whose first session finds this image has the log and the run of the laws below.
+pub fn what_init_makes_is_found_first()
+    ensures { (key : Bytes) (image : List ℕ) → length key ≡ 16 → StandsAs (Some (first_tables key)) image
+        → found_on image ≡ found_first key }
+{}
 
 /// States that the header of every session that was opened is one that a hub may have.
 #[tactic(auto, using(crate::proofs::RuledSessions::session_header))]

@@ -1,4 +1,3 @@
-use Rattle.std.proofs.Common.{◌≡◌, ◌∷◌, [], Ok, refl, subst}
 use Rattle.law_sessions.proofs.Lefts.{leaves_sessions, with_all_lines}
 use Rattle.law_sessions.proofs.programs.what_live_leaves_is_a_session.Goals as goal
 use Rattle.zb_centre_store.specs.Outside.{outside}
