@@ -21,3 +21,4 @@ mod RunLemmas
 mod Lefts
 mod LeftsOfRuns
 mod FirstFound
+mod Done

@@ -12,7 +12,7 @@ use Rattle.zb_model.specs.Claims.{AreApart}
 use Rattle.zb_model.specs.State.{NodeState}
 use Rattle.zb_model_real.specs.Real.{real}
 
-left_found : (found : Found) (o : Option NodeState) (left : List ℕ) → AreKept o → IsLeft found o left
+pub left_found : (found : Found) (o : Option NodeState) (left : List ℕ) → AreKept o → IsLeft found o left
     → found_on left ≡ found_after found o
 left_found found None left kept is = is
 left_found found (Some s) left kept is = found_again s left kept is

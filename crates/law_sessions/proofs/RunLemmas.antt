@@ -1,26 +1,24 @@
 -- What the centre sealed so far was used, command after command and run after run.
-use Rattle.std.proofs.Common.{◌≡◌, ℕ, ◌≤◌, ◌<◌, ◌++◌, suc, zero, Bool, true, false, if◌then◌else◌, IfOk, List, [], ◌∷◌, take, length, Option, Some, None, Result, Ok, Err, refl, sym, ap, ◌∙◌, subst, arith, append_assoc, append-nil}
+use Rattle.std.proofs.Common.{◌≡◌, ℕ, ◌≤◌, ◌<◌, ◌++◌, suc, zero, List, [], ◌∷◌, take, length, Option, Some, None, Ok, Err, refl, sym, ap, ◌∙◌, subst, arith, append_assoc, append-nil}
 use Rattle.std.specs.Prelude.{slice_get}
-use Rattle.std.specs.List.{AllByRecursion, concat}
+use Rattle.std.specs.List.{AllByRecursion}
 use Rattle.law_sessions.specs.Runs.{AreRuns, Found, KeepsTables, IsLeft, Restores, Run, after_run, backup_tables, commands_of, left_by_all, order_seals, run_seals, sealed_on, setting_of, step_seals, steps_seal}
 use Rattle.law_answer_seals.specs.Sealing.{IsWithinLimits}
 use Rattle.law_answer_seals.proofs.Limits.{booted_within}
 use Rattle.law_sessions.specs.Sessions.{IsUnderKept, NoneAgain, NoneTwice, TakeOneCounter}
 use Rattle.law_sessions.proofs.FoundAgain.{found_again}
-use Rattle.law_sessions.proofs.SessionLemmas.{given_within}
-use Rattle.law_sessions.proofs.Used.{AreUsed, IsUsed, all_map, boot_used, event_used, restored_used}
+use Rattle.law_sessions.proofs.SessionLemmas.{found_used, none_found}
+use Rattle.law_sessions.proofs.Used.{AreUsed, IsFoundUsed, IsUsed, IsUsedBy, all_map, boot_used, event_used, restored_used}
 use Rattle.zb_admin.specs.Served.{done, on_empty, on_store, served}
 use Rattle.zb_base.specs.declared.node.Peer.{Peer}
 use Rattle.zb_centre_store.specs.Makings.{first_tables}
-use Rattle.zb_centre_store.specs.Standing.{found_on, found_store, found_tables}
-use Rattle.zb_centre_store.specs.declared.fault.AdminFault.TheVariants.{BadStore}
+use Rattle.zb_centre_store.specs.Standing.{found_on}
 use Rattle.zb_install.specs.Code.{code_key}
 use Rattle.zb_keys.specs.Declarations.{first_state}
-use Rattle.zb_model.specs.Data.{Bytes, Centre, DoProvision, DoRemove, Term}
+use Rattle.zb_model.specs.Data.{Bytes, DoProvision, DoRemove, Term}
 use Rattle.zb_model.specs.Rules.{Setting}
 use Rattle.zb_model.specs.State.{NodeState, after_boot, with_declared, with_given_net}
 use Rattle.zb_model_real.specs.Real.{real}
-use Rattle.zb_record.specs.Ranges.{fits_widths}
 use Rattle.zb_script.specs.Scripts.{IsScript}
 use Rattle.zb_script.specs.declared.script.Order.{Order}
 use Rattle.zb_script.specs.declared.script.Order.TheVariants.{Init, Provision, Remove, List as Lists, Backup, Restore}
@@ -28,8 +26,6 @@ use Rattle.zb_script.specs.declared.script.Step.{Step}
 use Rattle.zb_setting.specs.Settings.{own, setting_for}
 use Rattle.zb_centre_store.specs.Freshness.{HasUsed}
 use Rattle.zb_centre_store.specs.Skipping.{skipped}
-use Rattle.zb_store.specs.Layout.{Standing, stands}
-use Rattle.zb_stored_tables.specs.Stored.{state_given}
 
 -- ---- the block of the centre
 
@@ -48,11 +44,6 @@ block_of r is =
 
 -- ---- what stands, and what was used in it
 
--- before a store stands nothing was sealed
-abbrev IsUsedIn : List Term → Option NodeState → Type 0
-IsUsedIn used None = used ≡ []
-IsUsedIn used (Some s) = AreUsed used s
-
 first_within : (key : Bytes) → IsWithinLimits (first_tables key)
 unfolding first_state with_declared with_given_net after_boot
 first_within key = booted_within (first_tables key)
@@ -69,7 +60,7 @@ same_used : (used : List Term) (s : NodeState) → AreUsed used s → AreUsed (u
 same_used used s is = subst (λ ts. AreUsed ts s) (sym (append-nil used)) is
 
 empty_used : (number : ℕ) (order : Order) (used : List Term) → used ≡ []
-    → IsUsedIn (used ++ []) (on_empty number order).after
+    → IsUsedBy (used ++ []) (on_empty number order).after
 empty_used number (Init key) used none = none_used (used ++ []) (first_tables key.0) (first_within key.0)
     (append-nil used ∙ none)
 empty_used number (Provision device code) used none = append-nil used ∙ none
@@ -81,7 +72,7 @@ empty_used number (Restore by bytes) used none =
     (append-nil used ∙ none)
 
 store_used : (c : Setting) (number : ℕ) (order : Order) (s : NodeState) (used : List Term) → 1 ≤ c.me.out_block
-    → AreUsed used s → IsUsedIn (used ++ order_seals c order s) (on_store c number order s).after
+    → AreUsed used s → IsUsedBy (used ++ order_seals c order s) (on_store c number order s).after
 store_used c number (Init key) s used block is = same_used used s is
 store_used c number (Provision device code) s used block is = event_used real c
     (DoProvision device.0 (code_key code)) s used block is
@@ -91,34 +82,30 @@ store_used c number Backup s used block is = same_used used s is
 store_used c number (Restore by bytes) s used block is = same_used used s is
 
 step_used : (c : Setting) (step : Step) (standing : Option NodeState) (used : List Term) → 1 ≤ c.me.out_block
-    → IsUsedIn used standing → IsUsedIn (used ++ step_seals c step standing) (done c step standing).after
+    → IsUsedBy used standing → IsUsedBy (used ++ step_seals c step standing) (done c step standing).after
 unfolding done
 step_used c step None used block is = empty_used step.line step.order used is
 step_used c step (Some s) used block is = store_used c step.line step.order s used block is
 
 steps_used : (c : Setting) (steps : List Step) (standing : Option NodeState) (used : List Term) → 1 ≤ c.me.out_block
-    → IsUsedIn used standing → IsUsedIn (used ++ steps_seal c steps standing) (served c steps standing).after
-steps_used c [] standing used block is = subst (λ ts. IsUsedIn ts standing) (sym (append-nil used)) is
+    → IsUsedBy used standing → IsUsedBy (used ++ steps_seal c steps standing) (served c steps standing).after
+steps_used c [] standing used block is = subst (λ ts. IsUsedBy ts standing) (sym (append-nil used)) is
 steps_used c (step ∷ steps) standing used block is =
     let next = (done c step standing).after in
-    subst (λ ts. IsUsedIn ts (served c steps next).after)
+    subst (λ ts. IsUsedBy ts (served c steps next).after)
     (append_assoc used (step_seals c step standing) (steps_seal c steps next))
     (steps_used c steps next (used ++ step_seals c step standing) block (step_used c step standing used block is))
 
 -- ---- runs
 
-abbrev IsFoundUsed : List Term → Found → Type 0
-IsFoundUsed used (Ok standing) = IsUsedIn used standing
-IsFoundUsed used (Err fault) = NoneTwice used
-
 left_used : (standing : Option NodeState) (left : List ℕ) (used : List Term) → KeepsTables standing left
-    → IsUsedIn used standing → IsFoundUsed used (found_on left)
+    → IsUsedBy used standing → IsFoundUsed used (found_on left)
 unfolding found_on
 left_used None left used none is = subst (λ image. IsFoundUsed used (found_on image)) (sym none) is
 left_used (Some s) left used (kept, stood) is = subst (IsFoundUsed used) (sym (found_again s left kept stood))
     (boot_used s used is)
 
-run_used : (r : Run) (found : Found) (used : List Term) → IsScript r.script → IsLeft r found → IsFoundUsed used found
+pub run_used : (r : Run) (found : Found) (used : List Term) → IsScript r.script → IsLeft r found → IsFoundUsed used found
     → IsFoundUsed (used ++ run_seals r found) (found_on r.left)
 run_used r (Ok standing) used script left is =
     left_used (after_run r standing) r.left (used ++ steps_seal (setting_of r) (commands_of r) standing) left
@@ -134,34 +121,6 @@ all_used image (r ∷ more) used (script, left, are) is =
     subst (λ ts. IsFoundUsed ts (found_on (left_by_all r.left more)))
     (append_assoc used (run_seals r (found_on image)) (sealed_on r.left more))
     (all_used r.left more (used ++ run_seals r (found_on image)) are (run_used r (found_on image) used script left is))
-
-none_in : (used : List Term) (standing : Option NodeState) → IsUsedIn used standing → NoneTwice used
-none_in used None is = subst NoneTwice (sym is) tt
-none_in used (Some s) is = is.apart
-
-none_found : (used : List Term) (found : Found) → IsFoundUsed used found → NoneTwice used
-none_found used (Ok standing) is = none_in used standing is
-none_found used (Err fault) is = is
-
--- ---- what an image holds at first
-
-tables_used : (r : Result NodeState ℕ) → IfOk r IsWithinLimits → IsFoundUsed [] (found_tables r)
-tables_used (Ok s) within = by_width (fits_widths s)
-  where
-    by_width : (b : Bool) → IsFoundUsed [] (if b then Ok (Some s) else Err (BadStore 0))
-    by_width true = record { used = tt; apart = tt; within = within }
-    by_width false = tt
-tables_used (Err at) within = tt
-
-store_found_used : (o : Option Standing) → IsFoundUsed [] (found_store o)
-store_found_used None = tt
-store_found_used (Some z) = tables_used (state_given Centre z.content (concat z.payloads))
-    (given_within z.content (concat z.payloads))
-
-found_used : (image : List ℕ) → IsFoundUsed [] (found_on image)
-unfolding found_on
-found_used [] = refl
-found_used (byte ∷ bytes) = store_found_used (stands (byte ∷ bytes))
 
 pub runs_apart : (image : List ℕ) (runs : List Run) → AreRuns image runs → NoneTwice (sealed_on image runs)
 runs_apart image runs are =
@@ -192,8 +151,8 @@ restored_run r more by bytes used is (script, left, are) (line, steps, some, beg
     let after : after_run r None ≡ (served c rest tables).after = ap (λ ss. (served c ss None).after) commands in
     let here = steps_used c rest tables used (block_of r script) is in
     let there = left_used (after_run r None) r.left (used ++ steps_seal c (commands_of r) None) left
-    (subst (IsUsedIn (used ++ steps_seal c (commands_of r) None)) (sym after)
-    (subst (λ ts. IsUsedIn (used ++ ts) (served c rest tables).after) (sym seals) here)) in
+    (subst (IsUsedBy (used ++ steps_seal c (commands_of r) None)) (sym after)
+    (subst (λ ts. IsUsedBy (used ++ ts) (served c rest tables).after) (sym seals) here)) in
     subst NoneTwice (append_assoc used (steps_seal c (commands_of r) None) (sealed_on r.left more))
     (none_found ((used ++ steps_seal c (commands_of r) None) ++ sealed_on r.left more)
     (found_on (left_by_all r.left more))

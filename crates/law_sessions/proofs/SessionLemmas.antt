@@ -6,7 +6,7 @@ use Rattle.std.specs.List.{AllByRecursion, concat, list_any}
 use Rattle.law_answer_seals.specs.Sealing.{IsWithinLimits}
 use Rattle.law_answer_seals.proofs.Limits.{booted_within}
 use Rattle.law_sessions.specs.Sessions.{IsUnderKept, NoneAgain, NoneTwice, TakeOneCounter, event_seals, found_after, left_by, left_by_all, line_seals, lines_seal, meaning_seals, sessions_seal}
-use Rattle.law_sessions.proofs.Used.{AreUsed, IsUsed, all_map, boot_used, event_used, restored_used}
+use Rattle.law_sessions.proofs.Used.{AreUsed, IsFoundUsed, IsUsed, all_map, boot_used, event_used, restored_used}
 use Rattle.zb_base.specs.declared.node.Role.{Role}
 use Rattle.zb_base.specs.declared.node.Role.TheVariants.{Centre as RoleCentre}
 use Rattle.zb_centre_store.specs.Standing.{found_on, found_store, found_tables}
@@ -114,12 +114,6 @@ peer_block network name role eui short block = by_centre (has_centre network) re
     by_centre false none = tt
 
 -- ---- what was found, and a session
-
--- the terms were used in what is found
-abbrev IsFoundUsed : List Term → Found → Type 0
-IsFoundUsed used (Ok (Some s)) = AreUsed used s
-IsFoundUsed used (Ok None) = NoneTwice used
-IsFoundUsed used (Err fault) = NoneTwice used
 
 -- the terms were used in the tables of the session, or in what is found, before it is open
 abbrev IsUsedIn : List Term → Found → Option NodeState → Script → Type 0
@@ -252,24 +246,29 @@ left_used : (used : List Term) (found : Found) (o : Option NodeState) (network :
 left_used used found None network is = is.0
 left_used used found (Some s) network is = boot_used s used is.0
 
-none_found : (used : List Term) (found : Found) → IsFoundUsed used found → NoneTwice used
+pub none_found : (used : List Term) (found : Found) → IsFoundUsed used found → NoneTwice used
 none_found used (Ok (Some s)) is = is.apart
-none_found used (Ok None) is = is
+none_found used (Ok None) is = subst NoneTwice (sym is) tt
 none_found used (Err fault) is = is
 
 no_block : HasBlock start
 no_block e = absurd (false≢true e)
 
+-- what a session leaves
+pub session_used : (found : Found) (lines : List Bytes) (used : List Term) → IsFoundUsed used found
+    → IsFoundUsed (used ++ lines_seal found lines fresh) (left_by found lines)
+session_used found lines used is =
+    let after = (served found lines fresh).after in
+    left_used (used ++ lines_seal found lines fresh) found after.tables after.network
+    (lines_used found lines fresh used (is, no_block))
+
 all_used : (sessions : List (List Bytes)) (found : Found) (used : List Term) → IsFoundUsed used found
     → IsFoundUsed (used ++ sessions_seal found sessions) (left_by_all found sessions)
 all_used [] found used is = subst (λ ts. IsFoundUsed ts found) (sym (append-nil used)) is
 all_used (lines ∷ more) found used is =
-    let after = (served found lines fresh).after in
     subst (λ ts. IsFoundUsed ts (left_by_all (left_by found lines) more))
     (append_assoc used (lines_seal found lines fresh) (sessions_seal (left_by found lines) more))
-    (all_used more (left_by found lines) (used ++ lines_seal found lines fresh)
-    (left_used (used ++ lines_seal found lines fresh) found after.tables after.network
-    (lines_used found lines fresh used (is, no_block))))
+    (all_used more (left_by found lines) (used ++ lines_seal found lines fresh) (session_used found lines used is))
 
 -- ---- what an image stands for
 
@@ -306,9 +305,9 @@ store_used None = tt
 store_used (Some z) = tables_used (state_given Centre z.content (concat z.payloads))
     (given_within z.content (concat z.payloads))
 
-found_used : (image : List ℕ) → IsFoundUsed [] (found_on image)
+pub found_used : (image : List ℕ) → IsFoundUsed [] (found_on image)
 unfolding found_on
-found_used [] = tt
+found_used [] = refl
 found_used (byte ∷ bytes) = store_used (stands (byte ∷ bytes))
 
 pub sessions_apart : (image : List ℕ) (sessions : List (List Bytes))

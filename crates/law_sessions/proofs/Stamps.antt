@@ -36,7 +36,7 @@ IsFormed t = FormAt t.layer t
 abbrev IsSmall : Term → Type 0
 IsSmall t = t.counter < greatest_counter
 
-record HasForm (t : Term) : Type 0 where
+pub record HasForm (t : Term) : Type 0 where
   form : IsFormed t
   small : IsSmall t
 
@@ -46,7 +46,7 @@ other_control ForLoad e = ne_of_lt (omega arith) (sym e)
 other_control ForData e = ne_of_lt (omega arith) e
 other_control ForNetwork e = ne_of_lt (omega arith) e
 
-all_append : {X : Type 0} (P : X → Type 0) (xs ys : List X) → AllByRecursion P xs → AllByRecursion P ys
+pub all_append : {X : Type 0} (P : X → Type 0) (xs ys : List X) → AllByRecursion P xs → AllByRecursion P ys
     → AllByRecursion P (xs ++ ys)
 all_append P [] ys a b = b
 all_append P (x ∷ xs) ys a b = (a.0, all_append P xs ys a.1 b)
@@ -101,7 +101,7 @@ next_small : (s : NodeState) (ts : List Term) → SealsNext s ts → AllByRecurs
 next_small s [] next = tt
 next_small s (t ∷ ts) next = (next.0.below_last, next_small (after_sealing t s) ts next.1)
 
-answer_has_form : (tools : Tools) (c : Setting) (s : NodeState) (task : Task)
+pub answer_has_form : (tools : Tools) (c : Setting) (s : NodeState) (task : Task)
     → AllByRecursion HasForm (answer tools c s task).seals
 answer_has_form tools c s task =
     let ts = (answer tools c s task).seals in
@@ -131,7 +131,7 @@ line_form : (line : Bytes) (v : Living) → AllByRecursion HasForm (line_seals l
 unfolding line_seals
 line_form line v = meaning_form v.network v.tables (meaning_of line)
 
-lines_form : (found : Found) (lines : List Bytes) (v : Living) → AllByRecursion HasForm (lines_seal found lines v)
+pub lines_form : (found : Found) (lines : List Bytes) (v : Living) → AllByRecursion HasForm (lines_seal found lines v)
 lines_form found [] v = tt
 lines_form found (line ∷ more) v =
     all_append HasForm (line_seals line v) (lines_seal found more (done found line v).after) (line_form line v)
@@ -187,7 +187,7 @@ two_apart tools t u ft fu apart e =
     (same_counter t u (omega (arith, ft.small)) (omega (arith, fu.small)) nonces) (same_control t u nonces)
     (ap (λ x. x.key) e) apart
 
-stamps_apart : (tools : Tools) (ts : List Term) → AllByRecursion HasForm ts → NoneTwice ts → AreApart tools ts
+pub stamps_apart : (tools : Tools) (ts : List Term) → AllByRecursion HasForm ts → NoneTwice ts → AreApart tools ts
 stamps_apart tools [] form none = tt
 stamps_apart tools (t ∷ ts) form none = (
   all_two HasForm (λ u. TakeOneCounter t u → ⊥) (λ u. stamp tools t ≡ stamp tools u → ⊥)

@@ -1,6 +1,6 @@
 -- Counters that were used: what the centre seals next is above them, and so are the limits that are stored. No event
 -- and no boot takes that back.
-use Rattle.std.proofs.Common.{◌≡◌, ℕ, ◌<◌, ◌≤◌, ◌+◌, true, map, List, [], ◌∷◌, ◌++◌, Option, Some, None, option_map, find, refl, sym, ap, ◌∙◌, subst, arith, append_assoc, append-nil, lt_irrefl}
+use Rattle.std.proofs.Common.{◌≡◌, ℕ, ◌<◌, ◌≤◌, ◌+◌, true, map, List, [], ◌∷◌, ◌++◌, Option, Some, None, Ok, Err, option_map, find, refl, sym, ap, ◌∙◌, subst, arith, append_assoc, append-nil, lt_irrefl}
 use Rattle.std.proofs.lemmas.Bool.{false≢true}
 use Rattle.std.specs.Prelude.{is_some}
 use Rattle.std.specs.List.{AllByRecursion}
@@ -12,6 +12,7 @@ use Rattle.law_run.proofs.Basics.{find-map}
 use Rattle.law_run.proofs.Counters.{ApsCovers, aps-after, on-sealed}
 use Rattle.law_run.proofs.Nets.{Closed, Holds, Keeps, KeepsHeard, Mild, On, at_key, on-accepted, on-applied, on-booted, on-map, on-map-found}
 use Rattle.law_sessions.specs.Sessions.{AreCountedAsOne, IsUnderKept, NoneTwice, TakeOneCounter}
+use Rattle.zb_live.specs.Living.{Found}
 use Rattle.zb_model.specs.Answer.{Answer, accepted_all, answer, answered, sealed_all}
 use Rattle.zb_model.specs.Data.{Layer, Nwk, Aps, Task, Term, Edit, Reserve, Floor, Start, Moved}
 use Rattle.zb_model.specs.Lines.{Changed, Accept, Boot}
@@ -200,6 +201,16 @@ shown_before : (a : Answer) (s : NodeState) → sealed_all a.seals (before_seals
 unfolding answered applied_all
 shown_before a s = answered_tables [] a.accepts a.seals (record a { edits = [] }) (applied_all a.edits s) refl refl
     refl
+
+-- the terms were used in these tables; before there are any, nothing was sealed
+abbrev pub IsUsedBy : List Term → Option NodeState → Type 0
+IsUsedBy used None = used ≡ []
+IsUsedBy used (Some s) = AreUsed used s
+
+-- the terms were used in what is found
+abbrev pub IsFoundUsed : List Term → Found → Type 0
+IsFoundUsed used (Ok standing) = IsUsedBy used standing
+IsFoundUsed used (Err fault) = NoneTwice used
 
 pub event_used : (tools : Tools) (c : Setting) (task : Task) (s : NodeState) (used : List Term) → 1 ≤ c.me.out_block
     → AreUsed used s

@@ -5,3 +5,4 @@ pub mod Making
 pub mod Offers
 pub mod Runs
 pub mod Leaving
+pub mod Deeds

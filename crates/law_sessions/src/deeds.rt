@@ -1,0 +1,19 @@
+//! What holds of all sessions of `tc_centre` and all runs of `admin` on one store together, in any order. Each law is the
+//! contract of a function with an empty body.
+ghost use Rattle.std.specs.Prelude.{ℕ, List};
+ghost use Rattle.law_sessions.specs.Deeds.{AreDeeds, Deed, all_seals};
+ghost use Rattle.law_sessions.specs.Sessions.{NoneTwice};
+ghost use Rattle.zb_model.specs.Claims.{AreApart};
+ghost use Rattle.zb_model_real.specs.Real.{real};
+
+/// States that no two terms take one counter, in any sessions and runs of `admin` on one store.
+///
+/// Nor have two of them one sealing key and one nonce. The terms are those that the centre seals. `image` is the store
+/// as the first deed finds it, whatever it holds. Each deed has a header of its own, and begins on the image that the
+/// one before left, at its end or at a crash at any moment of it.
+pub fn no_counter_comes_twice_on_one_store()
+    ensures counters { (image : List ℕ) (deeds : List Deed) → AreDeeds image deeds
+        → NoneTwice (all_seals image deeds) }
+    ensures nonces { (image : List ℕ) (deeds : List Deed) → AreDeeds image deeds
+        → AreApart real (all_seals image deeds) }
+{}
