@@ -19,7 +19,8 @@ use zb_script::Script;
 
 /// Serves the lines of an input, as `live` does, and states that each image it leaves is that of a session.
 ///
-/// The disk has one image at first, which can be served: it is empty, or a store. A crash at any moment leaves an image
+/// The disk has one image at first, which can be served: it is empty, or a store. A crash at any moment leaves an
+/// image
 /// of which `AreSessions` holds, with some first lines of the input. If the session ends well, so does each image of
 /// the disk, with all whole lines.
 ///
