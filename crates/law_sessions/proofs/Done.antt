@@ -1,7 +1,7 @@
 -- What the centre sealed so far was used, deed after deed.
 use Rattle.std.proofs.Common.{ℕ, List, [], ◌∷◌, ◌++◌, Option, Some, None, Ok, Err, sym, subst, append_assoc, append-nil}
 use Rattle.std.specs.List.{AllByRecursion}
-use Rattle.law_sessions.specs.Deeds.{AreDeeds, Deed, IsLeft, Lived, Ran, all_seals, deed_seals, left}
+use Rattle.law_sessions.specs.Deeds.{AreDeeds, Deed, IsLeft, Lived, Ran, all_seals, deed_seals, last_left, left}
 use Rattle.law_sessions.specs.Runs.{order_seals, run_seals, step_seals, steps_seal}
 use Rattle.law_sessions.specs.Sessions.{NoneTwice, lines_seal}
 use Rattle.law_sessions.proofs.OnDisk.{left_found}
@@ -33,12 +33,7 @@ deed_used image (Lived x) used is before =
     (session_used (found_on image) x.lines used before)
 deed_used image (Ran r) used (script, is) before = run_used r (found_on image) used script is before
 
--- the image that the last of them left
-abbrev last_left : List ℕ → List Deed → List ℕ
-last_left image [] = image
-last_left image (deed ∷ more) = last_left (left deed) more
-
-deeds_used : (image : List ℕ) (deeds : List Deed) (used : List Term) → AreDeeds image deeds
+pub deeds_used : (image : List ℕ) (deeds : List Deed) (used : List Term) → AreDeeds image deeds
     → IsFoundUsed used (found_on image) → IsFoundUsed (used ++ all_seals image deeds) (found_on (last_left image deeds))
 deeds_used image [] used are before = subst (λ ts. IsFoundUsed ts (found_on image)) (sym (append-nil used)) before
 deeds_used image (deed ∷ more) used (is, are) before =
@@ -80,7 +75,7 @@ deed_form (Ran r) (Ok standing) =
     steps_form (Rattle.law_sessions.specs.Runs.setting_of r) (Rattle.law_sessions.specs.Runs.commands_of r) standing
 deed_form (Ran r) (Err fault) = tt
 
-deeds_form : (image : List ℕ) (deeds : List Deed) → AllByRecursion HasForm (all_seals image deeds)
+pub deeds_form : (image : List ℕ) (deeds : List Deed) → AllByRecursion HasForm (all_seals image deeds)
 deeds_form image [] = tt
 deeds_form image (deed ∷ more) =
     all_append HasForm (deed_seals deed (found_on image)) (all_seals (left deed) more)

@@ -22,3 +22,4 @@ mod Lefts
 mod LeftsOfRuns
 mod FirstFound
 mod Done
+mod DoneSince

@@ -48,7 +48,7 @@ first_within : (key : Bytes) → IsWithinLimits (first_tables key)
 unfolding first_state with_declared with_given_net after_boot
 first_within key = booted_within (first_tables key)
 
-skipped_within : (by : ℕ) (backup : NodeState) → IsWithinLimits (skipped by backup)
+pub skipped_within : (by : ℕ) (backup : NodeState) → IsWithinLimits (skipped by backup)
 unfolding skipped
 skipped_within by backup = booted_within _
 
@@ -110,8 +110,7 @@ pub run_used : (r : Run) (found : Found) (used : List Term) → IsScript r.scrip
 run_used r (Ok standing) used script left is =
     left_used (after_run r standing) r.left (used ++ steps_seal (setting_of r) (commands_of r) standing) left
     (steps_used (setting_of r) (commands_of r) standing used (block_of r script) is)
-run_used r (Err fault) used script left is = subst (IsFoundUsed (used ++ [])) (sym left)
-    (subst NoneTwice (sym (append-nil used)) is)
+run_used r (Err fault) used script left is = subst (IsFoundUsed (used ++ [])) (sym left) (append-nil used ∙ is)
 
 all_used : (image : List ℕ) (runs : List Run) (used : List Term) → AreRuns image runs
     → IsFoundUsed used (found_on image)
@@ -134,12 +133,12 @@ take_first : (n : ℕ) (step : Step) (steps : List Step) → 1 ≤ n
 take_first zero step steps some = absurd (omega (arith, some))
 take_first (suc k) step steps some = (k, refl)
 
--- terms that were used in the tables with which a restored centre goes on stay used
-restored_run : (r : Run) (more : List Run) (by : ℕ) (bytes : List ℕ) (used : List Term)
-    → AreUsed used (skipped by (backup_tables bytes)) → AreRuns [] (r ∷ more) → Restores by bytes (r ∷ more)
-    → NoneTwice (used ++ sealed_on [] (r ∷ more))
-unfolding found_on done
-restored_run r more by bytes used is (script, left, are) (line, steps, some, begins) =
+-- terms that were used in the tables with which a restored centre goes on stay used in its first run
+pub restored_used_in : (r : Run) (by : ℕ) (bytes : List ℕ) (used : List Term)
+    → AreUsed used (skipped by (backup_tables bytes)) → IsScript r.script → IsLeft r (Ok None)
+    → Restores by bytes (r ∷ []) → IsFoundUsed (used ++ run_seals r (Ok None)) (found_on r.left)
+unfolding done
+restored_used_in r by bytes used is script left (line, steps, some, begins) =
     let step : Step = record { line = line; order = Restore by bytes } in
     let first = take_first r.stored step steps some in
     let commands : commands_of r ≡ step ∷ take first.0 steps = ap (take r.stored) begins ∙ first.1 in
@@ -149,14 +148,20 @@ restored_run r more by bytes used is (script, left, are) (line, steps, some, beg
     let seals : steps_seal c (commands_of r) None ≡ steps_seal c rest tables = ap (λ ss. steps_seal c ss None) commands
     in
     let after : after_run r None ≡ (served c rest tables).after = ap (λ ss. (served c ss None).after) commands in
-    let here = steps_used c rest tables used (block_of r script) is in
-    let there = left_used (after_run r None) r.left (used ++ steps_seal c (commands_of r) None) left
+    left_used (after_run r None) r.left (used ++ steps_seal c (commands_of r) None) left
     (subst (IsUsedBy (used ++ steps_seal c (commands_of r) None)) (sym after)
-    (subst (λ ts. IsUsedBy (used ++ ts) (served c rest tables).after) (sym seals) here)) in
-    subst NoneTwice (append_assoc used (steps_seal c (commands_of r) None) (sealed_on r.left more))
-    (none_found ((used ++ steps_seal c (commands_of r) None) ++ sealed_on r.left more)
-    (found_on (left_by_all r.left more))
-    (all_used r.left more (used ++ steps_seal c (commands_of r) None) are there))
+    (subst (λ ts. IsUsedBy (used ++ ts) (served c rest tables).after) (sym seals)
+    (steps_used c rest tables used (block_of r script) is)))
+
+restored_run : (r : Run) (more : List Run) (by : ℕ) (bytes : List ℕ) (used : List Term)
+    → AreUsed used (skipped by (backup_tables bytes)) → AreRuns [] (r ∷ more) → Restores by bytes (r ∷ more)
+    → NoneTwice (used ++ sealed_on [] (r ∷ more))
+unfolding found_on
+restored_run r more by bytes used is (script, left, are) restores =
+    subst NoneTwice (append_assoc used (run_seals r (Ok None)) (sealed_on r.left more))
+    (none_found ((used ++ run_seals r (Ok None)) ++ sealed_on r.left more) (found_on (left_by_all r.left more))
+    (all_used r.left more (used ++ run_seals r (Ok None)) are
+    (restored_used_in r by bytes used is script left restores)))
 
 since_apart : (since : List Run) (by : ℕ) (bytes : List ℕ) (t : Term)
     → AreUsed (t ∷ []) (skipped by (backup_tables bytes)) → AreRuns [] since → Restores by bytes since

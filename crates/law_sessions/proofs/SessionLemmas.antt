@@ -249,7 +249,7 @@ left_used used found (Some s) network is = boot_used s used is.0
 pub none_found : (used : List Term) (found : Found) → IsFoundUsed used found → NoneTwice used
 none_found used (Ok (Some s)) is = is.apart
 none_found used (Ok None) is = subst NoneTwice (sym is) tt
-none_found used (Err fault) is = is
+none_found used (Err fault) is = subst NoneTwice (sym is) tt
 
 no_block : HasBlock start
 no_block e = absurd (false≢true e)
@@ -297,11 +297,11 @@ tables_used (Ok s) within = by_width (fits_widths s)
   where
     by_width : (b : Bool) → IsFoundUsed [] (if b then Ok (Some s) else Err (BadStore 0))
     by_width true = record { used = tt; apart = tt; within = within }
-    by_width false = tt
-tables_used (Err at) within = tt
+    by_width false = refl
+tables_used (Err at) within = refl
 
 store_used : (o : Option Standing) → IsFoundUsed [] (found_store o)
-store_used None = tt
+store_used None = refl
 store_used (Some z) = tables_used (state_given Centre z.content (concat z.payloads))
     (given_within z.content (concat z.payloads))
 

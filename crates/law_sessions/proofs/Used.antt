@@ -207,10 +207,10 @@ abbrev pub IsUsedBy : List Term → Option NodeState → Type 0
 IsUsedBy used None = used ≡ []
 IsUsedBy used (Some s) = AreUsed used s
 
--- the terms were used in what is found
+-- the terms were used in what is found; where no tables are found, nothing was sealed
 abbrev pub IsFoundUsed : List Term → Found → Type 0
 IsFoundUsed used (Ok standing) = IsUsedBy used standing
-IsFoundUsed used (Err fault) = NoneTwice used
+IsFoundUsed used (Err fault) = used ≡ []
 
 pub event_used : (tools : Tools) (c : Setting) (task : Task) (s : NodeState) (used : List Term) → 1 ≤ c.me.out_block
     → AreUsed used s

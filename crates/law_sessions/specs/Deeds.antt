@@ -29,6 +29,11 @@ abbrev pub AreDeeds : List ℕ → List Deed → Type 0
 AreDeeds image [] = ⊤
 AreDeeds image (deed ∷ more) = IsLeft deed (found_on image) × AreDeeds (left deed) more
 
+-- the image that the last of them left
+abbrev pub last_left : List ℕ → List Deed → List ℕ
+last_left image [] = image
+last_left image (deed ∷ more) = last_left (left deed) more
+
 -- what the centre seals in a deed
 abbrev pub deed_seals : Deed → Found → List Term
 deed_seals (Lived session) found = lines_seal found session.lines fresh

@@ -6,3 +6,4 @@ pub mod Offers
 pub mod Runs
 pub mod Leaving
 pub mod Deeds
+pub mod Stores

@@ -1,8 +1,9 @@
 //! What holds of all sessions of `tc_centre` and all runs of `admin` on one store together, in any order. Each law is the
 //! contract of a function with an empty body.
-ghost use Rattle.std.specs.Prelude.{ℕ, List};
+ghost use Rattle.std.specs.Prelude.{ℕ, List, [], ◌∷◌};
 ghost use Rattle.law_sessions.specs.Deeds.{AreDeeds, Deed, all_seals};
 ghost use Rattle.law_sessions.specs.Sessions.{NoneTwice};
+ghost use Rattle.law_sessions.specs.Stores.{AreRestored, Restored, life_seals, store_on};
 ghost use Rattle.zb_model.specs.Claims.{AreApart};
 ghost use Rattle.zb_model_real.specs.Real.{real};
 
@@ -16,4 +17,17 @@ pub fn no_counter_comes_twice_on_one_store()
         → NoneTwice (all_seals image deeds) }
     ensures nonces { (image : List ℕ) (deeds : List Deed) → AreDeeds image deeds
         → AreApart real (all_seals image deeds) }
+{}
+
+/// States that no two terms take one counter in a whole life, restores included.
+///
+/// Nor have two of them one sealing key and one nonce. A life is a store with all deeds on it, and then each store that
+/// was restored, with all deeds on that. Each `restore` is on an empty disk, of any earlier backup. Its SKIP reaches the
+/// limits that any store of the life had at last, for APS and each network key of the backup. A network key that the
+/// backup lacks isn't drawn a second time.
+pub fn no_counter_comes_twice_in_a_life()
+    ensures counters { (image : List ℕ) (deeds : List Deed) (more : List Restored) → AreDeeds image deeds
+        → AreRestored (store_on image deeds ∷ []) more → NoneTwice (life_seals image deeds more) }
+    ensures nonces { (image : List ℕ) (deeds : List Deed) (more : List Restored) → AreDeeds image deeds
+        → AreRestored (store_on image deeds ∷ []) more → AreApart real (life_seals image deeds more) }
 {}
