@@ -34,7 +34,8 @@ deed_used image (Lived x) used is before =
 deed_used image (Ran r) used (script, is) before = run_used r (found_on image) used script is before
 
 pub deeds_used : (image : List ℕ) (deeds : List Deed) (used : List Term) → AreDeeds image deeds
-    → IsFoundUsed used (found_on image) → IsFoundUsed (used ++ all_seals image deeds) (found_on (last_left image deeds))
+    → IsFoundUsed used (found_on image) → IsFoundUsed (used ++ all_seals image deeds) (found_on (last_left image
+    deeds))
 deeds_used image [] used are before = subst (λ ts. IsFoundUsed ts (found_on image)) (sym (append-nil used)) before
 deeds_used image (deed ∷ more) used (is, are) before =
     subst (λ ts. IsFoundUsed ts (found_on (last_left (left deed) more)))

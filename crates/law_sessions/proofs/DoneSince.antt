@@ -36,7 +36,8 @@ used_since (Ran r ∷ more) by bytes t is ((script, left), are) begins =
     (deeds_used r.left more (t ∷ run_seals r (Ok None)) are
     (restored_used_in r by bytes (t ∷ []) is script left begins))).0
 
-one_used : (by : ℕ) (backup : NodeState) (t : Term) → IsUsed (skipped by backup) t → AreUsed (t ∷ []) (skipped by backup)
+one_used : (by : ℕ) (backup : NodeState) (t : Term) → IsUsed (skipped by backup) t → AreUsed (t ∷ []) (skipped by
+    backup)
 one_used by backup t is = record { used = (is, tt); apart = (tt, tt); within = skipped_within by backup }
 
 -- ---- one term of a store before

@@ -105,7 +105,8 @@ left_used None left used none is = subst (λ image. IsFoundUsed used (found_on i
 left_used (Some s) left used (kept, stood) is = subst (IsFoundUsed used) (sym (found_again s left kept stood))
     (boot_used s used is)
 
-pub run_used : (r : Run) (found : Found) (used : List Term) → IsScript r.script → IsLeft r found → IsFoundUsed used found
+pub run_used : (r : Run) (found : Found) (used : List Term) → IsScript r.script → IsLeft r found → IsFoundUsed used
+    found
     → IsFoundUsed (used ++ run_seals r found) (found_on r.left)
 run_used r (Ok standing) used script left is =
     left_used (after_run r standing) r.left (used ++ steps_seal (setting_of r) (commands_of r) standing) left

@@ -1,5 +1,5 @@
-//! What holds of all sessions of `tc_centre` and all runs of `admin` on one store together, in any order. Each law is the
-//! contract of a function with an empty body.
+//! What holds of all sessions of `tc_centre` and all runs of `admin` on one store together, in any order. Each law
+//! is the contract of a function with an empty body.
 ghost use Rattle.std.specs.Prelude.{ℕ, List, [], ◌∷◌};
 ghost use Rattle.law_sessions.specs.Deeds.{AreDeeds, Deed, all_seals};
 ghost use Rattle.law_sessions.specs.Sessions.{NoneTwice};
@@ -21,8 +21,10 @@ pub fn no_counter_comes_twice_on_one_store()
 
 /// States that no two terms take one counter in a whole life, restores included.
 ///
-/// Nor have two of them one sealing key and one nonce. A life is a store with all deeds on it, and then each store that
-/// was restored, with all deeds on that. Each `restore` is on an empty disk, of any earlier backup. Its SKIP reaches the
+/// Nor have two of them one sealing key and one nonce. A life is a store with all deeds on it, and then each store
+/// that
+/// was restored, with all deeds on that. Each `restore` is on an empty disk, of any earlier backup. Its SKIP reaches
+/// the
 /// limits that any store of the life had at last, for APS and each network key of the backup. A network key that the
 /// backup lacks isn't drawn a second time.
 pub fn no_counter_comes_twice_in_a_life()

@@ -17,7 +17,7 @@ use zb_disk::Disk;
 use zb_live::{LiveFault, live};
 use zb_script::Script;
 
-/// Serves the lines of an input, as `live` does, and states that each image it leaves is that of a session.
+/// Serves an input as `live` does, and states that each image it leaves is that of a session.
 ///
 /// The disk has one image at first, which can be served: it is empty, or a store. A crash at any moment leaves an
 /// image
@@ -43,7 +43,7 @@ pub fn what_live_leaves_is_a_session<R: Source, W: Sink, D: Disk>(
     live(alloc, input, output, disk)
 }
 
-/// Serves a script, as `serve` of zb_admin does, and states that each image it leaves is that of a run.
+/// Serves a script as zb_admin does, and states that each image it leaves is that of a run.
 ///
 /// The disk has one image at first, which holds a store. A crash at any moment leaves an image of which `AreRuns`
 /// holds, with some first commands of the script. That the tables keep the rules for records is a condition.
