@@ -57,7 +57,7 @@ impl<O: Ord + Drop> Holdings<O> {
         Ok(())
     }
 
-    /// Returns whether a key of the set is one of the owner's.
+    /// Returns whether the owner has a key of the set.
     pub fn meets(&self, owner: &O, keys: &Keys) -> bool
         ensures { result ≡ meet keys.now.keys.keys (keys_at O.cmp self.now owner.now) }
     {
@@ -67,7 +67,7 @@ impl<O: Ord + Drop> Holdings<O> {
         }
     }
 
-    /// Puts the keys of an owner after those of a list.
+    /// Appends the keys of an owner to a list.
     ///
     /// # Errors
     /// `AllocError`.

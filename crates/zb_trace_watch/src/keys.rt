@@ -68,7 +68,7 @@ impl Keys {
         false
     }
 
-    /// Puts the keys after those of a list.
+    /// Appends the keys to a list.
     ///
     /// # Errors
     /// `AllocError`.

@@ -14,12 +14,12 @@ pub struct Passing {
     pub network: Keys,
     /// The keys that forged terms carry.
     pub forged: Keys,
-    /// Whether some key is among both.
+    /// Whether some key is in both sets.
     pub passed_on: bool,
 }
 
 impl Passing {
-    /// Makes the value before the first line.
+    /// Makes the state before the first line.
     pub fn new(alloc: Global) -> Passing
         ensures network { (k : List ℕ) → has result.network k ≡ false }
         ensures forged { (k : List ℕ) → has result.forged k ≡ false }
@@ -49,7 +49,7 @@ impl Passing {
         Ok(())
     }
 
-    /// Notes the key of a link row, which is the network's where it was entered as an install code.
+    /// Notes the key of a link row. It is a key of the network if it was entered as an install code.
     ///
     /// # Errors
     /// `AllocError`.
