@@ -14,7 +14,7 @@ same_layer Aps Aps = true
 same_layer Nwk Aps = false
 same_layer Aps Nwk = false
 
--- whether two terms are of one layer, base key and source
+-- Whether two terms have one layer, base key and source.
 unfoldable pub same_sender : Term → Term → Bool
 same_sender t u = same_layer t.layer u.layer && (bytes_eq t.base.0 u.base.0 && nat_eq t.source.0 u.source.0)
 
