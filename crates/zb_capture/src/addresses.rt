@@ -6,7 +6,7 @@ use std::collections::BTreeSet;
 use std::marker::Model;
 use zb_base::{Eui, List, NoMemory, Short};
 
-/// Keeps addresses, and looks each short one up without a walk through all of them.
+/// Keeps addresses, and finds a short one without a walk through all of them.
 ///
 /// A contract sees them as their list.
 #[derive(Drop)]

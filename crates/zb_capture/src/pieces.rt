@@ -1,4 +1,4 @@
-//! Consecutive lines of a capture that are read side by side.
+//! Consecutive lines of a capture that several jobs read at once.
 ghost use Rattle.std.specs.Prelude.{◌≡◌, ◌≤◌, ◌<◌, ◌^◌, ◌-◌, ◌++◌, ◌==◌, ℕ, List, length, take, drop, position, false, IfOk};
 ghost use Rattle.std.specs.List.{AllByRecursion, list_any};
 ghost use Rattle.std.specs.Str.Lines.{lines};
@@ -26,7 +26,7 @@ pub(crate) struct Found<'a> {
     pub read: Result<CaptureReader, OrMemory<CaptureError>>,
 }
 
-/// Reads each piece of a text by itself, in at most as many pieces as there are jobs.
+/// Reads each piece of a text by itself. There are at most as many pieces as jobs.
 pub(crate) fn read_pieces<'a, T: Threads + Sync>(
     rt: &T,
     alloc: Global,
@@ -62,7 +62,7 @@ fn read_piece<'a>(alloc: Global, piece: Piece<'a>) -> Found<'a>
 }
 
 /// Cuts a text into consecutive pieces after line feeds, at most as many as there are jobs. Each but the last has at
-/// least as many bytes as there are for a job.
+/// least the number of bytes that is worth a job.
 fn cut<'a>(alloc: Global, text: &'a [u8], jobs: u32) -> Result<Vec<Piece<'a>>, NoMemory>
     requires text { length text.now < 2 ^ 32 - 1 }
     requires jobs { 1 ≤ jobs }
@@ -79,7 +79,7 @@ fn cut<'a>(alloc: Global, text: &'a [u8], jobs: u32) -> Result<Vec<Piece<'a>>, N
     Ok(pieces)
 }
 
-/// Returns how many bytes the whole lines of a text have. What stands after them may go on.
+/// Returns how many bytes the whole lines of a text have. The rest may be the beginning of a line.
 pub fn whole_lines(text: &[u8]) -> usize
     ensures within { result ≤ length text.now }
     ensures all { list_any (λ byte. byte == 10) (drop result text.now) ≡ false }

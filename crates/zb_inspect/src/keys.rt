@@ -10,7 +10,7 @@ use zb_base::NoMemory;
 use zb_capture::Capture;
 use zb_parallel::NoGate;
 
-/// Works out the ring of a capture: its given keys, and those that its frames give, with the rounds.
+/// Finds the ring of a capture: its given keys, and those that its frames give, with the rounds.
 ///
 /// # Errors
 ///
