@@ -1,4 +1,4 @@
--- What a line adds to the sayings from which the two words follow, if nodes go by names.
+-- What a line adds to the sayings from which the two words follow, if nodes are identified by names.
 use Rattle.std.proofs.Common.{◌≡◌, ℕ, ◌+◌, ◌≤◌, suc, List, [], ◌∷◌, ◌++◌, Bool, true, false, not, ◌||◌, ◌&&◌, Option, Some, None, refl, ap, sym, ◌∙◌, bytes_eq, nat_eq, length, length-append, append_assoc, arith}
 use Rattle.std.specs.List.{list_any, flat_map}
 use Rattle.std.specs.Option.{IfSome, option_map}

@@ -1,4 +1,4 @@
--- What lines say about terms and keys for the two words of the end line, if nodes go by names.
+-- What lines say about terms and keys for the two words of the end line, if nodes are identified by names.
 use Rattle.std.specs.Prelude.{ℕ, Bool, false, List, [], length, get_or, nat_eq, Option, Some, None, flat_map, if◌then◌else◌}
 use Rattle.std.specs.Option.{option_map}
 use Rattle.zb_audit_names.specs.Naming.{place_in}
@@ -26,7 +26,7 @@ is_first (Some first) place = nat_eq first place
 abbrev pub is_place : List Bytes → ℕ → Bool
 is_place names place = is_first (place_in names (name_at names place)) place
 
--- What lines say. Each node goes by the place of its name in this list.
+-- What lines say. Each node is identified by the place of its name in this list.
 abbrev pub said : Tools → List Bytes → List Line → Sayings
 said tools names h = record {
   terms = terms_of h;
@@ -53,7 +53,7 @@ has_role (Some r) = is_member r
 abbrev pub is_joining : Option Node → Bool
 is_joining node = has_role (option_map (λ (n : Node). model_role n.role) node)
 
--- The node of a line, as the two words see it: it goes by the place of its name.
+-- The node of a line, as the two words see it: it is identified by the place of its name.
 abbrev pub seen : Who → Speaker
 seen who = record {
   number = Some who.place;

@@ -1,4 +1,4 @@
-//! The two words of the end line, if nodes go by names.
+//! The two words of the end line, if nodes are identified by names.
 ghost use Rattle.std.specs.Prelude.{◌≡◌, IfOk, Some, None, if◌then◌else◌};
 ghost use Rattle.std.specs.Option.{option_map};
 ghost use Rattle.zb_audit.specs.Words as words;
@@ -37,7 +37,7 @@ pub fn private(alloc: Global, lines: &[Line]) -> Result<bool, NoMemory>
     Ok(auditor.words.private())
 }
 
-/// Returns the node of a line as the two words see it: it goes by the place of its name.
+/// Returns the node of a line as the two words see it: it is identified by the place of its name.
 pub fn seen(who: Who) -> Speaker
     ensures { result ≡ words.seen who }
 {

@@ -121,7 +121,7 @@ verdict before group n Stands = true
 verdict before group n Falls = false
 verdict before group n (Waits what) = meets before group n what
 
--- The first line that waits in vain. Names go by their places.
+-- The first line that waits in vain. Names are identified by their places.
 abbrev pub first_unmet : List Bytes → List (List Line) → List Line → List Wait → Option ℕ
 first_unmet names before group [] = None
 first_unmet names before group (w ∷ ws) =

@@ -29,7 +29,7 @@ use Rattle.zb_seal.specs.declared.term.Term.{Term}
 use Rattle.zb_trace.specs.declared.line.Line.{Line}
 use Rattle.zb_trace.specs.declared.line.Line.TheVariants as line
 
--- Values before a group and now. A group goes by the number of its first line.
+-- Values before a group and now. A group is identified by the number of its first line.
 
 abbrev pub before_of : {T : Type 0} → ℕ → Versioned T → T
 before_of g v = if nat_lt v.group g then v.latest else v.earlier

@@ -1,5 +1,5 @@
--- Which keys the lines of a transcript show, who learned them, and the two words of its end line. Nodes go by names:
--- the lines before a line say whose address a name has, and which node is the centre.
+-- Which keys the lines of a transcript show, who learned them, and the two words of its end line. Nodes are
+-- identified by names: the lines before a line say whose address a name has, and which node is the centre.
 use Rattle.std.specs.Prelude.{ℕ, Bool, true, false, not, if◌then◌else◌, ◌&&◌, ◌||◌, List, [], ◌∷◌, ◌++◌, length, nat_eq, bytes_eq, flat_map, Option, Some, None}
 use Rattle.std.specs.List.{list_any}
 use Rattle.zb_base.specs.declared.state.Attribute.TheVariants as attribute

@@ -15,7 +15,7 @@ use std::collections::BTreeMap;
 use zb_base::{Name, NoMemory, Role};
 use zb_trace::Line;
 
-/// The names of a transcript so far. A name is looked up once for each line; everything else goes by its place.
+/// The names of a transcript so far. A name is looked up once for each line; everything else uses its place.
 #[derive(Drop)]
 pub struct Directory {
     /// The node of each name.

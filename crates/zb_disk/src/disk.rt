@@ -47,10 +47,10 @@ pub trait Disk {
     /// The bytes that are read are one of the images.
     ghost reads_image: { (d : Self) → IsTrue tells.content → (state d).images (state d).seen };
 
-    /// This moment is one of those since an earlier one.
+    /// The images of this moment are among those since an earlier one.
     ghost counts_now: { (d : Self) (t : ℕ) (c : List ℕ) → t ≤ (state d).moment → (state d).images c
         → (state d).since t c };
 
-    /// Since this moment there is no other.
+    /// The images since this moment are those of this moment.
     ghost only_now: { (d : Self) (c : List ℕ) → (state d).since (state d).moment c → (state d).images c };
 }

@@ -1,5 +1,5 @@
--- What lines of a transcript say about terms and keys, as values, whether nodes go by addresses or by names. The two
--- words of the end line depend only on these values.
+-- What lines of a transcript say about terms and keys, as values, whether nodes are identified by addresses or by
+-- names. The two words of the end line depend only on these values.
 use Rattle.std.specs.Prelude.{◌≡◌, ◌≤◌, ℕ, Bool, true, false, not, ◌&&◌, ◌||◌, if◌then◌else◌, List, [], ◌∷◌, length, nat_eq, Option, Some, None, flat_map}
 use Rattle.std.specs.List.{list_any}
 use Rattle.std.specs.Option.{IfSome}
@@ -17,10 +17,11 @@ pub record Sayings : Type 0 where
   -- The terms that were sealed or forged, and those that were forged.
   pub terms : List Term
   pub forged : List Term
-  -- The keys of each node's install code, and those under which it may be sent a key. A node goes by a number.
+  -- The keys of each node's install code, and those under which it may be sent a key. A node is identified by a
+  -- number.
   pub codes : ℕ → List Bytes
   pub bases : ℕ → List Bytes
-  -- The keys that each device ever held, and the removed devices. A device goes by its address.
+  -- The keys that each device ever held, and the removed devices. A device is identified by its address.
   pub ever : ℕ → List Bytes
   pub removed : List ℕ
   -- The keys of the network.
@@ -134,6 +135,6 @@ takes_in (line.Install event node key sequence) = true
 takes_in (line.Row event node partner key attribute) = true
 takes_in _ = false
 
--- A router or device that installs a key goes by the number of a node.
+-- A router or device that installs a key is identified by the number of a node.
 abbrev pub JoinerCounts : (ℕ → Bool) → Speaker → Line → Type 0
 JoinerCounts counts who l = takes_in l ≡ true → IfSome who.joiner (λ node. counts node ≡ true)

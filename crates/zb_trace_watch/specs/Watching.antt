@@ -14,7 +14,7 @@ use Rattle.zb_trace_watch.specs.declared.speaker.Speaker.{Speaker}
 use Rattle.zb_trace_watch.specs.declared.watch.Watch.{Watch}
 use Rattle.zb_trace_watch.specs.declared.words.EndWords.{EndWords}
 
--- What the model reads from lines. Nodes go by their addresses.
+-- What the model reads from lines. Nodes are identified by their addresses.
 abbrev pub said : Tools → List log.Line → Sayings
 said tools h = record {
   terms = terms_of h;

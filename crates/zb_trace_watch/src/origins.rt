@@ -14,7 +14,8 @@ use std::alloc::{AllocError, Global};
 use zb_base::Key;
 use zb_seal::Term;
 
-/// The terms so far, and whether everything accepted or installed came from earlier ones. A node goes by a number.
+/// The terms so far, and whether everything accepted or installed came from earlier ones. A node is identified by a
+/// number.
 #[derive(Drop)]
 pub struct Origins {
     /// The terms that were sealed or forged.

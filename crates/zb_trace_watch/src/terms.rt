@@ -154,7 +154,7 @@ fn put_bytes(bytes: &mut TermBytes, term: &Term)
     put(bytes, term.content.as_slice());
 }
 
-// Puts the bytes at the end, where they have room.
+// Appends bytes. There must be room for them.
 fn put(out: &mut TermBytes, piece: &[u8])
     ensures { length out.old.items + length piece.now ≤ term_room → out.new.items ≡ out.old.items ++ piece.now }
 {
