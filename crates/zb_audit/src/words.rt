@@ -37,7 +37,7 @@ pub fn private(alloc: Global, lines: &[Line]) -> Result<bool, NoMemory>
     Ok(auditor.words.private())
 }
 
-/// Returns the node of a line as the two words see it: it is identified by the place of its name.
+/// Returns the node of a line for the two words, identified by the place of its name.
 pub fn seen(who: Who) -> Speaker
     ensures { result ≡ words.seen who }
 {
