@@ -84,7 +84,8 @@ seal_stands before front n t =
     && (is_some (out_block (flat before ++ front) n)
     && (not (is_spent before n t.layer) || is_some (last (reserve_in n t.layer) front)))
 
--- Reserves: the limit is one outgoing block ahead, the next counter has reached the old limit, and a seal follows.
+-- Reserves: the limit is one outgoing block ahead, and the next counter has reached the old limit. The group has a
+-- seal at the layer, or the event was cut short.
 
 unfoldable pub reserve_stands : List (List Line) → List Line → List Line → Bytes → Layer → ℕ → Bool
 reserve_stands before group front n l value =
@@ -100,7 +101,7 @@ accept_stands before group n t =
     || is_some (last (floor_in n t.layer t.base.0 t.source.0) group)
 
 -- Floors: one incoming block ahead of each accepted counter, none of which is below the stored floor. If the event
--- was cut short, nothing is accepted; then the floor rises.
+-- was cut short, nothing is accepted, and the floor has to rise.
 
 abbrev pub floor_fits : ℕ → ℕ → ℕ → ℕ → Bool
 floor_fits floor value block counter = nat_le floor counter && nat_eq value (ahead counter block)

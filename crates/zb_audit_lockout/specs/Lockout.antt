@@ -42,9 +42,9 @@ abbrev pub is_aps : Layer → Bool
 is_aps layer.Aps = true
 is_aps layer.Nwk = false
 
--- If a node has no live network key that outsiders may know, before the group of the line, it accepts at NWK no term
--- that the device sealed after its removal, and no forged term. `h` are the lines up to the removal, `since` those
--- after it.
+-- A node accepts at NWK no term that the device sealed after its removal, and no forged term. This holds if the node
+-- has no live network key that outsiders may know before the group of the line. `h` are the lines up to the removal,
+-- `since` those after it.
 unfoldable pub refuses_line : Tools → ℕ → List Line → List Line → Line → Bool
 refuses_line tools d h since (line.Accept event node t) =
     is_aps t.layer

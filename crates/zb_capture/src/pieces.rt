@@ -61,8 +61,9 @@ fn read_piece<'a>(alloc: Global, piece: Piece<'a>) -> Found<'a>
     Found { text, read }
 }
 
-/// Cuts a text into consecutive pieces after line feeds, at most as many as there are jobs. Each but the last has at
-/// least the number of bytes that is worth a job.
+/// Cuts a text into consecutive pieces after line feeds, at most as many as there are jobs.
+///
+/// Each piece but the last has at least an equal share of the bytes.
 fn cut<'a>(alloc: Global, text: &'a [u8], jobs: u32) -> Result<Vec<Piece<'a>>, NoMemory>
     requires text { length text.now < 2 ^ 32 - 1 }
     requires jobs { 1 ≤ jobs }

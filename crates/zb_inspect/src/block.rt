@@ -313,7 +313,7 @@ fn lines_of(alloc: Global, first: u32, all_shown: &[Shown]) -> Result<Vec<u8>, A
     Ok(lines)
 }
 
-/// Adds the keys that opened contents carry, in the order of the frames, and in each frame from the inside out.
+/// Adds the keys that opened contents carry, frame by frame, and in each frame from the inside out.
 fn add_all_leads(found: &mut Vec<Lead>, first: u32, seen: &[Shown]) -> Result<(), AllocError>
     requires { first + length seen.now < 2 ^ 32 }
     ensures { OnOk result (found.new.items ≡ found.old.items ++ leads_in first seen.now) }

@@ -13,7 +13,7 @@ use zb_parallel::{Share, shares};
 
 /// Cuts `frames` frames into consecutive pieces, at most one for each job. No frame was looked at yet.
 ///
-/// Each piece but the last has the number of frames for each job, rounded up.
+/// Each piece but the last has an equal share of the frames, rounded up.
 pub(crate) fn cut(alloc: Global, frames: u32, jobs: u32) -> Result<Vec<Piece>, NoMemory>
     requires jobs { 1 ≤ jobs }
     requires frames { frames ≤ most_frames }

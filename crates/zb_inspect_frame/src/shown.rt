@@ -32,7 +32,7 @@ pub struct Shown {
 pub struct Below {
     /// The APS layer.
     pub aps: Finding,
-    /// The APS layer of the frame in a Tunnel, if the payload is a Tunnel command that is known in clear.
+    /// The APS layer of the frame in a Tunnel, if the payload is a Tunnel command known in clear.
     pub inner: Option<Finding>,
 }
 
@@ -187,7 +187,7 @@ fn find_inner_aps(keys: &[SealingKeys], given: Option<Eui>, bytes: &[u8]) -> Fin
     inner
 }
 
-/// Returns the frame in a Tunnel, if a payload is an APS command that is a Tunnel and known in clear.
+/// Returns the frame in a Tunnel, if a payload is an APS Tunnel command known in clear.
 pub(crate) fn tunnelled_in(aps: &Finding, payload: &[u8]) -> Option<Frame>
     ensures { result ≡ tunnelled aps.now (reading.frame_of payload.now) }
 {

@@ -4,7 +4,7 @@ use zb_base::Eui;
 /// The node of a line, as far as the two words of the end line need it.
 #[derive(Clone, Copy)]
 pub struct Speaker {
-    /// The number under which its own keys are kept, if it has one: its EUI, or the place of its name.
+    /// The number under which its own keys are kept, if any: its EUI or the place of its name.
     pub number: Option<u64>,
     /// That number, if the node is a router or device.
     pub joiner: Option<u64>,
