@@ -79,7 +79,7 @@ abbrev pub stands_for : List Line → Bytes → Bytes → Option Eui → Bool
 stands_for h name base None = true
 stands_for h name base (Some device) = is_centres (declared_in h) name && is_kept (row_in h device.0 base)
 
--- A seal confirms no key, or the centre made it and has stored the key as verified.
+-- Whether a seal confirms no key, or the centre made it and has stored the key as verified.
 unfoldable pub is_confirmable : List Line → Line → Bool
 is_confirmable h (line.Seal event node t) = stands_for h node.bytes t.base.0 (confirmed t)
 is_confirmable h _ = true

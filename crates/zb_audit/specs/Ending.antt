@@ -40,7 +40,7 @@ abbrev pub agree : Bool → Bool → Bool
 agree true b = b
 agree false b = not b
 
--- An end line that sums up the lines before it.
+-- Whether a line is an end line that sums up the lines before it.
 unfoldable pub sums_up : Tools → List Line → Line → Bool
 sums_up tools h (line.End events seals accepts refusals is_ideal is_private) =
     (nat_le (greatest_event h) events
@@ -48,7 +48,7 @@ sums_up tools h (line.End events seals accepts refusals is_ideal is_private) =
     && (agree (ideal tools h) is_ideal && agree (private tools h) is_private)
 sums_up tools h _ = false
 
--- Not an end line.
+-- Whether a line isn't an end line.
 abbrev pub is_no_end : List Line → Line → Bool
 is_no_end h (line.End events seals accepts refusals is_ideal is_private) = false
 is_no_end h _ = true

@@ -17,7 +17,7 @@ abbrev pub seals_alike : Term → Line → Bool
 seals_alike t (line.Seal event node u) = same_stamp t u
 seals_alike t _ = false
 
--- A seal is under another key or nonce than all seals before it.
+-- Whether a seal has another key or nonce than all seals before it.
 unfoldable pub is_fresh : List Line → Line → Bool
 is_fresh h (line.Seal event node t) = not (list_any (seals_alike t) h)
 is_fresh h _ = true

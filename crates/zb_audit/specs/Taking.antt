@@ -23,7 +23,8 @@ unfoldable pub bars : Bytes → Term → Line → Bool
 bars name t (line.Accept event node u) = bytes_eq node.bytes name && (same_sender t u && nat_le t.counter u.counter)
 bars name t _ = false
 
--- An accepted counter is greater than those that the node accepted before from the same sender under the same key.
+-- Whether an accepted counter is greater than those that the node accepted before from the same sender under the same
+-- key.
 unfoldable pub is_later : List Line → Line → Bool
 is_later h (line.Accept event node t) = not (list_any (bars node.bytes t) h)
 is_later h _ = true

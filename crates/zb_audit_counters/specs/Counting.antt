@@ -41,7 +41,7 @@ block_passes test (Some block) = test block
 
 -- Tests of the other lines of a group
 
--- A line which shows that a disk cut the event short.
+-- Whether a line shows that a disk cut the event short.
 abbrev pub cuts : Line → Bool
 cuts (line.Stopped e m) = true
 cuts (line.DownDisk e m) = true
@@ -132,7 +132,7 @@ start_stands before group front n key value =
 unfoldable pub active_stands : List (List Line) → List Line → Bytes → Bytes → Bool
 active_stands before group n key = has_started (flat before) n key || list_any (starts n key) group
 
--- A line adds up with those around it.
+-- Whether a line adds up with those around it.
 unfoldable pub is_counted : List (List Line) → List Line → List Line → Line → Bool
 is_counted before group front (line.Seal e n t) = seal_stands before front n.bytes t
 is_counted before group front (line.Reserve e n l value) = reserve_stands before group front n.bytes l value

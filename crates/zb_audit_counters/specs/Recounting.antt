@@ -181,7 +181,7 @@ ReadyTo (Some number) names r lines l = (rest : List Line) → first_uncounted (
 unfoldable pub Ready : List Bytes → Recount → List Line → Line → Type 0
 Ready names r lines l = ReadyTo r.first names r lines l
 
--- What a line at a place changes, and what is known about it.
+-- The counters at a place: those that are kept, or fresh ones if none are kept.
 abbrev pub IsOrFresh : Option Counters → Counters → Type 0
 IsOrFresh None c = AreFresh c
 IsOrFresh (Some kept) c = c ≡ kept
@@ -208,7 +208,7 @@ with_wait number place Stands None waits = waits
 with_wait number place Falls None waits = waits
 with_wait number place (Waits what) None waits = waits ++ record { line = number; place = place; need = what } ∷ []
 
--- The first line that waits in vain, by what is kept.
+-- Whether a waiting line is met, by what is kept.
 abbrev pub is_met_at : Recount → Wait → Option Counters → Bool
 is_met_at r w None = false
 is_met_at r w (Some c) = is_met r.group r.cut c w.need

@@ -184,7 +184,7 @@ judged_at g c out_block in_block (line.Start e n key value) = start_judged g c k
 judged_at g c out_block in_block (line.Active e n key) = active_judged g c key
 judged_at g c out_block in_block _ = Stands
 
--- The lines that say something about a node's counters.
+-- Whether a line says something about a node's counters.
 abbrev pub counts : Line → Bool
 counts (line.Counter n layer value) = true
 counts (line.GivenNet n key sequence) = true

@@ -57,7 +57,7 @@ unfoldable pub refuses : Tools → ℕ → List Line → List Line → List Line
 refuses tools d h since [] = true
 refuses tools d h since (l ∷ ls) = refuses_line tools d h since l && refuses tools d h (since ++ l ∷ []) ls
 
--- Lockout of a device over the lines between its removal and its next admission.
+-- Whether a device is locked out from its removal to its next admission.
 abbrev pub locks_out : Tools → List Line → List Line → ℕ → Bool
 locks_out tools h between d = keeps_out tools h between d && refuses tools d h [] between
 
@@ -70,7 +70,7 @@ abbrev pub locked_from : Tools → List Line → List Line → Bool
 locked_from tools h [] = true
 locked_from tools h (l ∷ ls) = locked_line tools h l ls && locked_from tools (h ++ l ∷ []) ls
 
--- Lockout holds for all removed devices.
+-- Whether lockout holds for all removed devices.
 unfoldable pub locked : Tools → List Line → Bool
 locked tools lines = locked_from tools [] lines
 

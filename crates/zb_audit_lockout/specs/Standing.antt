@@ -94,7 +94,7 @@ pub record IsUnsafe (r : Reach) : Type 0 where
   pub late : number ≤ number_of r.drawn key
   pub shown : (S : List ℕ → Bool) → IsShut r.leads r.held device S → S key ≡ true
 
--- The answer is whether it is safe, if it was safe before; whatever was before.
+-- If it was safe before and the answer is true, it is still safe. If the answer is false, it is unsafe.
 pub record Tells (old new : Reach) (stays : Bool) : Type 0 where
   pub safe : IsSafe old → stays ≡ true → IsSafe new
   pub out : stays ≡ false → IsUnsafe new
@@ -107,7 +107,7 @@ pub record Settles (old new : Reach) : Type 0 where
   pub back : new.back ≡ old.back
   pub drawn : new.drawn ≡ old.drawn
 
--- The answer is whether it is safe, if it was safe before except for a key that has yet to become so early.
+-- It is safe except for a key that has yet to become so early.
 pub record IsNearlySafe (r : Reach) (key : Key) (early : ℕ) : Type 0 where
   pub back : IsBack r.leads r.held r.back
   pub spread : IsSpreadBut r.leads r.held r.spread (key ∷ []) early
@@ -125,7 +125,7 @@ pub record IsSafeBut (r : Reach) (keys : List Key) : Type 0 where
   pub opened : (d number : ℕ) → open_at r.windows d ≡ Some number → earliest ≤ early_of r.spread d + number
   pub below : (k : List ℕ) → IsBelow r k ⊎ (is_among keys k ≡ true)
 
--- Keys are checked.
+-- Keys are checked. The answer is whether it is safe, if it was safe before except for these keys.
 pub record Checked (old new : Reach) (keys : List Key) (stays : Bool) : Type 0 where
   pub safe : IsSafeBut old keys → stays ≡ true → IsSafe new
   pub out : stays ≡ false → IsUnsafe new
@@ -239,7 +239,7 @@ pub record IsEvidence (e : Evidence) (h : List Line) : Type 0 where
 
 -- Lockout
 
--- If lockout of a device held before the next line, it holds with that line.
+-- Whether lockout of a device holds with one more line, if it held before that line.
 abbrev pub goes_on : Tools → List Line → ℕ → List Line → Line → Bool
 goes_on tools a d b l = keeps_out tools a (b ++ l ∷ []) d && refuses_line tools d a b l
 
@@ -251,7 +251,7 @@ pub record IsJudged (tools : Tools) (new : Lockout) (h : List Line) (l : Line) (
   pub holds : stays ≡ true → EachWindow (λ a d b. admits d l ≡ false → goes_on tools a d b l ≡ true) [] h
   pub fails : stays ≡ false → SomeWindow (λ a d b. (admits d l ≡ false) × (goes_on tools a d b l ≡ false)) [] h
 
--- What is kept about the lines before, if a line's past is already there.
+-- What is kept about the lines before a line whose past is already there.
 pub record IsReady (tools : Tools) (names : List Bytes) (s : Lockout) (h : List Line) (l : Line) : Type 0 where
   pub past : IsPast tools names s.past (h ++ l ∷ [])
   pub reach : IsReach tools s.reach h

@@ -67,7 +67,7 @@ network_in _ = []
 unfoldable pub network_keys : List Line → List Bytes
 network_keys h = flat_map network_in h
 
--- A test of each line and the lines before it.
+-- Whether a test holds for each line and the lines before it.
 unfoldable pub each_line : (List Line → Line → Bool) → List Line → List Line → Bool
 each_line test h [] = true
 each_line test h (l ∷ ls) = test h l && each_line test (h ++ l ∷ []) ls

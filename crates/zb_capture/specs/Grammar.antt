@@ -56,7 +56,7 @@ code_in line = do
   end ← nothing word.1
   Some (link_key_of word.0)
 
--- An EUI that a node may have: its bits are not all 0 and not all 1.
+-- Whether an EUI may be that of a node: its bits are not all 0 and not all 1.
 abbrev pub is_address : ℕ → Bool
 is_address eui = nat_lt 0 eui && nat_lt eui broadcast_eui
 

@@ -30,7 +30,7 @@ IsFound found = IsReadAlone found.read found.text.now
 abbrev pub both : Capture → Capture → Capture
 both c d = record { keys = c.keys ++ d.keys; addrs = c.addrs ++ d.addrs; frames = c.frames ++ d.frames }
 
--- No address of a list has the short address of this one.
+-- Whether no address of a list has the short address of this one.
 abbrev pub is_new : List (Short × Eui) → Short × Eui → Bool
 is_new addrs addr = not (list_any (has_short addr.0) addrs)
 

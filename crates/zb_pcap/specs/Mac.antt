@@ -17,7 +17,7 @@ destination_mode control = control / 1024 % 4
 abbrev pub source_mode : ℕ → ℕ
 source_mode control = control / 16384 % 4
 
--- A data frame of version 0 or 1 without security, whose addresses have valid modes.
+-- Whether the control is that of a data frame of version 0 or 1 without security, whose addresses have valid modes.
 unfoldable pub is_plain_data : ℕ → Bool
 is_plain_data control =
     control % 8 == 1 && control / 8 % 2 == 0 && nat_lt (control / 4096 % 4) 2 && not (destination_mode control == 1)
