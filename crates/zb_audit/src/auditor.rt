@@ -51,7 +51,7 @@ impl Auditor {
     /// Makes an auditor that has seen no line.
     ///
     /// # Errors
-    /// `NoMemory`.
+    /// `NoMemory`, if memory runs out.
     pub fn new(alloc: Global) -> Result<Auditor, NoMemory>
         ensures { IfOk result (λ auditor. (tools : Tools) → Stands tools auditor []) }
     {
@@ -71,7 +71,7 @@ impl Auditor {
     /// Makes an auditor that has seen these lines.
     ///
     /// # Errors
-    /// `NoMemory`.
+    /// `NoMemory`, if memory runs out.
     pub fn over(alloc: Global, lines: &[Line]) -> Result<Auditor, NoMemory>
         ensures { IfOk result (λ auditor. (tools : Tools) → FindKeys tools → Stands tools auditor lines.now) }
     {

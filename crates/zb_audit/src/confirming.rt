@@ -55,7 +55,7 @@ impl Confirming {
     /// Processes one line of node `who`.
     ///
     /// # Errors
-    /// `NoMemory`.
+    /// `NoMemory`, if memory runs out.
     pub fn line(&mut self, number: u32, line: &Line, who: Who) -> Result<(), NoMemory>
         ensures { OnOk result ((names : List Bytes) (h : List AnyLine) → number ≡ length h + 1
             → IsSpeaker who names (declared_in h) line.now → AreConfirmed self.old h

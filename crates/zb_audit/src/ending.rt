@@ -54,7 +54,7 @@ impl Ending {
     /// Processes one line. `ideal` and `private` are the two words for the lines before it.
     ///
     /// # Errors
-    /// `NoMemory`.
+    /// `NoMemory`, if memory runs out.
     pub fn line(
         &mut self,
         number: u32,

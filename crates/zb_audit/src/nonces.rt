@@ -52,7 +52,7 @@ impl Nonces {
     /// Processes one line.
     ///
     /// # Errors
-    /// `NoMemory`.
+    /// `NoMemory`, if memory runs out.
     pub fn line(&mut self, number: u32, line: &Line) -> Result<(), NoMemory>
         ensures { OnOk result ((h : List AnyLine) → number ≡ length h + 1 → AreNonces self.old h
             → AreNonces self.new (h ++ line.now ∷ [])) }

@@ -57,7 +57,7 @@ impl Taking {
     /// Processes one line of node `who`.
     ///
     /// # Errors
-    /// `NoMemory`.
+    /// `NoMemory`, if memory runs out.
     pub fn line(&mut self, number: u32, line: &Line, who: Who) -> Result<(), NoMemory>
         ensures { OnOk result ((names : List Bytes) (h : List AnyLine) → number ≡ length h + 1
             → IsSpeaker who names (declared_in h) line.now → AreTaken names self.old h

@@ -17,7 +17,7 @@ use zb_trace_watch::Speaker;
 /// Returns whether everything that these lines accept or install came from earlier terms.
 ///
 /// # Errors
-/// `NoMemory`.
+/// `NoMemory`, if memory runs out.
 pub fn ideal(alloc: Global, lines: &[Line]) -> Result<bool, NoMemory>
     ensures { IfOk result (λ word. (tools : Tools) → FindKeys tools → word ≡ ideal_of tools lines.now) }
 {
@@ -29,7 +29,7 @@ pub fn ideal(alloc: Global, lines: &[Line]) -> Result<bool, NoMemory>
 /// key.
 ///
 /// # Errors
-/// `NoMemory`.
+/// `NoMemory`, if memory runs out.
 pub fn private(alloc: Global, lines: &[Line]) -> Result<bool, NoMemory>
     ensures { IfOk result (λ word. (tools : Tools) → FindKeys tools → word ≡ private_of tools lines.now) }
 {

@@ -63,7 +63,7 @@ impl Recount {
     /// the recount must not be used.
     ///
     /// # Errors
-    /// `NoMemory`.
+    /// `NoMemory`, if memory runs out.
     pub fn line(
         &mut self,
         alloc: Global,

@@ -65,7 +65,7 @@ impl Lockout {
     /// Makes the state before the first line.
     ///
     /// # Errors
-    /// `NoMemory`.
+    /// `NoMemory`, if memory runs out.
     pub fn new(alloc: Global) -> Result<Lockout, NoMemory>
         ensures { IfOk result (λ lockout. (tools : Tools) (names : List Bytes) → Stands tools names lockout []) }
     {
@@ -88,7 +88,7 @@ impl Lockout {
     /// Processes one line, the `number`-th. `who` is the line's node. After `NoMemory` the value must not be used.
     ///
     /// # Errors
-    /// `NoMemory`.
+    /// `NoMemory`, if memory runs out.
     pub fn line(
         &mut self,
         alloc: Global,

@@ -65,7 +65,7 @@ impl Directory {
     /// no meaning.
     ///
     /// # Errors
-    /// `NoMemory`.
+    /// `NoMemory`, if memory runs out.
     pub fn line(&mut self, line: &Line) -> Result<Who, NoMemory>
         ensures stands { OnOk result ((h : List AnyLine) → Stands self.old (names_in h) (declared_in h)
             → Stands self.new (names_in (h ++ line.now ∷ [])) (declared_in (h ++ line.now ∷ []))) }

@@ -30,7 +30,7 @@ impl Capture {
     ///
     /// # Errors
     ///
-    /// `NoMemory`.
+    /// `NoMemory`, if memory runs out.
     pub fn of(alloc: Global, keys: &[Key], frames: Frames) -> Result<Capture, NoMemory>
         requires keys { length keys.now ≤ most_keys }
         requires frames { length frames ≤ most_frames }

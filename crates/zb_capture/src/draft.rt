@@ -45,7 +45,7 @@ impl Draft {
     ///
     /// # Errors
     ///
-    /// `NoMemory`.
+    /// `NoMemory`, if memory runs out.
     pub fn with_room(alloc: Global, text: usize) -> Result<Draft, NoMemory>
         ensures { IfOk result (λ draft. capture_of draft ≡ empty) }
     {
@@ -95,7 +95,7 @@ impl Draft {
     ///
     /// # Errors
     ///
-    /// `NoMemory`.
+    /// `NoMemory`, if memory runs out.
     pub fn with(self, more: Draft) -> Result<Draft, NoMemory>
         requires { Fit (capture_of self) (capture_of more) }
         ensures { IfOk result (λ draft. capture_of draft ≡ both (capture_of self) (capture_of more)) }

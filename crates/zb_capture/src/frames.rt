@@ -87,7 +87,7 @@ impl Frames {
     ///
     /// # Errors
     ///
-    /// `NoMemory`.
+    /// `NoMemory`, if memory runs out.
     pub fn push(&mut self, frame: &Frame) -> Result<(), NoMemory>
         requires { length self.old < most_frames }
         ensures added { OnOk result (self.new ≡ self.old ++ frame.now ∷ []) }
@@ -103,7 +103,7 @@ impl Frames {
     ///
     /// # Errors
     ///
-    /// `NoMemory`.
+    /// `NoMemory`, if memory runs out.
     pub fn append(&mut self, more: Frames) -> Result<(), NoMemory>
         requires { length self.old + length more ≤ most_frames }
         ensures { OnOk result (self.new ≡ self.old ++ more) }

@@ -47,7 +47,7 @@ impl Run {
     ///
     /// # Errors
     ///
-    /// `NoMemory`.
+    /// `NoMemory`, if memory runs out.
     pub fn with_room(alloc: Global, bytes: usize, frames: usize) -> Result<Run, NoMemory>
         ensures { IfOk result (λ run. run ≡ []) }
     {
@@ -69,7 +69,7 @@ impl Run {
     ///
     /// # Errors
     ///
-    /// `NoMemory`.
+    /// `NoMemory`, if memory runs out.
     pub fn push(&mut self, frame: &Frame) -> Result<(), NoMemory>
         requires { length self.old < most_frames }
         ensures added { OnOk result (self.new ≡ self.old ++ frame.now ∷ []) }

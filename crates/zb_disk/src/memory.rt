@@ -136,7 +136,7 @@ impl MemDisk {
     /// Makes a disk of these bytes, which are its only image. Nothing is armed. There must be at most 131,072 bytes.
     ///
     /// # Errors
-    /// `NoMemory`.
+    /// `NoMemory`, if memory runs out.
     pub fn new(alloc: Global, bytes: &[u8]) -> Result<MemDisk, NoMemory>
         requires { length bytes.now ≤ disk_size }
         ensures { IfOk result (λ d. d ≡ fresh bytes.now) }

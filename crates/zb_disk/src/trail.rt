@@ -55,7 +55,7 @@ impl TrailDisk {
     /// 131,072 bytes.
     ///
     /// # Errors
-    /// `NoMemory`.
+    /// `NoMemory`, if memory runs out.
     pub fn new(alloc: Global, bytes: &[u8], calls: u32, room: u32) -> Result<TrailDisk, NoMemory>
         requires { length bytes.now ≤ disk_size }
         ensures { IfOk result (λ d. d ≡ fresh_trail bytes.now calls room) }

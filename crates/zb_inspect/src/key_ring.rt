@@ -86,7 +86,7 @@ impl KeyRing {
     /// Adds a key, if it is new.
     ///
     /// # Errors
-    /// `NoMemory`.
+    /// `NoMemory`, if memory runs out.
     pub fn with(self, key: Key, found: Option<(u32, u32)>) -> Result<KeyRing, NoMemory>
         ensures { IfOk result (λ r. r ≡ with_key self key found) }
     {

@@ -14,7 +14,7 @@ use zb_parallel::NoGate;
 ///
 /// # Errors
 ///
-/// `NoMemory`.
+/// `NoMemory`, if memory runs out.
 pub fn ring<T: Threads + Sync>(rt: &T, alloc: Global, capture: &Capture) -> Result<Ring, NoMemory>
     requires { IsCapture capture.now }
     ensures ring { IfOk result (λ r. r ≡ ring_of capture.now) }

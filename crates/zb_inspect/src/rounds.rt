@@ -33,7 +33,7 @@ pub struct Opened {
 /// layer are kept as their lines in the report. There must be at least one job.
 ///
 /// # Errors
-/// `NoMemory`.
+/// `NoMemory`, if memory runs out.
 pub fn open_all<T: Threads + Sync, G: Gate>(
     rt: &T,
     alloc: Global,

@@ -32,7 +32,7 @@ impl Exposure {
     /// Makes the exposure before the first line: outsiders know the well-known key alone.
     ///
     /// # Errors
-    /// `AllocError`.
+    /// `AllocError`, if memory runs out.
     pub fn new(alloc: Global) -> Result<Exposure, AllocError>
         ensures settled { IfOk result (λ e. IsSettled e) }
         ensures ever { IfOk result (λ e. (d : ℕ) (k : List ℕ) → node_has e.ever d k ≡ false) }
@@ -54,7 +54,7 @@ impl Exposure {
     /// Notes that a node now holds a key. It changes nothing if the node was never declared.
     ///
     /// # Errors
-    /// `AllocError`.
+    /// `AllocError`, if memory runs out.
     pub fn hold(&mut self, alloc: Global, node: Option<Eui>, key: Key) -> Result<(), AllocError>
         ensures settled { OnOk result (IsSettled self.old → IsSettled self.new) }
         ensures ever { OnOk result ((d : ℕ) (k : List ℕ)
@@ -87,7 +87,7 @@ impl Exposure {
     /// Notes that a device was removed: outsiders may know all keys that it ever held.
     ///
     /// # Errors
-    /// `AllocError`.
+    /// `AllocError`, if memory runs out.
     pub fn remove(&mut self, alloc: Global, device: Eui) -> Result<(), AllocError>
         ensures settled { OnOk result (IsSettled self.old → IsSettled self.new) }
         ensures ever { OnOk result (self.new.ever ≡ self.old.ever) }
@@ -108,7 +108,7 @@ impl Exposure {
     /// Notes that a term under a base key carries a key, or none.
     ///
     /// # Errors
-    /// `AllocError`.
+    /// `AllocError`, if memory runs out.
     pub fn carry(&mut self, alloc: Global, base: Key, key: Option<Key>) -> Result<(), AllocError>
         ensures settled { OnOk result (IsSettled self.old → IsSettled self.new) }
         ensures ever { OnOk result (self.new.ever ≡ self.old.ever) }

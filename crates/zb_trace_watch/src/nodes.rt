@@ -94,7 +94,7 @@ impl Nodes {
     /// Adds a declared node.
     ///
     /// # Errors
-    /// `AllocError`.
+    /// `AllocError`, if memory runs out.
     pub fn add(&mut self, name: Name, eui: Eui, role: Role) -> Result<(), AllocError>
         ensures { OnOk result ((known : List Station) (station : Station) → IsOf station name.bytes eui.0 role
             → Declares self.old known → Declares self.new (known ++ station ∷ [])) }

@@ -58,7 +58,7 @@ impl Origins {
     /// Notes that a term was sealed or forged, and which key it carries, if any.
     ///
     /// # Errors
-    /// `AllocError`.
+    /// `AllocError`, if memory runs out.
     pub fn term(&mut self, alloc: Global, term: &Term, key: Option<Key>) -> Result<(), AllocError>
         ensures terms { OnOk result ((t : AnyTerm)
             → has_term self.new.terms t
@@ -88,7 +88,7 @@ impl Origins {
     /// A traced key isn't looked up again. Once a key came from nowhere, no key is looked up.
     ///
     /// # Errors
-    /// `AllocError`.
+    /// `AllocError`, if memory runs out.
     pub fn take_in(&mut self, alloc: Global, node: Option<u64>, key: Key) -> Result<(), AllocError>
         ensures ideal { OnOk result (IsTraced self.old node key.0
             → self.new.ideal ≡ (self.old.ideal && came self.old node key.0)) }
@@ -156,7 +156,7 @@ impl Origins {
     /// Notes the link key of a node's install code. It changes nothing if the node has no number.
     ///
     /// # Errors
-    /// `AllocError`.
+    /// `AllocError`, if memory runs out.
     pub fn code(&mut self, alloc: Global, node: Option<u64>, key: Key) -> Result<(), AllocError>
         ensures codes { OnOk result ((n : ℕ) (k : List ℕ)
             → number_has self.new.codes n k
@@ -177,7 +177,7 @@ impl Origins {
     /// Notes a node's link row with that key. It changes nothing if the node has no number.
     ///
     /// # Errors
-    /// `AllocError`.
+    /// `AllocError`, if memory runs out.
     pub fn row(&mut self, alloc: Global, node: Option<u64>, key: Key) -> Result<(), AllocError>
         ensures bases { OnOk result ((n : ℕ) (k : List ℕ)
             → number_has self.new.bases n k

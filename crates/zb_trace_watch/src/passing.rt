@@ -35,7 +35,7 @@ impl Passing {
     /// Notes a key of the network.
     ///
     /// # Errors
-    /// `AllocError`.
+    /// `AllocError`, if memory runs out.
     pub fn network_key(&mut self, key: Key) -> Result<(), AllocError>
         ensures network { OnOk result ((k : List ℕ)
             → has self.new.network k ≡ (has self.old.network k || bytes_eq k key.0)) }
@@ -52,7 +52,7 @@ impl Passing {
     /// Notes the key of a link row. It is a key of the network if it was entered as an install code.
     ///
     /// # Errors
-    /// `AllocError`.
+    /// `AllocError`, if memory runs out.
     pub fn row_key(&mut self, key: Key, attribute: Attribute) -> Result<(), AllocError>
         ensures network { OnOk result ((k : List ℕ)
             → has self.new.network k ≡ (has self.old.network k || (is_code attribute && bytes_eq k key.0))) }
@@ -70,7 +70,7 @@ impl Passing {
     /// Notes which key a forged term carries, if any.
     ///
     /// # Errors
-    /// `AllocError`.
+    /// `AllocError`, if memory runs out.
     pub fn forged_key(&mut self, key: Option<Key>) -> Result<(), AllocError>
         ensures network { self.new.network ≡ self.old.network }
         ensures forged { OnOk result ((k : List ℕ) → has self.new.forged k ≡ (has self.old.forged k || is_key key k)) }

@@ -76,7 +76,7 @@ impl Terms {
     /// Adds a term.
     ///
     /// # Errors
-    /// `AllocError`.
+    /// `AllocError`, if memory runs out.
     pub fn add(&mut self, term: &Term) -> Result<(), AllocError>
         ensures { OnOk result ((t : Term)
             → has_term self.new t ≡ (has_term self.old t || same_term (model_term t) (model_term term.now))) }

@@ -30,7 +30,7 @@ impl Watch {
     /// Makes a watch over no lines.
     ///
     /// # Errors
-    /// `NoMemory`.
+    /// `NoMemory`, if memory runs out.
     pub fn new(alloc: Global) -> Result<Watch, NoMemory>
         ensures { IfOk result (λ watch. (tools : Tools) → Stands tools watch []) }
     {

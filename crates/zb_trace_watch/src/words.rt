@@ -50,7 +50,7 @@ impl EndWords {
     /// Makes the words of no lines.
     ///
     /// # Errors
-    /// `NoMemory`.
+    /// `NoMemory`, if memory runs out.
     pub fn new(alloc: Global) -> Result<EndWords, NoMemory>
         ensures { IfOk result (λ words. (tools : Tools) (counts : ℕ → Bool) → Represents tools counts words start) }
     {
