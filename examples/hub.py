@@ -1,8 +1,8 @@
 #!/usr/bin/env python3
 """hub.py TC_CENTRE TC STORE [LOG]: a hub around the proved centre, with a radio that is played.
 
-It makes STORE where there is none, admits a lamp, hears it, is killed, and goes on. A real hub has another Radio.
-LOG gets all lines of both sides, keys too: `tools/hub-log LOG` makes a transcript of it for `tc audit`."""
+It makes STORE if there is none, admits a lamp, hears it, is killed, and continues. A real hub has another Radio.
+LOG gets all lines of both sides, with the keys: `tools/hub-log LOG` makes a transcript of it for `tc audit`."""
 import os
 import subprocess
 import sys
@@ -12,11 +12,11 @@ HEADER = ['centre hub 00124B0000000001 16 1', f'peer lamp device {LAMP} 1A2B']
 
 
 class Refused(Exception):
-    """The centre did not carry out a line, and nothing has changed. It holds the cause."""
+    """The centre refused a line, and nothing has changed. The exception has the cause."""
 
 
 class Radio:
-    """A radio whose air has one device, which `tc play` plays. What the hub sends is injected there."""
+    """A radio that reaches one device, which `tc play` plays. What the hub sends is injected there."""
 
     def __init__(self, tc):
         self.tc, self.frames, self.sent = tc, 0, 0
@@ -24,7 +24,7 @@ class Radio:
         self.schedule = [centre, f'node lamp device {LAMP} 1A2B 16 2', f'code lamp {CODE}']
 
     def happen(self, *events):
-        """Lets events happen at the lamp, and returns the frames that it sends."""
+        """Plays events of the lamp, and returns the frames that it sends."""
         self.schedule += events
         ran = subprocess.run([self.tc, 'play'], input='\n'.join(self.schedule), stdout=subprocess.PIPE, text=True)
         sent = [line.split(' ')[4] for line in ran.stdout.splitlines() if line.split(' ')[1:3] == ['send', 'lamp']]
@@ -33,13 +33,13 @@ class Radio:
         return new
 
     def send(self, frame):
-        """Sends a frame of the hub, and returns what the lamp sends on it."""
+        """Sends a frame of the hub, and returns the frames with which the lamp answers."""
         self.frames += 1
         return self.happen(f'inject {frame}', f'deliver {self.frames} lamp')
 
 
 class Hub:
-    """A running tc_centre: events go in as lines, and only what it says to send goes out."""
+    """A running tc_centre. It gets events as lines, and only what it says to send is sent."""
 
     def __init__(self, program, store, radio, log=None):
         self.radio, self.log, self.count = radio, log, 0
@@ -63,7 +63,7 @@ class Hub:
         try:
             print(line, file=self.process.stdin, flush=True)
         except BrokenPipeError:
-            pass  # the centre has ended, and what it wrote says why
+            pass  # the centre has ended, and its output says why
         answer = []
         for text in self.process.stdout:
             self.note(f'< {text.rstrip()}')
@@ -76,7 +76,7 @@ class Hub:
         sys.exit(f'hub: the centre ended with status {self.process.wait()}: {" ".join(answer[-1]) if answer else ""}')
 
     def happen(self, line):
-        """Lets an event happen, sends what comes out of it, and hears what is sent on that."""
+        """Handles an event: sends the frames that it leads to, and hears the frames with which they are answered."""
         try:
             answer = self.ask(line)
         except Refused as error:
@@ -91,7 +91,7 @@ class Hub:
                 print('the hub:', ' '.join(words[1:]))
 
     def hear(self, frames):
-        """Gives frames to the centre, each with a fresh key of which it may make a device's."""
+        """Gives frames to the centre, each with a fresh key that it may use for a device."""
         for frame in frames:
             self.happen(f'deliver {frame} {os.urandom(16).hex()}')
 
@@ -102,7 +102,7 @@ def is_data(content):
 
 
 def open_log(path):
-    """Opens a log, which has keys, so that others than its owner can't read it."""
+    """Opens a log, which has keys, so that only its owner can read it."""
     return open(path, 'a', opener=lambda path, flags: os.open(path, flags, 0o600))
 
 
@@ -115,7 +115,7 @@ def make_store(tc, store):
 
 
 def join(hub):
-    """Lets the lamp join by its code: it gets the network's key and a key of its own, and proves that it has it."""
+    """Lets the lamp join by its code: it gets the network key and a key of its own, and proves that it has that key."""
     hub.happen(f'provision lamp {CODE}')
     hub.radio.happen('knock lamp')
     hub.happen('child lamp join')

@@ -1,6 +1,7 @@
-/* Fails the allocation, the read or the write of a number, or moves one byte at a read or write, in the program that it
-   is preloaded into. tools/hostile compiles it; FAULT is `alloc N`, `read N`, `write N`, `short-read N` or `short-write N`,
-   counted from 1, and 0 fails none. Where COUNTS names a file, what was counted is written into it at the end. */
+/* Fails the allocation, the read or the write of a number, or moves one byte at a read or write, in the program into
+   which it is preloaded. tools/hostile compiles it. FAULT is `alloc N`, `read N`, `write N`, `short-read N` or
+   `short-write N`, counted from 1, and 0 fails none. If COUNTS names a file, the counts are written into it at the
+   end. */
 #define _GNU_SOURCE
 #include <errno.h>
 #include <fcntl.h>

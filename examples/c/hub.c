@@ -1,5 +1,5 @@
 /* hub STORE HEADER LINE: one event of a hub around the proved centre. It reads the store, lets the centre carry out the
- * line, puts the new store in place of the old one, and only then says what goes on the air.
+ * line, puts the new store in place of the old one, and only then says what is sent.
  *
  * HEADER is a file with the lines `centre` and `peer` of a session (docs/FORMATS.md). LINE is an event of it, for
  * example 'child lamp join'; or 'init KEY', which makes the store. The status is 1 if nothing was done.

@@ -1,5 +1,5 @@
-/* A device joins, as somebody hears it who has its install code: the code gives the link key, the Transport-Key opens
- * under that and has the network key, and with that the NWK frames open. Then the first frame is sealed again.
+/* A device joins, and somebody who has its install code hears it. The code gives the link key, under which the
+ * Transport-Key opens. That has the network key, under which the NWK frames open. Then the first frame is sealed again.
  * The frames are those of examples/join.capture. */
 #include <stdio.h>
 #include <string.h>
@@ -8,12 +8,12 @@
 
 static const char code_text[] = "83FED3407A939723A5C639B26916D505C3B5";
 
-/* The router hands the network key on: a NWK header of 8 bytes that isn't secured, and then a secured APS command. */
+/* The router passes on the network key: a NWK header of 8 bytes that isn't secured, and then a secured APS command. */
 static const char transport_text[] =
     "08002B1A4D3C1E002100300000000001000000004B120003B6816E5693F741C9EEE9FD14A5C3FB2B7A02ACD71C59030885A677B6F1AEDEBB"
     "D078F3DA4AC7";
 
-/* The router tells the centre that the device joins; the device asks for a link key. */
+/* The router reports to the centre that the device joins; the device asks for a link key. */
 static const char *const nwk_texts[] = {
     "080200004D3C1E00280000000003000000004B1200001B76E8ABEF7224B5448C4B505C37C4635588",
     "080200002B1A1E00280000000002000000004B120000724265A9DCB62B1A38FF7E2863A18C3FE0ACAA543F975BECEC",

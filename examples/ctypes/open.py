@@ -1,9 +1,9 @@
 #!/usr/bin/env python3
-"""open.py CAPTURE KEY ..: opens the frames of a capture under these keys, by the library for C.
+"""open.py CAPTURE KEY ..: opens the frames of a capture under these keys, with the library for C.
 
 It writes the lines `I nwk ..` and `I aps ..` of the inspector's report (docs/FORMATS.md) for each frame. CAPTURE has
-the lines that `tc inspect` reads; of these `frame` and `addr` count here. TC_LIBRARY names the shared object,
-out/lib/libtc_c.so where it isn't set; tools/lib makes it."""
+the lines that `tc inspect` reads; only `frame` and `addr` are used here. TC_LIBRARY names the shared object,
+out/lib/libtc_c.so if it isn't set; tools/lib makes it."""
 import ctypes
 import os
 import sys
@@ -36,13 +36,13 @@ def library(path):
 
 
 class Ring:
-    """Keys, and the first that opens a frame."""
+    """Keys, and the search for the first one that opens a frame."""
 
     def __init__(self, tc, keys):
         self.tc, self.keys = tc, keys
 
     def first(self, call):
-        """Returns the line behind the layer and the content, by the first key that opens; or why none does."""
+        """Returns the number of the first key that opens, and what it opens; or why none does."""
         content, opened, number = ctypes.create_string_buffer(ROOM), Opened(), 0
         for place, key in enumerate(self.keys, 1):
             number = call(key, content, opened)
@@ -62,7 +62,7 @@ class Ring:
 
 
 def nwk_header(frame, addresses):
-    """Returns the length of a NWK header and the IEEE address of its source, 0 where it isn't known."""
+    """Returns the length of a NWK header and the IEEE address of its source, or 0 if it isn't known."""
     control, at = int.from_bytes(frame[:2], "little"), 8
     source = addresses.get(int.from_bytes(frame[4:6], "little"), 0)
     at += 8 if control & 0x0800 else 0

@@ -1,1 +1,1 @@
-"""The tries of tools/files, one module each, over the bench that runs the program."""
+"""The tests of tools/files, one module each, over the bench that runs the program."""

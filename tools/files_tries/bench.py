@@ -1,4 +1,4 @@
-"""The bench of the tries: runs the program on stores in a folder of its own, and keeps what is found wrong."""
+"""The bench of the tests: runs the program on stores in a folder of its own, and keeps what it finds wrong."""
 import os
 import shutil
 import subprocess
@@ -38,7 +38,7 @@ class Bench:
         self.library = library
 
     def surroundings(self, fault=None, log=None):
-        """Returns the environment of a run of which a call is spoiled, or the calls are logged."""
+        """Returns the environment of a run in which a call is spoiled, or calls are logged."""
         env = dict(os.environ, LD_PRELOAD=self.library)
         if fault:
             env["FAULT"] = fault
@@ -47,7 +47,7 @@ class Bench:
         return env
 
     def run(self, store, commands, fault=None, log=None, before=(), **how):
-        """Serves commands on a store; returns the status, the output and what standard error said."""
+        """Runs commands on a store. Returns the status, the output and the text of standard error."""
         env = self.surroundings(fault, log) if fault or log else None
         how = {"stdout": subprocess.PIPE, "stderr": subprocess.PIPE, "timeout": SECONDS, "close_fds": False, **how}
         words = [*before, self.program, "admin", store]
@@ -67,19 +67,19 @@ class Bench:
             return subprocess.Popen([self.program, "admin", store], env=env, **how)
 
     def served(self, store, commands):
-        """Serves commands that must go well, and returns the output."""
+        """Runs commands that must succeed, and returns the output."""
         ran = self.run(store, commands)
         if ran.status != 0:
             sys.exit(f"files: a run without any fault ended with status {ran.status}: {ran.output[-200:]!r}")
         return ran.output
 
     def shown(self, store):
-        """Returns what `list` and `backup` show of a store, with the status before it where that isn't 0."""
+        """Returns what `list` and `backup` show of a store, with the status before it if that isn't 0."""
         ran = self.run(store, ["list", "backup"])
         return ran.output if ran.status == 0 else f"status {ran.status}: {ran.output}"
 
     def shown_of_each(self, images):
-        """Returns what each of these images shows, as `shown` does, by one process that forks; None is no file."""
+        """Returns what each of these images shows, as `shown` does, with one process that forks. None is no file."""
         for number, image in enumerate(images):
             self.put(f"image{number:06}", image)
         with open(self.path("script"), "wb") as it:
@@ -115,7 +115,7 @@ class Bench:
         return [Call(*line.split(" ")) for line in lines]
 
     def each(self, what, tried, count):
-        """Yields the first of what is to be tried, and says once a minute on standard error how far it came."""
+        """Yields the first COUNT items, and reports the progress on standard error once a minute."""
         said = time.monotonic()
         for number, it in enumerate(tried):
             if number == count:
@@ -126,7 +126,7 @@ class Bench:
             yield it
 
     def found(self, what, store=None, commands=()):
-        """Says what is wrong, and keeps the store and the script; of the first 20 violations."""
+        """Reports what is wrong, and keeps the store and the script, for the first 20 violations."""
         self.violations += 1
         if self.violations > MOST_KEPT:
             return
@@ -149,13 +149,13 @@ class Call:
 
 
 def some(cases, count, dice):
-    """Returns all of the cases, or COUNT of them by chance."""
+    """Returns all cases, or COUNT of them at random."""
     cases = list(cases)
     return cases if len(cases) <= count else dice.sample(cases, count)
 
 
 def read(path):
-    """Returns the bytes of a file, or None where there is none."""
+    """Returns the bytes of a file, or None if there is none."""
     if not os.path.exists(path):
         return None
     with open(path, "rb") as it:

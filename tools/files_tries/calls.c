@@ -1,4 +1,4 @@
-/* Counts, logs and spoils the calls of the program that it is preloaded into. tools/files compiles it.
+/* Counts, logs and spoils the calls of the program into which it is preloaded. tools/files compiles it.
 
    CALLS names a file that gets a line for each call: number, name, descriptor, place, result, and in hexadecimal what
    a write moved or an open named. FAULT is `WAY NUMBER ERROR TIMES`: at the call of that number, counted from 1, and
@@ -13,9 +13,9 @@
      half-fail   a read or write moves half, and the next one fails with ERROR
      nothing     a write moves no byte and returns 0
 
-   STORES is a number: so often the program forks before it begins, and each of them serves the script in the file
-   SCRIPT on a store of its own, whose number stands in the six digits at the end of its path. Its output goes into
-   PATH.out, and its status is a line of standard output. */
+   STORES is a number: the program forks so often before it begins, and each process runs the script in the file SCRIPT
+   on a store of its own, whose number is the six digits at the end of its path. The output goes into PATH.out, and the
+   status is a line of standard output. */
 #define _GNU_SOURCE
 #include <errno.h>
 #include <fcntl.h>
@@ -48,7 +48,7 @@ static void move(const char *path, int flags, int to) {
     syscall(SYS_close, file);
 }
 
-/* Returns in each process that serves a store, with the store's path in the words; the first process ends here. */
+/* Returns in each process that has a store, with the store's path in the words. The first process ends here. */
 static void serve_each(char *path, long stores) {
     char out[4096], *digits = path + strlen(path) - 6;
     for (long store = 0; store < stores; store++) {

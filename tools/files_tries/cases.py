@@ -1,4 +1,4 @@
-"""The scripts that are spoiled at each moment, and the judgement of what is left of their stores."""
+"""The scripts that are spoiled at each moment, and the checks of what is left of their stores."""
 import os
 
 from files_tries.bench import read
@@ -14,7 +14,7 @@ NEW = [
     INIT, provision("d", 1), provision("e", 2), "list", "remove d via c", provision("d", 3), "backup",
     "remove e via c", INIT, provision("e", 2), "remove d via c", "remove e via c",
 ]
-# 29 commits, so that the 33rd, which writes the whole record, falls into the script.
+# 29 commits, so that the 33rd, which writes the whole record, is in the script.
 COMMITS = [INIT, *turns(28), provision("r", 5)]
 OLD = [
     provision("d", 1), provision("e", 2), "remove d via r", "list", provision("d", 3), "remove e via c", "backup",
@@ -43,16 +43,16 @@ class Case:
         return self.bench.put(name, self.content)
 
     def calls(self):
-        """Returns the calls of the script, served alone."""
+        """Returns the calls of the script, run alone."""
         return self.bench.calls(self.put(), self.commands)
 
     def lines_of(self, ran):
-        """Returns the commands' lines of a run, or None where they or the status aren't what a fault may leave."""
+        """Returns the commands' lines of a run, or None if they or the status aren't what a fault may leave."""
         lines = split_status(ran.status, ran.output)
         return lines if lines is not None and self.output.startswith(lines) else None
 
     def is_in_first(self, told):
-        """Returns whether nothing is promised of the store: its first command makes it and isn't acknowledged."""
+        """Returns whether nothing is promised about the store: its first command makes it and isn't acknowledged."""
         return self.content is None and told == 0
 
     def judge(self, output, shown):
@@ -68,9 +68,9 @@ class Case:
         return f"{told} commands were acknowledged, and the store has {stored or repr(shown[:60])}"
 
     def judge_rest(self, store, output):
-        """Goes on after this output, and returns what is wrong with that, or None.
+        """Continues after this output, and returns what is wrong with that, or None.
 
-        What is no store, since making it was cut, is deleted first.
+        A file that isn't a store, because making it was cut short, is deleted first.
         """
         told = acknowledged(output)
         if self.is_in_first(told) and self.bench.shown(store).startswith("status"):
@@ -83,7 +83,7 @@ class Case:
         return None if rows == self.rows else f"after the rest the store lists {rows[:60]!r}"
 
     def check(self, ran, what, store):
-        """Judges a run that was spoiled, the store that it left and the rest of the script."""
+        """Checks a spoiled run, the store that it left and the rest of the script."""
         lines = self.lines_of(ran) if ran.status != -9 else ran.output
         if lines is None:
             why = f"status {ran.status} with the output {ran.output[-80:]!r}"
@@ -94,7 +94,7 @@ class Case:
 
 
 def two_gates(bench, case):
-    """Returns the bytes of a store that was cut inside a whole record's commit, with the gates of both slots open."""
+    """Returns the bytes of a store that was cut during a whole record's commit, with the gates of both slots open."""
     for call in (call for call in case.calls() if call.name == "write"):
         store = case.put()
         bench.run(store, case.commands, fault=f"kill-after {call.number} 0 1")

@@ -6,7 +6,7 @@ from collections import Counter
 from files_tries.bench import read, some
 from files_tries.cases import all_cases
 
-# Each way to spoil a call, with its error and how often, and the names of the calls that it is for; None is all.
+# Each way to spoil a call, with its error and how often, and the names of its calls; None is all.
 PARTS = ("read", "write")
 WAYS = (
     ("fail", errno.EIO, 1, None),
@@ -31,7 +31,7 @@ class Fault:
         self.way, self.error, self.times, _ = way
         makes = [call.number for call in calls if call.name == "open" and call.file == -1]
         seeks = [call.number for call in calls if call.name == "lseek" and call.file > 2]
-        # From the call that makes the file until its room is filled. The file is left empty where one of them fails.
+        # From the call that makes the file until its room is filled. The file is left empty if one of them fails.
         self.is_in_make = case.content is None and makes[0] <= self.call.number < seeks[0]
 
     def words(self):
@@ -51,7 +51,7 @@ class Fault:
         if self.way in ("short", "half") or is_repeated:
             return (0,)
         failed = 3 if file == 0 else 4 if file == 1 else 7
-        # One byte has no half. What was asked of the path may not matter. An interrupted call may be repeated.
+        # One byte has no half. A question about the path may not matter. An interrupted call may be repeated.
         may_pass = self.way == "half-fail" or name == "statx" or self.error == errno.EINTR
         return (0, failed) if may_pass else (failed,)
 
@@ -65,13 +65,13 @@ def all_faults(case):
 
 
 def writes_after_failed_sync(calls):
-    """Returns whether the store is written after a sync of it failed."""
+    """Returns whether the store is written after one of its syncs failed."""
     failed = [call for call in calls if call.name == "fsync" and call.result < 0]
     return any(call.name == "write" and call.file > 2 and call.number > failed[-1].number for call in calls if failed)
 
 
 def judge(fault, ran, calls, store):
-    """Returns what is wrong with a run beside its output and its store, or None."""
+    """Returns what is wrong with a run except its output and its store, or None."""
     case = fault.case
     if ran.status not in fault.statuses():
         return f"status {ran.status}, which isn't one of {fault.statuses()}"
@@ -87,7 +87,7 @@ def judge(fault, ran, calls, store):
 
 
 def try_fault(fault):
-    """Tries a fault, judges what it left, and returns the status."""
+    """Tests a fault, checks what it left, and returns the status."""
     case, log = fault.case, fault.case.bench.path("calls")
     store = case.put()
     ran = case.bench.run(store, case.commands, fault=fault.words(), log=log)
@@ -99,7 +99,7 @@ def try_fault(fault):
 
 
 def faults(bench, count, seed):
-    """Tries COUNT faults at most, and returns the line of counts."""
+    """Tests at most COUNT faults, and returns the line of counts."""
     every = [fault for case in all_cases(bench) for fault in all_faults(case)]
     tried = some(every, count, random.Random(seed))
     statuses = Counter(try_fault(fault) for fault in bench.each("faults", tried, len(tried)))

@@ -26,7 +26,7 @@ def system_calls(case):
 
 
 def kill_at_system_calls(cases, count, dice):
-    """Kills at each system call by strace; returns the number of runs."""
+    """Kills at each system call with strace. Returns the number of runs."""
     every = [(case, *call) for case in cases for call in system_calls(case)]
     tried = some(every, count, dice)
     for case, name, number in cases[0].bench.each("kills at system calls", tried, len(tried)):
@@ -38,7 +38,7 @@ def kill_at_system_calls(cases, count, dice):
 
 
 def kill_at_calls(cases, count, dice):
-    """Kills before, within and after each call of the store and the streams; returns the number of runs."""
+    """Kills before, within and after each call of the store and the streams. Returns the number of runs."""
     every = []
     for case in cases:
         for call in case.calls():
@@ -52,7 +52,7 @@ def kill_at_calls(cases, count, dice):
 
 
 class Long:
-    """A script of 2,000 commands, served on one store by runs of which each is killed at a random moment."""
+    """A script of 2,000 commands on one store, by runs of which each is killed at a random moment."""
 
     def __init__(self, bench, dice):
         self.bench, self.dice = bench, dice
@@ -70,7 +70,7 @@ class Long:
         self.bench.served(self.store, [INIT])
 
     def stored(self):
-        """Returns how many commands a store holds, or None where its rows aren't those of a prefix."""
+        """Returns how many commands a store holds, or None if its rows aren't those of a prefix."""
         rows = [row for row in self.bench.shown(self.store).splitlines() if row.startswith("link ")]
         count = 2 * len(rows) - (1 if rows and rows[-1].endswith(" live") else 0)
         expected = self.rows[: len(rows)]
@@ -79,7 +79,7 @@ class Long:
         return count if rows == expected else None
 
     def run_killed(self):
-        """Serves what is left of the script, kills the process, and returns the output."""
+        """Runs the rest of the script, kills the process, and returns the output."""
         process = self.bench.start(self.store, LONG[self.done :])
         output = []
         reader = threading.Thread(target=lambda: output.append(process.stdout.read()))
@@ -92,7 +92,7 @@ class Long:
         return output[0].decode("latin1")
 
     def round(self):
-        """Kills one run and judges what it left."""
+        """Kills one run and checks what it left."""
         output = self.run_killed()
         told, stored = acknowledged(output), self.stored()
         self.acknowledged += told
@@ -116,7 +116,7 @@ def kill_at_moments(bench, count, dice):
 
 
 def kills(bench, count, seed):
-    """Tries the three kinds of kills, and returns the line of counts."""
+    """Tests the three kinds of kills, and returns the line of counts."""
     dice = random.Random(seed)
     cases = all_cases(bench)
     system = kill_at_system_calls(cases, count, dice)

@@ -1,4 +1,4 @@
-"""Streams and paths: slow scripts, closed standard streams, paths that are no file, modes, and what makes no file."""
+"""Streams and paths: slow scripts, closed standard streams, paths that aren't files, modes, and what makes no file."""
 import fcntl
 import itertools
 import os
@@ -25,7 +25,7 @@ def closing(*files):
 
 
 def slow(bench, count, dice):
-    """Sends COUNT scripts in pieces: nothing comes out and no file is made before the end, and then all of it."""
+    """Sends COUNT scripts in pieces: nothing is written and no file is made before the end, and then everything is."""
     case = Case(bench, "slow", None, NEW)
     for _ in bench.each("slow scripts", range(count), count):
         store, text = case.put(), script(NEW)
@@ -83,7 +83,7 @@ def closed_streams(bench, content):
 
 
 def check_closed(case, files, ran, store):
-    """Judges a run with closed streams: its status and what its store holds."""
+    """Checks a run with closed streams: its status and what its store holds."""
     expected = 4 if 1 in files else 3 if 0 in files else 0
     what = f"pipes: with {files} closed on {'a new' if case.content is None else 'an old'} store"
     if ran.status != expected:
@@ -144,7 +144,7 @@ def holds(room):
 
 
 def paths(bench):
-    """Serves each script on each path that is no file: its answer, nothing made and nothing changed."""
+    """Runs each script on each path that isn't a file: its answer, nothing made and nothing changed."""
     room = bench.path("paths")
     os.mkdir(room)
     tried = odd_paths(room)
@@ -161,7 +161,7 @@ def paths(bench):
 
 
 def missing(bench):
-    """Serves what needs no file on no file and on an empty one: it reads as empty, and nothing is made or changed."""
+    """Runs what needs no file on no file and on an empty one: it reads as empty, and nothing is made or changed."""
     tried = 0
     several = ["list", provision("d", 1), "remove d via c", "backup"]
     scripts = ([], ["list"], ["backup"], several, ["boom"], ["init 00"])
@@ -177,7 +177,7 @@ def missing(bench):
 
 
 def names(bench):
-    """Makes stores of odd names and through a link, each of its mode and size."""
+    """Makes stores with odd names and through a link, each with its mode and size."""
     tried = 0
     os.symlink(bench.put("linked", b""), bench.path("alias"))
     for name in ("n" * 255, "--help", "with space", "line\nfeed", "alias", "é"):
@@ -195,7 +195,7 @@ def names(bench):
 
 
 def modes(bench, content):
-    """Serves a store of each mode: one line on standard error exactly where others may read or write it."""
+    """Uses a store of each mode: one line on standard error exactly if others may read or write it."""
     for mode in range(0o1000):
         if mode & 0o600 != 0o600 or mode & 0o111:
             continue
@@ -221,7 +221,7 @@ def odd_warning(bench, content):
 
 
 def locked(bench, content):
-    """Locks a store by another program: the fault comes at once, and nothing is changed."""
+    """Locks a store by another program: the fault is reported at once, and nothing is changed."""
     store = bench.put("locked", content)
     with open(store, "rb") as it:
         fcntl.flock(it, fcntl.LOCK_SH)
@@ -233,7 +233,7 @@ def locked(bench, content):
 
 
 def pipes(bench, count, seed):
-    """Tries streams and paths, and returns the line of counts."""
+    """Tests streams and paths, and returns the line of counts."""
     dice = random.Random(seed)
     store = bench.put("base")
     bench.served(store, [INIT, provision("r", 5)])

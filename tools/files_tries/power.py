@@ -55,7 +55,7 @@ class Disk:
                 yield self.old_image()[:place] + given + self.old_image()[place + size :]
 
     def random_image(self, dice):
-        """Returns an image of which each unsynced range is chosen by itself, at times with the old length."""
+        """Returns an image in which each unsynced range is chosen by itself, sometimes with the old length."""
         fills = []
         for place, size in self.ranges:
             fills.append((place, chosen(bytes(self.now[place : place + size]), self.old(place, size), dice)))
@@ -92,7 +92,7 @@ def chosen(new, old, dice):
 
 
 def record(case):
-    """Runs the script of a case, and returns its writes and syncs of the store and its lines, in their order."""
+    """Runs the script of a case, and returns its writes and syncs of the store and its lines, in order."""
     store, events, names = case.put(), [], {}
     for call in case.bench.calls(store, case.commands):
         if call.name == "open" and call.result >= 0:
@@ -150,7 +150,7 @@ class Tries:
         return is_new
 
     def look(self, batch):
-        """Lists a batch of images, and judges what they show."""
+        """Lists a batch of images, and checks what they show."""
         for (case, output, image), shown in zip(batch, self.bench.shown_of_each([image for _, _, image in batch])):
             self.count_end(case, output, shown)
             why = case.judge(output, shown)
@@ -166,7 +166,7 @@ class Tries:
 
 
 def images_of(case, dice):
-    """Yields each output with the named images of its moment, and no file where its name may not be on the disk."""
+    """Yields each output with the named images of its moment, and no file if its name may not be on the disk."""
     for disk, output in moments(case):
         if not disk.is_named:
             yield output, None
@@ -175,7 +175,7 @@ def images_of(case, dice):
 
 
 def random_images_of(case, dice):
-    """Yields a random image of each moment at which something isn't synced, over and over."""
+    """Yields a random image of each moment at which something isn't synced, without end."""
     while True:
         for disk, output in moments(case):
             if disk.ranges:
@@ -211,7 +211,7 @@ def batches(images, size):
 
 
 def power(bench, count, seed):
-    """Tries COUNT different images, the named ones first, and returns the line of counts."""
+    """Tests COUNT different images, the named ones first, and returns the line of counts."""
     dice, tries = random.Random(seed), Tries(bench)
     images = bench.each("power", different(tries, all_cases(bench), dice), count)
     for batch in batches(images, BATCH):

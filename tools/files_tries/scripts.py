@@ -49,7 +49,7 @@ def turns(count, name="d", parent="c", code=700):
 
 
 def split_status(status, output):
-    """Returns the lines of the commands without the status line, or None where that line isn't the status's own."""
+    """Returns the lines of the commands without the status line, or None if that line isn't the status's own."""
     if status in (0, 4):
         return output
     found = re.search(f"(?:{STATUS_LINES.get(status, '(?!)')})\\Z", output)
@@ -57,7 +57,7 @@ def split_status(status, output):
 
 
 def acknowledged(output):
-    """Returns the number of commands of which a byte came out."""
+    """Returns the number of commands of which a byte was written."""
     whole = len(re.findall(r"^(?:ok|refuse) .*\n", output, re.M))
     return whole + (re.search(r"^(?:ok|refuse) .*\n\Z", output, re.M) is None and output != "")
 
@@ -69,6 +69,6 @@ def counters(output):
 
 
 def comes_again(*outputs):
-    """Returns the counters that come twice in these outputs."""
+    """Returns the counters that these outputs use twice."""
     every = Counter(counter for output in outputs for counter in counters(output))
     return sorted(counter for counter, number in every.items() if number > 1)

@@ -1,4 +1,4 @@
-"""Two processes on one store: one serves and the other is refused, and no counter comes twice."""
+"""Two processes on one store: one succeeds and the other is refused, and no counter is used twice."""
 import os
 import random
 import signal
@@ -36,7 +36,7 @@ def rows_of(listed):
 
 
 class Pair:
-    """What two scripts make of a store, served by two processes."""
+    """The result of two scripts on a store, run by two processes."""
 
     def __init__(self, bench, name, content, first, second):
         self.bench, self.name, self.content, self.first, self.second = bench, name, content, first, second
@@ -88,7 +88,7 @@ def is_locked_at(calls, number):
 
 
 def held_at(pair, calls, number):
-    """Holds the first process before a call, serves the second script, and lets the first one go on."""
+    """Holds the first process before a call, runs the second script, and lets the first one continue."""
     bench, store = pair.bench, pair.put()
     first = bench.start(store, pair.first, fault=f"stop {number} 0 1")
     stopped(first)
@@ -102,7 +102,7 @@ def held_at(pair, calls, number):
 
 
 def crossed_at(pair, calls, number):
-    """Holds the first before it locks and the second after it did, and lets the first go on and then the second."""
+    """Holds the first before it locks and the second after it did, and lets the first continue and then the second."""
     bench, store = pair.bench, pair.put()
     first = bench.start(store, pair.first, fault=f"stop {lock_of(calls)} 0 1")
     stopped(first)
@@ -113,7 +113,7 @@ def crossed_at(pair, calls, number):
 
 
 def killed_at(case, calls, number):
-    """Holds a process before a call, looks that a second one is refused, kills the first and goes on."""
+    """Holds a process before a call, checks that a second one is refused, kills the first and continues."""
     bench, store = case.bench, case.put()
     process = bench.start(store, case.commands, fault=f"stop {number} 0 1")
     stopped(process)
@@ -168,7 +168,7 @@ def rounds(bench, count):
 
 
 def backups(bench, whole, commands):
-    """Makes backups beside a script until it ends; returns how many were made and how many refused."""
+    """Makes backups while a script runs. Returns how many were made and how many refused."""
     store, outputs = bench.put("store"), []
     served = threading.Thread(target=lambda: outputs.append(bench.run(store, commands)))
     served.start()
@@ -191,7 +191,7 @@ def backups(bench, whole, commands):
 
 
 def beside(bench, count):
-    """Serves COUNT scripts of 2,000 commands with backups beside them; returns the numbers of backups."""
+    """Runs COUNT scripts of 2,000 commands with backups at the same time. Returns the numbers of backups."""
     commands, alone = [INIT, *turns(1999)], bench.put("whole")
     bench.served(alone, commands)
     whole = bench.shown(alone)
@@ -200,17 +200,17 @@ def beside(bench, count):
 
 
 def new_pairs(bench):
-    """Returns the pairs that make one store: where there is no file, and where there is an empty one."""
+    """Returns the pairs that make one store: if there is no file, and if there is an empty one."""
     return [Pair(bench, "new", None, FIRST, SECOND), Pair(bench, "empty", b"", FIRST, SECOND)]
 
 
 def makers(bench, count, seed):
-    """Holds one of two makers of a store at COUNT calls at most, and returns the line of counts."""
+    """Holds one of two makers of a store at up to COUNT calls, and returns the line of counts."""
     return f"{hold(new_pairs(bench), count, random.Random(seed))} pairs that make one store, one held at a call"
 
 
 def two(bench, count, seed):
-    """Tries two processes in each way, and returns the line of counts."""
+    """Tests two processes in each way, and returns the line of counts."""
     dice, cases = random.Random(seed), all_cases(bench)
     held = hold(
         [

@@ -1,1 +1,1 @@
-"""What the tools around a living centre share: sessions of tc_centre, their logs, and a centre's tables."""
+"""What the tools for a live trust centre share: sessions of tc_centre, their logs, and a centre's tables."""

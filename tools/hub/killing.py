@@ -1,6 +1,6 @@
-"""Sessions of tc_centre that are ended by SIGKILL: at a moment, or at one of their system calls.
+"""Sessions of tc_centre that are killed by SIGKILL: at a moment, or at one of their system calls.
 
-A session is given all its lines at once, and then the end of its input. So it works without a pause until it is
+A session gets all its lines at once, and then the end of its input. So it works without a pause until it is
 killed, or ends by itself."""
 from __future__ import annotations
 
@@ -14,7 +14,7 @@ import time
 from typing import IO, List
 
 SECONDS = 120
-# An answer that came out before it was stored would be missing after these.
+# An answer that was written before it was stored would be missing after these.
 STOPS_AFTER = 3
 TRACE_ME, NEXT_CALL, OPTIONS, KILL_AT_EXIT = 0, 24, 0x4200, 0x100000
 LIBC = ctypes.CDLL(None, use_errno=True)
@@ -23,11 +23,11 @@ LIBC.ptrace.restype = ctypes.c_long
 
 
 class Stuck(Exception):
-    """A session that didn't end though its input had ended."""
+    """A session that didn't end although its input had ended."""
 
 
 class Killed:
-    """What came of a session: its whole lines, and whether it was killed before it ended by itself."""
+    """The result of a session: its whole lines, and whether it was killed before it ended by itself."""
 
     def __init__(self, output: bytes, status: int):
         self.lines = output.decode('ascii', 'replace').split('\n')[:-1]
@@ -55,11 +55,11 @@ def run(program: str, store: str, lines: list[str], delay: float | None = None) 
 
 
 def run_until(program: str, store: str, lines: list[str], size: int) -> Killed:
-    """Runs a session that is given all its lines at once, and kills it when it has written so many bytes."""
+    """Runs a session that gets all its lines at once, and kills it when it has written so many bytes."""
     with tempfile.TemporaryFile() as source, tempfile.TemporaryFile() as sink:
         source.write(text_of(lines))
         source.seek(0)
-        # this process comes first on a busy processor, or the session ends before its output is looked at
+        # this process has priority on a busy processor, or the session ends before its output is read
         process = subprocess.Popen([program, store], stdin=source, stdout=sink, preexec_fn=lambda: os.nice(19))
         end = time.monotonic() + SECONDS
         # without a pause: an event takes some ten microseconds
@@ -72,7 +72,7 @@ def run_until(program: str, store: str, lines: list[str], size: int) -> Killed:
 
 
 def trace(request: int, pid: int, more: int | None = None) -> bool:
-    """Makes a call of ptrace, and returns whether it was carried out."""
+    """Makes a call of ptrace, and returns whether it succeeded."""
     return LIBC.ptrace(request, pid, None, more) == 0
 
 
@@ -82,9 +82,9 @@ def can_trace() -> bool:
 
 
 def traced(words: list[str], given: bytes, last: int | None = None) -> tuple[Killed, list[int]]:
-    """Runs a program whose input is these bytes, and kills it at the stop of that number; never where it is none.
+    """Runs a program whose input is these bytes, and kills it at the stop of that number, or never if it is None.
 
-    A process stops before and after each system call. Returns what came of it, and how much it had written at each
+    A process stops before and after each system call. Returns the result, and how much the process had written at each
     stop, from the first one on."""
     with tempfile.TemporaryFile() as source, tempfile.TemporaryFile() as sink:
         source.write(given)
@@ -102,7 +102,7 @@ def traced(words: list[str], given: bytes, last: int | None = None) -> tuple[Kil
 
 
 def started(words: list[str], source: IO, sink: IO) -> int:
-    """Starts a program that waits to be traced, and returns its number."""
+    """Starts a program that waits to be traced, and returns its process number."""
     pid = os.fork()
     if pid == 0:
         try:
@@ -140,5 +140,5 @@ def stops(program: str, store: str, lines: list[str], passed: int) -> list[int]:
 
 
 def run_to_stop(program: str, store: str, lines: list[str], number: int) -> Killed:
-    """Runs a session, and kills it at the stop of that number. Returns what came of it."""
+    """Runs a session, and kills it at the stop of that number. Returns the result."""
     return traced([program, store], text_of(lines), number)[0]

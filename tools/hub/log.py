@@ -1,16 +1,16 @@
-"""Reads logs of sessions: `start` where tc_centre was started, `> LINE` for a line to it, `< LINE` for one of it."""
+"""Reads logs of sessions: `start` when tc_centre was started, `> LINE` for a line to it, `< LINE` for one from it."""
 import re
 
 from hub.words import ENDS, EVENTS, HEADER, QUESTIONS
 
 
 class BadLog(Exception):
-    """Why a text is no log of sessions."""
+    """Why a text isn't a log of sessions."""
 
 
 class Asked:
-    """A line to the program with its number in the session. `lines` answer it, the last one left out, which is `word`:
-    `ok`, `refuse`, or none where no answer came."""
+    """A line to the program with its number in the session. `lines` answer it, without the last one, which is `word`:
+    `ok`, `refuse`, or None if there was no answer."""
 
     def __init__(self, number, text, place):
         self.number, self.text, self.place = number, text, place
@@ -23,7 +23,7 @@ class Asked:
 
     @property
     def is_event(self):
-        """Returns whether the line is one of an event, and was carried out where it was answered."""
+        """Returns whether the line is that of an event, and was carried out if it was answered."""
         return self.kind in EVENTS and self.word != 'refuse'
 
     @property
@@ -33,19 +33,19 @@ class Asked:
 
 
 class Session:
-    """What was asked in one run of the program, and the line with which it ended by itself, or none."""
+    """What was asked in one run of the program, and the line with which it ended by itself, or None."""
 
     def __init__(self):
         self.asked, self.end, self.lines = [], None, 0
 
     def ask(self, text, place):
-        """Takes a line to the program. Empty lines and comments count, and have no answer."""
+        """Adds a line to the program. Empty lines and comments have numbers, and no answer."""
         self.lines += 1
         if text and not text.startswith('#'):
             self.asked.append(Asked(self.lines, text, place))
 
     def hear(self, text, place):
-        """Takes a line from the program."""
+        """Adds a line from the program."""
         waiting = next((it for it in self.asked if it.word is None), None)
         if text.startswith(ENDS):
             self.end = text
@@ -57,7 +57,7 @@ class Session:
             waiting.lines.append(text)
 
     def header(self, word):
-        """Returns the words of the header lines of a kind that were taken."""
+        """Returns the words of the header lines of a kind that were accepted."""
         return [it.text.split(' ') for it in self.asked if it.kind == word and it.word == 'ok']
 
     def events(self):
@@ -65,11 +65,11 @@ class Session:
         return [it for it in self.asked if it.is_event and it.word == 'ok']
 
     def cut(self):
-        """Returns the event that had no answer when the session ended, or none."""
+        """Returns the event that had no answer when the session ended, or None."""
         return next((it for it in self.asked if it.is_event and it.word is None), None)
 
     def first_backup(self):
-        """Returns the backup that was answered before any event, or none."""
+        """Returns the backup that was answered before any event, or None."""
         for it in self.asked:
             if it.is_event:
                 return None
@@ -79,7 +79,7 @@ class Session:
 
 
 def read(lines):
-    """Returns the sessions of a log. Empty lines are passed over: a host that starts anew ends a line that its
+    """Returns the sessions of a log. Empty lines are skipped, because a host that starts again ends a line that its
     predecessor may have begun."""
     sessions = []
     for place, line in enumerate(lines, 1):

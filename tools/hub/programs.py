@@ -3,7 +3,7 @@ import os
 import sys
 
 TOP = os.path.dirname(os.path.dirname(os.path.dirname(os.path.abspath(__file__))))
-# Where this folder is PREFIX/share/gabzetu/tools/hub, the programs are in PREFIX/lib/gabzetu.
+# If this folder is PREFIX/share/gabzetu/tools/hub, the programs are in PREFIX/lib/gabzetu.
 BESIDE = os.path.normpath(os.path.join(TOP, '..', '..', 'lib', 'gabzetu'))
 BUILT = {
     'tc': ('GABZETU_TC', f'{TOP}/crates/tc_cli/out/tc_cli', './build'),
@@ -12,7 +12,7 @@ BUILT = {
 
 
 def find(name):
-    """Returns the path of a program, or none: the one that its variable names, else the installed or the built one."""
+    """Returns the path of a program, or None: the one that its variable names, else the installed or the built one."""
     variable, built, _ = BUILT[name]
     named = os.environ.get(variable)
     for path in [named] if named else [os.path.join(BESIDE, name), built]:
@@ -22,7 +22,7 @@ def find(name):
 
 
 def find_or_stop(tool, name):
-    """Returns the path of a program. Where it is missing, says what to do and ends with status 70."""
+    """Returns the path of a program. If it is missing, says what to do and ends with status 70."""
     path = find(name)
     if path is None:
         variable, _, command = BUILT[name]

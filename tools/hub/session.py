@@ -1,4 +1,4 @@
-"""A session of tc_centre: lines go in one at a time, each is answered, and a log keeps both."""
+"""A session of tc_centre: it gets lines one at a time, answers each, and a log keeps both."""
 import os
 import re
 import select
@@ -8,7 +8,7 @@ SECONDS = 60
 
 
 class Ended(Exception):
-    """The program ended where an answer was wanted. It holds the lines that came before the end, and the status."""
+    """The program ended before it answered. The exception has the lines before the end, and the status."""
 
     def __init__(self, lines, status):
         super().__init__(f'tc_centre ended with status {status} after {lines}')
@@ -20,7 +20,7 @@ class Silent(Exception):
 
 
 class Session:
-    """A running tc_centre on a store. `log` is a list that takes the lines of both sides, or none."""
+    """A running tc_centre on a store. `log` is a list for the lines of both sides, or None."""
 
     def __init__(self, program, store, log=None):
         self.log, self.count, self.held = log, 0, b''
@@ -28,7 +28,7 @@ class Session:
         self.note('start')
 
     def note(self, line):
-        """Keeps a line of the log."""
+        """Adds a line to the log."""
         if self.log is not None:
             self.log.append(line)
 
@@ -43,7 +43,7 @@ class Session:
             pass
 
     def line(self):
-        """Returns the next line of the program, or none at its end."""
+        """Returns the next line of the program, or None at its end."""
         while b'\n' not in self.held:
             if not select.select([self.process.stdout], [], [], SECONDS)[0]:
                 self.process.kill()
@@ -72,7 +72,7 @@ class Session:
         return self.answer(self.count)
 
     def kill(self):
-        """Ends the program by SIGKILL, and returns the whole lines that it had written."""
+        """Kills the program by SIGKILL, and returns the whole lines that it had written."""
         self.process.kill()
         self.process.wait()
         lines = []
@@ -95,7 +95,7 @@ class Session:
 
 
 def make_store(tc, store, header, command):
-    """Makes a store by `tc admin`: the header has the lines of the centre and its peers. Returns what tc wrote."""
+    """Makes a store with `tc admin`: the header has the lines of the centre and its peers. Returns what tc wrote."""
     script = '\n'.join([*header, command]) + '\n'
     ran = subprocess.run([tc, 'admin', store], input=script.encode('ascii'), stdout=subprocess.PIPE, check=True)
     return ran.stdout.decode('ascii')

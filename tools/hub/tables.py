@@ -1,5 +1,5 @@
-"""The tables of a centre, as its backup has them (docs/BACKUP.md): what the change lines of a transcript do to them,
-and which change lines lead from one to the other."""
+"""The tables of a centre, as its backup has them (docs/BACKUP.md): how the change lines of a transcript change them,
+and which change lines lead from some tables to others."""
 import copy
 import json
 
@@ -8,7 +8,7 @@ GREATEST = 4_294_967_295
 
 
 class Apart(Exception):
-    """No changes lead from tables to others."""
+    """No changes lead from the tables to the others."""
 
 
 def read(text):
@@ -17,17 +17,17 @@ def read(text):
 
 
 def net_of(tables, key):
-    """Returns the network row of a key, or none."""
+    """Returns the network row of a key, or None."""
     return next((row for row in tables['nets'] if row['key'] == key), None)
 
 
 def active_net(tables):
-    """Returns the active network row, or none."""
+    """Returns the active network row, or None."""
     return None if tables['active'] is None else tables['nets'][tables['active']]
 
 
 def links_of(tables, partner, key=None):
-    """Returns the link rows of a partner, those with a key where one is given."""
+    """Returns the link rows of a partner, or those with a key if one is given."""
     return [row for row in tables['links'] if row['partner'] == partner and key in (None, row['key'])]
 
 
@@ -131,14 +131,14 @@ DEEDS = {
 
 
 def change(tables, line):
-    """Does to the tables what a line of a transcript says, the event's number left out. Other lines do nothing."""
+    """Changes the tables by a line of a transcript, without the event's number. Other lines change nothing."""
     kind, *words = line.split(' ')
     if kind in DEEDS:
         DEEDS[kind](tables, words)
 
 
 def changed(tables, lines):
-    """Returns the tables after lines of a transcript, the numbers of events left out."""
+    """Returns the tables after lines of a transcript, given without the numbers of events."""
     found = copy.deepcopy(tables)
     for line in lines:
         change(found, line)
@@ -149,7 +149,7 @@ def changed(tables, lines):
 
 
 def limits_between(old, new, name):
-    """Yields the reserve lines: a limit of the row that was active, and that of the application support layer."""
+    """Yields the reserve lines: the limit of the row that was active, and that of the application support layer."""
     row = active_net(old)
     after = None if row is None else net_of(new, row['key'])
     if after is not None and after['limit'] > row['limit']:
@@ -218,7 +218,7 @@ def links_between(old, new, name):
 
 
 def states_between(old, new, name):
-    """Yields the lines of devices that became live or were removed, of the rollover, and of who was told."""
+    """Yields the lines of devices that became live or were removed, of the rollover, and of devices that were told."""
     partners = list(dict.fromkeys(row['partner'] for row in new['links']))
     was, now = ([it for it in partners if live_links(tables, it)] for tables in (old, new))
     yield from (f'live {it}' for it in now if it not in was)
@@ -234,9 +234,9 @@ def states_between(old, new, name):
 
 
 def between(old, new, name):
-    """Returns the change lines that lead from tables to others, in the order of a group; none where they are equal.
+    """Returns the change lines that lead from tables to others, in the order of a group; none if they are equal.
 
-    Raises Apart where no changes lead there: tables never lose a row, and no limit falls."""
+    Raises Apart if no changes lead there: tables never lose a row, and no limit falls."""
     lines = lines_between(old, new, name)
     if changed(old, lines) != new:
         raise Apart

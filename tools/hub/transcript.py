@@ -1,4 +1,4 @@
-"""Makes the transcript of a centre's sessions on one store (docs/FORMATS.md), which `tc audit` judges."""
+"""Makes the transcript of a centre's sessions on one store (docs/FORMATS.md), for `tc audit`."""
 from hub import tables
 from hub.log import BadLog
 
@@ -66,8 +66,8 @@ class Transcript:
         self.tables = backup
 
     def stand(self, found, end, why):
-        """Writes what leads to the tables that a session found as an event that was cut short, and returns whether
-        there is such a thing."""
+        """Writes the changes that lead to the tables that a session found, as an event that was cut short. Returns
+        whether there are any."""
         try:
             lines = tables.between(self.tables, found, self.name)
         except tables.Apart:
@@ -78,8 +78,8 @@ class Transcript:
         return bool(lines)
 
     def cut_short(self, lines, end, why):
-        """Writes changes as an event that was cut short. A limit that went up by several blocks has an event for each
-        of them."""
+        """Writes changes as an event that was cut short. If a limit rose by several blocks, each block has
+        an event."""
         commit, self.notes = f'commit {self.name}', [*self.notes, f'{why}: {len(lines)} changes']
         for word in ('nwk', 'aps'):
             for limit in self.blocks_before(lines, word):
@@ -88,7 +88,7 @@ class Transcript:
         self.put(*lines, commit, f'{end} {self.name}' if end == 'stopped' else f'down {self.name} {end}')
 
     def blocks_before(self, lines, word):
-        """Returns the limits of a layer between that of the tables and the one to which it is raised."""
+        """Returns the limits of a layer between that of the tables and the one to which it rises."""
         start = f'reserve {self.name} {word} '
         raised = next((int(line[len(start) :]) for line in lines if line.startswith(start)), None)
         if raised is None:
@@ -117,7 +117,7 @@ class Transcript:
             self.put(f'inject {self.frame} {words[1].upper()}')
 
     def restart(self, session, backup):
-        """Writes that the centre went down after a session and was started again, and what stood then."""
+        """Writes that the centre went down after a session and was started again, and what was stored then."""
         cut = session.cut()
         if backup is None and cut is not None:
             raise BadLog(
@@ -142,7 +142,7 @@ class Transcript:
 
 
 def make(sessions):
-    """Returns the transcript of the sessions on one store, in their order."""
+    """Returns the transcript of the sessions on one store, in order."""
     if not sessions:
         raise BadLog('no session opened a store')
     for session in sessions:

@@ -1,5 +1,5 @@
-"""The words of sessions and of scripts of `admin`, by docs/FORMATS.md and docs/ADMIN.md, which all tools around the
-centre read here; and words that are made up: keys and install codes."""
+"""The words of sessions and of scripts of `admin`, by docs/FORMATS.md and docs/ADMIN.md, for all tools for the centre;
+and words that are made here: keys and install codes."""
 
 # The lines of a session before `open`, those that only show something, and the last lines of one that ends by itself.
 HEADER = ('centre', 'peer', 'log', 'open')

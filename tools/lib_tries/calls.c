@@ -1,4 +1,4 @@
-/* Tries the library for C: each number of each call on keys and frames, worked values, and changed frames in buffers of
+/* Tests the library for C: each number of each call on keys and frames, worked values, and changed frames in buffers of
  * their own length. */
 #define BARE_ROUNDS 2000
 #include "tries.h"

@@ -1,11 +1,11 @@
-/* Tries the centre in the library for C: worked scripts and lines, each number, memory that is short at each place, and
+/* Tests the centre in the library for C: worked scripts and lines, each number, memory that runs out at each place, and
  * changed scripts, lines and stores in buffers of their own length. */
 #define BARE_ROUNDS 100
 #include "tries.h"
 
 #include <stdbool.h>
 
-/* ---- the memory that the calls take: it is counted, and it fails once so many blocks were taken */
+/* ---- the memory of the calls: it is counted, and it runs out after so many blocks */
 
 #if __STDC_HOSTED__
 #define TAKE(len) malloc((len) ? (len) : 1)
@@ -20,7 +20,7 @@ static size_t top, base;
 #define TAKE(len) (top += ((len) + 31) & ~(size_t)15, heap + top - (((len) + 31) & ~(size_t)15))
 #define GIVE(block) (void)(block)
 #define MOVE(block, kept, len) memcpy(TAKE(len), block, (kept) < (len) ? (kept) : (len))
-/* All blocks that were taken so far are kept; all that were taken since are forgotten. */
+/* KEEP keeps all blocks so far, and FORGET drops all blocks since. */
 #define KEEP() (base = top)
 #define FORGET() (top = base)
 #endif
@@ -32,7 +32,7 @@ struct rattle_tried {
 
 static long held, left = -1;
 
-/* One block more is asked for: whether there is memory. */
+/* Counts one more block, and returns whether there is memory. */
 static bool has_memory(void) { return left < 0 || left-- > 0; }
 
 struct rattle_tried rattle_alloc(size_t len, size_t align);
@@ -58,13 +58,13 @@ void rattle_dealloc(void *block) {
     GIVE(block);
 }
 
-/* ---- a call, and what it leaves */
+/* ---- a call, and its results */
 
 typedef uint32_t (*call)(const uint8_t *, size_t, uint8_t *, size_t, uint8_t *, size_t, struct tc_used *);
 
 static uint8_t store[TC_STORE_ROOM], copy[TC_STORE_ROOM], answer[4096], earlier[4096];
 
-/* Calls with an answer of so many bytes, and returns its number; or 1000 and the line of what it left wrong. */
+/* Calls with room for so many bytes of an answer. Returns the number of the call, or 1000 and the failed line. */
 static uint32_t answered(call by, const char *text, size_t len, uint8_t *out, size_t room, struct tc_used *used) {
     size_t before = used->store;
     for (size_t at = 0; at < TC_STORE_ROOM; at++) copy[at] = store[at];
@@ -143,7 +143,7 @@ static int joins(void) {
     return 0;
 }
 
-/* Where memory is short at the nth block, nothing is written, and all is given back. */
+/* If memory runs out at the nth block, nothing is written, and all blocks are freed. */
 static int short_of_memory(call by, const char *text) {
     struct tc_used used = {0, 0, 0, 0};
     CHECK(ask(tc_admin, INIT, 64, &used) == TC_DONE);
@@ -170,7 +170,7 @@ static int long_inputs(void) {
 }
 #endif
 
-/* ---- changed ones */
+/* ---- changed scripts, lines and stores */
 
 static const char *const texts[] = {
     INIT "provision d " CODE "\nlist\nremove d via c\nbackup\n",

@@ -1,5 +1,5 @@
-/* What the tries of the library for C share. Each has a function `tried`, which returns 0 or the line of the first try
- * that fails. Without a C library, as on a bare aarch64, there is no message, and the status says whether all held. */
+/* What the tests of the library for C share. Each has a function `tried`, which returns 0 or the line of the first test
+ * that fails. Without a C library, as on a bare aarch64, there is no message, and the status says if all passed. */
 #include "tc.h"
 
 #if __STDC_HOSTED__
@@ -11,7 +11,7 @@
     if (!(it)) return __LINE__
 #define MARK 0xEE
 
-/* Makes so many tries with changed inputs, and those with worked ones. */
+/* Runs so many tests with changed inputs, and those with worked ones. */
 static int tried(long changed);
 
 static int same(const uint8_t *some, const uint8_t *others, size_t len) {

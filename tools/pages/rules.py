@@ -1,4 +1,4 @@
-"""Holds the rows of docs/POLICY.md against the definitions: each row must name the reasons that its rule gives.
+"""Checks the rows of docs/POLICY.md against the definitions: each row must name the reasons that its rule gives.
 
 A rule is a chain of tests, each with a reason, in crates/zb_model/specs. A reason after a comment that says that it
 decides nothing may be left out of a row, and one that no rule gives must not be in it."""
@@ -10,9 +10,9 @@ from gabzetu.formats.policy import tables_of
 SPECS = 'crates/zb_model/specs'
 # The head of a definition, such as `abbrev pub is_waiting : LinkKey → Bool`.
 HEAD = re.compile(r'(?:(?:abbrev|unfoldable) )?(?:pub )?(\w+) : ')
-# Comments that say of the next reason, or of the next two, that no run depends on it.
+# Comments which say that no run depends on the next reason, or on the next two.
 IDLE = ((re.compile(r'\bneither\b.*\bdecides?\b'), 2), (re.compile(r'\bdecides nothing\b'), 1))
-# Rules of the judging of each layer, which has a table without names of functions.
+# Rules for checking each layer, which has a table without names of functions.
 JUDGING = (('judge_nwk', 'nwk_command'), ('aps_part',))
 
 
@@ -70,7 +70,7 @@ def reached(found: Dict[str, Found], roots: Iterable[str]) -> Tuple[Set[str], Se
 
 
 def named_in(cell: str) -> List[str]:
-    """Returns the reasons that a cell of refusals names, in its order, such as `no-key; wrong-state in rejoining`."""
+    """Returns the reasons that a cell of refusals names, in order, such as `no-key; wrong-state in rejoining`."""
     clauses = (it.rpartition(': ')[2].split(' ')[0] for it in cell.split('; '))
     return [it for it in clauses if it and it != 'none']
 
@@ -93,7 +93,7 @@ def order_of(page: str) -> List[str]:
 
 
 def rows_of(page: str) -> Iterator[Tuple[str, str, str]]:
-    """Yields each rule that has a row: its name on the page, its refusals, and the function that it is."""
+    """Yields each rule that has a row: its name on the page, its refusals, and its function."""
     for head, place in ((('Event', 'Of'), 2), (('Command', 'Taken by, in the form'), 2)):
         for table in tables_of(page, *head):
             for row in table:
@@ -102,7 +102,7 @@ def rows_of(page: str) -> Iterator[Tuple[str, str, str]]:
 
 
 def wrong_rows(page: str, specs: Dict[str, str]) -> Iterator[str]:
-    """Yields what is wrong with the rows of the policy's page, by the definitions: `specs` has the text of each file."""
+    """Yields what is wrong with the rows of the policy's page by the definitions. `specs` has the text of each file."""
     reasons, order = reasons_of(specs['Data']), order_of(page)
     rules: Dict[str, Found] = {}
     for name in ('Rules', 'OwnEvents', 'Commands'):
@@ -111,7 +111,7 @@ def wrong_rows(page: str, specs: Dict[str, str]) -> Iterator[str]:
         if function not in rules:
             yield f"the row of '{name}' names the function {function or '(none)'}, and no rule is called so"
             continue
-        # that a command must come in its form is said once for all of them
+        # that a command must have a valid form is said once for all of them
         deciding, known = (it - {'policy'} for it in reached(rules, [function]))
         for why in differences(named_in(refused), deciding, known, order):
             yield f"the row of '{name}': {why}"
@@ -119,7 +119,7 @@ def wrong_rows(page: str, specs: Dict[str, str]) -> Iterator[str]:
 
 
 def wrong_judging(page: str, specs: Dict[str, str], reasons: List[str]) -> Iterator[str]:
-    """Yields what is wrong with the tables on the judging of frames."""
+    """Yields what is wrong with the tables on how frames are checked."""
     rules = {**definitions_of(specs['Judging'], reasons), **definitions_of(specs['Answer'], reasons)}
     tables = tables_of(page, 'Reason', 'If')
     # a command is refused after its layer was accepted

@@ -55,7 +55,7 @@ def read_mirror(given):
 
 
 def read_text(path):
-    """Returns the text of a file, or none of it where it can't be read."""
+    """Returns the text of a file, or an empty text if it can't be read."""
     with contextlib.suppress(OSError), open(path, encoding='utf-8') as file:
         return file.read()
     return ''
@@ -85,7 +85,7 @@ def remove(folder):
 
 
 def make_base(mirror):
-    """Returns the path of the clean root, which is made where none is kept."""
+    """Returns the path of the clean root, which is made if none is kept."""
     base, part = os.path.join(KEPT, 'base'), os.path.join(KEPT, 'base.part')
     if os.path.isdir(base):
         return base
@@ -133,7 +133,7 @@ class Root:
         return called(['nice', 'chroot', self.path, *words], env={**ENVIRONMENT, **proxies()})
 
     def run(self, *words, status=0):
-        """Runs a command in the root, and returns what it wrote. Stops where it ends with another status."""
+        """Runs a command in the root, and returns what it wrote. Stops if it ends with another status."""
         found, said = self.call(*words)
         if found != status:
             raise Stop(
@@ -149,7 +149,7 @@ class Root:
 
 
 def want(holds, what):
-    """Stops where something isn't as it should be."""
+    """Stops if something isn't as it should be."""
     if not holds:
         raise Stop(f'in the clean root {what}', WRONG_INPUT)
     return what
@@ -173,7 +173,7 @@ def try_install(root, package):
 
 
 def try_version(root, front, version, tc):
-    """Wants the front end to report the release, the program and the kit."""
+    """Checks that the front end reports the release, the program and the kit."""
     lines = root.run(front, '--version').splitlines()
     want(lines[0] == f'gabzetu {version}', f"`gabzetu --version` begins with '{lines[0]}'")
     want(f'tc: {tc}' in lines, f'`gabzetu --version` does not name {tc}')
@@ -188,7 +188,7 @@ def try_explore(root):
 
 
 def try_open(root, capture):
-    """Opens a capture, once python3-scapy is there. Returns why that was left out, or none."""
+    """Opens a capture, after python3-scapy is installed. Returns why that was left out, or None."""
     shutil.copy(capture, root.at('/root/trial.pcap'))
     want(root.call('gabzetu', 'open', '/root/trial.pcap')[0] == MISSING, 'a capture is opened without python3-scapy')
     if root.call(*INSTALL, 'python3-scapy')[0]:
@@ -198,7 +198,7 @@ def try_open(root, capture):
 
 
 def try_hub(root):
-    """Runs the example of a hub, and audits its log. Returns why that was left out, or none."""
+    """Runs the example of a hub, and audits its log. Returns why that was left out, or None."""
     if not os.path.exists(root.at('/usr/lib/gabzetu/tc_centre')):
         return 'tc_centre is not in the package'
     said = root.run('python3', f'{EXAMPLES}/hub.py', *HUB, '/root/hub.store', '/root/hub.log')
@@ -209,7 +209,7 @@ def try_hub(root):
 
 
 def try_help(root):
-    """Wants the man page and the completions where the system looks for them."""
+    """Checks that the man page and the completions are where the system looks for them."""
     root.run('gzip', '-t', '/usr/share/man/man1/gabzetu.1.gz')
     root.run('bash', '-n', '/usr/share/bash-completion/completions/gabzetu')
     for name in ('zsh/vendor-completions/_gabzetu', 'fish/vendor_completions.d/gabzetu.fish'):
@@ -217,7 +217,7 @@ def try_help(root):
 
 
 def try_purge(root):
-    """Removes the package, and wants nothing of it left."""
+    """Removes the package, and checks that nothing of it is left."""
     root.run('apt-get', 'purge', '-y', '-q', 'gabzetu')
     for name in ('bin', 'lib', 'share', 'share/doc'):
         place = f'/usr/{name}/gabzetu'
@@ -225,7 +225,7 @@ def try_purge(root):
 
 
 def try_archive(root, archive, version):
-    """Unpacks the archive elsewhere, checks its sums, and plays by it."""
+    """Unpacks the archive elsewhere, checks its sums, and plays a run with it."""
     name = os.path.basename(archive)[: -len('.tar.zst')]
     subprocess.run(['tar', '--zstd', '-xf', archive, '-C', root.at('/opt')], check=True)
     root.run('sh', '-c', f'cd /opt/{name} && sha256sum --quiet -c share/doc/gabzetu/SHA256SUMS')

@@ -64,7 +64,7 @@ def read_kit(given):
 
 
 def check_edits(is_taken):
-    """Stops where files were edited after the commit, unless that is wanted."""
+    """Stops if files were edited after the commit, unless that is allowed."""
     edited = commit.edited_files()
     if edited and not is_taken:
         why = 'was edited after the commit: commit it and run the gate, or give --edited'
@@ -74,7 +74,7 @@ def check_edits(is_taken):
 
 
 def read_programs(arguments):
-    """Returns the bytes of the programs by their names: tc, and the living centre where it is there."""
+    """Returns the bytes of the programs by their names: tc, and the live trust centre if there is one."""
     programs = {'tc': program.read_program(program.find_program(arguments.program))}
     centre = program.find_centre(arguments.centre)
     if centre is None:
@@ -85,7 +85,7 @@ def read_programs(arguments):
 
 
 def make_release(arguments, room, out):
-    """Makes the two archives and their check sums in `out`. `room` is a folder for what is between."""
+    """Makes the two archives and their check sums in `out`. `room` is a folder for intermediate files."""
     check_edits(arguments.edited and not arguments.run)
     at = commit.read_commit()
     commit.check_version(arguments.version, at)
@@ -118,7 +118,7 @@ def deliver(made, out):
 
 
 def run(words):
-    """Makes a release, tries it, and puts it in its place. A release that fails its trial isn't put there."""
+    """Makes a release, tests it, and moves it to its place. A release that fails its test isn't moved there."""
     arguments = read_words(words)
     with tempfile.TemporaryDirectory(prefix='release-') as room:
         made = os.path.join(room, 'made')

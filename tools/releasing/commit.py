@@ -36,7 +36,7 @@ def edited_files():
 
 
 def check_version(version, commit):
-    """Stops where the commit has another version."""
+    """Stops if the commit has another version."""
     found = git('show', f'{commit.name}:VERSION').decode().strip()
     if found != version:
         how = f'edit and commit it, or release {found}'
@@ -44,7 +44,7 @@ def check_version(version, commit):
 
 
 def unpack_commit(commit, folder):
-    """Writes the committed files to a folder, those under crates/ left out."""
+    """Writes the committed files to a folder, without those under crates/."""
     packed = git('archive', '--format=tar', commit.name, '--', '.', ':(exclude)crates')
     with tarfile.open(fileobj=io.BytesIO(packed)) as files:
         files.extractall(folder)

@@ -19,7 +19,7 @@ RUN = os.path.join('.ci', 'run')
 
 
 def read_gate(path):
-    """Returns the last lines of a gate's log, from `rt: ok` on. Stops where the log isn't that of a passed gate."""
+    """Returns the last lines of a gate's log, from `rt: ok` on. Stops if the log isn't that of a passed gate."""
     lines = [it.rstrip() for it in read_input(path).decode('utf-8', 'replace').splitlines() if it.strip()]
     path = 'standard input' if path == '-' else path
     counts = [place for place, line in enumerate(lines) if COUNTED.fullmatch(line)]
@@ -42,7 +42,7 @@ def sum_lines(programs: Dict[str, bytes]) -> List[str]:
 def run_gate(commit: str, path: str) -> None:
     """Runs the gate of this clone, and writes what it prints to a log that begins with the commit.
 
-    Stops if the gate fails. The check sums of the programs are added by `add_sums`, once they are built."""
+    Stops if the gate fails. The check sums of the programs are added by `add_sums`, after they are built."""
     os.makedirs(os.path.dirname(path), exist_ok=True)
     with open(path, 'w', encoding='utf-8') as log:
         log.write(f'{COMMIT}{commit}\n')
@@ -55,7 +55,7 @@ def run_gate(commit: str, path: str) -> None:
 
 
 def add_sums(path: str, programs: Dict[str, bytes]) -> None:
-    """Adds the check sums of the programs behind the first line of a log, which names the commit."""
+    """Adds the check sums of the programs after the first line of a log, which names the commit."""
     with open(path, encoding='utf-8') as file:
         head, *rest = file.read().splitlines()
     with open(path, 'w', encoding='utf-8') as file:
@@ -76,7 +76,7 @@ def check_bound(path: str, commit: str, programs: Dict[str, bytes]) -> None:
 
 
 def check_tools(path, lines):
-    """Stops where one of the steps after `rt ci` failed. A log of `rt ci` alone has no such lines."""
+    """Stops if one of the steps after `rt ci` failed. A log of `rt ci` alone has no such lines."""
     failed = [it for it in lines if it.startswith(TOOLS) and it.endswith(': failed')]
     if failed:
         raise Stop(f"{path}: '{failed[0]}': mend it, and run the gate again", WRONG_INPUT)

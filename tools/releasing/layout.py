@@ -47,7 +47,7 @@ class Layout:
         return path
 
     def source(self, name):
-        """Returns the path of a committed file. Stops where there is none."""
+        """Returns the path of a committed file. Stops if there is none."""
         path = os.path.join(self.sources, name)
         if not os.path.exists(path):
             raise Stop(f'{name} is not committed, and a release has it', WRONG_INPUT)
@@ -60,7 +60,7 @@ class Layout:
         os.chmod(self.path(name), mode)
 
     def copy(self, name, to):
-        """Copies a committed file or folder to a name under the prefix, the tests of the front end left out."""
+        """Copies a committed file or folder to a name under the prefix, without the tests of the front end."""
         source = self.source(name)
         if os.path.isdir(source):
             shutil.copytree(source, self.path(to), ignore=shutil.ignore_patterns('test', '__pycache__'))
@@ -77,7 +77,7 @@ def lay_front_end(layout, commit):
 
 
 def lay_programs(layout, programs, kit):
-    """Lays out the programs by their names, and the version of the kit beside them."""
+    """Lays out the programs by their names, with the version of the kit."""
     for name, data in programs.items():
         layout.write(f'lib/gabzetu/{name}', data, 0o755)
     layout.write('lib/gabzetu/KIT', f'{kit}\n')
@@ -116,7 +116,7 @@ def lay_help(layout):
 
 
 def written_by(layout, *words):
-    """Returns what the laid out front end writes for some words."""
+    """Returns the output of the laid out front end for some words."""
     front = layout.path('share/gabzetu/gabzetu')
     ran = subprocess.run([sys.executable, front, *words], stdout=subprocess.PIPE, check=False)
     if ran.returncode:
@@ -131,7 +131,7 @@ def files_of(folder):
 
 
 def sums_of(folder, kind='sha256'):
-    """Returns the check sums of the files of a folder, a line each, as sha256sum or md5sum writes them."""
+    """Returns the check sums of the files of a folder, one a line, as sha256sum or md5sum writes them."""
     rows = []
     for name in files_of(folder):
         with open(os.path.join(folder, name), 'rb') as file:
@@ -140,7 +140,7 @@ def sums_of(folder, kind='sha256'):
 
 
 def settle(folder, date):
-    """Gives all files and folders their modes and one time, so that the same release comes out again."""
+    """Gives all files and folders their modes and one time, so that a release can be reproduced."""
     for at, _, names in os.walk(folder, topdown=False):
         for path in (os.path.join(at, it) for it in names):
             if not os.path.islink(path):

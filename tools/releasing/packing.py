@@ -47,7 +47,7 @@ About = collections.namedtuple('About', 'version commit needs')
 
 
 def run_tool(words, about):
-    """Runs a packing tool, with the commit's date in place of the present one."""
+    """Runs a packing tool, with the commit's date instead of the present one."""
     if not shutil.which(words[0]):
         raise Stop(f'{words[0]} is missing: apt-get install {words[0].replace("dpkg-deb", "dpkg")}', MISSING)
     variables = {**os.environ, 'SOURCE_DATE_EPOCH': str(about.commit.date), 'LC_ALL': 'C.UTF-8'}

@@ -1,4 +1,4 @@
-"""Judges the files that are to be released as tc and tc_centre: what they are, how old, and what they need."""
+"""Checks the files to be released as tc and tc_centre: what they are, how old, and what they need."""
 import os
 import re
 
@@ -29,7 +29,7 @@ def find_program(path):
 
 
 def find_centre(path):
-    """Returns the path of the living centre: the given one, else the built one; none where neither is there."""
+    """Returns the path of the live trust centre: the given one, else the built one; None if there is neither."""
     if path and not is_program(path):
         raise Stop(f'{path}: no program that can be run is there', MISSING)
     if not path and is_program(CENTRE):
@@ -38,7 +38,7 @@ def find_centre(path):
 
 
 def check_age(program):
-    """Stops where a source is newer than a built program."""
+    """Stops if a source is newer than a built program."""
     built = os.stat(program).st_mtime
     crates = os.path.join(TOP, 'crates')
     for folder in (os.path.join(crates, name, kind) for name in os.listdir(crates) for kind in ('src', 'specs')):
@@ -50,7 +50,7 @@ def check_age(program):
 
 
 def read_program(path):
-    """Returns the bytes of a program. Stops where it isn't one for Linux on x86-64."""
+    """Returns the bytes of a program. Stops if it isn't one for Linux on x86-64."""
     data = read_input(path)
     if data[:6] != X86_64 or data[18:20] != MACHINE:
         raise Stop(f'{path}: this is no x86-64 program for Linux: ./build makes one', WRONG_INPUT)

@@ -1,4 +1,4 @@
--- What is sealed of a frame in clear opens to its term again.
+-- What is sealed from a frame in clear opens to its term.
 use Rattle.std.proofs.Common.{◌≡◌, ℕ, zero, suc, ◌≤◌, List, [], ◌∷◌, ◌++◌, length, replicate, Option, Some, None, Result, Ok, Err, refl, sym, ap, subst, ◌∙◌, arith}
 use Rattle.std.specs.Prelude.{is_some, IfSome}
 use Rattle.tc_c.specs.Openings.{clear_term, term_in}
@@ -27,7 +27,7 @@ zeros_are_bytes zero i = omega arith
 zeros_are_bytes (suc n) zero = omega arith
 zeros_are_bytes (suc n) (suc i) = zeros_are_bytes n i
 
--- the term is that of a NWK frame, under this key
+-- The term is that of a NWK frame, under this key.
 record OfKey (key : Key) (t : Term) : Type 0 where
   header : NwkHeader
   aux : NwkAux

@@ -1,4 +1,4 @@
--- The numbers that the calls return: 0 where all went well, and else what was wrong first.
+-- The numbers that the calls return: 0 for success, and else what was wrong first.
 use Rattle.std.specs.Prelude.{ℕ, ◌==◌, List, Option, Some, None, Result, Ok, Err, length, nat_le, if◌then◌else◌}
 use Rattle.zb_base.specs.Limits.{longest_frame}
 use Rattle.zb_base.specs.declared.key.Key.{Key}
@@ -11,7 +11,7 @@ use Rattle.zb_seal.specs.declared.envelope.OpenError.TheVariants.{Frame, NotSecu
 use Rattle.zb_seal.specs.declared.term.Term.{Term}
 use Rattle.zb_mmo.specs.Keyed.{longest_keyed}
 
--- ---- numbers of all calls: a buffer of another length than is asked, a key that hasn't 16 bytes
+-- ---- Numbers of all calls: a buffer of the wrong length, a key that doesn't have 16 bytes
 
 abbrev pub wrong_room : ℕ
 wrong_room = 5
@@ -19,11 +19,11 @@ wrong_room = 5
 abbrev pub wrong_key : ℕ
 wrong_key = 6
 
--- the key of 16 bytes
+-- The key of 16 bytes.
 abbrev pub key_of : List ℕ → Option Key
 key_of bytes = if length bytes == 16 then Some (record { 0 = bytes }) else None
 
--- ---- install codes: 1 where the length is none of a code's, 2 where the CRC is another
+-- ---- Install codes: 1 if no code has that length, 2 if the CRC is wrong
 
 abbrev pub code_number : Result (List ℕ) CodeError → ℕ
 code_number (Ok code) = 0
@@ -34,14 +34,14 @@ code_number (Err (Crc kept found)) = 2
 abbrev pub link_key_number : List ℕ → ℕ → ℕ
 link_key_number code room = if room == 16 then code_number (code_of code) else wrong_room
 
--- ---- keyed hashes: 1 where the message is longer than the hash takes with a key before it
+-- ---- Keyed hashes: 1 if the message is longer than the hash takes with a key before it
 
 abbrev pub keyed_number : (key message room : ℕ) → ℕ
 keyed_number key message room =
     if key == 16 then (if room == 16 then (if nat_le message longest_keyed then 0 else 1) else wrong_room)
     else wrong_key
 
--- ---- opening: 1 no frame, 2 not secured, 3 no source, 4 a MIC that isn't that of a content under the key
+-- ---- Opening: 1 not a frame, 2 not secured, 3 no source, 4 a MIC that isn't that of a content under the key
 
 abbrev pub open_number : Result Term OpenError → ℕ
 open_number (Ok term) = 0
@@ -50,7 +50,7 @@ open_number (Err NotSecured) = 2
 open_number (Err NoSource) = 3
 open_number (Err BadMic) = 4
 
--- a key of 16 bytes comes first, and then room for the longest frame
+-- The key of 16 bytes is checked first, and then the room for the longest frame.
 abbrev pub with_room : ℕ → ℕ → ℕ
 with_room room number = if nat_le longest_frame room then number else wrong_room
 
@@ -58,7 +58,7 @@ abbrev pub with_key : Option Key → (Key → ℕ) → ℕ
 with_key None number = wrong_key
 with_key (Some key) number = number key
 
--- ---- sealing: as for opening, and 7 where the sealed frame would be longer than a frame
+-- ---- Sealing: as for opening, and 7 if the sealed frame would be longer than a frame
 
 abbrev pub too_long : ℕ
 too_long = 7

@@ -1,19 +1,19 @@
-//! What all calls ask of the buffers that they are given, and the numbers for it.
+//! What all calls require of their buffers, and the numbers for it.
 ghost use Rattle.std.specs.Prelude.{◌≡◌};
 ghost use Rattle.tc_c.specs.Numbers.{key_of};
 
 use zb_base::Key;
 
-/// A buffer has another length than is asked of it.
+/// A buffer doesn't have the required length.
 pub(crate) const WRONG_ROOM: u32 = 5;
 
-/// A key hasn't 16 bytes.
+/// A key doesn't have 16 bytes.
 pub(crate) const WRONG_KEY: u32 = 6;
 
 /// The bytes of the longest frame.
 pub(crate) const LONGEST_FRAME: usize = 127;
 
-/// Returns the key of 16 bytes.
+/// Returns the key, if there are 16 bytes.
 pub(crate) fn key_from(bytes: &[u8]) -> Option<Key>
     ensures { result ≡ key_of bytes.now }
 {

@@ -7,7 +7,7 @@ use crate::key::{WRONG_KEY, WRONG_ROOM, key_from};
 
 /// Writes the keyed hash of a message into `hash`, which has 16 bytes.
 ///
-/// Returns 0, or 1 where the message has more than 8,175 bytes, 5 where `hash` hasn't 16 bytes, 6 where `key` hasn't.
+/// Returns 0, or 1 if the message has more than 8,175 bytes, 5 if `hash` doesn't have 16 bytes, 6 if `key` doesn't.
 #[unsafe(no_mangle)]
 pub extern "C" fn tc_keyed(key: &[u8], message: &[u8], hash: &mut [u8]) -> u32
     ensures number { result ≡ keyed_number (length key.now) (length message.now) (length hash.old) }

@@ -1,7 +1,7 @@
 //! Proved parts of a Zigbee trust centre for C: keys of install codes, keyed hashes, opening and sealing frames.
 //!
-//! Each call reads what it is given and keeps nothing. It returns 0, or what was wrong first; then nothing was
-//! written. The header is `include/tc.h`.
+//! Each call reads its arguments and keeps nothing. It returns 0, or what was wrong first; then nothing was written.
+//! The header is `include/tc.h`.
 #![tactic(auto)]
 
 mod key;

@@ -27,7 +27,7 @@ fn link_key_of(code: &[u8], link: &mut Key) -> u32
 
 /// Writes the link key of an install code into `key`, which has 16 bytes. `code` has the code and its CRC.
 ///
-/// Returns 0, or 1 where no code has that length, 2 where the CRC is another, 5 where `key` hasn't 16 bytes.
+/// Returns 0, or 1 if no code has that length, 2 if the CRC is wrong, 5 if `key` doesn't have 16 bytes.
 #[unsafe(no_mangle)]
 pub extern "C" fn tc_link_key(code: &[u8], key: &mut [u8]) -> u32
     ensures number { result ≡ link_key_number code.now (length key.old) }

@@ -18,18 +18,18 @@ fn source_from(source: u64) -> Option<Eui>
     if source == 0 { None } else { Some(Eui(source)) }
 }
 
-/// Opens a secured APS frame under a link key of 16 bytes. `content` has 127 bytes at least.
+/// Opens a secured APS frame under a link key of 16 bytes. `content` has at least 127 bytes.
 ///
-/// `source` is the EUI of the node that sealed it, where the frame names none, or 0. By its key identifier the frame
-/// is sealed by the link key or by a key that is derived from it.
+/// `source` is the EUI of the node that sealed the frame, if the frame doesn't name it, or 0. The frame's key
+/// identifier says whether it is sealed by the link key or by a key that is derived from it.
 ///
 /// Returns 0, or why the frame wasn't opened:
-/// - 1: the bytes are no frame
+/// - 1: the bytes aren't a frame
 /// - 2: it isn't secured
 /// - 3: its source isn't known
 /// - 4: its MIC isn't that of a content under this key
 /// - 5: `content` is too short
-/// - 6: `key` hasn't 16 bytes
+/// - 6: `key` doesn't have 16 bytes
 #[unsafe(no_mangle)]
 pub extern "C" fn tc_open_aps(
     frame: &[u8],

@@ -10,14 +10,14 @@ ghost use Rattle.zb_seal.specs.declared.term.Term.{Term};
 use crate::key::{LONGEST_FRAME, WRONG_KEY, WRONG_ROOM, key_from};
 use crate::opened::{TcOpened, hand_out};
 
-/// Opens a secured NWK frame under a network key of 16 bytes. `content` has 127 bytes at least.
+/// Opens a secured NWK frame under a network key of 16 bytes. `content` has at least 127 bytes.
 ///
 /// Returns 0, or why the frame wasn't opened:
-/// - 1: the bytes are no frame
+/// - 1: the bytes aren't a frame
 /// - 2: it isn't secured
 /// - 4: its MIC isn't that of a content under this key
 /// - 5: `content` is too short
-/// - 6: `key` hasn't 16 bytes
+/// - 6: `key` doesn't have 16 bytes
 #[unsafe(no_mangle)]
 pub extern "C" fn tc_open_nwk(
     frame: &[u8],

@@ -7,7 +7,7 @@ ghost use Rattle.zb_base.specs.Limits.{longest_frame};
 use zb_base::Label;
 use zb_seal::{OpenError, Term};
 
-/// What a frame opens to, beside its content.
+/// What a frame opens to, except its content.
 #[repr(C)]
 #[derive(Drop)]
 pub struct TcOpened {

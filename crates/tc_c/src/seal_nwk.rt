@@ -26,7 +26,7 @@ fn with_mic(clear: &[u8]) -> Frame
     frame
 }
 
-/// Reads a frame that stands in clear as the term that is sealed.
+/// Reads a frame in clear as the term that is sealed.
 fn term_from(clear: &[u8], key: &Key) -> Result<Term, OpenError>
     requires { length clear.now + 4 ≤ longest_frame }
     ensures { result ≡ clear_term clear.now key.now }
@@ -58,17 +58,17 @@ fn write_sealed(term: &Term, frame: &mut [u8], len: &mut usize) -> u32
 
 /// Seals a NWK frame that is in clear, under a network key of 16 bytes.
 ///
-/// The sealed frame is written into `frame`, which has 127 bytes at least.
+/// The sealed frame is written into `frame`, which has at least 127 bytes.
 ///
-/// `clear` is the whole frame but its MIC: the header with the bit for security, the auxiliary header with the frame
-/// counter and the source, and the content. The sealed frame has `len` bytes, 4 more. The caller gives each counter
-/// once.
+/// `clear` is the whole frame except its MIC: the header with the bit for security, the auxiliary header with the
+/// frame counter and the source, and the content. The sealed frame has `len` bytes, 4 more than `clear`. The caller
+/// must use each counter only once.
 ///
 /// Returns 0, or why nothing was written:
-/// - 1: the bytes are no frame
-/// - 2: it isn't to be secured
+/// - 1: the bytes aren't a frame
+/// - 2: its header doesn't have the bit for security
 /// - 5: `frame` is too short
-/// - 6: `key` hasn't 16 bytes
+/// - 6: `key` doesn't have 16 bytes
 /// - 7: the sealed frame would be longer than 127 bytes
 #[unsafe(no_mangle)]
 pub extern "C" fn tc_seal_nwk(clear: &[u8], key: &[u8], frame: &mut [u8], len: &mut usize) -> u32

@@ -1,6 +1,6 @@
-//! A trust centre in a short program. Its store is made where there is none, the centre boots from it, and a device is
-//! admitted by its install code and joins. Each line says what is stored and what is to go out. docs/EMBEDDING.md goes
-//! through it.
+//! A trust centre in a short program. It makes its store if there is none, boots the centre from it, admits a device
+//! by its install code, and lets the device join. Each line says what is stored and what is sent. docs/EMBEDDING.md
+//! explains it.
 #![tactic(auto)]
 
 ghost use Rattle.zb_base.specs.Config.{IsConfig};
@@ -61,7 +61,7 @@ fn link_key(word: &str) -> Option<Key> {
     Some(code.link_key())
 }
 
-/// Boots the centre from its store, which is made first where the disk is empty.
+/// Boots the centre from its store, which is made first if the disk is empty.
 fn open<D: Disk>(alloc: Global, config: &Config, disk: &mut D) -> Option<Host<Centre>>
     requires config { IsConfig config.now }
     requires role { IsOfRole model.Centre config.now }
@@ -82,7 +82,7 @@ fn init<D: Disk>(alloc: Global, disk: &mut D) -> Option<()> {
     Some(())
 }
 
-/// Lets the centre handle an event. What goes out is shown once the changes are stored.
+/// Lets the centre handle an event. What is sent is shown after the changes are stored.
 fn handle<D: Disk>(
     rt: &(impl Print + AllocGlobal),
     centre: &mut Host<Centre>,
@@ -99,7 +99,7 @@ fn handle<D: Disk>(
     }
 }
 
-/// Prints how many changes are stored, and the frame that is to go out or that there is none.
+/// Prints how many changes are stored, and the frame that is sent, if there is one.
 fn show(rt: &(impl Print + AllocGlobal), plan: &Plan<Outcome<Term, Refusal>>) -> io::Result<()> {
     let stored = plan.changes.len();
     if let Some(frame) = &plan.out.frame {

@@ -11,10 +11,10 @@ use zb_keys::{Declaration, HeldNetwork};
 /// The address of the device.
 pub(crate) const DEVICE: Eui = Eui(0x0012_4B00_0000_0002);
 
-/// The first network key. A hub draws its own, at random.
+/// The first network key. A real hub draws its own, at random.
 const NETWORK: Key = Key([0, 1, 2, 3, 4, 5, 6, 7, 8, 9, 10, 11, 12, 13, 14, 15]);
 
-/// Returns the configuration of the centre: who is declared, and its blocks of counters.
+/// Returns the configuration of the centre: the declared nodes, and its blocks of counters.
 #[tactic(auto, unfolding(zb_setting::specs::Settings::setting_for))]
 pub(crate) fn config() -> Config
     ensures config { IsConfig result }
@@ -45,7 +45,7 @@ pub(crate) fn first_keys() -> Declaration {
     }
 }
 
-/// Returns a declared node. Requires a name of at most 16 bytes.
+/// Returns a declared node. The name must have at most 16 bytes.
 fn peer(name: &str, eui: Eui, short: u16, role: Role) -> Peer
     requires { length name.now ≤ 16 }
     ensures name { result.name.bytes ≡ name.now }

@@ -1,4 +1,5 @@
-//! The adapters over readers and writers of std, which promise nothing of what these do, also over such that fail.
+//! The adapters over readers and writers of std, which promise nothing about these, also over readers and writers
+//! that fail.
 use std::io::{Cursor, Error, ErrorKind, Read, Write};
 use zb_base::{Failed, Sink, Source, StdSink, StdSource};
 
@@ -12,7 +13,7 @@ impl Read for Broken {
     }
 }
 
-/// A writer that takes one byte a call while it has room, and then none.
+/// A writer that takes one byte in each call as long as it has room, and then none.
 #[derive(Drop)]
 struct Narrow {
     room: u32,
@@ -35,7 +36,7 @@ impl Write for Narrow {
 #[test]
 fn an_adapter_reads_what_its_reader_gives(rt: HostRuntime) {
     let mut source = StdSource::new(Cursor::new(b"abc".as_slice()));
-    // how many bytes come of the two that are asked for, and which stand there then
+    // How many of the two requested bytes are read, and what the buffer then has.
     for (count, bytes) in [(2, b"ab"), (1, b"c\0"), (0, b"\0\0")] {
         let mut buf = [0; 2];
         assert!(rt; source.read(&mut buf) == Ok(count) && buf == *bytes);
@@ -43,7 +44,7 @@ fn an_adapter_reads_what_its_reader_gives(rt: HostRuntime) {
     assert!(rt; StdSource::new(Broken).read(&mut [0; 2]) == Err(Failed));
 }
 
-// Pieces, the last of which is beyond the room, and whether each is taken.
+// Pieces, of which the last exceeds the room, and whether each is written.
 const PIECES: [(&[u8], bool); 3] = [(b"abc", true), (b"", true), (b"de", false)];
 
 #[test]

@@ -1,7 +1,7 @@
 //! The published examples of FIPS 197.
 use zb_aes::encrypt;
 
-// Key, block and enciphered block, of the appendices B and C.1.
+// Key, block and encrypted block, of the appendices B and C.1.
 const EXAMPLES: [([u8; 16], [u8; 16], [u8; 16]); 2] = [
     (
         [

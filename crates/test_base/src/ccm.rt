@@ -20,7 +20,7 @@ struct Packet {
     // How many bytes are authenticated only, and where the message after them ends.
     associated: usize,
     end: usize,
-    // The cipher text, filled up with zeros, and the MIC.
+    // The cipher text, padded with zeros, and the MIC.
     sealed: [u8; 24],
     mic: [u8; 8],
 }
@@ -75,7 +75,7 @@ const PACKETS: [Packet; 4] = [
     },
 ];
 
-// The packet under seal, filled up with zeros, and its MIC.
+// The sealed packet, padded with zeros, and its MIC.
 fn sealed_packet(packet: &Packet) -> ([u8; 24], [u8; 8])
     requires order { packet.now.associated ≤ packet.now.end }
     requires fits { packet.now.end ≤ packet.now.associated + 24 }

@@ -1,4 +1,4 @@
-//! The bytes that published examples count up.
+//! The counting bytes of published examples.
 
 /// The bytes 0, 1, 2 and so on.
 pub(crate) const COUNTING: [u8; 200] = [

@@ -1,14 +1,14 @@
-//! Disks: what a file holds, that one process alone has it, and its mode and size. No contract speaks of these.
+//! Disks: what a file holds, that only one process has it open, and its mode and size. No contract says this.
 use std::os::unix::fs::MetadataExt;
 use std::process::Abort;
 use std::test::Fail;
 use zb_disk::{Disk, FileDisk, TrailDisk};
 
-// What is done with a disk, and what comes of it.
+// A call of a disk, and its result.
 enum Step {
-    // A write at a place, and whether it is done.
+    // A write at a place, and whether it succeeds.
     Write(u64, &'static [u8], bool),
-    // A sync, and whether it is done.
+    // A sync, and whether it succeeds.
     Sync(bool),
     Size(Option<u64>),
     // Four bytes from a place on.
@@ -24,12 +24,12 @@ fn four<D: Disk>(disk: &mut D, at: u64) -> Option<[u8; 4]> {
     }
 }
 
-// Whether a write is done.
+// Whether a write succeeds.
 fn writes<D: Disk>(disk: &mut D, at: u64, bytes: &[u8]) -> bool {
     at < 1_000 && bytes.len() < 1_000 && disk.write(at, bytes).is_ok()
 }
 
-// Whether a disk does a step as it should.
+// Whether a disk does a step as expected.
 fn answers<D: Disk>(disk: &mut D, step: &Step) -> bool {
     match step {
         Step::Write(at, bytes, done) => writes(disk, *at, bytes) == *done,
@@ -39,14 +39,14 @@ fn answers<D: Disk>(disk: &mut D, step: &Step) -> bool {
     }
 }
 
-// Takes steps on a disk, one after the other.
+// Does steps on a disk, one after the other.
 fn follow<D: Disk>(rt: &impl Abort, disk: &mut D, steps: &[Step]) {
     for (place, step) in steps.iter().enumerate() {
         assert!(rt; answers(disk, step), "step {place}");
     }
 }
 
-// A write, a sync, and what then reads, on any disk that holds the bytes 1 and 2.
+// A write, a sync, and what is then read, on any disk that holds the bytes 1 and 2.
 const CALLS: [Step; 7] = [
     Step::Size(Some(2)),
     Step::Write(5, &[7, 8], true),
@@ -63,7 +63,7 @@ fn a_disk_with_a_trail(rt: HostRuntime) -> Result<(), Fail> {
     Ok(())
 }
 
-// The calls and faults of a file that is taken a second time, and of one that isn't there.
+// The calls and faults of a file that is opened a second time, and of one that doesn't exist.
 const TAKEN: [Step; 2] = [Step::Size(None), Step::Write(0, &[9], false)];
 
 const AGAIN: [Step; 2] = [Step::Size(Some(7)), Step::Four(3, Some([0, 0, 7, 8]))];
@@ -76,7 +76,7 @@ fn a_file_is_opened_again(rt: HostRuntime) -> Result<(), Fail> {
         let mut disk = FileDisk::new(&rt, path)?;
         follow(&rt, &mut disk, &CALLS);
         assert!(rt; (disk.calls, disk.faults) == (2, 0));
-        // the first one still has it
+        // The first disk still has it.
         let mut other = FileDisk::new(&rt, path)?;
         follow(&rt, &mut other, &TAKEN);
         assert!(rt; (other.calls, other.faults) == (1, 2));

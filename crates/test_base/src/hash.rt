@@ -1,5 +1,5 @@
 //! The published example of the keyed hash, the hash of nothing, the lengths at which the padding grows by a block,
-//! and the keys derived by it.
+//! and the keys derived with it.
 use crate::counting::COUNTING;
 use zb_base::Key;
 use zb_mmo::{hash, keyed, load_key, transport_key, verify_hash};

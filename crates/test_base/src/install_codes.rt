@@ -4,7 +4,7 @@ ghost use Rattle.std.specs.Prelude.{◌≤◌, length};
 use zb_base::Key;
 use zb_install::{CodeError, InstallCode};
 
-// The key that a text gives, or why it is no code.
+// The key that a text gives, or why it isn't a code.
 fn key_of(text: &str) -> Result<Key, CodeError>
     requires { length text.now ≤ 100 }
 {

@@ -1,5 +1,5 @@
-//! Tests of what is below the nodes, over its public calls: adapters of input and output, cryptography by published
-//! vectors and frames and commands as they are on the air.
+//! Tests of the crates below the nodes, over their public calls: adapters of input and output, cryptography with
+//! published vectors, and frames and commands as they are sent.
 #![tactic(auto)]
 
 #[cfg(test)]

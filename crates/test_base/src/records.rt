@@ -26,8 +26,8 @@ const FULL: [u8; 235] = [
     0xC0, 0xC0, 0xC0, 0xC0, 0xC0, 0xC0, 0xC0, 0xC0, 0xC0, 0xC0, 0x01,
 ];
 
-// A record of version 1 of the centre with a live and active network key and the NWK limit 8, and the same of
-// version 3.
+// A record of version 1 of the centre with a live and active network key and the NWK limit 8, and the same of version
+// 3.
 const VERSION_1: [u8; 37] = [
     1, 0, 0, 8, 0, 0, 0, 0, 0, 0, 0, 0, 1, 0, 0, 0, 0x11, 0x11, 0x11, 0x11, 0x11, 0x11, 0x11, 0x11,
     0x11, 0x11, 0x11, 0x11, 0x11, 0x11, 0x11, 0x11, 0, 1, 0, 0, 0,
@@ -57,8 +57,8 @@ const THIRD_KEY: [u8; 19] = [
 // An entry that reserves NWK counters up to 12.
 const UP_TO_12: [u8; 7] = [1, 1, 0, 12, 0, 0, 0];
 
-// What is stored of it after the entries that install a third key and then reserve up to 12: all keys have that limit,
-// and so has the declared start.
+// What is stored after the entries that install a third key and then reserve up to 12. All keys have that limit, and
+// so has the declared start.
 const FIRST_REDONE: [u8; 88] = [
     0x03, 0x00, 0x00, 0x0C, 0x00, 0x00, 0x00, 0x00, 0x00, 0x00, 0x00, 0x00, 0x03, 0x00, 0xFF, 0xFF,
     0xA0, 0xA0, 0xA0, 0xA0, 0xA0, 0xA0, 0xA0, 0xA0, 0xA0, 0xA0, 0xA0, 0xA0, 0xA0, 0xA0, 0xA0, 0xA0,

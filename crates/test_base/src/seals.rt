@@ -1,4 +1,4 @@
-//! Seals: a whole join through a router as it went over the air, opened and sealed again.
+//! Seals: a whole join through a router as it was sent, opened and sealed again.
 
 use std::process::Abort;
 use zb_base::{Eui, Frame, Key, Label, Layer};
@@ -17,7 +17,7 @@ const LINK_KEY: Key = Key([
     0xA0, 0xA1, 0xA2, 0xA3, 0xA4, 0xA5, 0xA6, 0xA7, 0xA8, 0xA9, 0xAA, 0xAB, 0xAC, 0xAD, 0xAE, 0xAF,
 ]);
 
-// A sealed layer, part by part, its bytes on the air, and the key that it carries.
+// A sealed layer, part by part, its bytes in the frame, and the key that it carries.
 struct Row {
     layer: Layer,
     base: Key,
@@ -494,7 +494,7 @@ fn open(row: &Row) -> Result<Term, OpenError> {
     }
 }
 
-// Whether a layer opens as its term, which carries its key and goes out as it came.
+// Whether a layer opens as its term, which carries its key, and is sealed to the same bytes.
 fn is_worked(row: &Row) -> bool {
     let term = term_of(row);
     open(row) == Ok(term_of(row))

@@ -1,4 +1,4 @@
-//! A store in a file: the bytes of its first slot, and what is read once the file is opened again.
+//! A store in a file: the bytes of its first slot, and what is read after the file is opened again.
 use std::process::Abort;
 use std::test::Fail;
 use zb_disk::{Disk, FileDisk};
@@ -18,7 +18,7 @@ fn make(rt: &(impl AllocGlobal + Abort), disk: &mut impl Disk) -> Result<(), Fai
     Ok(())
 }
 
-// Whether a disk has that slot, and the calls that read a store find what stands in it.
+// Whether a disk has that slot, and the calls that read a store find what is in it.
 fn is_found(rt: &impl AllocGlobal, disk: &mut impl Disk) -> Result<bool, Fail> {
     let mut slot = [9; 20];
     disk.read(0, &mut slot)?;

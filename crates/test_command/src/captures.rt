@@ -1,11 +1,11 @@
-//! Captures that were worked out apart from the inspector, the reports on them, and the calls on captures that the
+//! Captures and the reports on them, which were not made by the inspector, and those calls on captures that the
 //! program doesn't make itself.
 use std::test::Fail;
 use zb_capture::read_capture;
 use zb_inspect::ring;
 use zb_pcap::read_pcap;
 
-/// A frame whose key a later one gives.
+/// A frame whose key a later frame gives.
 pub(crate) const CAPTURE: &[u8] = b"code 83FED3407A939723A5C639B26916D505C3B5
 frame 08022B1A00001E00280000000001000000004B12000063DD603D8198631D3B765B34BA85
 frame 08022B1A00001E032803000000010000000000000000FF65F42A6554
@@ -24,8 +24,8 @@ key 2 000102030405060708090A0B0C0D0E0F found 3 1
 end 3 2 2
 ";
 
-/// The capture of examples/join.capture: a device joins through a router. The network key comes in a Tunnel and as the
-/// router hands it on, and later a link key comes under the network key.
+/// The capture of examples/join.capture: a device joins through a router. The network key is sent in a Tunnel and
+/// again by the router, and later a link key is sent under the network key.
 pub(crate) const JOIN: &[u8] =
     b"# A device joins through a router, as it is heard by somebody who has read the install code on its label.
 code 83FED3407A939723A5C639B26916D505C3B5
@@ -59,7 +59,7 @@ frame 080200002B1A1E04280400000002000000004B120000F07A6D7A57684C05CA43F27E491F6B
 frame 08022B1A00001E04280400000001000000004B1200000BB9D3548405A456651C1EF74A5B6A413C8263DD1FE160570FB25294C87F2884B95F
 ";
 
-/// The report on it, of an inspector that was written apart from this one, over another AES.
+/// The report on it, by an inspector that was written independently of this one, over another AES.
 pub(crate) const JOIN_REPORT: &[u8] = b"1 nwk key 2 00124B0000000003 0 01000602000000004B12002B1A01
 1 aps not-secured
 2 nwk key 2 00124B0000000001 0 01000E02000000004B12002100300000000001000000004B120003B6816E5693F741C9EEE9FD14A5C3FB2\
@@ -96,7 +96,7 @@ end 12 3 3
 
 /// APS security, with the source of an addr line, and under the network key.
 ///
-/// The source of the NWK header goes before that of the line.
+/// The source of the NWK header takes precedence over that of the line.
 pub(crate) const SOURCES: &[u8] =
     b"key 000102030405060708090A0B0C0D0E0F\naddr 0001 00124B0000000001\n\
       frame 0800FFFF01001E002001000004010100000500000085E919C48D7D\n\
@@ -132,7 +132,8 @@ pub(crate) const TUNNELS_SHOWN: &[u8] =
       6 nwk not-secured\n6 aps not-secured\n6 inner not-secured\n7 nwk not-secured\n7 aps not-secured\n\
       7 inner no-source\nkey 1 000102030405060708090A0B0C0D0E0F given\nend 7 1 1\n";
 
-// A capture file, big end first with times in nanoseconds and bits above the link type, and the packet that it holds.
+// A capture file, highest byte first, with times in nanoseconds and bits above the link type, and the packet that it
+// holds.
 const FILE: [u8; 85] =
     *b"\xA1\xB2\x3C\x4D\x00\x02\x00\x04\x00\x00\x00\x00\x00\x00\x00\x00\x00\x00\x00\x00\x00\x01\x00\xE6\
       \x00\x00\x00\x00\x00\x00\x00\x00\x00\x00\x00\x2D\x00\x00\x00\x2D\x41\x88\x01\x62\x1A\x2B\x1A\x00\

@@ -8,11 +8,11 @@ use zb_command::Status;
 /// Something that is armed on the disk of a node.
 #[derive(Clone, Copy)]
 struct Arming {
-    /// The schedule's line before the node's name, and the transcript's line before and after it where that falls.
+    /// The schedule's line before the node's name, and the transcript's line before and after it when that happens.
     words: [&'static [u8]; 3],
     /// The schedule's line after the node's name.
     behind: &'static [u8],
-    /// Whether the changes are stored where it falls on an entry.
+    /// Whether the changes are stored, if it happens at an entry.
     stands: bool,
 }
 
@@ -20,8 +20,8 @@ const STOP: [&[u8]; 3] = [b"stop ", b" stopped ", b"\n"];
 
 const FAIL: [&[u8]; 3] = [b"fail ", b" down ", b" disk\n"];
 
-/// What is armed. An entry is stored where three calls went through before a stop and its gate then reads open, and
-/// where its last call alone fails.
+/// What is armed. An entry is stored if three calls succeeded before a stop and its gate is then read as open, and if
+/// only its last call fails.
 const ARMINGS: [([&[u8]; 3], &[u8], bool); 12] = [
     (STOP, b" 0 00\n", false),
     (STOP, b" 0 A5\n", false),
@@ -49,7 +49,7 @@ fn schedule_of(rt: &(impl AllocGlobal + Abort), step: &Step, arming: &Arming) ->
     text
 }
 
-/// Returns how its transcript ends.
+/// Returns the end of its transcript.
 fn end_of(rt: &(impl AllocGlobal + Abort), step: &Step, arming: &Arming) -> Vec<u8> {
     let [_, before, behind] = arming.words;
     let (stored, end) = if arming.stands {
@@ -63,7 +63,7 @@ fn end_of(rt: &(impl AllocGlobal + Abort), step: &Step, arming: &Arming) -> Vec<
     text
 }
 
-/// Returns whether what is armed before an event falls on it and leaves what it is to leave.
+/// Returns whether what is armed before an event happens in it and leaves what it should.
 fn falls<H: AllocGlobal + Threads + Sync + Abort>(rt: &H, step: &Step, arming: &Arming) -> bool {
     let ran = over(
         rt,

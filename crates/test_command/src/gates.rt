@@ -1,4 +1,4 @@
-//! That two pieces of a capture, and two shares of a campaign, really run at once. No contract speaks of a gate.
+//! Two pieces of a capture, and two shares of a campaign, really run at once. No contract says anything about a gate.
 use crate::captures::{CAPTURE, JOIN, JOIN_REPORT, REPORT};
 use crate::worked::FOUR_RUNS;
 use std::sync::atomic::{AtomicU32, Ordering};
@@ -11,7 +11,7 @@ use zb_parallel::Gate;
 
 /// A gate for two pieces, which holds the first pass of each phase until there was a second one.
 ///
-/// Both are to be passes of pieces that have passed once in each phase before, so they are of two pieces.
+/// Both must be passes of pieces that have passed once in each phase before, so they are of two pieces.
 #[derive(Drop)]
 struct Held {
     passed: AtomicU32,
@@ -30,7 +30,7 @@ impl Held {
         }
     }
 
-    /// Counts a pass of a piece, and returns how many it had before.
+    /// Counts a pass of a piece, and returns how many passes it had before.
     fn count(&self, piece: u32) -> u32 {
         match piece {
             0 => self.of_piece_0.fetch_add(1, Ordering::SeqCst),
@@ -39,7 +39,7 @@ impl Held {
         }
     }
 
-    /// Waits until there were more passes than `passes`, or gives up after very long.
+    /// Waits until there were more passes than `passes`, or gives up after a very long time.
     fn hold(&self, passes: u32) {
         for _turn in 0..1_000_000_000u32 {
             if self.passed.load(Ordering::SeqCst) > passes {

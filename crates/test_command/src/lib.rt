@@ -1,5 +1,5 @@
-//! Tests of the program over public calls. There are worked runs of each command, sources and sinks that fail, stops
-//! and failures of disks, disks that others take the place of, and work that really runs at once.
+//! Tests of the program over public calls: worked runs of each command, sources and sinks that fail, stops and
+//! failures of disks, disks that are replaced, and work that really runs at once.
 #![tactic(auto)]
 
 #[cfg(test)]

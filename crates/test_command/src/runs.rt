@@ -1,4 +1,4 @@
-//! Whole runs over objects in memory. What is wanted comes from worked examples outside of this repository.
+//! Whole runs over objects in memory. The expected results come from worked examples outside this repository.
 use crate::captures;
 use crate::worked::*;
 use std::process::Abort;
@@ -11,7 +11,7 @@ const CODE: &str = "83FED3407A939723A5C639B26916D505C3B5";
 
 const KEY: &str = "000102030405060708090A0B0C0D0E0F";
 
-/// What a run came to: how it ended, and what the sink took.
+/// The result of a run: its status, and what the sink received.
 #[derive(Drop)]
 pub(crate) struct Ran {
     pub status: Status,
@@ -28,14 +28,14 @@ fn texts_of(rt: &(impl AllocGlobal + Abort), words: &[&str]) -> Vec<String> {
     texts
 }
 
-/// Puts texts after a text.
+/// Appends texts to a text.
 pub(crate) fn add(rt: &impl Abort, text: &mut Vec<u8>, parts: &[&[u8]]) {
     for part in parts {
         text.extend_from_slice(part).expect(rt, "memory");
     }
 }
 
-/// Runs words over an input and a sink whose calls of some numbers fail.
+/// Runs words over an input and a sink. Their calls of some numbers fail.
 pub(crate) fn over<H: AllocGlobal + Threads + Sync + Abort>(
     rt: &H,
     words: &[&str],
@@ -62,7 +62,7 @@ pub(crate) fn over<H: AllocGlobal + Threads + Sync + Abort>(
 const WORKED: [(&[&str], &[u8], &[u8]); 17] = [
     (&["play"], TWO_FRAMES, TWO_FRAMES_PLAYED),
     (&["play"], WITHOUT_A_KEY, WITHOUT_A_KEY_PLAYED),
-    // comments, empty lines, carriage returns, and a last line without an end
+    // Comments, empty lines, carriage returns, and a last line without a line feed.
     (
         &["play"],
         b"# \xFF any byte\r\n\r\n\nnode c centre 00124b0000000001 0000 65536 1024\r\nsay c FFF8 -",
@@ -146,10 +146,10 @@ fn what_outsiders_send_is_played(rt: HostRuntime) {
     }
 }
 
-/// Words, the input, calls that fail, how that ends, and what the sink has a prefix of.
+/// Words, the input, calls that fail, the status, and the output of which the sink has a prefix.
 ///
-/// The calls that fail are first those of the source, then those of the sink. The text of a schedule comes at the
-/// first call of the source, and its end at the second one.
+/// The calls that fail are first those of the source, then those of the sink. The first call of the source reads the
+/// text of a schedule, and the second one its end.
 const FAILED: [(&[&str], &[u8], &[u32], &[u32], Status, &[u8]); 13] = [
     (&["help"], b"", &[], &[], Status::Usage, b""),
     (
@@ -244,7 +244,7 @@ const LONG_HEAD: &[u8] = b"key 000102030405060708090A0B0C0D0E0F
 frame 08022B1A00001E00280000000001000000004B12000063DD603D8198631D3B765B34BA85
 #";
 
-/// The frame that comes again at its end.
+/// The frame that is repeated at its end.
 const LONG_END: &[u8] = b"
 frame 08022B1A00001E00280000000001000000004B12000063DD603D8198631D3B765B34BA85
 ";
@@ -258,7 +258,7 @@ key 1 000102030405060708090A0B0C0D0E0F given
 end 2 1 1
 ";
 
-/// Returns a frame after its key, more bytes than come in before several jobs begin, and the frame again.
+/// Returns a frame after its key, more bytes than are read before several jobs begin, and the frame again.
 fn long_capture(rt: &(impl AllocGlobal + Abort), byte: u8) -> Vec<u8> {
     let mut text = Vec::new(rt.alloc());
     add(rt, &mut text, &[LONG_HEAD]);
@@ -267,7 +267,7 @@ fn long_capture(rt: &(impl AllocGlobal + Abort), byte: u8) -> Vec<u8> {
     text
 }
 
-/// What fills a long capture, the jobs, calls that fail, how that ends, and what is shown.
+/// What fills a long capture, the jobs, calls that fail, the status, and what is shown.
 ///
 /// The calls are those of the source. The filling is a line of many bytes, or many lines.
 const LONG: [(u8, &str, &[u32], Status, &[u8]); 3] = [

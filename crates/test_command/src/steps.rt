@@ -1,8 +1,8 @@
-//! A join through a router, a removal and a rollover: the events, and what each of those that store something is to
-//! leave where a stop or a failure of the disk falls on it.
+//! A join through a router, a removal and a rollover: the events, and what each event that stores something should
+//! leave if a stop or a failure of the disk happens in it.
 //!
-//! The lines are those of a worked example outside of this repository, with a removal, a rollover and a switch by the
-//! rules of the policy after them. The records were reckoned from these lines, apart from the program.
+//! The lines are those of a worked example outside this repository, followed by a removal, a rollover and a switch by
+//! the rules of the policy. The records were computed from these lines without the program.
 
 /// The declarations.
 pub(crate) const DECLARATIONS: &[u8] = b"\
@@ -48,13 +48,13 @@ pub(crate) struct Step {
     pub before: usize,
     /// Its line in the schedule.
     pub event: &'static [u8],
-    /// Its number where one more event comes before it.
+    /// Its number if one more event comes before it.
     pub number: &'static [u8],
     /// The lines of its changes and of their commit, with that number.
     pub stored: &'static [u8],
-    /// The end of the transcript where the changes are lost, with a boot and a dump of the node.
+    /// The end of the transcript if the changes are lost, with a boot and a dump of the node.
     pub lost: &'static [u8],
-    /// The same where the changes are stored.
+    /// The same if the changes are stored.
     pub kept: &'static [u8],
 }
 

@@ -1,4 +1,4 @@
-//! Disks that another one takes the place of, also such from which the node can't boot.
+//! Disks that are replaced by another one, also by one from which the node can't boot.
 use crate::runs::add;
 use arrayvec::ArrayVec;
 use std::process::Abort;
@@ -8,7 +8,7 @@ use zb_disk::{Disk, MemDisk};
 use zb_player::{Bench, play};
 use zb_sched::read;
 
-/// What happens before a disk is put under the centre, and what is written of that.
+/// What happens before a disk is put under the centre, and its transcript.
 const BEFORE: &[u8] = b"\
 node c centre 00124B0000000001 0000 4 2
 node d device 00124B0000000002 1A2B 4 2
@@ -37,7 +37,7 @@ const BEFORE_PLAYED: &[u8] = b"\
 
 /// A disk whose first slot is open, with the record of the centre at the start.
 ///
-/// But its NWK limit is 40.
+/// Only its NWK limit is 40.
 const FURTHER: [u8; 56] = [
     0xA5, 1, 0, 0, 0, 0, 0, 0, 0, 43, 0, 0, 0, 3, 0, 0, 0, 0, 0, 0, 0, 0, 0, 0, 0, 1, 0, 0, 0, 0,
     1, 2, 3, 4, 5, 6, 7, 8, 9, 10, 11, 12, 13, 14, 15, 0, 3, 40, 0, 0, 0, 0, 0, 0, 0, 0,
@@ -49,13 +49,13 @@ const OF_A_DEVICE: [u8; 56] = [
     1, 2, 3, 4, 5, 6, 7, 8, 9, 10, 11, 12, 13, 14, 15, 0, 3, 40, 0, 0, 0, 0, 0, 0, 0, 0,
 ];
 
-/// The same with bytes that are no record: no version is 9.
+/// The same with bytes that aren't a record: there is no version 9.
 const OF_NOBODY: [u8; 56] = [
     0xA5, 1, 0, 0, 0, 0, 0, 0, 0, 43, 0, 0, 0, 9, 0, 0, 0, 0, 0, 0, 0, 0, 0, 0, 0, 1, 0, 0, 0, 0,
     1, 2, 3, 4, 5, 6, 7, 8, 9, 10, 11, 12, 13, 14, 15, 0, 3, 40, 0, 0, 0, 0, 0, 0, 0, 0,
 ];
 
-/// A disk on which no slot stands open.
+/// A disk on which neither slot is open.
 const EMPTY: [u8; 56] = [0; 56];
 
 /// What a disk does by itself.
@@ -72,12 +72,12 @@ enum Alone {
 struct Case {
     /// The event before which it is put there.
     event: u32,
-    /// What it reads.
+    /// The bytes of the disk.
     bytes: [u8; 56],
     alone: Alone,
     /// What happens then.
     more: &'static [u8],
-    /// What is written of that.
+    /// What the transcript has about that.
     played: &'static [u8],
 }
 
@@ -86,10 +86,10 @@ const BOOT_AND_SAY: &[u8] = b"boot c\nsay c 1A2B -\n";
 const BOOT_AND_DUMP: &[u8] = b"boot c\nsay c 1A2B -\ndump c\n";
 
 /// The first case is a worked example. Of the others:
-/// - A boot that finds no record of a centre, or a call of the disk that fails, ends as the disk's fault.
-/// - A stop ends as a stop.
-/// - A dump shows no bytes where there is no record of a centre.
-/// - On a disk that was off already nothing falls that was armed: it is still to come, and nothing is stored.
+/// - A boot that finds no record of a centre, and a disk call that fails, are reported as the disk's fault.
+/// - A stop is reported as a stop.
+/// - A dump shows no bytes if there is no record of a centre.
+/// - On a disk that was already off nothing happens that was armed: it stays armed, and nothing is stored.
 const CASES: [Case; 11] = [
     Case {
         event: 4,
@@ -236,7 +236,7 @@ fn disk_of(rt: &(impl AllocGlobal + Abort), case: &Case) -> MemDisk {
     disk
 }
 
-/// Returns what is written of a run with the disk of a case.
+/// Returns the transcript of a run with the disk of a case.
 fn played(rt: &(impl AllocGlobal + Abort), case: &Case) -> Result<MemSink, Fail> {
     let mut text = Vec::new(rt.alloc());
     add(rt, &mut text, &[BEFORE, case.more]);

@@ -1,4 +1,4 @@
-//! The printed text of schedules and of a transcript's line. What is wanted was written by hand from the page of
+//! The printed text of schedules and of a transcript's line. The expected texts were written by hand from the page of
 //! formats; the install code is published.
 
 use std::process::Abort;

@@ -1,4 +1,4 @@
-//! Schedules and scripts, and what is written of them. They come from worked examples outside of this repository.
+//! Schedules and scripts, and their outputs. They come from worked examples outside this repository.
 
 pub(crate) const TWO_FRAMES: &[u8] = b"node c centre 00124B0000000001 0000 4 2
 node d device 00124B0000000002 1A2B 4 2
@@ -222,7 +222,7 @@ pub(crate) const JOIN_PLAYED: &[u8] = b"\
 end 17 19 13 0 yes yes
 ";
 
-/// Frames that aren't of this network, brought on the air as they are.
+/// Frames that aren't of this network, sent as they are.
 pub(crate) const INJECTED: &[u8] = b"node c centre 00124B0000000001 0000 4 2
 node d device 00124B0000000002 1A2B 4 2
 netkey c 000102030405060708090A0B0C0D0E0F 0
@@ -258,10 +258,10 @@ forge 1A2B 0000 00124B0000000001 open aps transport 5A6967426565416C6C69616E6365
               0501F0F1F2F3F4F5F6F7F8F9FAFBFCFDFEFF0102000000004B120001000000004B1200
 ";
 
-/// Frames of the join, brought on the air where they are of no use.
+/// Frames of the join, sent when they are of no use.
 ///
-/// They come to a device that has no network key and waits for none, and to the centre, which hasn't admitted the
-/// device.
+/// They are delivered to a device that has no network key and waits for none, and to the centre, which hasn't
+/// admitted the device.
 pub(crate) const HOSTILE: &[u8] = b"\
 node c centre 00124B0000000001 0000 16 4
 node d device 00124B0000000002 1A2B 16 4
@@ -286,7 +286,7 @@ boot c
 deliver 2 c
 ";
 
-/// What is written of these deliveries. The request is accepted at NWK, and what was accepted stays.
+/// The transcript of these deliveries. The request is accepted at NWK, and what was accepted stays.
 pub(crate) const HOSTILE_END: &[u8] = b"
 5 refuse d nwk not-for-me
 6 refuse d nwk not-for-me
@@ -437,13 +437,13 @@ end 1 1 1
 packets 1 0 0
 ";
 
-/// What is shown of a file whose one packet has a wrong check sequence.
+/// What is shown for a file whose one packet has a wrong check sequence.
 pub(crate) const PASSED_OVER: &[u8] = b"key 1 000102030405060708090A0B0C0D0E0F given
 end 0 1 1
 packets 1 1 0
 ";
 
-/// The packet of the capture file where the last two bytes of each are its check sequence.
+/// The packet of the capture file with its check sequence in the last two bytes.
 pub(crate) const CHECKED: [u8; 85] =
     *b"\xD4\xC3\xB2\xA1\x02\x00\x04\x00\x00\x00\x00\x00\x00\x00\x00\x00\x00\x00\x00\x00\xC3\x00\x00\x00\
       \x00\x00\x00\x00\x00\x00\x00\x00\x2D\x00\x00\x00\x2D\x00\x00\x00\x41\x88\x01\x62\x1A\x2B\x1A\x00\

@@ -91,7 +91,7 @@ unfolding schedule_of event_for centre_of code_of crc remainder added divided me
     xored enciphered last_round round_key next_key state_after round mix_column substitute times
 removal_and_rollover_is_its_model = refl
 
--- A key comes in that nobody sealed, and the disk stops.
+-- A key is delivered that nobody sealed, and the disk stops.
 abbrev key_comes_in_unseen_text : List ℕ
 key_comes_in_unseen_text =
     codes "node c centre 00124B0000000001 0000 16 4\nnode d device 00124B0000000002 1A2B 16 4\n"

@@ -1,11 +1,11 @@
-//! Reads transcripts of worked runs back, prints their lines again and compares, and runs a watch over the lines. For
-//! each file it writes how many lines there are, whether the printed text is the same, and the two words of the watch.
+//! Reads transcripts of worked runs, prints their lines again and compares, and runs a watch over the lines. For each
+//! file it writes how many lines there are, whether the printed text is the same, and the two words of the watch.
 //!
 //! Files after the word `audit` are audited: worked runs, which are sound, and transcripts that were changed in one
-//! place. Of each it writes one of these:
+//! place. For each it writes one of these:
 //! - how many terms were sealed and accepted, and whether removed devices are locked out
 //! - the first bad line, and the claim that it breaks
-//! - the first line that is no text of a line
+//! - the number of the first line that isn't a line of a transcript
 #![tactic(auto)]
 
 use std::alloc::{AllocError, Global};
@@ -28,7 +28,7 @@ fn main(rt: HostRuntime) -> io::Result<()> {
     Ok(())
 }
 
-/// Writes what is found of one file.
+/// Writes what is found in one file.
 fn report(
     rt: &(impl Print + AllocGlobal),
     name: &str,

@@ -38,7 +38,7 @@ use Rattle.zb_trace.specs.declared.line.Line.{Line}
 use Rattle.zb_trace_watch.proofs.Truth.{and_left, and_right, both}
 use Rattle.zb_trace_watch.specs.Standing.{FindKeys}
 
--- A place stays as further lines come.
+-- The place of a name stays the same as further lines come.
 speaker_stays : (names : List Bytes) (o : Option Bytes) (a : Bytes) (i : ℕ) → place_in names a ≡ Some i
     → place_in (with_speaker names o) a ≡ Some i
 speaker_stays names None a i at = at
@@ -177,7 +177,7 @@ line_stands tools old h l who number i p d w n t c r k e find next is_directory 
       ending = ends h here ideal_is private_is before.ending;
     }
 
--- What it comes to
+-- The parts after one line
 
 pub unlocked_is : (tools : Tools) (a : Auditor) (h : List Line) (b : Bool) (first : Option ℕ) → b
     ≡ (ideal tools h && private tools h) → Stands tools a h
@@ -211,7 +211,7 @@ unfolding first_fault
 faults_are tools h n1 n2 n3 n4 n5 n6 r1 r2 r3 r4 r5 r6 e1 e2 e3 e4 e5 e6 s1 s2 s3 s4 s5 s6 =
     s1 ∙ (rw (s2, s3, s4, s5, s6, e1, e2, e3, e4, e5, e6, sooner_none (by 6 (head (ill_ended tools h)))) refl)
 
--- one line more of a list
+-- One line more of a list.
 pub taken_more : (lines : List Line) (i : ℕ) (l : Line) → i < length lines → l ≡ get_or lines i l → take (i + 1) lines
     ≡ take i lines ++ l ∷ []
 taken_more lines i l in_range is = take_more lines i l in_range ∙ ap (λ (x : Line). take i lines ++ x ∷ []) (sym is)

@@ -1,4 +1,4 @@
--- Where no line is bad, the claims hold.
+-- If no line is bad, the claims hold.
 use Rattle.std.proofs.Common.{◌≡◌, ℕ, ◌+◌, ◌<◌, Bool, true, false, not, ◌&&◌, List, [], ◌∷◌, ◌++◌, length, append_assoc, Option, Some, None, refl, ap, sym, ◌∙◌, bytes_eq, nat_eq, nat_le, leb-false, if◌then◌else◌}
 use Rattle.std.specs.List.{list_any, AllByRecursion}
 use Rattle.std.proofs.lemmas.Bool.{and_from}
@@ -42,7 +42,7 @@ passes : (test : List Line → Line → Bool) (g : List Line) (l : Line) (ls : L
 unfolding failing_from
 passes test g l ls e = no_number (test g l) (length g + 1) (failing_from test (g ++ l ∷ []) ls) e
 
--- a line among others
+-- A line among others.
 abbrev IsIn : Line → List Line → Type 0
 IsIn m g = (p : Line → Bool) → p m ≡ true → list_any p g ≡ true
 
@@ -317,7 +317,7 @@ confirm_one h (line.Boot x0 x1) fine = tt
 confirm_one h (line.Dump x0 x1 x2) fine = tt
 confirm_one h (line.End x0 x1 x2 x3 x4 x5) fine = tt
 
--- and back
+-- And back
 
 stands_by : (h : List Line) (name base : Bytes) (o : Option Eui)
     → ((device : Eui) → o ≡ Some device → IsOfCentre h name × StoredVerified h device.0 base)

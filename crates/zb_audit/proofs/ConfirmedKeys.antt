@@ -35,7 +35,7 @@ same_row partner key p k same =
     let keys : key.0 ≡ k = same_bytes key.0 k (and_right (nat_eq partner.0 p) _ same) in
     λ j. record { partner = record { 0 = partners j }; key = record { 0 = keys j } }
 
--- a row that is written, and one that is taken away
+-- A row that is written, and one that is dropped.
 pub row_written : (rows new : BTreeMap LinkRow ℕ) (partner : Eui) (key : Key) (number : ℕ) (centre : Bool) → centre
     ≡ true
     → get row_cmp rows (record { partner = partner; key = key }) ≡ None

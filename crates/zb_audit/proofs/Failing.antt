@@ -34,7 +34,7 @@ unfolding failing
 failing_more test h l = ap head (failing_at_end test [] h l) ∙ head_then (failing_from test [] h) (test h l)
     (length h + 1)
 
--- what the code notes of a line is what the definition adds
+-- What the code notes of a line is what the definition adds.
 pub first_more : (test : List Line → Line → Bool) (old new : Option ℕ) (number : ℕ) (good : Bool) (h : List Line)
     (l : Line) → new ≡ option_or old (if good then None else Some number)
     → good ≡ test h l → number ≡ length h + 1 → old ≡ head (failing test h) → new ≡ head (failing test (h ++ l ∷ []))
@@ -45,7 +45,7 @@ or_none : {A : Type 0} (o : Option A) → option_or o None ≡ o
 or_none None = refl
 or_none (Some x) = refl
 
--- a good line
+-- A good line.
 pub first_stays : (test : List Line → Line → Bool) (old : Option ℕ) (h : List Line) (l : Line) → test h l ≡ true → old
     ≡ head (failing test h) → old ≡ head (failing test (h ++ l ∷ []))
 first_stays test old h l good before =

@@ -28,7 +28,7 @@ stamp_cmp = stamp_ord.cmp-value.it
 pub part : (o p : Ordering) (a b : Bool) → is_eq o ≡ a → is_eq p ≡ b → is_eq (ordering_then o p) ≡ (a && b)
 part o p a b e f = then_alike o p ∙ ap (λ (x : Bool). x && is_eq p) e ∙ ap (λ (x : Bool). a && x) f
 
--- a test that is made last may stand first
+-- The last test of a conjunction may be the first.
 last_first : (a b c d : Bool) → (a && (b && (c && d))) ≡ (d && (a && (b && c)))
 last_first true true true true = refl
 last_first true true true false = refl
@@ -156,7 +156,7 @@ quiet_follows n h l none before = record {
   first = first_stays is_fresh n.first h l (is_no_seal h l none) before.first;
 }
 
--- what was put in
+-- The stamp that was added.
 pub stamp_added : (old new : List Stamp) (stamp : Stamp) (t u : Term) → stamp ≡ stamp_of t
     → list_any (is_at (stamp_cmp (stamp_of u))) new ≡ cond (is_at (stamp_cmp stamp) (stamp_of u)) true
     (list_any (is_at (stamp_cmp (stamp_of u))) old)

@@ -1,4 +1,4 @@
--- What a line adds to what lines say for the two words, read by names.
+-- What a line adds to the sayings from which the two words follow, if nodes are identified by names.
 use Rattle.std.proofs.Common.{◌≡◌, ℕ, ◌+◌, ◌≤◌, suc, List, [], ◌∷◌, ◌++◌, Bool, true, false, not, ◌||◌, ◌&&◌, Option, Some, None, refl, ap, sym, ◌∙◌, bytes_eq, nat_eq, length, length-append, append_assoc, arith}
 use Rattle.std.specs.List.{list_any, flat_map}
 use Rattle.std.specs.Option.{IfSome, option_map}
@@ -143,9 +143,9 @@ grown tools names h l a terms forged codes bases_are ever_is removed network ide
   based = based_more tools h l ∙ ap (λ (b : Bool). each_line (based_line tools) [] h && b) based;
 }
 
--- Who the node of a line is
+-- Which node a line names
 
--- a place is that of the line's node exactly where the name is its name
+-- A place is that of the line's node exactly if the name there is the node's name.
 is_speaker : (names : List Bytes) (known : List Station) (who : Who) (name n : Bytes) (i : ℕ)
     → Tells who names known name → place_in names n ≡ Some i → nat_eq i who.place ≡ bytes_eq name n
 is_speaker names known who name n i told at =
@@ -185,7 +185,7 @@ more_than : (place : Option ℕ) (i : ℕ) → option_map (λ (n : ℕ). n + 1) 
 more_than None i e = cc
 more_than (Some j) i e = let same : j + 1 ≡ i = cc in (j, refl, same)
 
--- the name at the place of a name is that name
+-- The name at the place of a name is that name.
 named_there : (other name : Bytes) (names : List Bytes) (i : ℕ) (b : Bool) → bytes_eq other name ≡ b
     → ((j : ℕ) → place_in names name ≡ Some j → name_at names j ≡ name)
     → (if b then Some 0 else option_map (λ (n : ℕ). n + 1) (place_in names name)) ≡ Some i
@@ -264,7 +264,7 @@ module _ (tools : Tools) (names : List Bytes) (h : List Line) (who : Who) (node 
       ap (λ (n : Bytes). is_first (place_in names n) who.place) (there names node.bytes who.place told.place)
       ∙ (ap (λ (o : Option ℕ). is_first o who.place) told.place ∙ itself_number who.place)
 
--- What a line adds, whose node is told.
+-- What a line adds, if its node is given.
 line_adds : (tools : Tools) (names : List Bytes) (h : List Line) (who : Who) (l : Line)
     → IsSpeaker who names (declared_in h) l
     → JoinerCounts (is_place names) (seen who) l
@@ -440,7 +440,7 @@ line_adds tools names h who (line.End x0 x1 x2 x3 x4 x5) told = (
       (λ i at. refl) (λ d. refl) refl refl refl refl,
 )
 
--- What it comes to
+-- Both together
 
 pub words_start : (tools : Tools) (names : List Bytes) (w : EndWords)
     → ((counts : ℕ → Bool) → Represents tools counts w start) → WordsStand tools names w []
@@ -461,7 +461,7 @@ pub words_private : (tools : Tools) (names : List Bytes) (h : List Line) → say
 unfolding private passes_on say.passes_on
 words_private tools names h = refl
 
--- Both words only fall.
+-- Neither word becomes true again.
 
 pub ideal_before : (tools : Tools) (h : List Line) (l : Line) → ideal tools (h ++ l ∷ []) ≡ true → ideal tools h ≡ true
 ideal_before tools h l it = and_left (ideal tools h) (ideal_line tools h l) (sym (ideal_more tools h l) ∙ it)

@@ -1,5 +1,5 @@
--- A key that is confirmed is stored: what the automaton of the audit makes of a link row of the centre is what the
--- lines before say of it.
+-- A confirmed key is stored: the state that the audit keeps for a link row of the centre agrees with the lines
+-- before.
 use Rattle.std.proofs.Common.{◌≡◌, ℕ, Bool, true, false, ◌&&◌, List, [], ◌∷◌, ◌++◌, append_assoc, refl, ap, sym, subst, ◌∙◌, bytes_eq, nat_eq, eqb-true, eq-eqb, if◌then◌else◌}
 use Rattle.std.specs.Prelude.{⊤}
 use Rattle.std.proofs.lemmas.Bool.{and_from, and_parts}
@@ -25,7 +25,7 @@ pub record IsQuiet (l : Line) : Type 0 where
   pub no_row : (d : ℕ) (b : Bytes) (h : List Line) → Verifies d b h l → ⊥
   pub no_commit : (h : List Line) → Commits h l → ⊥
 
--- the kinds of lines that the third claim tells apart
+-- The kinds of lines that the third claim distinguishes.
 module _ (P : Line → Type 0)
     (row : (e : ℕ) (n : ArrayString) (p : Eui) (k : Key) (a : Attribute) → P (line.Row e n p k a))
     (drop : (e : ℕ) (n : ArrayString) (p : Eui) (k : Key) → P (line.DropLink e n p k))
@@ -125,7 +125,7 @@ module _ (P : Line → Type 0)
       quiet (line.End x0 x1 x2 x3 x4 x5)
       (record { stays = λ d b known s. refl; settled = λ d b h u. u; no_row = λ d b h u. u; no_commit = λ h u. u })
 
--- ---- claims on each line
+-- ---- Claims on each line
 
 abbrev Settled : ℕ → Bytes → List Line → Line → Type 0
 Settled d b h l = Unsettles d b h l → ⊥
@@ -145,7 +145,7 @@ module _ (P : List Line → Line → Type 0) where
   each_right h (x ∷ xs) ys all = subst (λ g. Each P g ys) (append_assoc h (x ∷ []) xs)
       (each_right (h ++ x ∷ []) xs ys all.1)
 
--- ---- the row of a line
+-- ---- The row of a line
 
 pub record IsThat (d : ℕ) (b : Bytes) (h : List Line) (name : Bytes) (p : ℕ) (k : Bytes) : Type 0 where
   pub centre : IsOfCentre h name
@@ -172,9 +172,9 @@ not_that d b h name p k e that = two (sym (that_true d b h name p k that) ∙ e)
     two : true ≡ false → ⊥
     two e = cc
 
--- ---- what the automaton says is so
+-- ---- What the automaton says is true
 
--- the centre made the row verified, and nothing has unsettled it since
+-- The centre made the row verified, and nothing has unsettled it since.
 pub record IsVerified (h : List Line) (d : ℕ) (b : Bytes) : Type 0 where
   pub before : List Line
   pub row : Line
@@ -252,7 +252,7 @@ still_so h l d b Absent quiet so = tt
 still_so h l d b Made quiet so = still_verified h l d b quiet so
 still_so h l d b Kept quiet so = still_stored h l d b quiet so
 
--- one line more
+-- One line more.
 
 row_so : (h : List Line) (e : ℕ) (n : ArrayString) (p : Eui) (k : Key) (a : Attribute) (d : ℕ) (b : Bytes)
     (s : RowState) → IsSo h d b s
@@ -318,13 +318,13 @@ none_so : (d : ℕ) (b : Bytes) → IsSo [] d b (row_in [] d b)
 unfolding row_in row_from
 none_so d b = tt
 
--- What the automaton has as stored the centre stored.
+-- If the automaton has a row as stored, the centre stored it.
 pub stored_verified : (h : List Line) (d : ℕ) (b : Bytes) → row_in h d b ≡ Kept → StoredVerified h d b
 stored_verified h d b e = subst (IsSo h d b) e (lines_so [] h d b (none_so d b))
 
--- ---- what is so the automaton says
+-- ---- What is true the automaton says
 
--- what a settled row keeps: it is made again, or a commit comes
+-- What a settled row keeps: the centre makes it verified again, or commits.
 pub record IsSteady (P : RowState → Type 0) : Type 0 where
   pub made_too : (s : RowState) → P s → P (made s)
   pub committed_too : (s : RowState) → P s → P (committed s)
@@ -433,7 +433,7 @@ commit_kept h d b s there =
         → row_becomes d b (declared_in h) s (line.Commit e n) ≡ Kept
     commit e n it = ap (λ (test : Bool). if test then committed s else s) it ∙ there_kept s there
 
--- What the centre stored the automaton has as stored.
+-- If the centre stored a row, the automaton has it as stored.
 pub stored_kept : (h : List Line) (d : ℕ) (b : Bytes) → StoredVerified h d b → row_in h d b ≡ Kept
 stored_kept h d b v =
     let P = Settled d b in

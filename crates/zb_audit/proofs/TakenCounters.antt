@@ -37,7 +37,7 @@ layer_turned Nwk Aps = refl
 layer_turned Aps Nwk = refl
 layer_turned Aps Aps = refl
 
--- a test that is made first may stand last
+-- The first test of a conjunction may be the last.
 first_last : (a b c : Bool) → (a && (b && c)) ≡ (b && (c && a))
 first_last true true true = refl
 first_last true true false = refl
@@ -61,7 +61,7 @@ pub none_taken : (heights : BTreeMap Channel ℕ) → heights.entries ≡ [] →
 unfolding failing failing_from
 none_taken heights none names = record { heights = λ name i there t. rw none refl; first = refl }
 
--- A greater counter is written; one that isn't is not.
+-- A counter is written exactly if it is greater.
 below_top : (x c : ℕ) (old : Option ℕ) → is_below c old ≡ false → nat_le x c ≡ (is_below x old || nat_le x c)
 below_top x c None e = refl
 below_top x c (Some top) e =
@@ -191,7 +191,7 @@ quiet_follows names k h l none before = record {
   first = first_stays is_later k.first h l (is_no_accept h l none) before.first;
 }
 
--- the heights after a counter was accepted: it is written where it rises
+-- The heights after an accepted counter: the counter is written if it is greater.
 pub raised : (same : Bool) (before now : Option ℕ) (x c : ℕ) → now ≡ cond same (Some c) before
     → (same ≡ true → is_below c before ≡ false) → is_below x now ≡ (is_below x before || (same && nat_le x c))
 raised true before now x c is below = ap (is_below x) is ∙ below_top x c before (below refl)

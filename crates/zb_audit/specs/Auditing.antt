@@ -1,4 +1,4 @@
--- The lines for which an auditor stands.
+-- Which lines an auditor represents.
 use Rattle.std.specs.Prelude.{◌≡◌, ℕ, ◌+◌, true, ◌&&◌, List, [], ◌∷◌, ◌++◌, length}
 use Rattle.zb_audit.specs.Standing.{AreConfirmed, AreNonces, AreTaken, Ends}
 use Rattle.zb_audit.specs.declared.auditor.Auditor.{Auditor}
@@ -16,12 +16,12 @@ use Rattle.zb_model.specs.Tools.{Tools}
 use Rattle.zb_audit_counters.specs.Recounting.{Recounts}
 use Rattle.zb_trace.specs.declared.line.Line.{Line}
 
--- the parts that go by the places of names among these
+-- The parts that depend on the places of names in this list.
 pub record StandAt (tools : Tools) (names : List Bytes) (a : Auditor) (h : List Line) : Type 0 where
   pub words : WordsStand tools names a.words h
   pub taking : AreTaken names a.taking h
   pub recount : Recounts names a.recount h
-  -- lockout is carried on as long as both words hold
+  -- Lockout is checked as long as both words hold.
   pub lockout : (ideal tools h && private tools h) ≡ true → lockout.Stands tools names a.lockout h
 
 -- The names may be those of any longer list of lines.
@@ -33,7 +33,7 @@ pub record Stands (tools : Tools) (a : Auditor) (h : List Line) : Type 0 where
   pub confirming : AreConfirmed a.confirming h
   pub ending : Ends tools a.ending h
 
--- lockout after one more line represents it too
+-- Lockout after one more line represents that line too.
 abbrev pub LocksOn : Lockout → Lockout → ℕ → Line → Who → Type 0
 LocksOn old new number l who =
     (tools : Tools) (names : List Bytes) (h : List Line) → FindKeys tools → number ≡ length h + 1

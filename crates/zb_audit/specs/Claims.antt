@@ -1,4 +1,4 @@
--- What holds of lines none of which is bad, as relations between lines.
+-- What holds for lines if none of them is bad, as relations between lines.
 use Rattle.std.specs.Prelude.{◌≡◌, ◌<◌, ℕ, true, List, [], ◌∷◌, ◌++◌, Some, ⊤}
 use Rattle.std.specs.List.{AllByRecursion}
 use Rattle.zb_audit.specs.Confirming.{confirmed}
@@ -16,7 +16,7 @@ use Rattle.zb_trace.specs.declared.line.Line.TheVariants as line
 
 -- Nonces
 
--- a later seal is under another key, or of another source, counter or control byte
+-- A later seal is under another key, or has another source, counter or control byte.
 abbrev pub SealsApart : Term → Line → Type 0
 SealsApart t (line.Seal event node u) =
     sealing_key t.label t.base.0 ≡ sealing_key u.label u.base.0 → t.source.0 ≡ u.source.0 → t.counter ≡ u.counter
@@ -34,7 +34,7 @@ Fresh (l ∷ ls) = FreshFrom l ls × Fresh ls
 
 -- Accepted counters
 
--- the later of two accepted terms of one receiver, layer, base key and source has the greater counter
+-- The later of two accepted terms of one receiver, layer, base key and source has the greater counter.
 abbrev pub Rises : Bytes → Term → Line → Type 0
 Rises name t (line.Accept event node u) = node.bytes ≡ name → t.layer ≡ u.layer → t.base.0 ≡ u.base.0 → t.source.0
     ≡ u.source.0 → t.counter < u.counter
@@ -51,34 +51,35 @@ Once (l ∷ ls) = OnceFrom l ls × Once ls
 
 -- Confirmed keys
 
--- by the lines before, the node of that name is the centre
+-- By the lines before, the node of that name is the centre.
 abbrev pub IsOfCentre : List Line → Bytes → Type 0
 IsOfCentre h name = is_centres (declared_in h) name ≡ true
 
--- a row line of the centre makes the link row of a partner and a key verified
+-- A row line of the centre makes the link row of a partner and a key verified.
 abbrev pub Verifies : ℕ → Bytes → List Line → Line → Type 0
 Verifies d b h (line.Row event node partner key a) = IsOfCentre h node.bytes × (partner.0 ≡ d) × (key.0 ≡ b)
     × (a ≡ Verified)
 Verifies d b h _ = ⊥
 
--- a line of the centre takes that away: it drops the row, or gives it another attribute
+-- A line of the centre ends that: it drops the row, or gives the row another attribute.
 abbrev pub Unsettles : ℕ → Bytes → List Line → Line → Type 0
 Unsettles d b h (line.DropLink event node partner key) = IsOfCentre h node.bytes × (partner.0 ≡ d) × (key.0 ≡ b)
 Unsettles d b h (line.Row event node partner key a) = IsOfCentre h node.bytes × (partner.0 ≡ d) × (key.0 ≡ b)
     × (a ≡ Verified → ⊥)
 Unsettles d b h _ = ⊥
 
--- a commit of the centre
+-- A commit of the centre.
 abbrev pub Commits : List Line → Line → Type 0
 Commits h (line.Commit event node) = IsOfCentre h node.bytes
 Commits h _ = ⊥
 
--- a claim on each line and the lines before it
+-- A claim about each line and the lines before it.
 abbrev pub Each : (List Line → Line → Type 0) → List Line → List Line → Type 0
 Each P h [] = ⊤
 Each P h (l ∷ ls) = P h l × Each P (h ++ l ∷ []) ls
 
--- The centre made the row of a device and a key verified, and stored that by a commit; nothing has unsettled it since.
+-- The centre made the row of a device and a key verified, and stored the row with a commit. Nothing has unsettled the
+-- row since.
 pub record StoredVerified (h : List Line) (d : ℕ) (b : Bytes) : Type 0 where
   pub before : List Line
   pub row : Line
@@ -90,7 +91,7 @@ pub record StoredVerified (h : List Line) (d : ℕ) (b : Bytes) : Type 0 where
   pub stored : Commits (before ++ row ∷ between) commit
   pub settled : Each (λ g l. Unsettles d b g l → ⊥) (before ++ row ∷ []) (between ++ commit ∷ later)
 
--- A seal that confirms a device's key is the centre's, which has stored that key as verified.
+-- If a seal confirms a device's key, the centre made it, and has stored that key as verified.
 abbrev pub ConfirmLine : List Line → Line → Type 0
 ConfirmLine h (line.Seal event node t) = (device : Eui) → confirmed t ≡ Some device → IsOfCentre h node.bytes
     × StoredVerified h device.0 t.base.0
@@ -100,7 +101,7 @@ ConfirmLine h _ = ⊤
 abbrev pub Confirms : List Line → Type 0
 Confirms lines = Each ConfirmLine [] lines
 
--- All that is claimed of lines with this verdict: lockout where its word is so.
+-- All that we claim about lines with this verdict. Lockout is claimed if the verdict's word for it is true.
 pub record Keeps (tools : Tools) (v : Verdict) (lines : List Line) : Type 0 where
   pub fresh : Fresh lines
   pub once : Once lines

@@ -25,12 +25,12 @@ abbrev pub confirmed_at : Layer → List ℕ → List ℕ → Option Eui
 confirmed_at Aps header content = if is_command_header header then confirmed_in (command_of content) else None
 confirmed_at Nwk header content = None
 
--- The device whose key a term confirms: its content is a Confirm-Key of status 00, sealed as an APS command.
+-- The device whose key a term confirms, if its content is a Confirm-Key of status 00, sealed as an APS command.
 unfoldable pub confirmed : Term → Option Eui
 confirmed t = confirmed_at t.layer t.header.items t.content.items
 
--- What the lines made of a link row of the centre: it isn't verified, it was made so, or that is stored by a commit
--- after it.
+-- The state of a link row of the centre after some lines: not verified, made verified, or stored as verified by a
+-- later commit.
 pub data RowState : Type 0 where
   Absent : RowState
   Made : RowState
@@ -52,13 +52,13 @@ is_kept Kept = true
 abbrev pub is_row : ℕ → Bytes → ℕ → Bytes → Bool
 is_row partner key p k = nat_eq p partner && bytes_eq k key
 
--- a row of that attribute makes it verified, or takes that back
+-- A row with that attribute makes the key verified, or ends that.
 abbrev pub with_attribute : Attribute → RowState → RowState
 with_attribute attribute.Verified s = made s
 with_attribute attribute.Unverified s = Absent
 with_attribute attribute.Provisional s = Absent
 
--- What one line of a centre's does to its row of a partner and a key, after lines that declare these nodes.
+-- What one line does to the centre's row of a partner and a key, after lines that declare these nodes.
 abbrev pub row_becomes : ℕ → Bytes → List Station → RowState → Line → RowState
 row_becomes partner key known s (line.Row event node p k a) =
     if is_centres known node.bytes && is_row partner key p.0 k.0 then with_attribute a s else s
@@ -74,12 +74,12 @@ row_from partner key known s (l ∷ ls) = row_from partner key (declares known l
 unfoldable pub row_in : List Line → ℕ → Bytes → RowState
 row_in h partner key = row_from partner key [] Absent h
 
--- whether the node is the centre, and has stored the key of the device as verified
+-- Whether the node is the centre, and has stored the key of the device as verified.
 abbrev pub stands_for : List Line → Bytes → Bytes → Option Eui → Bool
 stands_for h name base None = true
 stands_for h name base (Some device) = is_centres (declared_in h) name && is_kept (row_in h device.0 base)
 
--- A seal confirms no key, or is the centre's, who has stored the key as verified.
+-- Whether a seal confirms no key, or the centre made it and has stored the key as verified.
 unfoldable pub is_confirmable : List Line → Line → Bool
 is_confirmable h (line.Seal event node t) = stands_for h node.bytes t.base.0 (confirmed t)
 is_confirmable h _ = true

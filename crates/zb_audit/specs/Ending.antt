@@ -7,7 +7,7 @@ use Rattle.zb_model.specs.Tools.{Tools}
 use Rattle.zb_trace.specs.declared.line.Line.{Line}
 use Rattle.zb_trace.specs.declared.line.Line.TheVariants as line
 
--- how many seal, accept and refuse lines there are, and the greatest number of an event
+-- How many seal, accept and refuse lines there are, and the greatest number of an event.
 abbrev pub seal_count : ℕ → Line → ℕ
 seal_count n (line.Seal event node t) = n + 1
 seal_count n _ = n
@@ -40,7 +40,7 @@ abbrev pub agree : Bool → Bool → Bool
 agree true b = b
 agree false b = not b
 
--- an end line that sums up the lines before it
+-- Whether a line is an end line that sums up the lines before it.
 unfoldable pub sums_up : Tools → List Line → Line → Bool
 sums_up tools h (line.End events seals accepts refusals is_ideal is_private) =
     (nat_le (greatest_event h) events
@@ -48,18 +48,18 @@ sums_up tools h (line.End events seals accepts refusals is_ideal is_private) =
     && (agree (ideal tools h) is_ideal && agree (private tools h) is_private)
 sums_up tools h _ = false
 
--- no end line
+-- Whether a line isn't an end line.
 abbrev pub is_no_end : List Line → Line → Bool
 is_no_end h (line.End events seals accepts refusals is_ideal is_private) = false
 is_no_end h _ = true
 
--- all lines but the last one
+-- All lines but the last one.
 abbrev pub front : List Line → List Line
 front [] = []
 front (l ∷ []) = []
 front (l ∷ m ∷ ls) = l ∷ front (m ∷ ls)
 
--- whether the last line is an end line that sums up
+-- Whether the last line is an end line that sums up.
 unfoldable pub ends_from : Tools → List Line → List Line → Bool
 ends_from tools h [] = false
 ends_from tools h (l ∷ []) = sums_up tools h l
@@ -68,8 +68,8 @@ ends_from tools h (l ∷ m ∷ ls) = ends_from tools (h ++ l ∷ []) (m ∷ ls)
 unfoldable pub ends_well : Tools → List Line → Bool
 ends_well tools lines = ends_from tools [] lines
 
--- The numbers of the lines that end it badly: of end lines before the last line, and of the last line where it isn't
--- an end line that sums up. Where there is no line, 1.
+-- The numbers of the lines that break the sixth claim: each end line before the last line, and the last line if it
+-- isn't an end line that sums up. If there is no line, 1.
 unfoldable pub ill_ended : Tools → List Line → List ℕ
 ill_ended tools lines = failing is_no_end (front lines)
     ++ (if ends_well tools lines then [] else max (length lines) 1 ∷ [])

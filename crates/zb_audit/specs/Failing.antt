@@ -2,7 +2,7 @@
 use Rattle.std.specs.Prelude.{ℕ, ◌+◌, Bool, if◌then◌else◌, List, [], ◌∷◌, ◌++◌, length, Option, Some, None}
 use Rattle.zb_trace.specs.declared.line.Line.{Line}
 
--- those of the lines that fail a test on the lines before them and themselves
+-- The numbers of the lines that fail a test. The test sees the line and those before it.
 unfoldable pub failing_from : (List Line → Line → Bool) → List Line → List Line → List ℕ
 failing_from test h [] = []
 failing_from test h (l ∷ ls) = (if test h l then [] else (length h + 1) ∷ []) ++ failing_from test (h ++ l ∷ []) ls

@@ -1,4 +1,4 @@
--- Which line is the first bad one, and by which claim.
+-- Which line is the first bad one, and which claim it breaks.
 use Rattle.std.specs.Prelude.{◌≡◌, ℕ, ◌&&◌, if◌then◌else◌, List, nat_le, Option, Some, None, Result, Ok, Err}
 use Rattle.zb_audit.specs.Confirming.{is_confirmable}
 use Rattle.zb_audit.specs.Ending.{accepts_in, ill_ended, seals_in}
@@ -15,17 +15,18 @@ use Rattle.zb_model.specs.Tools.{Tools}
 use Rattle.zb_audit_counters.specs.Counting.{first_uncounted}
 use Rattle.zb_trace.specs.declared.line.Line.{Line}
 
--- Where what was accepted came from earlier terms and outsiders forged with no more than they may know, removed
--- devices are locked out: else the first line with which lockout fails is bad.
+-- The first line at which lockout fails. It is checked only if what was accepted came from earlier terms, and
+-- outsiders forged with no more than they may know.
 unfoldable pub unlocked : Tools → List Line → Option ℕ
 unlocked tools lines = if ideal tools lines && private tools lines then first_unlocked tools lines else None
 
--- the first line that breaks a claim
+-- The first line that breaks a claim.
 abbrev pub by : ℕ → Option ℕ → Option BadLine
 by clause None = None
 by clause (Some number) = Some (record { line = number; clause = clause })
 
--- the one of the smaller number, and of one line that of the smaller claim, which stands first
+-- The fault at the earlier line. At one line, the fault of the claim with the smaller number, which is the first
+-- argument.
 abbrev pub sooner : Option BadLine → Option BadLine → Option BadLine
 sooner None later = later
 sooner (Some bad) None = Some bad
@@ -41,14 +42,14 @@ first_fault tools lines =
     (sooner (by 5 (unlocked tools lines))
     (by 6 (head (ill_ended tools lines)))))))
 
--- The verdict on lines none of which is bad.
+-- The verdict on lines if none of them is bad.
 pub record IsSound (tools : Tools) (v : Verdict) (lines : List Line) : Type 0 where
   pub whole : first_fault tools lines ≡ None
   pub seals : v.seals ≡ seals_in lines
   pub accepts : v.accepts ≡ accepts_in lines
   pub locked : v.locked ≡ (ideal tools lines && private tools lines)
 
--- What an audit returns: the verdict exactly where no line is bad, else the first fault.
+-- What an audit returns: the verdict exactly if no line is bad, else the first fault.
 abbrev pub IsAnswer : Tools → List Line → Result Verdict AuditFault → Type 0
 IsAnswer tools lines (Ok v) = IsSound tools v lines
 IsAnswer tools lines (Err (Broken line clause)) = first_fault tools lines

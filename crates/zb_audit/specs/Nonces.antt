@@ -6,8 +6,8 @@ use Rattle.zb_seal.specs.declared.term.Term.{Term}
 use Rattle.zb_trace.specs.declared.line.Line.{Line}
 use Rattle.zb_trace.specs.declared.line.Line.TheVariants as line
 
--- Whether two terms have one sealing key and one nonce, which is a source, a counter and a control byte (05-3474-21,
--- 4.5.2.2).
+-- Whether two terms have one sealing key and one nonce. A nonce is a source, a counter and a control byte
+-- (05-3474-21, 4.5.2.2).
 unfoldable pub same_stamp : Term → Term → Bool
 same_stamp t u =
     bytes_eq (sealing_key t.label t.base.0) (sealing_key u.label u.base.0)
@@ -17,7 +17,7 @@ abbrev pub seals_alike : Term → Line → Bool
 seals_alike t (line.Seal event node u) = same_stamp t u
 seals_alike t _ = false
 
--- A seal is under another key or nonce than all seals before it.
+-- Whether a seal has another key or nonce than all seals before it.
 unfoldable pub is_fresh : List Line → Line → Bool
 is_fresh h (line.Seal event node t) = not (list_any (seals_alike t) h)
 is_fresh h _ = true

@@ -1,4 +1,4 @@
--- What the parts of an audit keep of the lines so far.
+-- What the parts of an audit keep about the lines so far.
 use Rattle.std.specs.Prelude.{◌≡◌, ℕ, ◌≤◌, Bool, true, false, not, ◌&&◌, if◌then◌else◌, List, bytes_eq, nat_eq, nat_le, nat_lt, length, Option, Some, None, IfSome}
 use Rattle.std.specs.BTreeMap.{get}
 use Rattle.std.specs.List.{list_any}
@@ -44,7 +44,7 @@ abbrev pub same_parts : Stamp → Stamp → Bool
 same_parts a b = bytes_eq a.key.0 b.key.0
     && (nat_eq a.source.0 b.source.0 && (nat_eq a.counter b.counter && nat_eq a.control b.control))
 
--- whether a term was sealed with this key and nonce
+-- Whether a term was sealed with this key and nonce.
 abbrev pub was_sealed : Nonces → Term → Bool
 was_sealed n t = list_any (same_parts (stamp_of t)) n.seen.keys
 
@@ -52,7 +52,7 @@ pub record AreNonces (n : Nonces) (h : List Line) : Type 0 where
   pub seen : (t : Term) → was_sealed n t ≡ list_any (seals_alike t) h
   pub first : n.first ≡ head (failing is_fresh h)
 
--- Counters taken
+-- Accepted counters
 
 abbrev pub channel_of : ℕ → Term → Channel
 channel_of place t = record { place = place; source = t.source; layer = t.layer; base = t.base }
@@ -60,7 +60,7 @@ channel_of place t = record { place = place; source = t.source; layer = t.layer;
 abbrev pub channel_cmp : Channel → Channel → Ordering
 channel_cmp = channel_ord.cmp-value.it
 
--- the greatest counter that the node of a place accepted from the sender of a term
+-- The greatest counter that the node at a place accepted from the sender of a term.
 abbrev pub height : Taking → ℕ → Term → Option ℕ
 height k place t = get channel_cmp k.heights (channel_of place t)
 
@@ -81,18 +81,18 @@ row_cmp = row_ord.cmp-value.it
 abbrev pub verified : Confirming → ℕ → Bytes → Option ℕ
 verified c partner key = get row_cmp c.verified (record { partner = record { 0 = partner }; key = record { 0 = key } })
 
--- a verified row is stored where a commit is after it
+-- A verified row is stored if a commit comes after it.
 abbrev pub row_state : ℕ → Option ℕ → RowState
 row_state committed None = Absent
 row_state committed (Some made) = if nat_lt made committed then Kept else Made
 
--- what a row of that attribute makes of it
+-- What a row line with that attribute does to it.
 abbrev pub verified_at : ℕ → Attribute → Option ℕ → Option ℕ
 verified_at number attribute.Verified before = option_or before (Some number)
 verified_at number attribute.Unverified before = None
 verified_at number attribute.Provisional before = None
 
--- whether no key is confirmed, or one that the centre, who seals, has stored as verified
+-- Whether no key is confirmed, or the sealing node is the centre and has stored the key as verified.
 abbrev pub stands_in : Confirming → Bool → Bytes → Option Eui → Bool
 stands_in c is_centre base None = true
 stands_in c is_centre base (Some device) = is_centre && is_kept (row_state c.committed (verified c device.0 base))
@@ -105,7 +105,7 @@ pub record AreConfirmed (c : Confirming) (h : List Line) : Type 0 where
 
 -- The end
 
--- whether the counts of an end line are those so far; and its two words
+-- Whether the counts of an end line are those so far; and its two words.
 abbrev pub counts_are : Ending → ℕ → ℕ → ℕ → ℕ → Bool
 counts_are e events seals accepts refusals = nat_le e.events events
     && (nat_eq e.seals seals && (nat_eq e.accepts accepts && nat_eq e.refusals refusals))

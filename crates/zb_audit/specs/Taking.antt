@@ -14,7 +14,7 @@ same_layer Aps Aps = true
 same_layer Nwk Aps = false
 same_layer Aps Nwk = false
 
--- whether two terms are of one layer, base key and source
+-- Whether two terms have one layer, base key and source.
 unfoldable pub same_sender : Term → Term → Bool
 same_sender t u = same_layer t.layer u.layer && (bytes_eq t.base.0 u.base.0 && nat_eq t.source.0 u.source.0)
 
@@ -23,7 +23,8 @@ unfoldable pub bars : Bytes → Term → Line → Bool
 bars name t (line.Accept event node u) = bytes_eq node.bytes name && (same_sender t u && nat_le t.counter u.counter)
 bars name t _ = false
 
--- An accepted counter is greater than those that the node accepted before from the same sender under the same key.
+-- Whether an accepted counter is greater than those that the node accepted before from the same sender under the same
+-- key.
 unfoldable pub is_later : List Line → Line → Bool
 is_later h (line.Accept event node t) = not (list_any (bars node.bytes t) h)
 is_later h _ = true

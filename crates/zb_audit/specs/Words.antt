@@ -1,4 +1,4 @@
--- What lines say of terms and keys for the two words of the end line, read by names.
+-- What lines say about terms and keys for the two words of the end line, if nodes are identified by names.
 use Rattle.std.specs.Prelude.{ℕ, Bool, false, List, [], length, get_or, nat_eq, Option, Some, None, flat_map, if◌then◌else◌}
 use Rattle.std.specs.Option.{option_map}
 use Rattle.zb_audit_names.specs.Naming.{place_in}
@@ -14,11 +14,11 @@ use Rattle.zb_trace_watch.specs.Standing.{Represents}
 use Rattle.zb_trace_watch.specs.declared.speaker.Speaker.{Speaker}
 use Rattle.zb_trace_watch.specs.declared.words.EndWords.{EndWords}
 
--- the name at a place of a list of names
+-- The name at a place of a list of names.
 abbrev pub name_at : List Bytes → ℕ → Bytes
 name_at names place = get_or names place []
 
--- whether a name that stands at this place has this place
+-- Whether a place is the first at which the list has its name.
 abbrev pub is_first : Option ℕ → ℕ → Bool
 is_first None place = false
 is_first (Some first) place = nat_eq first place
@@ -26,7 +26,7 @@ is_first (Some first) place = nat_eq first place
 abbrev pub is_place : List Bytes → ℕ → Bool
 is_place names place = is_first (place_in names (name_at names place)) place
 
--- What lines say. Nodes go by the places of their names among these.
+-- What lines say. Each node is identified by the place of its name in this list.
 abbrev pub said : Tools → List Bytes → List Line → Sayings
 said tools names h = record {
   terms = terms_of h;
@@ -45,7 +45,7 @@ said tools names h = record {
 abbrev pub WordsStand : Tools → List Bytes → EndWords → List Line → Type 0
 WordsStand tools names w h = Represents tools (is_place names) w (said tools names h)
 
--- whether a node was declared as a router or device
+-- Whether a node was declared as a router or device.
 abbrev pub has_role : Option Role → Bool
 has_role None = false
 has_role (Some r) = is_member r
@@ -53,7 +53,7 @@ has_role (Some r) = is_member r
 abbrev pub is_joining : Option Node → Bool
 is_joining node = has_role (option_map (λ (n : Node). model_role n.role) node)
 
--- who the node of a line is, for the two words: it goes by the place of its name
+-- The node of a line, as the two words see it: it is identified by the place of its name.
 abbrev pub seen : Who → Speaker
 seen who = record {
   number = Some who.place;

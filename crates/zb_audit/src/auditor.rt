@@ -1,4 +1,4 @@
-//! All claims, line by line.
+//! The auditor: it checks all claims, line by line.
 ghost use Rattle.std.specs.Prelude.{◌≡◌, ◌++◌, ◌∷◌, [], ◌&&◌, List, IfOk, OnOk, true};
 ghost use Rattle.zb_audit.specs.Auditing.{LocksOn, Stands};
 ghost use Rattle.zb_audit.specs.Claims.{Keeps};
@@ -24,34 +24,34 @@ use zb_base::NoMemory;
 use zb_trace::Line;
 use zb_trace_watch::EndWords;
 
-/// What is known of a transcript after the lines so far, and no line.
+/// What an audit knows about a transcript after the lines so far. It keeps no line.
 #[derive(Drop)]
 pub struct Auditor {
     /// The number of the last line.
     pub number: u32,
-    /// Who is who.
+    /// The declared nodes.
     pub directory: Directory,
     /// The two words of the end line.
     pub words: EndWords,
     /// The first claim: nonces.
     pub nonces: Nonces,
-    /// The second claim: counters taken.
+    /// The second claim: accepted counters.
     pub taking: Taking,
     /// The third claim: confirmed keys.
     pub confirming: Confirming,
     /// The fourth claim: counters, limits and floors.
     pub recount: Recount,
-    /// The fifth claim: lockout. It isn't carried on once one of the two words is no.
+    /// The fifth claim: lockout. It is no longer checked once one of the two words is `no`.
     pub lockout: Lockout,
     /// The sixth claim: the end line.
     pub ending: Ending,
 }
 
 impl Auditor {
-    /// Makes the auditor of no lines.
+    /// Makes an auditor that has seen no line.
     ///
     /// # Errors
-    /// `NoMemory`.
+    /// `NoMemory`, if memory runs out.
     pub fn new(alloc: Global) -> Result<Auditor, NoMemory>
         ensures { IfOk result (λ auditor. (tools : Tools) → Stands tools auditor []) }
     {
@@ -68,10 +68,10 @@ impl Auditor {
         })
     }
 
-    /// Makes the auditor of these lines.
+    /// Makes an auditor that has seen these lines.
     ///
     /// # Errors
-    /// `NoMemory`.
+    /// `NoMemory`, if memory runs out.
     pub fn over(alloc: Global, lines: &[Line]) -> Result<Auditor, NoMemory>
         ensures { IfOk result (λ auditor. (tools : Tools) → FindKeys tools → Stands tools auditor lines.now) }
     {
@@ -82,10 +82,10 @@ impl Auditor {
         Ok(auditor)
     }
 
-    /// Goes on by one line.
+    /// Processes one line.
     ///
     /// # Errors
-    /// `NoMemory`; the auditor isn't used further then.
+    /// `NoMemory`. The auditor must not be used after that.
     pub fn line(&mut self, alloc: Global, line: &Line) -> Result<(), NoMemory>
         ensures { OnOk result ((tools : Tools) (h : List AnyLine) → FindKeys tools → Stands tools self.old h
             → Stands tools self.new (h ++ line.now ∷ [])) }
@@ -154,7 +154,7 @@ impl Auditor {
     }
 }
 
-/// Goes on with lockout by one line, as long as both words of the lines before it hold.
+/// Checks lockout for one line, if both words hold for the lines before it.
 fn carry_on(
     lockout: &mut Lockout,
     alloc: Global,
@@ -173,7 +173,7 @@ fn carry_on(
     Ok(())
 }
 
-/// Returns the sooner of two bad lines, of which the first is of a smaller claim.
+/// Returns the earlier of two bad lines. The first one's claim has the smaller number, so it wins at the same line.
 fn sooner(line: Option<u32>, clause: u8, other: Option<BadLine>) -> Option<BadLine>
     ensures { result ≡ sooner_of (by clause line) other }
 {
@@ -184,10 +184,10 @@ fn sooner(line: Option<u32>, clause: u8, other: Option<BadLine>) -> Option<BadLi
     }
 }
 
-/// Judges the lines of a transcript.
+/// Audits the lines of a transcript.
 ///
 /// # Errors
-/// `Broken` with the first bad line and the first claim that it breaks; or out of memory.
+/// `Broken` with the first bad line and the first claim that it breaks; `NoMemory` if memory runs out.
 pub fn audit(alloc: Global, lines: &[Line]) -> Result<Verdict, AuditFault>
     ensures answer { IsAnswer real lines.now result }
     ensures claims { IfOk result (λ verdict. Keeps real verdict lines.now) }

@@ -29,19 +29,19 @@ pub struct LinkRow {
     pub key: Key,
 }
 
-/// The centre's verified link rows, and when they were stored.
+/// The centre's verified link rows, and whether they are stored.
 #[derive(Drop)]
 pub struct Confirming {
-    /// For each verified row the number of the line that made it so.
+    /// For each verified row, the number of the line that made it verified.
     pub verified: BTreeMap<LinkRow, u32>,
-    /// The number of the centre's last commit; what was verified before it is stored.
+    /// The number of the centre's last commit. What was verified before it is stored.
     pub committed: u32,
     /// The number of the first line that confirmed a key that isn't stored as verified.
     pub first: Option<u32>,
 }
 
 impl Confirming {
-    /// Makes the value before the first line.
+    /// Makes the state before the first line.
     pub fn new(alloc: Global) -> Confirming
         ensures { AreConfirmed result [] }
     {
@@ -52,10 +52,10 @@ impl Confirming {
         }
     }
 
-    /// Goes on by one line, whose node is `who`.
+    /// Processes one line of node `who`.
     ///
     /// # Errors
-    /// `NoMemory`.
+    /// `NoMemory`, if memory runs out.
     pub fn line(&mut self, number: u32, line: &Line, who: Who) -> Result<(), NoMemory>
         ensures { OnOk result ((names : List Bytes) (h : List AnyLine) → number ≡ length h + 1
             → IsSpeaker who names (declared_in h) line.now → AreConfirmed self.old h
@@ -163,7 +163,7 @@ impl Confirming {
         self.first = first_bad(self.first, stands, number);
     }
 
-    /// Returns whether a term confirms no key, or one that the centre, who sealed it, has stored as verified.
+    /// Returns whether a term confirms no key, or the centre sealed it and has stored the key as verified.
     fn stands(&self, term: &Term, is_centre: bool) -> bool
         ensures { result ≡ stands_in self.now is_centre term.now.base.0 (confirmed_by term.now) }
     {
@@ -183,7 +183,7 @@ impl Confirming {
     }
 }
 
-/// Returns the device whose key a term confirms. The content is then a Confirm-Key of status 00 (05-3474-21,
+/// Returns the device whose key a term confirms, if any. The content is then a Confirm-Key of status 00 (05-3474-21,
 /// 4.4.10.8), sealed as an APS command.
 #[tactic(auto, unfolding(crate::specs::Confirming::confirmed))]
 fn confirmed(term: &Term) -> Option<Eui>

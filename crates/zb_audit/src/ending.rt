@@ -1,4 +1,4 @@
-//! The sixth claim: the last line is the end line, no other is, and it sums up.
+//! The sixth claim: the last line is an end line that sums up the others, and no other line is an end line.
 ghost use Rattle.std.specs.Prelude.{◌≡◌, ◌+◌, ◌++◌, ◌∷◌, [], ◌&&◌, List, OnOk, length, not};
 ghost use Rattle.zb_audit.specs.Ending.{accept_count, agree, greater_event, ill_ended, is_no_end, refuse_count, seal_count};
 ghost use Rattle.zb_audit.specs.Failing.{head};
@@ -13,10 +13,10 @@ use zb_audit_names::event;
 use zb_base::NoMemory;
 use zb_trace::Line;
 
-/// What an end line sums up, and how the lines so far end.
+/// What an end line has to sum up, and how the lines so far end.
 #[derive(Clone, Copy, Drop)]
 pub struct Ending {
-    /// The number of the last line, 0 where there is none.
+    /// The number of the last line, or 0 if there is none.
     pub last: u32,
     /// The greatest number of an event.
     pub events: u32,
@@ -35,7 +35,7 @@ pub struct Ending {
 }
 
 impl Ending {
-    /// Makes the value before the first line.
+    /// Makes the state before the first line.
     pub fn new() -> Ending
         ensures { (tools : Tools) → Ends tools result [] }
     {
@@ -51,10 +51,10 @@ impl Ending {
         }
     }
 
-    /// Goes on by one line. `ideal` and `private` are the two words of the lines before it.
+    /// Processes one line. `ideal` and `private` are the two words for the lines before it.
     ///
     /// # Errors
-    /// `NoMemory`.
+    /// `NoMemory`, if memory runs out.
     pub fn line(
         &mut self,
         number: u32,
@@ -130,10 +130,10 @@ impl Ending {
         }
     }
 
-    /// Returns the number of the first line that ends the transcript badly, if there is one.
+    /// Returns the number of the first line that breaks the sixth claim, if any.
     ///
-    /// That is an end line before the last line, or a last line that isn't an end line that sums up. Without any line
-    /// it is 1.
+    /// It is an end line before the last line, or a last line that isn't an end line that sums up. If there is no
+    /// line, it is 1.
     pub fn end(&self) -> Option<u32>
         ensures { (tools : Tools) (h : List AnyLine) → Ends tools self.now h → result ≡ head (ill_ended tools h) }
     {

@@ -1,13 +1,13 @@
 //! What an audit returns.
-/// What is told of a transcript that keeps all that is claimed.
+/// The verdict on a transcript that keeps all claims.
 #[derive(Clone, Copy, Debug, PartialEq, Eq)]
 pub struct Verdict {
     /// How many terms were sealed.
     pub seals: u32,
     /// How many terms were accepted.
     pub accepts: u32,
-    /// Whether all that was accepted came from earlier terms, and outsiders forged with no more than they may know.
-    /// Then removed devices are locked out.
+    /// Whether everything accepted came from earlier terms, and outsiders forged with no more than they may know.
+    /// Removed devices are then locked out.
     pub locked: bool,
 }
 
@@ -16,7 +16,7 @@ pub struct Verdict {
 pub enum AuditFault {
     /// The first bad line, from 1, and the first claim that it breaks, from 1.
     Broken { line: u32, clause: u8 },
-    /// Memory is lacking.
+    /// Memory ran out.
     NoMemory,
 }
 

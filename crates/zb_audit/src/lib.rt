@@ -1,15 +1,15 @@
-//! Whether a transcript keeps what is claimed of every run: at which line which claim first breaks, or that it is
-//! sound.
+//! Checks whether a transcript keeps the six claims about every run. The answer is the first bad line and the claim
+//! that it breaks, or that the transcript is sound.
 //!
-//! It goes by the lines alone, whoever wrote them, and never by what this program would have done. A line is bad by
-//! one of six claims:
+//! An audit reads only the lines, whoever wrote them. It never asks what this program would have done. A line is bad
+//! if it breaks one of six claims:
 //!
-//! 1. a nonce comes again;
-//! 2. a counter is taken twice;
-//! 3. a key is confirmed that isn't stored;
-//! 4. a counter isn't the one that the lines before it ask for;
-//! 5. a removed device isn't locked out;
-//! 6. the end line doesn't sum up.
+//! 1. No nonce is used twice.
+//! 2. No counter is accepted twice.
+//! 3. Only stored keys are confirmed.
+//! 4. Counters are those that the lines before require.
+//! 5. Removed devices are locked out.
+//! 6. The end line sums up.
 #![tactic(auto)]
 
 mod auditor;

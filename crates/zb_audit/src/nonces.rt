@@ -14,18 +14,18 @@ use zb_base::{Eui, Key, NoMemory};
 use zb_seal::{Term, sealing_key};
 use zb_trace::Line;
 
-/// A sealing key and a nonce, which is a source, a counter and a control byte (05-3474-21, 4.5.2.2).
+/// A sealing key and a nonce. The nonce is a source, a counter and a control byte (05-3474-21, 4.5.2.2).
 ///
-/// The key stands last, since two stamps mostly differ in a number before it.
+/// The key comes last, because two stamps mostly differ in a number before it.
 #[derive(Clone, Copy, Drop, PartialEq, Eq, PartialOrd, Ord)]
 pub struct Stamp {
-    /// Who sealed.
+    /// The address of the sealing node.
     pub source: Eui,
     /// The frame counter.
     pub counter: u32,
     /// The security control byte.
     pub control: u8,
-    /// The key that sealed.
+    /// The sealing key.
     pub key: Key,
 }
 
@@ -34,12 +34,12 @@ pub struct Stamp {
 pub struct Nonces {
     /// The stamps, in order.
     pub seen: BTreeSet<Stamp>,
-    /// The number of the first line that sealed with a stamp that was there.
+    /// The number of the first line that sealed with a stamp that was already used.
     pub first: Option<u32>,
 }
 
 impl Nonces {
-    /// Makes the value before the first line.
+    /// Makes the state before the first line.
     pub fn new(alloc: Global) -> Nonces
         ensures { AreNonces result [] }
     {
@@ -49,10 +49,10 @@ impl Nonces {
         }
     }
 
-    /// Goes on by one line.
+    /// Processes one line.
     ///
     /// # Errors
-    /// `NoMemory`.
+    /// `NoMemory`, if memory runs out.
     pub fn line(&mut self, number: u32, line: &Line) -> Result<(), NoMemory>
         ensures { OnOk result ((h : List AnyLine) → number ≡ length h + 1 → AreNonces self.old h
             → AreNonces self.new (h ++ line.now ∷ [])) }

@@ -4,7 +4,7 @@ ghost use Rattle.std.specs.Option.{option_or};
 
 use zb_base::NoMemory;
 
-/// Returns the next number. A transcript that has more lines than numbers is past all memory.
+/// Returns the next number, or `NoMemory` if there is none: a transcript that long doesn't fit into memory.
 pub(crate) fn next(number: u32) -> Result<u32, NoMemory>
     ensures { IfOk result (λ next. next ≡ number + 1) }
 {
@@ -14,7 +14,7 @@ pub(crate) fn next(number: u32) -> Result<u32, NoMemory>
     }
 }
 
-/// Returns the number of the first bad line, where one more line was judged.
+/// Returns the number of the first bad line after one more line was checked.
 pub(crate) fn first_bad(first: Option<u32>, is_good: bool, number: u32) -> Option<u32>
     ensures { result ≡ option_or first (if is_good then None else Some number) }
 {

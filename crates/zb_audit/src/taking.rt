@@ -19,8 +19,9 @@ use zb_base::{Eui, Key, Layer, NoMemory};
 use zb_seal::Term;
 use zb_trace::Line;
 
-/// From whom, under which key and at which layer a node accepts. The key stands last, since two channels mostly differ
-/// in a number before it.
+/// The receiver, sender, layer and key of an accepted term.
+///
+/// The key comes last, because two channels mostly differ in a number before it.
 #[derive(Clone, Copy, Drop, PartialEq, Eq, PartialOrd, Ord)]
 pub struct Channel {
     /// The place of the receiver's name among all names.
@@ -38,12 +39,12 @@ pub struct Channel {
 pub struct Taking {
     /// The greatest counter of each channel.
     pub heights: BTreeMap<Channel, u32>,
-    /// The number of the first line that accepted a counter that isn't greater than those before.
+    /// The number of the first line that accepted a counter that isn't greater than those before it.
     pub first: Option<u32>,
 }
 
 impl Taking {
-    /// Makes the value before the first line.
+    /// Makes the state before the first line.
     pub fn new(alloc: Global) -> Taking
         ensures { (names : List Bytes) → AreTaken names result [] }
     {
@@ -53,10 +54,10 @@ impl Taking {
         }
     }
 
-    /// Goes on by one line, whose node is `who`.
+    /// Processes one line of node `who`.
     ///
     /// # Errors
-    /// `NoMemory`.
+    /// `NoMemory`, if memory runs out.
     pub fn line(&mut self, number: u32, line: &Line, who: Who) -> Result<(), NoMemory>
         ensures { OnOk result ((names : List Bytes) (h : List AnyLine) → number ≡ length h + 1
             → IsSpeaker who names (declared_in h) line.now → AreTaken names self.old h

@@ -1,4 +1,4 @@
-//! The two words of the end line, read by names.
+//! The two words of the end line, if nodes are identified by names.
 ghost use Rattle.std.specs.Prelude.{◌≡◌, IfOk, Some, None, if◌then◌else◌};
 ghost use Rattle.std.specs.Option.{option_map};
 ghost use Rattle.zb_audit.specs.Words as words;
@@ -14,10 +14,10 @@ use zb_base::{Eui, NoMemory, Role};
 use zb_trace::Line;
 use zb_trace_watch::Speaker;
 
-/// Returns whether all that was accepted or taken in by these lines came from earlier terms.
+/// Returns whether everything that these lines accept or install came from earlier terms.
 ///
 /// # Errors
-/// `NoMemory`.
+/// `NoMemory`, if memory runs out.
 pub fn ideal(alloc: Global, lines: &[Line]) -> Result<bool, NoMemory>
     ensures { IfOk result (λ word. (tools : Tools) → FindKeys tools → word ≡ ideal_of tools lines.now) }
 {
@@ -25,10 +25,11 @@ pub fn ideal(alloc: Global, lines: &[Line]) -> Result<bool, NoMemory>
     Ok(auditor.words.ideal())
 }
 
-/// Returns whether by these lines outsiders forged only under keys that they may know, and passed no network key on.
+/// Returns whether outsiders forged, by these lines, only under keys that they may know, and passed on no network
+/// key.
 ///
 /// # Errors
-/// `NoMemory`.
+/// `NoMemory`, if memory runs out.
 pub fn private(alloc: Global, lines: &[Line]) -> Result<bool, NoMemory>
     ensures { IfOk result (λ word. (tools : Tools) → FindKeys tools → word ≡ private_of tools lines.now) }
 {
@@ -36,7 +37,7 @@ pub fn private(alloc: Global, lines: &[Line]) -> Result<bool, NoMemory>
     Ok(auditor.words.private())
 }
 
-/// Returns who the node of a line is, for the two words: it goes by the place of its name.
+/// Returns the node of a line for the two words, identified by the place of its name.
 pub fn seen(who: Who) -> Speaker
     ensures { result ≡ words.seen who }
 {
@@ -49,14 +50,14 @@ pub fn seen(who: Who) -> Speaker
     }
 }
 
-/// Returns the number of a node where it was declared as a router or device.
+/// Returns the number of a node, if it was declared as a router or device.
 fn joiner(node: Option<Node>, number: u64) -> Option<u64>
     ensures { result ≡ (if words.is_joining node then Some number else None) }
 {
     if joins(node) { Some(number) } else { None }
 }
 
-/// Returns the address of a node, where it was declared.
+/// Returns the address of a node, if it was declared.
 fn address(node: Option<Node>) -> Option<Eui>
     ensures { result ≡ option_map (λ (n : AnyNode). n.eui) node }
 {

@@ -1,4 +1,4 @@
--- What each kind of line makes of the counters of its node.
+-- What each kind of line changes about the counters of its node.
 use Rattle.std.proofs.Common.{◌≡◌, ℕ, [], Bool, true, false, ◌&&◌, Option, Some, None, refl, ap, sym, subst, ◌∙◌, bytes_eq}
 use Rattle.std.specs.BTreeMap.{BTreeMap}
 use Rattle.std.specs.Prelude.{if◌then◌else◌, Result, Ok, Err, OnOk}
@@ -40,7 +40,7 @@ fresh_counters c active activated booted nwk aps outgoing no_key no_floor = reco
     at Nwk = nwk
     at Aps = aps
 
--- seal
+-- Seal.
 
 sealed_if : (g boot counter : ℕ) (b : Bool) (k : KeyCounters) (said : Option ℕ) → said
     ≡ (if b then Some counter else None)
@@ -114,7 +114,7 @@ pub seal_here : (g number : ℕ) (t : Term) (layer : Layer) (result : Result Jud
 seal_here g number t layer (Ok j) old new is heard = λ number e m. heard number e m t is refl refl
 seal_here g number t layer (Err x) old new is heard = tt
 
--- start
+-- Start.
 
 started_if : (g boot value : ℕ) (b starts : Bool) (k : KeyCounters) (said : Option ℕ) → starts ≡ b → said
     ≡ (if b then Some value else None)
@@ -170,7 +170,7 @@ start_heard g number e m key value c keys k is puts = record {
     at Nwk = refl
     at Aps = refl
 
--- accept
+-- Accept.
 
 pub sender_is : (t : Term) (s : Sender) → s ≡ sender_of t → IsOfSender t s t.counter
 sender_is t s is = subst (λ (x : Sender). IsOfSender t x t.counter) (sym is)

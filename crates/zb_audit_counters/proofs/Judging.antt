@@ -1,4 +1,5 @@
--- What is known of a line is what the readings say, and whether what it waits for stands is what the group says.
+-- What the recount finds about a line is what the readings say, and whether the line that it waits for is there is
+-- what the group says.
 use Rattle.std.proofs.Common.{◌≡◌, ℕ, List, [], ◌∷◌, ◌++◌, Bool, true, false, not, ◌&&◌, ◌||◌, Option, Some, None, refl, ap, sym, ◌∙◌, bytes_eq, nat_eq, nat_lt}
 use Rattle.std.specs.List.{fold, list_any, list_all}
 use Rattle.std.specs.Option.{option_map, option_or, is_some, unwrap_or}

@@ -1,4 +1,4 @@
--- The readings and the groups of a list of lines with one line more.
+-- The readings and the groups of a list of lines with one more line.
 use Rattle.std.proofs.Common.{◌≡◌, ℕ, ◌+◌, ◌≤◌, List, [], ◌∷◌, ◌++◌, Bool, true, false, ◌||◌, length, length-append, append-nil, append_assoc, Option, Some, None, refl, ap, sym, ◌∙◌, arith}
 use Rattle.std.specs.List.{list_any, flat_map, AllByRecursion}
 use Rattle.std.specs.Option.{option_or}
@@ -23,7 +23,7 @@ pub or_or : {A : Type 0} (a b c : Option A) → option_or (option_or a b) c ≡ 
 or_or None b c = refl
 or_or (Some x) b c = refl
 
--- The last line that speaks of a thing
+-- The last line about a thing
 
 pub last_more : {A : Type 0} (speaks : Line → Option A) (h : List Line) (l : Line) → last speaks (h ++ l ∷ [])
     ≡ option_or (speaks l) (last speaks h)
@@ -104,7 +104,7 @@ limit_now n key before front l =
     ∙ ap (option_or (limit_in n key (is_key (active (flat before) n) key) l))
     (sym (limit_more [] n key before front))))
 
--- The limit before a group whose lines are none yet
+-- The limit before a group that has no lines yet.
 pub limit_none : (n key : Bytes) (before : List (List Line)) → limit_behind [] n key (before ++ [] ∷ [])
     ≡ limit_behind [] n key before
 unfolding last
@@ -157,7 +157,7 @@ uncounted_behind before number (g ∷ gs) more =
         ≡ number + length (g ++ flat gs)
     lengths number g gs = let it = length-append g (flat gs) in omega arith
 
--- Runs of one event
+-- Runs of lines of one event
 
 same_events : (e : ℕ) → same_event (Some e) (Some e) ≡ true
 same_events e = itself_number e
@@ -197,7 +197,7 @@ event_known : (event : Option ℕ) (m l : Line) (ms : List Line) → (event ≡ 
 event_known None m l ms alone = absurd (too_long m l ms (alone refl))
 event_known (Some e) m l ms alone = (e, refl)
 
--- A run that a line of another event follows is a group.
+-- If a line of another event follows a run, the run is a group.
 pub ended : (event : Option ℕ) (m : Line) (ms : List Line) (l : Line) (rest : List Line)
     → AllByRecursion (λ (x : Line). event_of x ≡ event) (m ∷ ms) → (event ≡ None → length (m ∷ ms) ≤ 1)
     → same_event event (event_of l) ≡ false → groups ((m ∷ ms) ++ l ∷ rest) ≡ (m ∷ ms) ∷ groups (l ∷ rest)

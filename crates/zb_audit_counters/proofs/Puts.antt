@@ -1,4 +1,4 @@
--- What is put for a key or a sender.
+-- What is added for a key or a sender.
 use Rattle.std.proofs.Common.{◌≡◌, ℕ, List, Bool, true, false, ◌&&◌, cond, Option, Some, refl, ap, sym, ◌∙◌, bytes_eq, nat_eq, eq-eqb}
 use Rattle.std.specs.BTreeMap.{BTreeMap, get, is_at}
 use Rattle.std.specs.Cmp.Lexicographic.{texts_ties}
@@ -69,7 +69,7 @@ layer_alike layer.Nwk layer.Aps = refl
 layer_alike layer.Aps layer.Nwk = refl
 layer_alike layer.Aps layer.Aps = refl
 
--- a test that is made first may stand last
+-- The first test of a conjunction may be the last.
 first_last : (a b c : Bool) → (a && (b && c)) ≡ (b && (c && a))
 first_last true true true = refl
 first_last true true false = refl
@@ -110,7 +110,7 @@ floor_put old new s floor updates q =
 pub same_key : (a b : Key) → bytes_eq a.0 b.0 ≡ true → a ≡ b
 same_key a b e = λ i. record { 0 = same_bytes a.0 b.0 e i }
 
--- What was put for a key is what a change makes of what stood there.
+-- What was put for a key is a change of what was there.
 
 pub key_changed : (old new : BTreeMap Key KeyCounters) (key : Key) (f : KeyCounters → KeyCounters)
     → PutsKey old new key (f (key_in old key))

@@ -168,7 +168,7 @@ unmet_at names r before front kept (w ∷ ws) waiting =
     ∙ ap (λ (o : Option ℕ). if meets before front (get_or names w.place []) w.need then o else Some w.line)
     (unmet_at names r before front kept ws waiting.1)
 
--- the first line of the group that doesn't add up, once its lines are all there
+-- The first line of the group that doesn't add up, when all its lines are there.
 group_first : (names : List Bytes) (r : Recount) (before : List (List Line)) (front : List Line)
     → IsOfGroups names r before front
     → first_of (uncounted_in before front [] r.group front) ≡ option_or (first_unmet_by r r.waits.items) r.bad
@@ -237,7 +237,7 @@ end_known names r h number known stands = from (subst (λ (o : Option ℕ). Reco
     from : RecountsTo (Some number) names r h → Some number ≡ first_uncounted h
     from it = sym (sym (ap first_uncounted (append-nil h)) ∙ it [])
 
--- Nothing changes once the first line is known
+-- Nothing changes after the first bad line is known
 
 pub known_stays : (names : List Bytes) (r : Recount) (h : List Line) (l : Line) → is_some r.first ≡ true
     → Recounts names r h → Recounts names r (h ++ l ∷ [])
@@ -338,7 +338,7 @@ unfolding Recounts Ready first_uncounted uncounted uncounted_in
 turned names r next h l none apart stands nodes group event cut waits bad first =
     from (subst (λ (o : Option ℕ). RecountsTo o names r h) none stands)
   where
-    -- no line of the group yet
+    -- There is no line of the group yet.
     empty : (before : List (List Line)) → IsUnderWay names r h before [] → next.first ≡ None
         → ReadyTo None names next h l
     empty before under absent = (
@@ -354,7 +354,7 @@ turned names r next h l none apart stands nodes group event cut waits bad first 
       },
     )
 
-    -- all its lines add up
+    -- All its lines add up.
     full : (before : List (List Line)) (m : Line) (ms : List Line) → IsUnderWay names r h before (m ∷ ms)
         → first_of (uncounted_in before (m ∷ ms) [] r.group (m ∷ ms)) ≡ None → ReadyTo None names next h l
     full before m ms under sound = (
@@ -384,7 +384,7 @@ turned names r next h l none apart stands nodes group event cut waits bad first 
             → first_of (uncounted_from (before ++ front ∷ []) (r.group + length front) []) ≡ None
         no_more before front = none_from (before ++ front ∷ []) (r.group + length front)
 
-    -- one of them doesn't
+    -- One of them doesn't.
     broken : (before : List (List Line)) (m : Line) (ms : List Line) → IsUnderWay names r h before (m ∷ ms)
         → (number : ℕ) → first_of (uncounted_in before (m ∷ ms) [] r.group (m ∷ ms)) ≡ Some number
         → ReadyTo (Some number) names next h l
@@ -413,7 +413,7 @@ turned names r next h l none apart stands nodes group event cut waits bad first 
     from : RecountsTo None names r h → ReadyTo next.first names next h l
     from it = with it.0 it.1 it.2
 
--- One line more in the group
+-- One more line in the group
 
 not_counted : (before : List (List Line)) (group front : List Line) (l : Line) → counts l ≡ false
     → is_counted before group front l ≡ true
@@ -487,7 +487,7 @@ noted names before group n number place at (Waits what) None ws =
     (first_unmet names before group (ws ++ record { line = number; place = place; need = what } ∷ [])) ∙
     first_unmet_more names before group ws (record { line = number; place = place; need = what })))
 
--- the map with a node's counters put
+-- The map with a node's counters added.
 put_here : (place q : ℕ) (c : Counters) (o : Option Counters) (b : Bool) → b ≡ true → cond b (Some c) o ≡ Some c
 put_here place q c o true e = refl
 put_here place q c o false e = cc
@@ -522,7 +522,7 @@ waits_more names nodes n number place at there (Waits what) None ws all =
     all_more (IsWaiting names nodes) ws (record { line = number; place = place; need = what }) all
     (record { name = n; place = at; there = there })
 
--- a node of which the line says nothing
+-- A node about which the line says nothing.
 at_stays : (count g number : ℕ) (n : Bytes) (before : List (List Line)) (front : List Line) (l : Line)
     (o : Option Counters) → g ≤ count + 1 → number ≡ count + 1
     → ((c : Counters) → Hears g number n l c c) → IsAt count g n before front o
@@ -617,7 +617,7 @@ module _ (names : List Bytes) (r next : Recount) (h : List Line) (l : Line) (bef
             ∙ ap (option_or (first_unmet names before ((front ++ l ∷ []) ++ rest) next.waits.items)) (sym bad)))))));
       })
 
-  -- A line that says something of its node
+  -- A line that says something about its node.
   module _ (who : Who) (n : Bytes) (says : speaker l ≡ Some n) (tells : Tells who names (declared_in h) n)
       (nodes : BTreeMap ℕ Counters) (j : Judgement)
       (heard : HasHeard r.group number l (out_block_by who.node) (in_block_by who.node) who.place r.nodes nodes j)
@@ -730,7 +730,7 @@ read_in names r next h l number who nodes j is_number is_who none ready first gr
     (subst (λ (o : Option Bytes). TellsOf who names (declared_in h) o) spoken.1 is_who) nodes j heard nodes_are
     waits bad
 
--- What is heard of a node that is there, or new
+-- What is heard about a node that is there, or new
 
 pub heard_at : (g number : ℕ) (l : Line) (out inb : Option ℕ) (place : ℕ) (old new : BTreeMap ℕ Counters)
     (was is : Counters) (result : Result Judgement AllocError) → IsOrFresh (get nat_cmp old place) was

@@ -1,4 +1,4 @@
--- Lines that say nothing to a node leave what is kept of it.
+-- Lines that say nothing to a node change nothing of what is kept about it.
 use Rattle.std.proofs.Common.{◌≡◌, ℕ, [], Bool, true, false, not, ◌&&◌, Option, Some, None, refl, ap, ◌∙◌, bytes_eq}
 use Rattle.std.specs.Option.{is_some}
 use Rattle.std.specs.Prelude.{if◌then◌else◌}
@@ -14,7 +14,7 @@ use Rattle.zb_audit_counters.specs.declared.counters.Counters.{Counters}
 use Rattle.zb_trace.specs.declared.line.Line.{Line}
 use Rattle.zb_trace.specs.declared.line.Line.TheVariants as line
 
--- whether a line says something of the counters of the node of this name
+-- Whether a line says something about the counters of the node of this name.
 abbrev names : Bytes → Line → Bool
 names n (line.Counter m layer value) = bytes_eq m.bytes n
 names n (line.GivenNet m key sequence) = bytes_eq m.bytes n

@@ -1,4 +1,4 @@
--- What is kept of a node, one line later.
+-- What is kept about a node, one line later.
 use Rattle.std.proofs.Common.{◌≡◌, ℕ, ◌+◌, ◌≤◌, ◌<◌, List, [], ◌∷◌, ◌++◌, Bool, true, false, not, ◌&&◌, ◌||◌, append-nil, append_assoc, Option, Some, None, refl, ap, sym, subst, ◌∙◌, bytes_eq, nat_eq, nat_lt, arith, ltb}
 use Rattle.std.specs.List.{list_any, list_all}
 use Rattle.std.specs.Option.{option_map, option_or, is_some, IfSome, unwrap_or}
@@ -82,7 +82,7 @@ mark_more count g mark there false later within is e = (up mark count is.0, is.1
     or_false true = refl
     or_false false = refl
 
--- What is said of a reading, and the reading with it
+-- What is known about a reading, and the reading with it
 
 said_value : (said : Option ℕ) (found : Option ℕ) → unwrap_or (option_map itself said) (unwrap_or found 0)
     ≡ unwrap_or (option_or said found) 0
@@ -160,7 +160,7 @@ outgoing_more count g number booted la ln sa sn limit_said seal_heard o true wit
       noted = noted_later booted.latest number o.sealed.latest is.noted (omega arith);
     }))
 
--- A boot says nothing of limits and seals.
+-- A boot says nothing about limits and seals.
 
 no_reserve : (n : Bytes) (ly : Layer) (l : Line) → boots n l ≡ true → reserve_in n ly l ≡ None
 no_reserve n ly (line.Reserve e m layer value) boot = cc
@@ -235,7 +235,7 @@ and_second true false true h = sym (h refl refl)
 and_second true false false h = refl
 and_second false b c h = refl
 
--- the least and greatest counter with one more, for a test that passes all between two that pass
+-- The least and greatest counter with one more, for a test that holds between two values if it holds for both.
 ends_of : (P : ℕ → Bool) → ((x y z : ℕ) → x ≤ y → y ≤ z → P x ≡ true → P z ≡ true → P y ≡ true)
     → (least greatest c : ℕ) → least ≤ greatest
     → (P (min least c) && P (max greatest c)) ≡ (P least && P greatest && P c)
@@ -276,7 +276,7 @@ and_true : (b : Bool) → (b && true) ≡ b
 and_true true = refl
 and_true false = refl
 
--- what a floor's accepted frames are with one more
+-- The accepted frames of a floor with one more.
 module _ (count g : ℕ) (within : g ≤ count + 1) (f : Floor) (xs : List ℕ)
     (taken : IsMark count g f.accepted (are_any xs))
     (fits : (floor value block : ℕ) → fits_all g floor value block f ≡ list_all (floor_fits floor value block) xs)

@@ -1,4 +1,4 @@
--- What is kept of a node as a group ends.
+-- What is kept about a node as a group ends.
 use Rattle.std.proofs.Common.{◌≡◌, ℕ, ◌≤◌, ◌<◌, List, [], ◌∷◌, ◌++◌, Bool, false, not, ◌&&◌, ◌||◌, append-nil, Option, Some, None, ap, sym, subst, ◌∙◌, arith}
 use Rattle.std.specs.Option.{option_map, is_some}
 use Rattle.std.specs.Prelude.{if◌then◌else◌}
@@ -21,7 +21,7 @@ use Rattle.zb_trace.specs.declared.line.Line.{Line}
 use Rattle.zb_audit_counters.proofs.LineLists.{limit_none}
 use Rattle.zb_audit_counters.proofs.Stepping.{not_equal}
 
--- before the next group is now
+-- What was before the next group is what is now.
 before_next : {T : Type 0} (count g : ℕ) (v : Versioned T) → v.group ≤ count → count < g → before_of g v ≡ v.latest
 before_next count g v past later = ap (λ (b : Bool). if b then v.latest else v.earlier)
     (lt-ltb v.group g (omega arith))
@@ -44,7 +44,7 @@ outgoing_turns count g h booted la ln sa sn o later past is = record {
   noted = is.noted;
 }
 
--- The groups `later` are those before with the lines of the group.
+-- The groups `later` are those before, with the lines of the group.
 module _ (count g h : ℕ) (n : Bytes) (before later : List (List Line)) (front : List Line) (more : count < h)
     (lines : flat later ≡ flat before ++ front)
     (limits : (key : Bytes) → limit_behind [] n key later ≡ limit_behind [] n key (before ++ front ∷ [])) where

@@ -1,5 +1,7 @@
--- Which lines of a transcript don't add up. Of a line's group, the lines of the same event around it, `before` are the
--- groups before it, `group` is the whole group, and `prefix` its lines before the line.
+-- Which lines of a transcript don't add up.
+--
+-- A line's group is the lines of the same event around it. `before` are the groups before it, `group` is the whole
+-- group, and `prefix` its lines before the line.
 use Rattle.std.specs.Prelude.{ℕ, ◌+◌, min, Bool, true, false, not, if◌then◌else◌, ◌&&◌, ◌||◌, List, [], ◌∷◌, ◌++◌, length, nat_eq, nat_lt, nat_le, flat_map, bytes_eq, Option, Some, None}
 use Rattle.std.specs.List.{list_any, list_all}
 use Rattle.std.specs.Option.{option_map, is_some}
@@ -17,29 +19,29 @@ use Rattle.zb_trace.specs.declared.line.Line.TheVariants as line
 abbrev pub greatest : ℕ
 greatest = 4294967295
 
--- A counter from which a key that becomes active starts anew.
+-- The counter from which a key that becomes active starts again at 0.
 abbrev pub half : ℕ
 half = 2147483648
 
--- a limit or a floor: a block ahead, or the greatest counter
+-- A limit or a floor: a block ahead, or the greatest counter.
 abbrev pub ahead : ℕ → ℕ → ℕ
 ahead counter block = min (counter + block) greatest
 
--- the blocks of a node, where a `0 node` line declares it
+-- The blocks of a node, if a `0 node` line declares it.
 abbrev pub out_block : List Line → Bytes → Option ℕ
 out_block h n = option_map (λ (s : Station). s.out_block) (station_named (declared_in h) n)
 
 abbrev pub in_block : List Line → Bytes → Option ℕ
 in_block h n = option_map (λ (s : Station). s.in_block) (station_named (declared_in h) n)
 
--- whether there is a block, and it passes
+-- Whether there is a block, and it passes.
 abbrev pub block_passes : (ℕ → Bool) → Option ℕ → Bool
 block_passes test None = false
 block_passes test (Some block) = test block
 
 -- Tests of the other lines of a group
 
--- an event that a disk cut short
+-- Whether a line shows that a disk cut the event short.
 abbrev pub cuts : Line → Bool
 cuts (line.Stopped e m) = true
 cuts (line.DownDisk e m) = true
@@ -57,7 +59,7 @@ abbrev pub starts : Bytes → Bytes → Line → Bool
 starts n key (line.Start e m k value) = bytes_eq m.bytes n && bytes_eq k.0 key
 starts n key _ = false
 
--- the counters of the frames of a sender that a group's lines accept
+-- The counters of the frames of a sender that a group's lines accept.
 abbrev pub accepted_in : Bytes → Layer → Bytes → ℕ → Line → List ℕ
 accepted_in n l key sender (line.Accept e m t) =
     if bytes_eq m.bytes n && is_from l key sender t.layer t.base.0 t.source.0 then t.counter ∷ [] else []
@@ -66,7 +68,7 @@ accepted_in n l key sender _ = []
 unfoldable pub accepted : List Line → Bytes → Layer → Bytes → ℕ → List ℕ
 accepted group n l key sender = flat_map (accepted_in n l key sender) group
 
--- Seals: the counter is the next one, at NWK under the active key. Where that has reached the limit, a reserve stands
+-- Seals: the counter is the next one, at NWK under the active key. If that has reached the limit, a reserve comes
 -- before the seal.
 
 abbrev pub is_under : Layer → Option Bytes → Bytes → Bool
@@ -82,7 +84,8 @@ seal_stands before front n t =
     && (is_some (out_block (flat before ++ front) n)
     && (not (is_spent before n t.layer) || is_some (last (reserve_in n t.layer) front)))
 
--- Reserves: one outgoing block ahead, where the next counter has reached the limit, and for a seal.
+-- Reserves: the limit is one outgoing block ahead, and the next counter has reached the old limit. The group has a
+-- seal at the layer, or the event was cut short.
 
 unfoldable pub reserve_stands : List (List Line) → List Line → List Line → Bytes → Layer → ℕ → Bool
 reserve_stands before group front n l value =
@@ -90,15 +93,15 @@ reserve_stands before group front n l value =
     && is_spent before n l)
     && (list_any cuts group || list_any (seals_at n l) group)
 
--- Accepts: from the stored floor on they call for a floor.
+-- Accepts: a counter at or above the stored floor requires a floor line.
 
 unfoldable pub accept_stands : List (List Line) → List Line → Bytes → Term → Bool
 accept_stands before group n t =
     nat_lt t.counter (stored (flat before) n t.layer t.base.0 t.source.0)
     || is_some (last (floor_in n t.layer t.base.0 t.source.0) group)
 
--- Floors: one incoming block ahead of each accepted counter, none of which is below the stored floor. In an event that
--- was cut short nothing is accepted; then the floor rises.
+-- Floors: one incoming block ahead of each accepted counter, none of which is below the stored floor. If the event
+-- was cut short, nothing is accepted, and the floor has to rise.
 
 abbrev pub floor_fits : ℕ → ℕ → ℕ → ℕ → Bool
 floor_fits floor value block counter = nat_le floor counter && nat_eq value (ahead counter block)
@@ -115,7 +118,7 @@ floor_stands before group front n l key sender value =
     (accepted group n l key sender)) (in_block (flat before ++ front) n)
     && is_called_for (list_any cuts group) (stored (flat before) n l key sender) value (accepted group n l key sender)
 
--- Starts: a key starts where it first becomes active, at the next counter, or at 0 from half of the range on.
+-- Starts: a key starts when it first becomes active, at the next counter, or at 0 from half of the range on.
 
 abbrev pub start_value : ℕ → ℕ
 start_value counter = if nat_le half counter then 0 else counter
@@ -129,7 +132,7 @@ start_stands before group front n key value =
 unfoldable pub active_stands : List (List Line) → List Line → Bytes → Bytes → Bool
 active_stands before group n key = has_started (flat before) n key || list_any (starts n key) group
 
--- A line adds up with those around it.
+-- Whether a line adds up with those around it.
 unfoldable pub is_counted : List (List Line) → List Line → List Line → Line → Bool
 is_counted before group front (line.Seal e n t) = seal_stands before front n.bytes t
 is_counted before group front (line.Reserve e n l value) = reserve_stands before group front n.bytes l value
@@ -140,7 +143,7 @@ is_counted before group front (line.Start e n key value) = start_stands before g
 is_counted before group front (line.Active e n key) = active_stands before group n.bytes key.0
 is_counted before group front _ = true
 
--- The numbers of a group's lines that don't, from the line after `prefix` on, which has this number.
+-- The numbers of a group's lines that don't add up, from the line after `prefix` on, which has this number.
 unfoldable pub uncounted_in : List (List Line) → List Line → List Line → ℕ → List Line → List ℕ
 uncounted_in before group front number [] = []
 uncounted_in before group front number (l ∷ ls) =

@@ -1,5 +1,5 @@
--- What the lines of a transcript say of counters, whoever wrote it. Of each thing the last line that speaks of it
--- decides, and a node is its name.
+-- What the lines of a transcript say about counters, whoever wrote it. The last line about a thing decides, and a
+-- node is its name.
 use Rattle.std.specs.Prelude.{ℕ, ◌+◌, Bool, true, false, if◌then◌else◌, ◌&&◌, List, [], ◌∷◌, ◌++◌, fold, nat_eq, bytes_eq, Option, Some, None, unwrap_or}
 use Rattle.std.specs.List.{list_any}
 use Rattle.std.specs.Option.{option_or}
@@ -11,7 +11,7 @@ use Rattle.zb_seal.specs.declared.term.Term.{Term}
 use Rattle.zb_trace.specs.declared.line.Line.{Line}
 use Rattle.zb_trace.specs.declared.line.Line.TheVariants as line
 
--- what the last line that speaks of a thing says of it
+-- What the last line about a thing says.
 unfoldable pub last : {A : Type 0} → (Line → Option A) → List Line → Option A
 last {A = A} speaks h = fold (λ (found : Option A) (l : Line). option_or (speaks l) found) None h
 
@@ -20,7 +20,7 @@ same_layer Nwk Nwk = true
 same_layer Aps Aps = true
 same_layer _ _ = false
 
--- whether there is a key, and it is this one
+-- Whether there is a key, and it is this one.
 abbrev pub is_key : Option Bytes → Bytes → Bool
 is_key None key = false
 is_key (Some other) key = bytes_eq other key
@@ -57,22 +57,24 @@ counter_in n l _ = None
 unfoldable pub declared : List Line → Bytes → Layer → ℕ
 declared h n l = unwrap_or (last (counter_in n l) h) 0
 
--- The stored limit of a layer, where `before` are the groups so far: that of the last `reserve` line, else the
--- declared counter. At NWK each key has its own limit: it is set by the key's `start` line, and by those `reserve`
--- lines of the layer before whose group the key was active.
+-- The stored limit of a layer. `before` are the groups so far. It is that of the last `reserve` line, else the
+-- declared counter.
+--
+-- At NWK each key has its own limit. It is set by the key's `start` line, and by those `reserve` lines of the layer
+-- before whose group the key was active.
 
 abbrev pub reserve_in : Bytes → Layer → Line → Option ℕ
 reserve_in n l (line.Reserve e m layer value) = if bytes_eq m.bytes n && same_layer layer l then Some value else None
 reserve_in n l _ = None
 
--- what a line says of the limit of a key; `was` tells whether the key was active before the line's group
+-- What a line says about the limit of a key. `was` says whether the key was active before the line's group.
 abbrev pub limit_in : Bytes → Bytes → Bool → Line → Option ℕ
 limit_in n key was (line.Start e m k value) = if bytes_eq m.bytes n && bytes_eq k.0 key then Some value else None
 limit_in n key was (line.Reserve e m layer value) = if was && (bytes_eq m.bytes n && same_layer layer Nwk)
     then Some value else None
 limit_in n key was _ = None
 
--- the limit of a key by groups that stand after the lines `h`
+-- The limit of a key by groups that come after the lines `h`.
 unfoldable pub limit_behind : List Line → Bytes → Bytes → List (List Line) → Option ℕ
 limit_behind h n key [] = None
 limit_behind h n key (group ∷ more) =
@@ -86,8 +88,8 @@ unfoldable pub limit : List (List Line) → Bytes → Layer → ℕ
 limit before n Nwk = limit_under before n (active (flat before) n)
 limit before n Aps = unwrap_or (last (reserve_in n Aps) (flat before)) (declared (flat before) n Aps)
 
--- The next counter of a layer: that after the node's last seal at the layer since its last boot, at NWK under the
--- active key. Without such a seal it is the stored limit.
+-- The next counter of a layer: one more than that of the node's last seal at the layer since its last boot, at NWK
+-- under the active key. Without such a seal it is the stored limit.
 
 abbrev pub boots : Bytes → Line → Bool
 boots n (line.Boot e m) = bytes_eq m.bytes n
@@ -96,17 +98,17 @@ boots n _ = false
 unfoldable pub since_boot : Bytes → List Line → List Line
 since_boot n h = fold (λ run l. if boots n l then [] else run ++ l ∷ []) [] h
 
--- whether a term is sealed at a layer, at NWK under this key
+-- Whether a term is sealed at a layer, at NWK under this key.
 abbrev pub is_sealed_at : Layer → Option Bytes → Term → Bool
 is_sealed_at Nwk key t = same_layer t.layer Nwk && is_key key t.base.0
 is_sealed_at Aps key t = same_layer t.layer Aps
 
--- the counter of a seal
+-- The counter of a seal.
 abbrev pub sealed_in : Bytes → Layer → Option Bytes → Line → Option ℕ
 sealed_in n l key (line.Seal e m t) = if bytes_eq m.bytes n && is_sealed_at l key t then Some t.counter else None
 sealed_in n l key _ = None
 
--- what comes after a counter, or the limit where there is none
+-- The counter after another, or the limit if there is none.
 abbrev pub behind : ℕ → Option ℕ → ℕ
 behind limit None = limit
 behind limit (Some counter) = counter + 1

@@ -1,5 +1,7 @@
--- Which lines a recount represents. What it keeps of each node are the readings of the lines before the group and of
--- all lines so far. The lines that it noted are those of the group that don't add up, or wait for its end.
+-- Which lines a recount represents.
+--
+-- For each node it keeps the readings of the lines before the group and of all lines so far. The lines that it noted
+-- are those of the group that don't add up, or wait for its end.
 use Rattle.std.specs.Prelude.{◌≡◌, ℕ, ◌+◌, ◌≤◌, Bool, true, false, if◌then◌else◌, ◌&&◌, ◌||◌, List, [], ◌∷◌, ◌++◌, cond, length, get_or, nat_eq, Option, Some, None, IfSome}
 use Rattle.std.specs.BTreeMap.{BTreeMap, get}
 use Rattle.std.specs.List.{list_any, list_all, AllByRecursion}
@@ -34,14 +36,14 @@ use Rattle.zb_trace.specs.declared.line.Line.{Line}
 abbrev pub IsRead : {T A : Type 0} → (T → A) → ℕ → ℕ → Versioned T → A → A → Type 0
 IsRead f count g v old new = (v.group ≤ count) × (f (before_of g v) ≡ old) × (f v.latest ≡ new)
 
--- The group of a last line is this one exactly where it has such a line.
+-- The group of a last line is this one exactly if it has such a line.
 abbrev pub IsMark : ℕ → ℕ → ℕ → Bool → Type 0
 IsMark count g mark there = (mark ≤ count) × (nat_eq mark g ≡ there)
 
 abbrev pub itself : {A : Type 0} → A → A
 itself x = x
 
--- The counter of a last seal that no boot followed.
+-- The counter of the last seal, if no boot came after it.
 unfoldable pub last_seal : Bytes → Layer → Option Bytes → List Line → Option ℕ
 last_seal n l key h = last (sealed_in n l key) (since_boot n h)
 
@@ -69,7 +71,7 @@ pub record IsKey (count g : ℕ) (booted : Versioned ℕ) (n key : Bytes) (befor
   pub start : IsMark count g k.start (list_any (starts n key) front)
   pub active : IsMark count g k.active (list_any (activates n key) front)
 
--- whether there are any
+-- Whether there are any.
 abbrev pub are_any : List ℕ → Bool
 are_any [] = false
 are_any (x ∷ xs) = true
@@ -84,7 +86,7 @@ pub record IsFloor (count g : ℕ) (n : Bytes) (l : Layer) (key : Bytes) (sender
       ≡ list_all (floor_fits floor value block) (accepted front n l key sender)
   pub ordered : f.least ≤ f.greatest
 
--- The counters are those of the node of this name, of which the groups before and the lines of the group so far speak.
+-- The counters are those of the node of this name, by the groups before and the lines of the group so far.
 pub record IsOf (count g : ℕ) (n : Bytes) (before : List (List Line)) (front : List Line) (c : Counters) : Type 0 where
   pub active : IsRead (option_map key_bytes) count g c.active (active (flat before) n)
       (active (flat before ++ front) n)
@@ -97,12 +99,12 @@ pub record IsOf (count g : ℕ) (n : Bytes) (before : List (List Line)) (front :
   pub keys : (key : Key) → IsKey count g c.booted n key.0 before front (key_in c.keys key)
   pub floors : (s : Sender) → IsFloor count g n s.layer s.key.0 s.eui.0 before front (floor_of c.floors s)
 
--- the same of a node of which nothing may be kept yet
+-- The same for a node about which nothing may be kept yet.
 abbrev pub IsAt : ℕ → ℕ → Bytes → List (List Line) → List Line → Option Counters → Type 0
 IsAt count g n before front None = (c : Counters) → AreFresh c → IsOf count g n before front c
 IsAt count g n before front (Some c) = IsOf count g n before front c
 
--- Whether what a line of this node waits for stands in its group.
+-- Whether the group has the line for which a line of this node waits.
 abbrev pub meets : List (List Line) → List Line → Bytes → Need → Bool
 meets before group n (need.Seal l) = list_any cuts group || list_any (seals_at n l) group
 meets before group n (need.Floor s) = is_some (last (floor_in n s.layer s.key.0 s.eui.0) group)
@@ -119,7 +121,7 @@ verdict before group n Stands = true
 verdict before group n Falls = false
 verdict before group n (Waits what) = meets before group n what
 
--- the first line that waits in vain; names go by their places
+-- The first line that waits in vain. Names are identified by their places.
 abbrev pub first_unmet : List Bytes → List (List Line) → List Line → List Wait → Option ℕ
 first_unmet names before group [] = None
 first_unmet names before group (w ∷ ws) =
@@ -130,13 +132,12 @@ pub record IsWaiting (names : List Bytes) (nodes : BTreeMap ℕ Counters) (w : W
   pub place : place_in names name ≡ Some w.place
   pub there : IsSome (get nat_cmp nodes w.place)
 
--- the lines of a group so far: all of one event, and one line alone where that has none
+-- The lines of a group so far: all of one event, or one line without an event.
 pub record IsRun (event : Option ℕ) (front : List Line) : Type 0 where
   pub alike : AllByRecursion (λ (l : Line). event_of l ≡ event) front
   pub alone : event ≡ None → length front ≤ 1
 
--- What a recount keeps of these groups before and these lines of the group, none of the groups having a line that
--- doesn't add up.
+-- What a recount keeps for these groups before and these lines of the group. No group has a line that doesn't add up.
 pub record IsOfGroups (names : List Bytes) (r : Recount) (before : List (List Line)) (front : List Line) : Type 0 where
   pub group : r.group ≡ length (flat before) + 1
   pub past : first_of (uncounted_from [] 1 before) ≡ None
@@ -154,8 +155,8 @@ pub record IsUnderWay (names : List Bytes) (r : Recount) (lines : List Line) (be
   pub run : IsRun r.event front
   pub kept : IsOfGroups names r before front
 
--- The recount represents these lines. Once a line of a group that has ended doesn't add up it is the first, whatever
--- follows.
+-- The recount represents these lines. If a line of a group that has ended doesn't add up, it stays the first one,
+-- whatever follows.
 abbrev pub RecountsTo : Option ℕ → List Bytes → Recount → List Line → Type 0
 RecountsTo None names r lines = (before : List (List Line)) × (front : List Line)
     × IsUnderWay names r lines before front
@@ -164,7 +165,7 @@ RecountsTo (Some number) names r lines = (rest : List Line) → first_uncounted 
 unfoldable pub Recounts : List Bytes → Recount → List Line → Type 0
 Recounts names r lines = RecountsTo r.first names r lines
 
--- The same before a line that is of the recount's event.
+-- The same before a line of the recount's event.
 pub record IsReadyFor (names : List Bytes) (r : Recount) (lines : List Line) (l : Line) (before : List (List Line))
     (front : List Line) : Type 0 where
   pub lines_are : lines ≡ flat before ++ front
@@ -180,7 +181,7 @@ ReadyTo (Some number) names r lines l = (rest : List Line) → first_uncounted (
 unfoldable pub Ready : List Bytes → Recount → List Line → Line → Type 0
 Ready names r lines l = ReadyTo r.first names r lines l
 
--- What is made of a line at a place, and what is known of it.
+-- The counters at a place: those that are kept, or fresh ones if none are kept.
 abbrev pub IsOrFresh : Option Counters → Counters → Type 0
 IsOrFresh None c = AreFresh c
 IsOrFresh (Some kept) c = c ≡ kept
@@ -194,7 +195,7 @@ pub record HasHeard (g number : ℕ) (l : Line) (out_block in_block : Option ℕ
   pub judged : j ≡ judged_at g was out_block in_block l
   pub puts : (q : ℕ) → get nat_cmp new q ≡ cond (nat_eq place q) (Some is) (get nat_cmp old q)
 
--- the first bad line, and the lines that wait, with a line of this judgement
+-- The first bad line, and the lines that wait, after a line with this judgement.
 abbrev pub with_bad : ℕ → Judgement → Option ℕ → Option ℕ
 with_bad number j (Some bad) = Some bad
 with_bad number Stands None = None
@@ -207,7 +208,7 @@ with_wait number place Stands None waits = waits
 with_wait number place Falls None waits = waits
 with_wait number place (Waits what) None waits = waits ++ record { line = number; place = place; need = what } ∷ []
 
--- the first line that waits in vain, by what is kept
+-- Whether a waiting line is met, by what is kept.
 abbrev pub is_met_at : Recount → Wait → Option Counters → Bool
 is_met_at r w None = false
 is_met_at r w (Some c) = is_met r.group r.cut c w.need

@@ -1,4 +1,4 @@
--- What the program keeps of a transcript, and which lines it represents.
+-- What the program keeps about a transcript, and which lines it represents.
 use Rattle.std.specs.Prelude.{◌≡◌, ℕ, min, max, Bool, true, false, not, if◌then◌else◌, ◌&&◌, ◌||◌, List, [], ◌∷◌, nat_eq, nat_lt, bytes_eq, Option, Some, None, unwrap_or}
 use Rattle.std.specs.BTreeMap.{BTreeMap, get}
 use Rattle.std.specs.Cmp.Lexicographic.{slice_cmp}
@@ -29,7 +29,7 @@ use Rattle.zb_seal.specs.declared.term.Term.{Term}
 use Rattle.zb_trace.specs.declared.line.Line.{Line}
 use Rattle.zb_trace.specs.declared.line.Line.TheVariants as line
 
--- Values before a group and now. A group goes by the number of its first line.
+-- Values before a group and now. A group is identified by the number of its first line.
 
 abbrev pub before_of : {T : Type 0} → ℕ → Versioned T → T
 before_of g v = if nat_lt v.group g then v.latest else v.earlier
@@ -45,7 +45,7 @@ never_set value = record { earlier = value; latest = value; group = 0 }
 abbrev pub limit_by : Outgoing → ℕ → ℕ → ℕ
 limit_by o g declared = unwrap_or (before_of g o.limit) declared
 
--- the counter of a seal that no boot followed
+-- The counter of a seal, if no boot came after it.
 abbrev pub since : ℕ → Option Sealed → Option ℕ
 since boot None = None
 since boot (Some s) = if nat_eq s.boot boot then Some s.counter else None
@@ -56,17 +56,17 @@ next_by o g boot declared = behind (limit_by o g declared) (since boot (before_o
 abbrev pub is_spent_by : Outgoing → ℕ → ℕ → ℕ → Bool
 is_spent_by o g boot declared = nat_eq (next_by o g boot declared) (limit_by o g declared)
 
--- whether a seal takes the next counter, and stands after a reserve where that is the limit
+-- Whether a seal uses the next counter, and comes after a reserve if that is the limit.
 abbrev pub seals_by : Outgoing → ℕ → ℕ → ℕ → ℕ → Bool → Bool
 seals_by o g boot declared counter reserved =
     nat_eq counter (next_by o g boot declared) && (not (is_spent_by o g boot declared) || reserved)
 
--- whether a reserve is a block ahead, and stands where the next counter is the limit
+-- Whether a reserve is a block ahead, and is made when the next counter is the limit.
 abbrev pub reserves_by : Outgoing → ℕ → ℕ → ℕ → ℕ → ℕ → Bool
 reserves_by o g boot declared value block =
     nat_eq value (ahead (next_by o g boot declared) block) && is_spent_by o g boot declared
 
--- What is kept of one node, where nothing was noted too
+-- What is kept about one node, also if nothing was noted
 
 abbrev pub fresh_outgoing : Outgoing
 fresh_outgoing = record { limit = never_set None; sealed = never_set None }
@@ -100,7 +100,7 @@ layer_of c Aps = c.aps
 abbrev pub key_bytes : Key → Bytes
 key_bytes key = key.0
 
--- the active key before a group, and the outgoing counter under a key
+-- The active key before a group, and the outgoing counter under a key.
 abbrev pub active_by : ℕ → Counters → Option Bytes
 active_by g c = option_map key_bytes (before_of g c.active)
 
@@ -108,7 +108,7 @@ abbrev pub next_under : ℕ → Counters → Option Key → ℕ
 next_under g c None = before_of g c.nwk.declared
 next_under g c (Some key) = next_by (key_in c.keys key).outgoing g (before_of g c.booted) (before_of g c.nwk.declared)
 
--- What is known of a line as it is read: it adds up, it doesn't, or it waits for another line of its group.
+-- What is known about a line when it is read: it adds up, it doesn't, or it waits for another line of its group.
 
 abbrev pub stands_if : Bool → Judgement
 stands_if true = Stands
@@ -173,7 +173,7 @@ in_block_by node = option_map (λ (n : Node). n.in_block) node
 abbrev pub sender_of : Term → Sender
 sender_of t = record { layer = t.layer; key = t.base; eui = t.source }
 
--- a line of a node with these blocks
+-- A line of a node with these blocks.
 abbrev pub judged_at : ℕ → Counters → Option ℕ → Option ℕ → Line → Judgement
 judged_at g c out_block in_block (line.Seal e n t) = seal_judged g c t.layer t.base t.counter (is_some out_block)
 judged_at g c out_block in_block (line.Reserve e n layer value) = reserve_judged g c layer value out_block
@@ -184,7 +184,7 @@ judged_at g c out_block in_block (line.Start e n key value) = start_judged g c k
 judged_at g c out_block in_block (line.Active e n key) = active_judged g c key
 judged_at g c out_block in_block _ = Stands
 
--- the lines that say something of a node's counters
+-- Whether a line says something about a node's counters.
 abbrev pub counts : Line → Bool
 counts (line.Counter n layer value) = true
 counts (line.GivenNet n key sequence) = true
@@ -197,7 +197,7 @@ counts (line.Floor e n layer key sender value) = true
 counts (line.Boot e n) = true
 counts _ = false
 
--- Whether what a line waits for stands in its group, at the group's end.
+-- Whether the group has the line for which a line waits, at the group's end.
 
 abbrev pub fits_all : ℕ → ℕ → ℕ → ℕ → Floor → Bool
 fits_all g floor value block f =
@@ -216,7 +216,7 @@ is_met g cut c (need.Accept sender value block) =
 is_met g cut c (need.Start key) = nat_eq (key_in c.keys key).start g
 is_met g cut c (need.Active key) = nat_eq (key_in c.keys key).active g
 
--- What a line says to a node of this name, and what is made of it.
+-- What a line says to a node of this name, and what that changes.
 
 abbrev pub hear : {T : Type 0} → ℕ → Option T → Versioned T → Versioned T
 hear g None v = v
@@ -230,7 +230,7 @@ abbrev pub true_if : Bool → Option Bool
 true_if true = Some true
 true_if false = None
 
--- the active key, where `activated` tells whether an `active` line stands before
+-- The active key. `activated` says whether there is an earlier `active` line.
 abbrev pub active_said : Bytes → Bool → Line → Option (Option Key)
 active_said n activated (line.Active e m key) = if bytes_eq m.bytes n then Some (Some key) else None
 active_said n activated (line.GivenNet m key sequence) = if not activated && bytes_eq m.bytes n then Some (Some key)
@@ -257,7 +257,7 @@ heard_layer g n layer l a = record {
   sealed = mark_if g (seals_at n layer l) a.sealed;
 }
 
--- `was` tells whether the key was active before the group
+-- `was` says whether the key was active before the group.
 abbrev pub heard_key : ℕ → ℕ → Bytes → Bytes → Bool → Line → KeyCounters → KeyCounters
 heard_key g boot n key was l k = record {
   outgoing = heard_outgoing g boot (limit_in n key was l) (sealed_in n Nwk (Some key) l) k.outgoing;
@@ -266,7 +266,7 @@ heard_key g boot n key was l k = record {
   active = mark_if g (activates n key l) k.active;
 }
 
--- the least and greatest counter that a group accepts
+-- The least and greatest counter that a group accepts.
 abbrev pub least_of : ℕ → ℕ → Floor → ℕ
 least_of g counter f = if nat_eq f.accepted g then min f.least counter else counter
 
@@ -297,7 +297,7 @@ pub record Hears (g number : ℕ) (n : Bytes) (l : Line) (old new : Counters) : 
       ≡ heard_key g old.booted.latest n key.0 (is_key (active_by g old) key.0) l (key_in old.keys key)
   pub floors : (s : Sender) → floor_of new.floors s ≡ heard_floor g n s l (floor_of old.floors s)
 
--- The counters of a node of which no line speaks.
+-- The counters of a node about which there is no line.
 pub record AreFresh (c : Counters) : Type 0 where
   pub active : c.active ≡ never_set None
   pub activated : c.activated ≡ false
@@ -314,7 +314,7 @@ pub record IsOfSender (t : Term) (s : Sender) (counter : ℕ) : Type 0 where
   pub eui_is : t.source ≡ s.eui
   pub counter_is : t.counter ≡ counter
 
--- One of a map's values is put.
+-- One of a map's values is added.
 abbrev pub same_sender : Sender → Sender → Bool
 same_sender s q = is_from q.layer q.key.0 q.eui.0 s.layer s.key.0 s.eui.0
 

@@ -1,4 +1,4 @@
-//! What is known of the counters of one node.
+//! What is known about the counters of one node.
 ghost use Rattle.std.specs.Prelude.{◌≡◌, ◌∷◌, [], ℕ, OnOk, IfOk, IfSome, Option, Some, None, nat_eq};
 ghost use Rattle.arrayvec.specs.ArrayString.{ArrayString};
 ghost use Rattle.zb_base.specs.declared.key.Key.{Key};
@@ -25,18 +25,18 @@ use zb_base::{Key, Layer};
 use zb_seal::Term;
 use zb_trace::Line;
 
-/// What is known of the counters of one node.
+/// What is known about the counters of one node.
 #[derive(Drop)]
 pub struct Counters {
     /// The active network key: that of the last active line, else of the last given one.
     pub active: Versioned<Option<Key>>,
-    /// Whether an active line stands.
+    /// Whether there was an active line.
     pub activated: bool,
-    /// The number of the last boot line, 0 for none.
+    /// The number of the last boot line, or 0 if there was none.
     pub booted: Versioned<u32>,
-    /// What is known of the NWK layer.
+    /// What is known about the NWK layer.
     pub nwk: LayerCounters,
-    /// What is known of the APS layer.
+    /// What is known about the APS layer.
     pub aps: LayerCounters,
     /// The outgoing counter of the APS layer; at NWK each key has its own.
     pub outgoing: Outgoing,
@@ -47,7 +47,7 @@ pub struct Counters {
 }
 
 impl Counters {
-    /// Makes the counters of a node of which no line speaks.
+    /// Makes the counters of a node about which there is no line.
     pub fn new(alloc: Global) -> Counters
         ensures { AreFresh result }
     {
@@ -137,7 +137,7 @@ impl Counters {
     /// Notes that the node is given a network key at the start.
     ///
     /// # Errors
-    /// Out of memory.
+    /// `AllocError`, if memory runs out.
     pub fn give(&mut self, group: u32, key: Key) -> Result<(), AllocError>
         ensures { OnOk result ((number sequence : ℕ) (m : ArrayString)
             → Hears group number m.bytes (line.GivenNet m key sequence) self.old self.new) }
@@ -151,10 +151,10 @@ impl Counters {
         Ok(())
     }
 
-    /// Notes that a network key becomes active, and judges the line.
+    /// Notes that a network key becomes active, and checks the line.
     ///
     /// # Errors
-    /// Out of memory.
+    /// `AllocError`, if memory runs out.
     pub fn activate(&mut self, group: u32, key: Key) -> Result<Judgement, AllocError>
         ensures judged { IfOk result (λ judgement. judgement ≡ active_judged group self.old key) }
         ensures heard { OnOk result ((number e : ℕ) (m : ArrayString)
@@ -169,10 +169,10 @@ impl Counters {
         Ok(waits_unless(Need::Start(key), stands))
     }
 
-    /// Notes that a network key starts, and judges the line. `declared` tells whether a line declares the node.
+    /// Notes that a network key starts, and checks the line. `declared` says whether a line declares the node.
     ///
     /// # Errors
-    /// Out of memory.
+    /// `AllocError`, if memory runs out.
     pub fn start(
         &mut self,
         group: u32,
@@ -195,11 +195,11 @@ impl Counters {
         Ok(waits_if(Need::Active(key), stands))
     }
 
-    /// Notes that a limit is reserved, and judges the line. `block` is the node's outgoing block, where a line
-    /// declares the node.
+    /// Notes that a limit is reserved, and checks the line. `block` is the node's outgoing block, if a line declares
+    /// the node.
     ///
     /// # Errors
-    /// Out of memory.
+    /// `AllocError`, if memory runs out.
     pub fn reserve(
         &mut self,
         group: u32,
@@ -278,10 +278,10 @@ impl Counters {
         self.aps.reserved = group;
     }
 
-    /// Notes that a term is sealed, and judges the line. `declared` tells whether a line declares the node.
+    /// Notes that a term is sealed, and checks the line. `declared` says whether a line declares the node.
     ///
     /// # Errors
-    /// Out of memory.
+    /// `AllocError`, if memory runs out.
     pub fn seal(&mut self, group: u32, term: &Term, declared: bool) -> Result<Judgement, AllocError>
         ensures judged { IfOk result (λ judgement.
             judgement ≡ seal_judged group self.old term.now.layer term.now.base term.now.counter declared) }
@@ -337,10 +337,10 @@ impl Counters {
         stands_if(stands)
     }
 
-    /// Notes that a frame is accepted, and judges the line.
+    /// Notes that a frame is accepted, and checks the line.
     ///
     /// # Errors
-    /// Out of memory.
+    /// `AllocError`, if memory runs out.
     pub fn accept(
         &mut self,
         group: u32,
@@ -358,11 +358,11 @@ impl Counters {
         Ok(waits_unless(Need::Floor(sender), stands))
     }
 
-    /// Notes that a floor is stored, and judges the line. `block` is the node's incoming block, where a line declares
+    /// Notes that a floor is stored, and checks the line. `block` is the node's incoming block, if a line declares
     /// the node.
     ///
     /// # Errors
-    /// Out of memory.
+    /// `AllocError`, if memory runs out.
     pub fn store_floor(
         &mut self,
         group: u32,
@@ -380,10 +380,10 @@ impl Counters {
         Ok(judged_floor(sender, value, block))
     }
 
-    /// Goes on by a line of this node, which has this number, and judges it. `node` is what lines before it declare.
+    /// Processes a line of this node, which has this number, and checks it. `node` is what earlier lines declare.
     ///
     /// # Errors
-    /// Out of memory.
+    /// `AllocError`, if memory runs out.
     pub fn hear(
         &mut self,
         group: u32,
@@ -434,7 +434,7 @@ impl Counters {
         }
     }
 
-    /// Returns whether what a line of a group needs is in it, at the end of the group. `cut` tells whether the event
+    /// Returns whether a group has what one of its lines needs, at the end of the group. `cut` says whether the event
     /// was cut short.
     pub fn meets(&self, group: u32, cut: bool, need: &Need) -> bool
         ensures { result ≡ is_met group cut self.now need.now }

@@ -1,4 +1,4 @@
-//! What is known of a sender that a node hears.
+//! What is known about a sender that a node hears.
 ghost use Rattle.std.specs.Prelude.{◌≡◌, ◌∷◌, []};
 ghost use Rattle.zb_audit_counters.specs.Counting.{floor_fits};
 ghost use Rattle.zb_audit_counters.specs.Standing.{before_of, calls, fits_all, fresh_floor, with_accepted};
@@ -7,7 +7,9 @@ use crate::outgoing::ahead;
 use crate::versioned::Versioned;
 use zb_base::{Eui, Key, Layer};
 
-/// The sender of frames at a layer under a key. The key stands last, since two senders mostly differ in their address.
+/// The sender of frames at a layer under a key.
+///
+/// The key comes last, because two senders mostly differ in their address.
 #[derive(Clone, Copy, PartialEq, Eq, PartialOrd, Ord)]
 pub struct Sender {
     /// The EUI of the sender.
@@ -18,12 +20,12 @@ pub struct Sender {
     pub key: Key,
 }
 
-/// What is known of a sender that a node hears.
+/// What is known about a sender that a node hears.
 #[derive(Clone, Copy)]
 pub struct Floor {
     /// The stored floor.
     pub stored: Versioned<u32>,
-    /// The group of its last accepted frame, by its first line; 0 for none.
+    /// The group of its last accepted frame, by its first line; 0 if there was none.
     pub accepted: u32,
     /// The least counter that this group accepts.
     pub least: u32,
@@ -32,7 +34,7 @@ pub struct Floor {
 }
 
 impl Floor {
-    /// Makes the floor of a sender of which no line speaks.
+    /// Makes the floor of a sender about which there is no line.
     pub fn new() -> Floor
         ensures { result ≡ fresh_floor }
     {
@@ -44,8 +46,8 @@ impl Floor {
         }
     }
 
-    /// Notes the counter of an accepted frame. A floor that is right for the least and the greatest counter of a group
-    /// is right for all between.
+    /// Notes the counter of an accepted frame. A floor that is right for the least and the greatest counter of a
+    /// group is right for all between.
     pub fn accept(&mut self, group: u32, counter: u32)
         ensures { self.new ≡ with_accepted group (counter ∷ []) self.old }
     {
@@ -69,8 +71,8 @@ impl Floor {
                 && fits_one(floor, value, block, self.greatest))
     }
 
-    /// Returns whether a floor line is called for. In an event that was cut it is where the floor rises, else where
-    /// the group accepts a frame.
+    /// Returns whether a floor line is required. In an event that was cut short it is required if the floor rises,
+    /// else if the group accepts a frame.
     pub fn is_called_for(&self, group: u32, cut: bool, value: u32) -> bool
         ensures { result ≡ calls cut group (before_of group self.now.stored) value self.now }
     {

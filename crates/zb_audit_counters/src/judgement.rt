@@ -1,15 +1,15 @@
-//! What a line's counter is worth.
+//! The result of checking a line's counter.
 use crate::floor::Sender;
 use zb_base::{Key, Layer};
 
-/// What a line needs of another line of its group.
+/// What a line needs from another line of its group.
 #[derive(Clone, Copy)]
 pub enum Need {
     /// A reserve needs a seal at its layer, unless the event was cut short.
     Seal(Layer),
     /// An accepted frame needs a floor line.
     Floor(Sender),
-    /// A floor needs accepted frames to which it fits; where the event was cut short it has to rise.
+    /// A floor needs accepted frames to which it fits. If the event was cut short, it has to rise.
     Accept {
         sender: Sender,
         value: u32,
@@ -21,14 +21,14 @@ pub enum Need {
     Active(Key),
 }
 
-/// What is known of a line as it is read.
+/// What is known about a line when it is read.
 #[derive(Clone, Copy)]
 pub enum Judgement {
     /// It adds up.
     Stands,
-    /// It doesn't.
+    /// It doesn't add up.
     Falls,
-    /// It does where another line of its group stands.
+    /// It adds up if its group has another line.
     Waits(Need),
 }
 

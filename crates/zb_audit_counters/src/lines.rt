@@ -1,4 +1,4 @@
-//! What a line is to the group that it stands in.
+//! What a line is in its group.
 ghost use Rattle.std.specs.Prelude.{◌≡◌, ◌||◌};
 ghost use Rattle.zb_audit_names.specs.Groups as declared;
 ghost use Rattle.zb_audit_counters.specs.Counting as counting;
@@ -27,7 +27,7 @@ pub fn is_cut(before: bool, line: &Line) -> bool
     }
 }
 
-/// Returns whether a line says something of its node's counters.
+/// Returns whether a line says something about its node's counters.
 pub fn counts(line: &Line) -> bool
     ensures { result ≡ counts line.now }
 {

@@ -9,7 +9,7 @@ use crate::versioned::Versioned;
 /// The greatest counter and limit.
 const GREATEST: u64 = 4294967295;
 
-/// A counter from which a key that becomes active starts anew.
+/// The counter from which a key that becomes active starts again at 0.
 const HALF: u64 = 2147483648;
 
 /// The last seal of a counter.
@@ -17,14 +17,14 @@ const HALF: u64 = 2147483648;
 pub struct Sealed {
     /// The counter of the frame.
     pub counter: u32,
-    /// The number of the node's last boot line at that time, 0 for none.
+    /// The number of the node's last boot line at that time, or 0 if there was none.
     pub boot: u32,
 }
 
-/// What is known of an outgoing counter.
+/// What is known about an outgoing counter.
 #[derive(Clone, Copy)]
 pub struct Outgoing {
-    /// The stored limit, where a line set it.
+    /// The stored limit, if a line set it.
     pub limit: Versioned<Option<u32>>,
     /// The last seal.
     pub sealed: Versioned<Option<Sealed>>,
@@ -35,14 +35,14 @@ pub struct Outgoing {
 pub struct Moment {
     /// The number of the first line of its group.
     pub group: u32,
-    /// The number of the node's last boot line before the group, 0 for none.
+    /// The number of the node's last boot line before the group, or 0 if there was none.
     pub boot: u32,
     /// The counter that was declared for the start.
     pub declared: u32,
 }
 
 impl Outgoing {
-    /// Makes a counter of which no line speaks.
+    /// Makes a counter about which there is no line.
     pub fn new() -> Outgoing
         ensures { result ≡ fresh_outgoing }
     {
@@ -83,7 +83,7 @@ impl Outgoing {
         }
     }
 
-    /// Returns whether a seal takes the next counter, after a reserve where that is the limit.
+    /// Returns whether a seal uses the next counter, after a reserve if that is the limit.
     pub fn seals(&self, at: Moment, counter: u32, reserved: bool) -> bool
         ensures { result ≡ seals_by self.now at.group at.boot at.declared counter reserved }
     {
@@ -91,7 +91,7 @@ impl Outgoing {
         u64::from(counter) == next && (next != self.limit(at) || reserved)
     }
 
-    /// Returns whether a reserve is a block ahead, where the next counter is the limit.
+    /// Returns whether a reserve is a block ahead, and the next counter is the limit.
     pub fn reserves(&self, at: Moment, value: u32, block: u32) -> bool
         ensures { result ≡ reserves_by self.now at.group at.boot at.declared value block }
     {
@@ -134,7 +134,7 @@ pub fn ahead(counter: u64, block: u32) -> u64
     (counter + u64::from(block)).min(GREATEST)
 }
 
-/// Returns the counter at which a key starts where the next one is this.
+/// Returns the counter at which a key starts, if the next one is `next`.
 pub fn start_value(next: u64) -> u64
     ensures { result ≡ start_value next }
 {

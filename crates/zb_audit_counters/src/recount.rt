@@ -21,11 +21,13 @@ use zb_audit_names::{Who, event};
 use zb_base::NoMemory;
 use zb_trace::Line;
 
-/// What is known of the counters of a transcript after the lines so far. A recount keeps no line: per node, per
-/// network key of a node and per sender that a node hears it keeps a few numbers.
+/// What is known about the counters of a transcript after the lines so far.
+///
+/// A recount keeps no line. It keeps a few numbers for each node, for each network key of a node, and for each sender
+/// that a node hears.
 #[derive(Drop)]
 pub struct Recount {
-    /// What is known of each node, by the place of its name.
+    /// What is known about each node, by the place of its name.
     pub nodes: BTreeMap<usize, Counters>,
     /// The number of the first line of the group that is being read; 1 before any.
     pub group: u32,
@@ -33,11 +35,11 @@ pub struct Recount {
     pub event: Option<u32>,
     /// Whether this event was cut short.
     pub cut: bool,
-    /// Those of its lines that wait for its end, in order. They stand before the line that doesn't add up, if any.
+    /// Those of its lines that wait for its end, in order. They come before the line that doesn't add up, if any.
     pub waits: Vec<Wait>,
-    /// The number of its first line that doesn't add up, whatever lines are still to come.
+    /// The number of its first line that doesn't add up, whatever lines follow.
     pub bad: Option<u32>,
-    /// The number of the first line of the groups before that doesn't add up.
+    /// The number of the first line of the earlier groups that doesn't add up.
     pub first: Option<u32>,
 }
 
@@ -57,11 +59,11 @@ impl Recount {
         }
     }
 
-    /// Goes on by one line. `number` is its number, from 1. `who` is the node that it speaks of, by the lines before.
-    /// After `NoMemory` the recount isn't used further.
+    /// Processes one line. `number` is its number, from 1. `who` is its node, by the lines before. After `NoMemory`
+    /// the recount must not be used.
     ///
     /// # Errors
-    /// `NoMemory`.
+    /// `NoMemory`, if memory runs out.
     pub fn line(
         &mut self,
         alloc: Global,
@@ -84,7 +86,7 @@ impl Recount {
         Ok(())
     }
 
-    /// Returns the number of the first line that doesn't add up, once all lines are read.
+    /// Returns the number of the first line that doesn't add up, after all lines were read.
     pub fn end(&self) -> Option<u32>
         ensures { (names : List Bytes) (h : List AnyLine) → Recounts names self.now h → result ≡ first_uncounted h }
     {
@@ -94,7 +96,7 @@ impl Recount {
         }
     }
 
-    /// Ends the group before a line of another event.
+    /// Ends the group, if the line is of another event.
     fn turn(&mut self, number: u32, event: Option<u32>)
         ensures { (names : List Bytes) (h : List AnyLine) (l : AnyLine) → event ≡ declared.event_of l
             → number ≡ length h + 1 → self.old.first ≡ None → Recounts names self.old h → Ready names self.new h l }
@@ -139,7 +141,7 @@ impl Recount {
         }
     }
 
-    /// Goes on by a line of the group.
+    /// Processes a line of the group.
     fn read(&mut self, alloc: Global, number: u32, line: &Line, who: Who) -> Result<(), AllocError>
         ensures { OnOk result ((names : List Bytes) (h : List AnyLine) → number ≡ length h + 1
             → IsSpeaker who names (declared_in h) line.now → self.old.first ≡ None → Ready names self.old h line.now
@@ -153,7 +155,7 @@ impl Recount {
         Ok(())
     }
 
-    /// Notes what is known of a line. After the first one that doesn't add up no line can be the first.
+    /// Notes what is known about a line. After the first line that doesn't add up no other line can be the first.
     fn note(&mut self, number: u32, place: usize, judgement: Judgement) -> Result<(), AllocError>
         ensures rest { OnOk result (self.new ≡ record self.old { waits = self.new.waits; bad = self.new.bad }) }
         ensures bad { OnOk result (self.new.bad ≡ with_bad number judgement self.old.bad) }
@@ -179,7 +181,7 @@ impl Recount {
     }
 }
 
-/// Goes on by a line of the node at a place.
+/// Processes a line of the node at a place.
 fn hear(
     nodes: &mut BTreeMap<usize, Counters>,
     alloc: Global,

@@ -25,7 +25,7 @@ impl<T: Copy> Versioned<T> {
         }
     }
 
-    /// Returns the value before a group, where no later group has set it.
+    /// Returns the value before a group, if no later group has set it.
     pub fn before(&self, group: u32) -> T
         ensures { result ≡ before_of group self.now }
     {

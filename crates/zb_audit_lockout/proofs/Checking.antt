@@ -1,4 +1,5 @@
--- Whether keys that come out for removed devices were drawn since: what leads to them is found anew.
+-- Whether keys that come out for removed devices were drawn since: the devices that lead to such a key are entered
+-- again.
 use Rattle.std.proofs.Common.{◌≡◌, ◌⊎◌, ℕ, ◌+◌, ◌<◌, ◌≤◌, List, [], length, drop, get_or, Bool, true, false, ◌&&◌, Some, inl, inr, refl, arith, ap, sym, ◌∙◌, subst, bytes_eq, nat_eq}
 use Rattle.std.proofs.lemmas.List.{drop_more}
 use Rattle.zb_base.specs.declared.address.Eui.{Eui}
@@ -24,7 +25,7 @@ use Rattle.zb_trace_watch.specs.Sets.{is_among, is_carried, node_has}
 use Rattle.zb_trace_watch.specs.declared.holdings.Holdings.{Holdings}
 use Rattle.zb_trace_watch.proofs.Truth.{and_left, and_right, both, either, itself_number, not_both, or_left, or_right, same_bytes, same_number}
 
--- What stays where only what is known of keys that come out changed.
+-- What stays if only the knowledge of keys that come out changed.
 
 pub settled_more : (old mid new : Reach) → Settles old mid → Settles mid new → Settles old new
 settled_more old mid new a b = record {
@@ -59,7 +60,7 @@ open_after : (old new : Reach) → Settles old new → (d n : ℕ) → open_at o
     → open_at new.windows d ≡ Some n
 open_after old new s d n found = ap (λ (w : Windows). open_at w d) s.windows ∙ found
 
--- What leads to a key is taken back.
+-- All that leads to a key is withdrawn.
 
 module _ (leads : Holdings Key) (held : Holdings Eui) (back : Back) (w : Windows) (old mid new : Spread)
     (keys cleared : List Key) (list : List Opening)
@@ -148,9 +149,9 @@ taken_back old mid new keys cleared list clears devices withdraws = record {
   found = withdraws.found;
 }
 
--- Devices are entered one by one.
+-- Devices are entered one by one
 
--- What stands once some devices of a list are entered.
+-- What is true after some devices of a list were entered.
 pub record Entering (old now : Reach) (list : List Opening) (index : ℕ) : Type 0 where
   pub settles : Settles old now
   pub spread : IsSpread old.leads old.held old.spread → IsSpread now.leads now.held now.spread
@@ -262,7 +263,7 @@ found_anew old mid new keys list stays first second taken entered = record {
       (λ n d there. open_after old mid first d n (taken.found n d there));
 }
 
--- Of the keys those that are late are found anew.
+-- Of the keys, the late ones are searched again.
 abbrev pub IsSifted : Reach → List Key → List Key → Type 0
 IsSifted r keys late = (k : Bytes) → is_among keys k ≡ true
     → (is_among late k ≡ true) ⊎ (is_late r.drawn (number_of r.spread.keys k) k ≡ false)
@@ -305,7 +306,7 @@ none_late r keys late sifted none = record {
   out = λ out. cc;
 }
 
--- What stands once some keys of a list are looked at.
+-- What is true after some keys of a list were checked.
 abbrev pub Sifting : Reach → List Key → List Key → ℕ → Type 0
 Sifting r keys late index = (k : Bytes) → is_among keys k ≡ true → (is_among late k ≡ true)
     ⊎ ((is_late r.drawn (number_of r.spread.keys k) k ≡ false) ⊎ (is_among (drop index keys) k ≡ true))

@@ -1,4 +1,4 @@
--- Numbers of keys that are taken away one by one, and with each key those of the keys that lead to it.
+-- Numbers of keys that are cleared one by one, and with each key those of the keys that lead to it.
 use Rattle.std.proofs.Common.{◌≡◌, ◌⊎◌, ℕ, ◌<◌, ◌≤◌, List, [], ◌∷◌, ◌++◌, Bool, true, false, ◌||◌, inl, inr, arith, ap, sym, ◌∙◌, bytes_eq, nat_eq, nat_lt, eq-eqb}
 use Rattle.std.specs.Prelude.{if◌then◌else◌}
 use Rattle.std.proofs.lemmas.Bool.{ltb-true, ltb-false}
@@ -18,7 +18,7 @@ pub record Clearing (bases : Holdings Key) (old now : Numbers) (start left clear
   pub carried : (k b : List ℕ) → is_among cleared k ≡ true → is_carried bases k b ≡ true → (number_of now b ≡ 0)
       ⊎ (is_among left b ≡ true)
 
--- a key whose number is taken away already
+-- A key whose number is cleared already.
 abbrev pub is_clear : Numbers → List ℕ → Bool
 is_clear now k = nat_eq (number_of now k) 0
 
@@ -78,7 +78,7 @@ module _ (now new : Numbers) (key : Key)
           | inr last ↦ inr (none_left _ last)
         ]
 
-    -- A key that had a number brings the keys that lead to it.
+    -- A key that had a number adds the keys that lead to it.
     pub clears_new : Clearing bases old new start (left ++ keys_at key_cmp bases key) (cleared ++ key ∷ [])
     clears_new = record {
       told = λ k. elim (decided (bytes_eq k key.0)) [
@@ -101,7 +101,7 @@ module _ (now new : Numbers) (key : Key)
       ];
     }
 
-    -- A key that had none brings nothing.
+    -- A key that had none adds nothing.
     pub clears_old : nat_lt 0 (number_of now key.0) ≡ false → Clearing bases old new start left cleared
     clears_old none_above = record {
       told = λ k. elim (l.told k) [

@@ -16,7 +16,7 @@ use Rattle.zb_trace_watch.specs.Standing.{carries, is_that}
 use Rattle.zb_trace_watch.proofs.Exposed.{exposed_covers, exposed_closed, exposed_least}
 use Rattle.zb_trace_watch.proofs.Truth.{and_left, and_right, both, either, itself, or_left, or_right, same_bytes}
 
--- What comes out goes by the terms alone.
+-- What comes out depends only on the terms.
 
 abbrev plain : Line → log.Line
 plain (line.Seal event node t) = log.Seal event 0 (model_term t)

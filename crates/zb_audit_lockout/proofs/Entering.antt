@@ -112,7 +112,7 @@ module _ (leads : Holdings Key) (held : Holdings Eui) (old mid new : Spread) (de
     least = λ S shut k among. raises.least S (λ q there. shut.has q (sym (start_is q) ∙ there)) shut.carried k among;
   }
 
--- A device was entered as early already.
+-- A device was entered as early before.
 pub entered_before : (leads : Holdings Key) (held : Holdings Eui) (s : Spread) (d early : ℕ) → early ≤ early_of s d
     → Enters leads held s s d early []
 entered_before leads held s d early before = record {

@@ -44,7 +44,7 @@ parted : (test : LateSeal → Bool) (seals : List LateSeal) (count : ℕ) → li
 parted test seals count = ap (list_any test) (sym (take-append-drop count seals)) ∙ list_any-append test
     (take count seals) (drop count seals)
 
--- a test of the seals from some place on is one of them all
+-- A test of the seals from some place on is one of all seals.
 pub any_behind : (test : LateSeal → Bool) (seals : List LateSeal) (count : ℕ) → list_any test (drop count seals)
     ≡ true → list_any test seals ≡ true
 any_behind test seals count there = parted test seals count ∙ or_right (list_any test (take count seals)) _ there
@@ -83,7 +83,7 @@ alike_items bags term o is =
     (lookup_alike (is_at (term_cmp o)) (is_at (term_cmp term))
     (λ x. ap is_eq (sym (term_laws.total-law.congr term o x (equal (term_cmp term o) is)))) bags.bags.entries)
 
--- The first seals of a term are kept, after which none is late.
+-- The first seals of a term are kept. After them none is late.
 module _ (w : Windows) (old new : Evidence) (term : Term) (count : ℕ) (forged : new.forged ≡ old.forged)
     (kept : (test : LateSeal → Bool) (o : Term) → is_eq (term_cmp term o) ≡ true
     → list_any test (items_at term_cmp new.sealed o)

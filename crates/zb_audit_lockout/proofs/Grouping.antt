@@ -7,7 +7,7 @@ use Rattle.zb_audit_lockout.specs.Before.{all_but_last, before_group}
 use Rattle.zb_audit_lockout.specs.Standing.{last_event}
 use Rattle.zb_trace.specs.declared.line.Line.{Line}
 
--- a line after groups: it joins the last of them, or is one of its own
+-- A line after groups: it joins the last of them, or is a group of its own.
 abbrev joined : Bool → List (List Line) → Line → List (List Line)
 joined b [] l = (l ∷ []) ∷ []
 joined b (g ∷ []) l = if b then (g ++ l ∷ []) ∷ [] else g ∷ (l ∷ []) ∷ []
@@ -64,7 +64,7 @@ onto_joined b m l x run runs =
     ∙ (put_joined (same_event (event_of m) (event_of x)) b m l x run runs refl
     ∙ ap (λ (gs : List (List Line)). joined b gs l) (sym (onto_run m x run runs)))
 
--- the same, after a line that was put before groups
+-- The same, after a line that was put before groups.
 onto_put : (e b : Bool) (m l x y : Line) (run : List Line) (runs : List (List Line))
     → onto m (joined b (put e x y run runs) l) ≡ joined b (onto m (put e x y run runs)) l
 onto_put true b m l x y run runs = onto_joined b m l x (y ∷ run) runs
@@ -92,7 +92,7 @@ groups_more (m ∷ []) l = by (same_event (event_of m) (event_of l))
 groups_more (m ∷ x ∷ h) l =
     ap (onto m) (groups_more (x ∷ h) l) ∙ onto_onto (same_event (last_event (x ∷ h)) (event_of l)) m l x (groups h)
 
--- What stands before the last group.
+-- What comes before the last group
 
 flat_onto : (l : Line) (gs : List (List Line)) → flat (onto l gs) ≡ l ∷ flat gs
 flat_onto l [] = refl

@@ -57,7 +57,7 @@ evidence_same tools r e h l reach ev no_forged no_sealed =
     (no_sealed d (declared_in h)) ∙ or_none _))
     ev.early
 
--- A line that leaves the windows, and is no accept.
+-- A line that doesn't change the windows, and isn't an accept line.
 module _ (tools : Tools) (old new : Lockout) (h : List Line) (l : Line) (reach : IsReach tools old.reach h)
     (safe : IsSafe old.reach) (stays : Bool) (tells : Tells old.reach new.reach stays)
     (evidence : IsEvidence new.evidence (h ++ l ∷ [])) (plain : IsPlain l) (no_removal : (Q : Claim) → EachAt Q h l [])
@@ -88,7 +88,7 @@ module _ (tools : Tools) (old new : Lockout) (h : List Line) (l : Line) (reach :
         no_removal u.device u.number u.found);
   }
 
--- nothing is drawn, and nothing is carried
+-- Nothing is drawn, and nothing is carried.
 pub drawn_same : (old new : Reach) (l : Line) (r : ℕ) (b : List Line) → drawn_in l ≡ [] → new.drawn ≡ old.drawn
     → IsDrawn old r b → IsDrawn new r (b ++ l ∷ [])
 drawn_same old new l r b none same drawn k =
@@ -118,7 +118,7 @@ carried_same tools r new h l reach same none b k =
     (ap (λ (ts : List Term). list_any (carries tools b k) (terms_of h) || list_any (carries tools b k) ts) none ∙
     or_none _)))
 
--- Devices come to hold a key.
+-- Devices get a key.
 pub held_judged : (tools : Tools) (names : List Bytes) (old new : Lockout) (h : List Line) (l : Line) (stays : Bool)
     (more : ℕ → Bytes → Bool) → IsReady tools names old h l → CameToHold old.reach new.reach more
     → Tells old.reach new.reach stays → new.evidence ≡ old.evidence → IsPlain l → IsUnsealed l → drawn_in l ≡ []
@@ -136,7 +136,7 @@ held_judged tools names old new h l stays more ready hold tells evidence plain u
     (carried_same tools old.reach new.reach h l ready.reach hold.leads unsealed.terms)
     (early_same old.reach new.reach hold.drawn ready.reach.early)
 
--- A line that says nothing of all this.
+-- A line that says nothing about any of this.
 pub record IsQuiet (l : Line) : Type 1 where
   pub plain : IsPlain l
   pub unsealed : IsUnsealed l

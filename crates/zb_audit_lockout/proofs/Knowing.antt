@@ -45,7 +45,7 @@ from_outside f S k (d ∷ ds) covered there =
       | inr later ↦ from_outside f S k ds (λ e gone did. covered e (or_right _ _ gone) did) later
     ]
 
--- Where the parts of an exposure are those of a list of lines.
+-- If the parts of an exposure are those of a list of lines.
 module _ (tools : Tools) (e : Exposure) (h : List Line)
     (carried_is : (base key : Bytes) → is_carried e.carried base key ≡ list_any (carries tools base key) (terms_of h))
     (ever_is : (d : ℕ) (key : Bytes) → node_has e.ever d key ≡ holds (ever h d) key)
@@ -80,7 +80,7 @@ module _ (tools : Tools) (e : Exposure) (h : List Line)
   known_is settled k = same_truth _ _ (settled.least (holds (exposed tools h (outside h))) covers_exposed k)
       (exposed_within (has e.known) settled.covers k)
 
--- Two lists with the same keys: some key of one passes a test where some key of the other does.
+-- Two lists with the same keys: some key of one passes a test if some key of the other does.
 
 pub among_passes : (P : Bytes → Bool) (k : Bytes) (keys : List Key) → is_among keys k ≡ true → P k ≡ true
     → list_any (λ (key : Key). P key.0) keys ≡ true

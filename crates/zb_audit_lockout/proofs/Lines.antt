@@ -1,4 +1,4 @@
--- What a line of each kind leaves, in the program's words.
+-- The state after a line of each kind, in the program's words.
 use Rattle.std.proofs.Common.{◌≡◌, ℕ, ◌+◌, List, [], ◌∷◌, ◌++◌, length, Bool, true, false, ◌||◌, ◌&&◌, Option, Some, None, refl, ap, sym, ◌∙◌, subst, bytes_eq, nat_eq}
 use Rattle.std.specs.Prelude.{if◌then◌else◌}
 use Rattle.std.specs.Option.{option_or}
@@ -37,9 +37,9 @@ use Rattle.zb_trace_watch.specs.Standing.{FindKeys}
 use Rattle.zb_trace_watch.proofs.Truth.{turned_number}
 use Rattle.zb_seal.specs.Carrying.{carried}
 
--- Lines by which devices hold a key
+-- Lines by which devices get a key
 
--- how two devices come to hold a key
+-- How two devices get a key.
 abbrev both_hold : Option Eui → Option Eui → Key → ℕ → Bytes → Bool
 both_hold first second key d k = (is_node first d && bytes_eq k key.0) || (is_node second d && bytes_eq k key.0)
 
@@ -263,7 +263,7 @@ quiet_judges s number l who quiet = record {
   judged = λ tools names h find number_is speaks ready. quiet_judged tools names s h l ready quiet;
 }
 
--- a line that nothing is heard of
+-- A line that has no effect.
 pub quiet_line : (l : Line)
     → ((x0 : ArrayString) (x1 : Key) (x2 : ℕ) → l ≡ line.GivenNet x0 x1 x2 → ⊥)
     → ((x0 : ArrayString) (x1 : Eui) (x2 : Key) → l ≡ line.GivenLink x0 x1 x2 → ⊥)
@@ -361,7 +361,7 @@ go_on_stands tools names old new last h l number stays number_is none stands on 
         }
     by false none_left held first_is = absurd (gone (sym none_left ∙ first_is))
 
--- once lockout failed
+-- After lockout failed.
 pub failed_stands : (tools : Tools) (names : List Bytes) (s : Lockout) (h : List Line) (l : Line) (n : ℕ) → s.first
     ≡ Some n → Stands tools names s h → Stands tools names s (h ++ l ∷ [])
 failed_stands tools names s h l n is stands = record {

@@ -1,4 +1,4 @@
--- Lockout over a list with one more line: only the windows that are open ask anything more.
+-- Lockout over a list with one more line: only open windows add conditions.
 use Rattle.std.proofs.Common.{◌≡◌, ◌+◌, ℕ, List, [], ◌∷◌, ◌++◌, length, Bool, true, false, ◌&&◌, inl, inr, refl, ap, sym, ◌∙◌, append_assoc, Option, Some, None}
 use Rattle.std.specs.Option.{option_or}
 use Rattle.std.specs.Prelude.{if◌then◌else◌}
@@ -190,7 +190,7 @@ module _ (tools : Tools) where
   locked_after h (m ∷ ls) before none = after_line h m ls (locked tools (h ++ m ∷ [])) refl none
       (locked_after (h ++ m ∷ []) ls)
 
-  -- where no line is the first, lockout holds
+  -- If no line is the first, lockout holds.
   pub locked_where_none : (h : List Line) → first_unlocked tools h ≡ None → locked tools h ≡ true
   unfolding first_unlocked
   locked_where_none h none = locked_after [] h locked_nothing none

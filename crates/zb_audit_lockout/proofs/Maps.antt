@@ -40,7 +40,7 @@ pub taken_out : (old new : BTreeMap Eui ℕ) (device : Eui)
 taken_out old new device updates d =
     updates (record { 0 = d }) ∙ ap (λ (b : Bool). cond b None (number_in old.entries d)) (number_alike device.0 d)
 
--- the numbers of keys
+-- The numbers of keys.
 pub raised_number : (old : Numbers) (new : BTreeMap Key ℕ) (key : Key) (number : ℕ)
     → nat_lt (number_of old key.0) number ≡ true
     → ((q : Key) → get key_cmp new q ≡ cond (is_at (key_cmp key) q) (Some number) (get key_cmp old.numbers q))
@@ -116,7 +116,7 @@ unmarked_early old new device updates d =
     by true = refl
     by false = refl
 
--- One key fewer of an owner.
+-- One key fewer for an owner.
 
 without : (was : Bool) (a : Bool) → cond a false was ≡ (was && not a)
 without true true = refl

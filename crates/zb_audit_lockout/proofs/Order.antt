@@ -26,7 +26,7 @@ opening_alike a b =
     ∙ (ap (λ (x : Bool). x && is_eq (nat_cmp a.device.0 b.device.0)) (number_so a.number b.number)
     ∙ ap (λ (x : Bool). nat_eq a.number b.number && x) (number_so a.device.0 b.device.0))
 
--- What becomes of a test as an opening is added, or taken out.
+-- What a test becomes as an opening is added, or removed.
 on_here : (a : Bool) → cond (a && true) true false ≡ a
 on_here true = refl
 on_here false = refl
@@ -107,7 +107,7 @@ taken numbers fewer order smaller device number before there adds updates n d =
         (nat_eq number n))
     by false same = off_there (nat_eq number n) (is_number n (number_in numbers.entries d))
 
--- an opening is added, and taken out again
+-- An opening is added, and removed again.
 pub undone : (numbers : BTreeMap Eui ℕ) (order larger back : BTreeSet Opening) (device : Eui) (number : ℕ)
     → IsInOrder numbers order → number_in numbers.entries device.0 ≡ None
     → Adds order larger number device true → Adds larger back number device false → IsInOrder numbers back
@@ -208,7 +208,7 @@ pub listed_is : (numbers : BTreeMap Eui ℕ) (order : BTreeSet Opening) → IsIn
     → is_listed n d order.keys ≡ is_number n (number_in numbers.entries d)
 listed_is numbers order before n d = listed_alike n d order.keys ∙ before n d
 
--- A device comes into a set with its number, where it has one.
+-- A device is put into a set with its number, if it has one.
 pub noted_open : (was now : BTreeSet Opening) (device : Eui) (number : ℕ) (numbers : List (Eui × ℕ))
     → number_in numbers device.0 ≡ Some number → Adds was now number device true → (n d : ℕ)
     → contains opening_cmp now (at n d)

@@ -1,4 +1,4 @@
--- What stood before the group of a line, as lines come.
+-- What was known before the group of a line, as lines come.
 use Rattle.std.proofs.Common.{◌≡◌, ℕ, List, [], ◌∷◌, ◌++◌, Bool, true, false, Option, None, ap, sym, ◌∙◌, subst}
 use Rattle.std.specs.Prelude.{if◌then◌else◌}
 use Rattle.zb_audit_names.specs.Groups.{event_of, same_event}
@@ -24,7 +24,7 @@ before_is h l old event b was is same =
     before_more h l ∙ ap (λ (c : Bool). if c then before_group h
     else h) (ap (λ (o : Option ℕ). same_event o (event_of l)) (sym was) ∙ (ap (same_event old) (sym is) ∙ same))
 
--- a line goes on with the group, or begins one
+-- A line continues the group, or begins one.
 pub goes_on_enters : (tools : Tools) (names : List Bytes) (p : Past) (h : List Line) (l : Line) (event : Option ℕ)
     → event ≡ event_of l → same_event p.event event ≡ true → IsPast tools names p h → Enters tools names p h l
 goes_on_enters tools names p h l event is same past = record {

@@ -31,7 +31,7 @@ module _ (leads : Holdings Key) (old now new : Numbers) (start left : List Key) 
   others k not_it = becomes k ∙ ap (λ (b : Bool). if b && nat_lt (number_of now key.0) number then number
       else number_of now k) not_it
 
-  -- of what was left
+  -- A key that was left.
   was_left : (k : List ℕ) → is_among (left ++ key ∷ []) k ≡ true → (is_among left k ≡ true) ⊎ (k ≡ key.0)
   was_left k there =
       elim (either (is_among left k) (bytes_eq k key.0 || false) (sym (among_append left (key ∷ []) k) ∙ there)) [
@@ -39,7 +39,7 @@ module _ (leads : Holdings Key) (old now new : Numbers) (start left : List Key) 
         | inr last ↦ inr (same_bytes k key.0 (none_left _ last))
       ]
 
-  -- A key that is raised brings the keys that it leads to.
+  -- A key that is raised adds the keys that it leads to.
   module _ (below : nat_lt (number_of now key.0) number ≡ true) where
     here : number_of new key.0 ≡ number
     here = becomes key.0 ∙ ap (λ (b : Bool). if b then number else number_of now key.0)
@@ -137,7 +137,7 @@ module _ (leads : Holdings Key) (old now new : Numbers) (start left : List Key) 
           );
     }
 
-  -- A key whose number is as high already brings nothing.
+  -- A key whose number is as high already adds nothing.
   module _ (high : nat_lt (number_of now key.0) number ≡ false) where
     same : (k : List ℕ) → number_of new k ≡ number_of now k
     same k = becomes k ∙ by (bytes_eq k key.0) (nat_lt (number_of now key.0) number) high

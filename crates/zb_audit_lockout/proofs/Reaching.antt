@@ -47,7 +47,7 @@ pub some_key : (w : Windows) (number d m : ℕ) → open_at w d ≡ Some m → m
     → some_open w number (keys_of w.removals) ≡ true
 some_key w number d m found le = some_at w number d m (keys_of w.removals) found le (in_keys d m w.removals found)
 
--- a device of a list that is removed
+-- A device of a list that is removed.
 pub record IsOneOpen (w : Windows) (number : ℕ) (devices : List Eui) : Type 0 where
   pub device : ℕ
   pub among : list_any (λ (e : Eui). nat_eq device e.0) devices ≡ true

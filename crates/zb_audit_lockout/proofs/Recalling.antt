@@ -34,7 +34,7 @@ use Rattle.zb_trace_watch.proofs.Effects.{carried_is}
 use Rattle.zb_trace_watch.proofs.Truth.{itself_number, itself, same_bytes, same_number, same_truth, turned_number}
 use Rattle.zb_seal.specs.Carrying.{carried}
 
--- A fact more is known.
+-- One more fact is known.
 pub recalls_next : (tools : Tools) (names : List Bytes) (b new : Before) (f : Fact) (rest : List Fact) (h : List Line)
     → Recalls tools names b (f ∷ rest) h → Learnt b new f → Recalls tools names new rest h
 recalls_next tools names b new f rest h l learnt = record {
@@ -199,7 +199,7 @@ module _ (tools : Tools) (names : List Bytes) (known : List Station) (who : Who)
   stated_removed (line.Forge event t) d = never_removed t.base (carried t) d
   stated_removed _ d = refl
 
-  -- the place of a line's node is that of a name exactly where the name is the node's
+  -- The place of a line's node is that of a name exactly if the name is the node's.
   at_place : (node name : Bytes) (place : ℕ) → place_in names node ≡ Some who.place → place_in names name ≡ Some place
       → nat_eq who.place place ≡ bytes_eq node name
   at_place node name place is at =
@@ -268,7 +268,7 @@ module _ (tools : Tools) (names : List Bytes) (known : List Station) (who : Who)
   stated_live (line.Forge event t) is name place at k was = never_living t.base (carried t) place k was
   stated_live _ is name place at k was = refl
 
--- A line more is said, in facts.
+-- One more line is said, in facts.
 pub recalls_more : (tools : Tools) (names : List Bytes) (b : Before) (facts : List Fact) (h : List Line) (l : Line)
     (who : Who) → FindKeys tools → IsSpeaker who names (declared_in h) l
     → Recalls tools names b facts h → Recalls tools names b (facts ++ stated who l) (h ++ l ∷ [])

@@ -1,4 +1,4 @@
--- What calls ensure where they are Ok, put together.
+-- What calls ensure if they return `Ok`, put together.
 use Rattle.std.proofs.Common.{Result, Ok, Err}
 use Rattle.std.specs.Result.{IfOk, OnOk}
 

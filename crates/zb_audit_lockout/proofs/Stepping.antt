@@ -35,11 +35,11 @@ longer h l = length-append h (l ∷ [])
 pub moved_whole : (h : List Line) (l : Line) (a b : List Line) → a ++ b ≡ h → a ++ (b ++ l ∷ []) ≡ h ++ l ∷ []
 moved_whole h l a b whole = sym (append_assoc a b (l ∷ [])) ∙ ap (λ (g : List Line). g ++ l ∷ []) whole
 
--- the keys that these lines draw are those whose number is at least that one
+-- These lines draw exactly the keys whose number is at least that one.
 abbrev pub IsDrawn : Reach → ℕ → List Line → Type 0
 IsDrawn r number b = (k : Bytes) → holds (flat_map drawn_in b) k ≡ nat_le number (number_of r.drawn k)
 
--- Where the windows stay.
+-- If the windows don't change.
 module _ (tools : Tools) (old new : Reach) (h : List Line) (l : Line) (reach : IsReach tools old h)
     (windows : new.windows ≡ old.windows)
     (drawn : (r : ℕ) (b : List Line) → r ≤ old.windows.last → IsDrawn old r b → IsDrawn new r (b ++ l ∷ []))
@@ -95,7 +95,7 @@ module _ (tools : Tools) (new : Reach) (h : List Line) (reach : IsReach tools ne
   has_is d k = ap (λ (x : Bool). bytes_eq k well_known || x) (reach.held d k)
 
   module _ (safe : IsSafe new) (a : List Line) (d : ℕ) (b : List Line) (w : IsWindow new h a d b) where
-    -- the keys that come out for a device that was removed as early
+    -- The keys that come out for a device that was removed as early.
     abbrev out : Bytes → Bool
     out k = nat_le 4294967296 (number_of new.spread.keys k + length a)
 

@@ -144,7 +144,7 @@ followed old new spread key early level raised stays high raises devices all = r
   out = all.out;
 }
 
--- A device is entered.
+-- A device is entered
 pub tries : (old : Reach) (spread : Spread) (opening : Opening) (early : ℕ) (raised : List Key) (stays : Bool)
     → early + opening.number ≡ 4294967296
     → Enters old.leads old.held old.spread spread opening.device.0 early raised
@@ -212,7 +212,7 @@ removed_so old windows spread d number early raised found last small early_is en
   ];
 }
 
--- What the answer tells of a line.
+-- What the answer says about a line
 
 -- A key was drawn, and is still to be checked.
 drawn_but : (old : Reach) (drawn : Numbers) (key : Key)
@@ -309,7 +309,7 @@ carried_tells old new leads bases base key early stays leads_is bases_is early_i
   out = judged.out;
 }
 
--- A device came to hold a key, and is found from it.
+-- A device got a key, and is found from it.
 held_back : (old : Reach) (held : Holdings Eui) (back : Back) (device : Eui) (key : Key)
     → ((d : ℕ) (k : Bytes) → node_has held d k
     ≡ (node_has old.held d k || (nat_eq d device.0 && bytes_eq k key.0)))
@@ -394,7 +394,7 @@ module _ (old new : Reach) (more : ℕ → Bytes → Bool) (holds : CameToHold o
     shown = λ S shut. u.shown S (shut_before S u.device shut);
   }
 
--- one after the other
+-- One after the other.
 pub both_tell : (old mid new : Reach) (first second : Bool) → Tells old mid first → Tells mid new second → first
     ≡ true → Tells old new second
 both_tell old mid new first second a b on =

@@ -1,4 +1,4 @@
--- Devices that are forgotten one by one; those that are still removed come into a set.
+-- Devices that are forgotten one by one. Those that are still removed are put into a set.
 use Rattle.std.proofs.Common.{◌≡◌, ◌≢◌, ◌⊎◌, ℕ, ◌+◌, ◌<◌, List, [], ◌∷◌, length, drop, get_or, Bool, true, false, ◌||◌, ◌&&◌, inl, inr, refl, ap, sym, ◌∙◌, bytes_eq, nat_eq}
 use Rattle.std.specs.Prelude.{if◌then◌else◌}
 use Rattle.std.specs.BTreeSet.{BTreeSet}
@@ -45,7 +45,7 @@ unmarked w old new was now device keys becomes noted = record {
     gone : (d : ℕ) → nat_eq d device ≡ true → early_of new d ≡ 0
     gone d is = becomes d ∙ ap (λ (b : Bool). if b then 0 else early_of old d) is
 
--- What stands once the devices of some items of a list are forgotten.
+-- What is true after the devices of some items of a list were forgotten.
 pub record Unmarking {A : Type 0} (w : Windows) (old now : Spread) (was opened : BTreeSet Opening)
     (test : ℕ → A → Bool) (items : List A) (index : ℕ) : Type 0 where
   pub marks : Unmarks w old now was opened (λ (d : ℕ). false)
@@ -164,7 +164,7 @@ withdraws w back old new keys was now list empty list_is marks known = record {
     listed : (n d : ℕ) → is_listed n d list ≡ is_in now n d
     listed n d = ap (is_listed n d) list_is ∙ listed_alike n d now.keys
 
--- Nobody is marked any more.
+-- No device is marked any more.
 pub withdraws_all : (w : Windows) (back : Back) (old new : Spread) (keys : List Key) (list : List Opening)
     → new.keys ≡ old.keys → ((d : ℕ) → early_of new d ≡ 0)
     → ((n d : ℕ) → is_listed n d list ≡ is_number n (open_at w d)) → Withdraws w back old new keys list

@@ -256,7 +256,7 @@ module _ (tools : Tools) (names : List Bytes) (old new : Lockout) (h : List Line
     drawn = drawn_same old.reach new.reach gone (length a) b refl removes.drawn w.drawn;
   }
 
-  -- no key was drawn since the removal
+  -- No key was drawn since the removal.
   not_late : (k : Bytes) → nat_le (length (h ++ gone ∷ [])) (number_of new.reach.drawn k) ≡ false
   not_late k = elim (leb_tells (length (h ++ gone ∷ [])) (number_of new.reach.drawn k)) [
     | inl it ↦
@@ -450,7 +450,7 @@ module _ (tools : Tools) (names : List Bytes) (s : Lockout) (h : List Line) (eve
       (let le : w.found.opened ≤ length a = w.found.early in let low : length a
       ≤ s.reach.windows.last = w.low in omega arith)
 
-  -- where nothing is foul
+  -- If nothing is foul.
   clean : is_foul s.reach.windows s.evidence t ≡ false → (a : List Line) (d : ℕ) (b : List Line)
       → IsWindow s.reach h a d b × Sealed a d b → foul a d b ≡ false
   clean none a d b it =
@@ -483,7 +483,7 @@ module _ (tools : Tools) (names : List Bytes) (s : Lockout) (h : List Line) (eve
   refuses_is a d b whole = ap (λ (g : List Line). is_aps t.layer || (known_there g || not (foul a d b))) whole ∙ ap
       (λ (x : Bool). is_aps t.layer || (x || not (foul a d b))) (sym known_is)
 
-  -- the answer tells whether each window refuses the term
+  -- The answer says whether each window refuses the term.
   refused : (l : Layer) → t.layer ≡ l → accepts_at l s who.place t ≡ true → (a : List Line) (d : ℕ) (b : List Line)
       → IsWindow s.reach h a d b × Sealed a d b → refuses_line tools d a b taken ≡ true
   refused layer.Aps is stay a d b it =

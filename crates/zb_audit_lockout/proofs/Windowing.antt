@@ -81,7 +81,7 @@ some_last Q l h [] at = inl (at_start (λ (g : List Line). SomeAt Q g l []) h at
 some_last Q l h (m ∷ ls) at =
     inr (some_last Q l (h ++ m ∷ []) ls (at_next (λ (g : List Line). SomeAt Q g l []) h m ls at))
 
--- Some window that has one claim has one more, where each has that.
+-- If some window has one claim and each has another, some window has both.
 module _ (P Q : Claim) where
   meet_at : (h : List Line) (m : Line) (ls : List Line) → EachAt P h m ls → SomeAt Q h m ls
       → SomeAt (λ a d b. P a d b × Q a d b) h m ls

@@ -8,7 +8,7 @@ use Rattle.zb_audit_lockout.specs.declared.back.Back.{Back}
 use Rattle.zb_trace_watch.specs.Sets.{is_carried, key_cmp, node_has}
 use Rattle.zb_trace_watch.specs.declared.holdings.Holdings.{Holdings}
 
--- whether a device is among the holders of a key
+-- Whether a device is among the holders of a key.
 abbrev pub is_one_of : List Eui → ℕ → Bool
 is_one_of devices d = list_any (λ (device : Eui). nat_eq d device.0) devices
 

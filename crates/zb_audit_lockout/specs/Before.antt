@@ -1,4 +1,4 @@
--- What is asked of the lines before the group of a line. Names tell nodes apart.
+-- What is known from the lines before the group of a line. Names distinguish nodes.
 use Rattle.std.specs.Prelude.{Bool, true, false, if◌then◌else◌, ◌&&◌, List, [], ◌∷◌, fold, bytes_eq}
 use Rattle.std.specs.List.{list_any}
 use Rattle.zb_audit_names.specs.Groups.{flat, groups}
@@ -8,11 +8,11 @@ use Rattle.zb_model.specs.Tools.{Tools}
 use Rattle.zb_trace.specs.declared.line.Line.{Line}
 use Rattle.zb_trace.specs.declared.line.Line.TheVariants as line
 
--- whether a line speaks of this network key of this node
+-- Whether a line is about this network key of this node.
 abbrev pub is_about : Bytes → Bytes → Bytes → Bytes → Bool
 is_about name key n k = bytes_eq n name && bytes_eq k key
 
--- Whether the last line that speaks of a network key of a node gives or installs it, and doesn't drop it.
+-- Whether the last line about a network key of a node gives or installs it, and doesn't drop it.
 abbrev pub lives : Bytes → Bytes → Bool → Line → Bool
 lives name key was (line.GivenNet node k sequence) = if is_about name key node.bytes k.0 then true else was
 lives name key was (line.Install event node k sequence) = if is_about name key node.bytes k.0 then true else was
@@ -22,11 +22,11 @@ lives name key was _ = was
 unfoldable pub is_live : List Line → Bytes → Bytes → Bool
 is_live h name key = fold (lives name key) false h
 
--- whether the node has a live network key that outsiders may know
+-- Whether the node has a live network key that outsiders may know.
 unfoldable pub holds_known : Tools → List Line → Bytes → Bool
 holds_known tools h name = list_any (is_live h name) (exposed tools h (outside h))
 
--- the lines before the group of the last line
+-- The lines before the group of the last line.
 abbrev pub all_but_last : {A : Type 0} → List A → List A
 all_but_last [] = []
 all_but_last (x ∷ []) = []

@@ -23,7 +23,7 @@ use Rattle.zb_trace_watch.specs.Standing.{carries}
 use Rattle.zb_trace_watch.specs.declared.holdings.Holdings.{Holdings}
 use Rattle.zb_seal.specs.Carrying.{carried}
 
--- whether a device came to hold a key, a term carries a key under a base key, a device was removed
+-- Whether a device got a key, a term carries a key under a base key, or a device was removed.
 abbrev pub holds_in : ℕ → List ℕ → Fact → Bool
 holds_in d k (fact.Holds device key) = nat_eq d device.0 && bytes_eq k key.0
 holds_in d k _ = false
@@ -36,7 +36,7 @@ abbrev pub removes_in : ℕ → Fact → Bool
 removes_in d (fact.Removed device) = nat_eq d device.0
 removes_in d _ = false
 
--- whether a network key of the node at a place is live
+-- Whether a network key of the node at a place is live.
 abbrev pub living : ℕ → List ℕ → Bool → Fact → Bool
 living place k was (fact.Lives p key) = was || (nat_eq p place && bytes_eq k key.0)
 living place k was (fact.Drops p key) = was && not (nat_eq p place && bytes_eq k key.0)
@@ -45,7 +45,7 @@ living place k was _ = was
 abbrev pub lives_at : Holdings ℕ → ℕ → List ℕ → Bool
 lives_at live place k = held nat_cmp live place k
 
--- One fact more is known.
+-- One more fact is known.
 pub record Learnt (old new : Before) (f : Fact) : Type 0 where
   pub settled : IsSettled old.exposure → IsSettled new.exposure
   pub ever : (d : ℕ) (k : List ℕ) → node_has new.exposure.ever d k ≡ (node_has old.exposure.ever d k || holds_in d k f)
@@ -66,7 +66,7 @@ pub record Recalls (tools : Tools) (names : List Bytes) (b : Before) (facts : Li
   pub live : (name : Bytes) (place : ℕ) → place_in names name ≡ Some place → (k : List ℕ)
       → fold (living place k) (lives_at b.live place k) facts ≡ is_live h name k
 
--- The facts that a line states of its node.
+-- The facts that a line states about its node.
 abbrev pub eui_of_node : Option Node → Option Eui
 eui_of_node None = None
 eui_of_node (Some node) = Some node.eui

@@ -13,7 +13,7 @@ use Rattle.zb_trace.specs.declared.line.Line.TheVariants as line
 use Rattle.zb_audit_names.specs.Secrets.{along, ever, exposed, forged_in}
 use Rattle.zb_audit_lockout.specs.Before.{before_group, holds_known}
 
--- the lines up to a device's next `live` line
+-- The lines up to a device's next `live` line.
 abbrev pub admits : ℕ → Line → Bool
 admits d (line.Live event device) = nat_eq device.0 d
 admits d _ = false
@@ -26,14 +26,14 @@ abbrev pub drawn_in : Line → List Bytes
 drawn_in (line.Draw event key) = key.0 ∷ []
 drawn_in _ = []
 
--- No key that is drawn after the removal comes out for the device, by what it ever held and the well-known key. What
--- it installs itself is among what it ever held.
+-- No key that is drawn after the removal comes out for the device, from what it ever held and the well-known key.
+-- What it installs itself is among what it ever held.
 unfoldable pub keeps_out : Tools → List Line → List Line → ℕ → Bool
 keeps_out tools h between d =
     not (list_any (holds (exposed tools (h ++ between) (well_known ∷ ever (h ++ between) d)))
     (flat_map drawn_in between))
 
--- the terms that a device sealed
+-- The terms that a device sealed.
 abbrev pub sealed_by : ℕ → List Station → Line → List Term
 sealed_by d known (line.Seal event node t) = if is_of known d node.bytes then model_term t ∷ [] else []
 sealed_by d known _ = []
@@ -42,9 +42,9 @@ abbrev pub is_aps : Layer → Bool
 is_aps layer.Aps = true
 is_aps layer.Nwk = false
 
--- A node that has no live network key that outsiders may know, before the group of the line, accepts at NWK no term
--- that the device sealed after its removal, and none that was forged. `h` are the lines up to the removal, `since`
--- those after it.
+-- A node accepts at NWK no term that the device sealed after its removal, and no forged term. This holds if the node
+-- has no live network key that outsiders may know before the group of the line. `h` are the lines up to the removal,
+-- `since` those after it.
 unfoldable pub refuses_line : Tools → ℕ → List Line → List Line → Line → Bool
 refuses_line tools d h since (line.Accept event node t) =
     is_aps t.layer
@@ -57,7 +57,7 @@ unfoldable pub refuses : Tools → ℕ → List Line → List Line → List Line
 refuses tools d h since [] = true
 refuses tools d h since (l ∷ ls) = refuses_line tools d h since l && refuses tools d h (since ++ l ∷ []) ls
 
--- Lockout of a device over the lines between its removal and its next admission.
+-- Whether a device is locked out from its removal to its next admission.
 abbrev pub locks_out : Tools → List Line → List Line → ℕ → Bool
 locks_out tools h between d = keeps_out tools h between d && refuses tools d h [] between
 
@@ -70,11 +70,11 @@ abbrev pub locked_from : Tools → List Line → List Line → Bool
 locked_from tools h [] = true
 locked_from tools h (l ∷ ls) = locked_line tools h l ls && locked_from tools (h ++ l ∷ []) ls
 
--- Lockout holds of all removed devices.
+-- Whether lockout holds for all removed devices.
 unfoldable pub locked : Tools → List Line → Bool
 locked tools lines = locked_from tools [] lines
 
--- The number of the first line with which lockout fails.
+-- The number of the first line at which lockout fails.
 abbrev pub unlocked_from : Tools → List Line → List Line → Option ℕ
 unlocked_from tools h [] = None
 unlocked_from tools h (l ∷ ls) = if locked tools (h ++ l ∷ []) then unlocked_from tools (h ++ l ∷ []) ls

@@ -15,16 +15,16 @@ opening_cmp a b = ordering_then (nat_cmp a.number b.number) (nat_cmp a.device.0 
 abbrev pub opening_at : ℕ → ℕ → Opening
 opening_at n d = record { number = n; device = record { 0 = d } }
 
--- whether there is a number, and it is this one
+-- Whether there is a number, and it is this one.
 abbrev pub is_number : ℕ → Option ℕ → Bool
 is_number n None = false
 is_number n (Some m) = nat_eq n m
 
--- the order has each device after its number, and nothing else
+-- The order has each device after its number, and nothing else.
 abbrev pub IsInOrder : BTreeMap Eui ℕ → BTreeSet Opening → Type 0
 IsInOrder numbers order = (n d : ℕ) → contains opening_cmp order (record { number = n; device = record { 0 = d } })
     ≡ is_number n (get eui_cmp numbers (record { 0 = d }))
 
--- whether a list has the device with this number
+-- Whether a list has the device with this number.
 abbrev pub is_listed : ℕ → ℕ → List Opening → Bool
 is_listed n d list = list_any (λ (o : Opening). nat_eq n o.number && nat_eq d o.device.0) list

@@ -21,27 +21,27 @@ use Rattle.zb_seal.specs.contracts.term.TermOrd.TheImpl as term_ord
 use Rattle.zb_trace_watch.specs.Sets.{eui_cmp, key_cmp, keys_at, meet}
 use Rattle.zb_trace_watch.specs.Terms.{has_term}
 
--- the number of the line that removed a device
+-- The number of the line that removed a device.
 abbrev pub number_in : List (Eui × ℕ) → ℕ → Option ℕ
 number_in removals d = lookup (is_at (eui_cmp (record { 0 = d }))) removals
 
 abbrev pub open_at : Windows → ℕ → Option ℕ
 open_at w d = number_in w.removals d
 
--- whether there is a number, and it is at most another one
+-- Whether there is a number, and it is at most another one.
 abbrev pub opened_by : Option ℕ → ℕ → Bool
 opened_by None number = false
 opened_by (Some opened) number = nat_le opened number
 
--- whether one of the devices has a number that is at most that one
+-- Whether one of the devices has a number that is at most that one.
 abbrev pub some_by : List (Eui × ℕ) → ℕ → List Eui → Bool
 some_by numbers number devices = list_any (λ (device : Eui). opened_by (number_in numbers device.0) number) devices
 
--- whether one of the devices is removed by a line of at most that number
+-- Whether one of the devices is removed by a line of at most that number.
 abbrev pub some_open : Windows → ℕ → List Eui → Bool
 some_open w number devices = list_any (λ (device : Eui). opened_by (open_at w device.0) number) devices
 
--- the number of a key
+-- The number of a key.
 abbrev pub or_zero : Option ℕ → ℕ
 or_zero None = 0
 or_zero (Some number) = number
@@ -49,19 +49,19 @@ or_zero (Some number) = number
 abbrev pub number_of : Numbers → List ℕ → ℕ
 number_of l key = or_zero (get key_cmp l.numbers (record { 0 = key }))
 
--- how early the line of number 0 is: 2^32, above the number of each line
+-- How early the line of number 0 is: 2^32, above the number of each line.
 abbrev pub earliest : ℕ
 earliest = 4294967296
 
--- how early a device was removed: the earlier, the greater
+-- How early a device was removed: the earlier, the greater.
 abbrev pub early_of : Spread → ℕ → ℕ
 early_of s d = or_zero (get eui_cmp s.devices (record { 0 = d }))
 
--- whether a key was drawn after a removal that is so early
+-- Whether a key was drawn after a removal that is this early.
 abbrev pub is_late : Numbers → ℕ → List ℕ → Bool
 is_late drawn early key = nat_le earliest (early + number_of drawn key)
 
--- the seals of a term by removed devices
+-- The seals of a term by removed devices.
 abbrev pub has_seal : List LateSeal → ℕ → ℕ → Bool
 has_seal seals d number = list_any (λ (s : LateSeal). nat_eq d s.device.0 && nat_le number s.number) seals
 
@@ -71,25 +71,25 @@ term_cmp = term_ord.cmp-value.it
 abbrev pub seals_of : Evidence → Term → List LateSeal
 seals_of e t = items_at term_cmp e.sealed t
 
--- whether a device sealed the term while the last removal had at least that number
+-- Whether a device sealed the term while the last removal had at least that number.
 abbrev pub late_by : Evidence → ℕ → ℕ → Term → Bool
 late_by e d number t = has_seal (seals_of e t) d number
 
--- whether a device that sealed the term is removed since, and was then
+-- Whether a device that sealed the term was removed then, and still is.
 abbrev pub some_late : Windows → List LateSeal → Bool
 some_late w seals = list_any (λ (s : LateSeal). opened_by (open_at w s.device.0) s.number) seals
 
--- whether there is a device, it is this one, and it is removed; and the last removal has at least that number
+-- Whether there is a device, it is this one, and it is removed; and the last removal has at least that number.
 abbrev pub is_late_seal : Windows → Option Eui → ℕ → ℕ → Bool
 is_late_seal w None d number = false
 is_late_seal w (Some device) d number = opened_by (open_at w device.0) w.last
     && (nat_eq d device.0 && nat_le number w.last)
 
--- whether a term is one that was forged, or that a removed device sealed, while one is removed
+-- Whether a term was forged, or a removed device sealed it, while a device is removed.
 abbrev pub is_foul : Windows → Evidence → Term → Bool
 is_foul w e t = some_late w (seals_of e t) || (some_open w w.last (keys_of w.removals) && has_term e.forged t)
 
--- whether the node at a place has a live network key that outsiders may know
+-- Whether the node at a place has a live network key that outsiders may know.
 abbrev pub knows : Before → ℕ → Bool
 knows b place = meet b.exposure.known.keys.keys (keys_at nat_cmp b.live place)
 

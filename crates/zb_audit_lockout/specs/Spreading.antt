@@ -8,16 +8,16 @@ use Rattle.zb_model.specs.Secrets.{well_known}
 use Rattle.zb_trace_watch.specs.Sets.{is_among, is_carried, node_has}
 use Rattle.zb_trace_watch.specs.declared.holdings.Holdings.{Holdings}
 
--- whether a device holds a key: everybody holds the well-known key
+-- Whether a device holds a key: everybody holds the well-known key.
 abbrev pub has_key : Holdings Eui → ℕ → List ℕ → Bool
 has_key held d k = bytes_eq k well_known || node_has held d k
 
--- A key is as early as each device that holds it, and as each key under which a term carries it.
+-- A key is at least as early as each device that holds it, and as each key under which a term carries it.
 pub record IsSpread (leads : Holdings Key) (held : Holdings Eui) (s : Spread) : Type 0 where
   pub has : (d : ℕ) (k : List ℕ) → has_key held d k ≡ true → early_of s d ≤ number_of s.keys k
   pub carried : (b k : List ℕ) → is_carried leads b k ≡ true → number_of s.keys b ≤ number_of s.keys k
 
--- The same, but for some keys, which are still to become as early as that.
+-- The same, except for some keys, which have yet to become as early as that.
 pub record IsSpreadBut (leads : Holdings Key) (held : Holdings Eui) (s : Spread) (left : List Key) (early : ℕ) :
     Type 0 where
   pub has : (d : ℕ) (k : List ℕ) → has_key held d k ≡ true → (early_of s d ≤ number_of s.keys k)
@@ -25,12 +25,12 @@ pub record IsSpreadBut (leads : Holdings Key) (held : Holdings Eui) (s : Spread)
   pub carried : (b k : List ℕ) → is_carried leads b k ≡ true → (number_of s.keys b ≤ number_of s.keys k)
       ⊎ ((is_among left k ≡ true) × (number_of s.keys b ≤ early))
 
--- a set that has the keys of a device, and with a key all that terms carry under it
+-- A set that has the keys of a device, and with a key all that terms carry under it.
 pub record IsShut (leads : Holdings Key) (held : Holdings Eui) (d : ℕ) (S : List ℕ → Bool) : Type 0 where
   pub has : (k : List ℕ) → has_key held d k ≡ true → S k ≡ true
   pub carried : (b k : List ℕ) → S b ≡ true → is_carried leads b k ≡ true → S k ≡ true
 
--- A device is noted as removed so early; these keys come out for it, and became as early as that.
+-- A device is noted as removed this early. These keys come out for it, and became as early as that.
 pub record Enters (leads : Holdings Key) (held : Holdings Eui) (old new : Spread) (d early : ℕ) (raised : List Key) :
     Type 0 where
   pub spread : IsSpread leads held old → IsSpread leads held new

@@ -43,14 +43,14 @@ pub record IsPast (tools : Tools) (names : List Bytes) (p : Past) (h : List Line
   pub before : Recalls tools names p.before [] (before_group h)
   pub now : Recalls tools names p.before p.group.items h
 
--- What stands where a line has begun its group, or goes on with it.
+-- What is true after a line has begun its group, or continued it.
 pub record Enters (tools : Tools) (names : List Bytes) (p : Past) (h : List Line) (l : Line) : Type 0 where
   pub before : Recalls tools names p.before [] (before_group (h ++ l ∷ []))
   pub now : Recalls tools names p.before p.group.items h
 
 -- What comes out for removed devices
 
--- a device is removed by a line of at most that number
+-- A device is removed by a line of at most that number.
 pub record IsOpenBy (r : Reach) (d number : ℕ) : Type 0 where
   pub opened : ℕ
   pub found : open_at r.windows d ≡ Some opened
@@ -74,7 +74,7 @@ pub record IsReach (tools : Tools) (r : Reach) (h : List Line) : Type 0 where
   pub last : r.windows.last ≤ length h
   pub small : r.windows.last < earliest
 
--- a key comes out for no removed device, or was drawn before the removal
+-- A key comes out for no removed device, or was drawn before the removal.
 abbrev pub IsBelow : Reach → List ℕ → Type 0
 IsBelow r k = (number_of r.spread.keys k ≡ 0) ⊎ (number_of r.spread.keys k + number_of r.drawn k < earliest)
 
@@ -94,12 +94,12 @@ pub record IsUnsafe (r : Reach) : Type 0 where
   pub late : number ≤ number_of r.drawn key
   pub shown : (S : List ℕ → Bool) → IsShut r.leads r.held device S → S key ≡ true
 
--- the answer is whether it is safe, where it was before; whatever was before
+-- If it was safe before and the answer is true, it is still safe. If the answer is false, it is unsafe.
 pub record Tells (old new : Reach) (stays : Bool) : Type 0 where
   pub safe : IsSafe old → stays ≡ true → IsSafe new
   pub out : stays ≡ false → IsUnsafe new
 
--- Only what is known of keys that come out changed.
+-- Only the knowledge of keys that come out changed.
 pub record Settles (old new : Reach) : Type 0 where
   pub windows : new.windows ≡ old.windows
   pub leads : new.leads ≡ old.leads
@@ -107,7 +107,7 @@ pub record Settles (old new : Reach) : Type 0 where
   pub back : new.back ≡ old.back
   pub drawn : new.drawn ≡ old.drawn
 
--- The answer is whether it is safe, where it was before but for a key that is still to become so early.
+-- It is safe except for a key that has yet to become so early.
 pub record IsNearlySafe (r : Reach) (key : Key) (early : ℕ) : Type 0 where
   pub back : IsBack r.leads r.held r.back
   pub spread : IsSpreadBut r.leads r.held r.spread (key ∷ []) early
@@ -118,19 +118,19 @@ pub record Judged (old new : Reach) (key : Key) (early : ℕ) (stays : Bool) : T
   pub safe : IsNearlySafe old key early → stays ≡ true → IsSafe new
   pub out : stays ≡ false → IsUnsafe new
 
--- It is safe but for keys that are still to be checked.
+-- It is safe except for keys that are still to be checked.
 pub record IsSafeBut (r : Reach) (keys : List Key) : Type 0 where
   pub back : IsBack r.leads r.held r.back
   pub spread : IsSpread r.leads r.held r.spread
   pub opened : (d number : ℕ) → open_at r.windows d ≡ Some number → earliest ≤ early_of r.spread d + number
   pub below : (k : List ℕ) → IsBelow r k ⊎ (is_among keys k ≡ true)
 
--- Keys are checked.
+-- Keys are checked. The answer is whether it is safe, if it was safe before except for these keys.
 pub record Checked (old new : Reach) (keys : List Key) (stays : Bool) : Type 0 where
   pub safe : IsSafeBut old keys → stays ≡ true → IsSafe new
   pub out : stays ≡ false → IsUnsafe new
 
--- Keys and all that leads to them no longer come out; the list has the devices that are to be entered again.
+-- Keys and all that leads to them no longer come out. The list has the devices that are to be entered again.
 pub record TakenBack (old new : Reach) (keys : List Key) (list : List Opening) : Type 0 where
   pub spread : IsBack old.leads old.held old.back → IsSpread old.leads old.held old.spread
       → IsSpread old.leads old.held new.spread
@@ -141,7 +141,7 @@ pub record TakenBack (old new : Reach) (keys : List Key) (list : List Opening) :
       ⊎ ((n : ℕ) → open_at old.windows d ≡ Some n → is_listed n d list ≡ true)
   pub found : (n d : ℕ) → is_listed n d list ≡ true → open_at old.windows d ≡ Some n
 
--- A removed device is entered, and the answer is whether no key that comes out for it was drawn since.
+-- A removed device is entered. The answer is whether no key that comes out for it was drawn since.
 pub record TriedOne (old new : Reach) (opening : Opening) (stays : Bool) : Type 0 where
   pub spread : IsSpread old.leads old.held old.spread → IsSpread new.leads new.held new.spread
   pub reached : earliest ≤ early_of new.spread opening.device.0 + opening.number
@@ -149,7 +149,7 @@ pub record TriedOne (old new : Reach) (opening : Opening) (stays : Bool) : Type 
   pub below : stays ≡ true → (k : List ℕ) → IsBelow old k → IsBelow new k
   pub out : stays ≡ false → open_at old.windows opening.device.0 ≡ Some opening.number → IsUnsafe new
 
--- The same of all devices of a list.
+-- The same for all devices of a list.
 pub record EnteredAll (old new : Reach) (list : List Opening) (stays : Bool) : Type 0 where
   pub spread : stays ≡ true → IsSpread old.leads old.held old.spread → IsSpread new.leads new.held new.spread
   pub reached : stays ≡ true → (n d : ℕ) → is_listed n d list ≡ true → earliest ≤ early_of new.spread d + n
@@ -173,7 +173,7 @@ pub record Carries (old new : Reach) (base key : Key) : Type 0 where
   pub leads : (b k : List ℕ) → is_carried new.leads b k
       ≡ (is_carried old.leads b k || (bytes_eq b base.0 && bytes_eq k key.0))
 
--- Devices came to hold a key.
+-- Devices got a key.
 pub record CameToHold (old new : Reach) (more : ℕ → List ℕ → Bool) : Type 0 where
   pub windows : new.windows ≡ old.windows
   pub leads : new.leads ≡ old.leads
@@ -205,7 +205,7 @@ pub record Admits (old new : Reach) (d : ℕ) : Type 0 where
   pub drawn : new.drawn ≡ old.drawn
   pub spread : new.spread ≡ old.spread
 
--- a term carries a key, or none
+-- A term carries a key, or none.
 abbrev pub CarriesSome : Reach → Reach → Key → Option Key → Type 0
 CarriesSome old new base None = new ≡ old
 CarriesSome old new base (Some key) = Carries old new base key
@@ -223,7 +223,7 @@ pub record Forges (old new : Evidence) (term : Term) : Type 0 where
       ≡ (has_term old.forged t || same_term (model_term t) (model_term term))
   pub sealed : new.sealed ≡ old.sealed
 
--- Seals are forgotten that are late of no device that is removed.
+-- Seals are forgotten that are not late for any removed device.
 pub record Forgets (w : Windows) (old new : Evidence) : Type 0 where
   pub forged : new.forged ≡ old.forged
   pub kept : (t : Term) (d number : ℕ) → opened_by (open_at w d) number ≡ true → late_by new d number t
@@ -239,7 +239,7 @@ pub record IsEvidence (e : Evidence) (h : List Line) : Type 0 where
 
 -- Lockout
 
--- lockout of a device, before whose next line it held, holds with that line
+-- Whether lockout of a device holds with one more line, if it held before that line.
 abbrev pub goes_on : Tools → List Line → ℕ → List Line → Line → Bool
 goes_on tools a d b l = keeps_out tools a (b ++ l ∷ []) d && refuses_line tools d a b l
 
@@ -251,7 +251,7 @@ pub record IsJudged (tools : Tools) (new : Lockout) (h : List Line) (l : Line) (
   pub holds : stays ≡ true → EachWindow (λ a d b. admits d l ≡ false → goes_on tools a d b l ≡ true) [] h
   pub fails : stays ≡ false → SomeWindow (λ a d b. (admits d l ≡ false) × (goes_on tools a d b l ≡ false)) [] h
 
--- What is kept of the lines before, where a line's past stands already.
+-- What is kept about the lines before a line whose past is already there.
 pub record IsReady (tools : Tools) (names : List Bytes) (s : Lockout) (h : List Line) (l : Line) : Type 0 where
   pub past : IsPast tools names s.past (h ++ l ∷ [])
   pub reach : IsReach tools s.reach h
@@ -263,7 +263,7 @@ pub record Judges (old new : Lockout) (number : ℕ) (l : Line) (who : Who) (sta
   pub judged : (tools : Tools) (names : List Bytes) (h : List Line) → FindKeys tools → number ≡ length h + 1
       → IsSpeaker who names (declared_in h) l → IsReady tools names old h l → IsJudged tools new h l stays
 
--- What is kept while lockout holds.
+-- What is kept as long as lockout holds.
 pub record IsHeld (tools : Tools) (names : List Bytes) (s : Lockout) (h : List Line) : Type 0 where
   pub past : IsPast tools names s.past h
   pub reach : IsReach tools s.reach h

@@ -1,19 +1,19 @@
--- The windows of a list of lines: from a removal to its end, where the device isn't admitted in between.
+-- The windows of a list of lines: from a removal to the end of the list, if the device isn't admitted in between.
 use Rattle.std.specs.Prelude.{◌≡◌, ◌⊎◌, ℕ, Bool, false, List, [], ◌∷◌, ◌++◌}
 use Rattle.std.specs.List.{list_any}
 use Rattle.zb_audit_lockout.specs.Lockout.{admits}
 use Rattle.zb_trace.specs.declared.line.Line.{Line}
 use Rattle.zb_trace.specs.declared.line.Line.TheVariants as line
 
--- whether a device is admitted by one of the lines
+-- Whether a device is admitted by one of the lines.
 abbrev pub is_shut : ℕ → List Line → Bool
 is_shut d ls = list_any (admits d) ls
 
--- A claim on the lines up to a removal, the device, and the lines after it.
+-- A claim about the lines up to a removal, the device, and the lines after it.
 abbrev pub Claim : Type 1
 Claim = List Line → ℕ → List Line → Type 0
 
--- The claim holds of each window; of some window.
+-- The claim holds for each window; for some window.
 abbrev pub EachAt : Claim → List Line → Line → List Line → Type 0
 EachAt P h (line.Removed event device) ls = is_shut device.0 ls ≡ false
     → P (h ++ line.Removed event device ∷ []) device.0 ls

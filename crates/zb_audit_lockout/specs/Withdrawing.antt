@@ -1,4 +1,4 @@
--- What becomes of the devices that were removed, as some are forgotten.
+-- What the removed devices become, as some are forgotten.
 use Rattle.std.specs.Prelude.{◌≡◌, ◌⊎◌, ◌||◌, ℕ, List, Bool, true, bytes_eq, Some}
 use Rattle.std.specs.BTreeSet.{BTreeSet, contains}
 use Rattle.std.specs.List.{list_any}
@@ -13,14 +13,14 @@ use Rattle.zb_audit_lockout.specs.declared.windows.Windows.{Windows}
 use Rattle.zb_model.specs.Secrets.{well_known}
 use Rattle.zb_trace_watch.specs.Sets.{is_among}
 
--- whether a device is among the holders of one of the keys
+-- Whether a device is among the holders of one of the keys.
 abbrev pub holds_any : Back → List Key → ℕ → Bool
 holds_any back keys d = list_any (λ (key : Key). is_holder back key.0 d) keys
 
 abbrev pub is_in : BTreeSet Opening → ℕ → ℕ → Bool
 is_in set n d = contains opening_cmp set (opening_at n d)
 
--- Some devices are forgotten, those of `gone` among them. Where they are still removed they come into a set.
+-- Some devices are forgotten, with those of `gone`. If they are still removed they are put into a set.
 pub record Unmarks (w : Windows) (old new : Spread) (was now : BTreeSet Opening) (gone : ℕ → Bool) : Type 0 where
   pub keys : new.keys ≡ old.keys
   pub told : (d : ℕ) → (early_of new d ≡ early_of old d)
@@ -29,7 +29,7 @@ pub record Unmarks (w : Windows) (old new : Spread) (was now : BTreeSet Opening)
   pub more : (n d : ℕ) → is_in was n d ≡ true → is_in now n d ≡ true
   pub only : (n d : ℕ) → is_in now n d ≡ true → (is_in was n d ≡ true) ⊎ (open_at w d ≡ Some n)
 
--- The holders of keys that no longer come out are forgotten; the list has those that are still removed.
+-- The holders of keys that no longer come out are forgotten. The list has those that are still removed.
 pub record Withdraws (w : Windows) (back : Back) (old new : Spread) (cleared : List Key) (list : List Opening) :
     Type 0 where
   pub keys : new.keys ≡ old.keys

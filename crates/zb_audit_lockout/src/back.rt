@@ -18,7 +18,7 @@ pub struct Back {
 }
 
 impl Back {
-    /// Makes the value before the first line.
+    /// Makes the state before the first line.
     pub fn new(alloc: Global) -> Back
         ensures bases { (b k : List ℕ) → is_carried result.bases b k ≡ false }
         ensures holders { (d : ℕ) (k : List ℕ) → is_holder result k d ≡ false }
@@ -29,10 +29,10 @@ impl Back {
         }
     }
 
-    /// Notes that a device comes to hold a key, unless it is among what devices held before.
+    /// Notes that a device holds a key, unless it held it before.
     ///
     /// # Errors
-    /// Out of memory.
+    /// `AllocError`, if memory runs out.
     pub fn hold(
         &mut self,
         alloc: Global,

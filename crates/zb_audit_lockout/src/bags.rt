@@ -27,7 +27,7 @@ impl<E: Drop> Bag<E> {
     /// Adds an item.
     ///
     /// # Errors
-    /// Out of memory.
+    /// `AllocError`, if memory runs out.
     pub fn add(&mut self, item: E) -> Result<(), AllocError>
         ensures { OnOk result ((test : E → Bool)
             → list_any test self.new.items.items ≡ (list_any test self.old.items.items || test item)) }
@@ -57,7 +57,7 @@ impl<O: Ord + Drop, E: Drop> Bags<O, E> {
     /// Adds an item for an owner.
     ///
     /// # Errors
-    /// Out of memory.
+    /// `AllocError`, if memory runs out.
     pub fn add(&mut self, alloc: Global, owner: O, item: E) -> Result<(), AllocError>
         ensures { OnOk result ((test : E → Bool) (o : O) → list_any test (items_at O.cmp self.new o)
             ≡ (list_any test (items_at O.cmp self.old o) || (is_eq (O.cmp owner o) && test item))) }
@@ -74,7 +74,7 @@ impl<O: Ord + Drop, E: Drop> Bags<O, E> {
     /// Keeps the first `count` items of an owner, and drops its others.
     ///
     /// # Errors
-    /// Out of memory.
+    /// `AllocError`, if memory runs out.
     pub fn keep(&mut self, owner: &O, count: usize) -> Result<(), AllocError>
         ensures kept { OnOk result ((test : E → Bool) (o : O) → is_eq (O.cmp owner.now o) ≡ true
             → list_any test (items_at O.cmp self.new o)

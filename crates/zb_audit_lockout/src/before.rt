@@ -24,10 +24,10 @@ pub struct Before {
 }
 
 impl Before {
-    /// Makes the value before the first line.
+    /// Makes the state before the first line.
     ///
     /// # Errors
-    /// Out of memory.
+    /// `AllocError`, if memory runs out.
     pub fn new(alloc: Global) -> Result<Before, AllocError>
         ensures settled { IfOk result (λ b. IsSettled b.exposure) }
         ensures ever { IfOk result (λ b. (d : ℕ) (k : List ℕ) → node_has b.exposure.ever d k ≡ false) }
@@ -45,7 +45,7 @@ impl Before {
     /// Learns one more fact.
     ///
     /// # Errors
-    /// Out of memory.
+    /// `AllocError`, if memory runs out.
     pub fn learn(&mut self, alloc: Global, fact: Fact) -> Result<(), AllocError>
         ensures { OnOk result (Learnt self.old self.new fact) }
     {
@@ -73,7 +73,7 @@ impl Before {
         self.is_shown(place) || self.live.meets(&place, &self.exposure.known)
     }
 
-    // Whether the key that is noted for the place is live there and known.
+    // Returns whether the key that is noted for the place is live there and known.
     fn is_shown(&self, place: usize) -> bool
         ensures { result ≡ true → knows self.now place ≡ true }
     {

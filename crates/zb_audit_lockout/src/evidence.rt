@@ -26,7 +26,7 @@ pub struct LateSeal {
 }
 
 impl LateSeal {
-    // Whether the device is still removed, by the line that had removed it then.
+    // Returns whether the device is still removed, by the line that had removed it then.
     fn is_open(&self, windows: &Windows) -> bool
         ensures { result ≡ opened_by (open_at windows.now self.now.device.0) self.now.number }
     {
@@ -34,7 +34,7 @@ impl LateSeal {
     }
 }
 
-/// The terms that no node is to accept that has no key known outside.
+/// The terms that a node must not accept if it has no key known outside.
 #[derive(Drop)]
 pub struct Evidence {
     /// The terms that outsiders forged.
@@ -44,7 +44,7 @@ pub struct Evidence {
 }
 
 impl Evidence {
-    /// Makes the value before the first line.
+    /// Makes the state before the first line.
     pub fn new(alloc: Global) -> Evidence
         ensures forged { (t : AnyTerm) → has_term result.forged t ≡ false }
         ensures sealed { (t : AnyTerm) (d number : ℕ) → late_by result d number t ≡ false }
@@ -58,7 +58,7 @@ impl Evidence {
     /// Notes that a term was forged.
     ///
     /// # Errors
-    /// Out of memory.
+    /// `AllocError`, if memory runs out.
     pub fn forge(&mut self, term: &Term) -> Result<(), AllocError>
         ensures forged { OnOk result ((t : AnyTerm) → has_term self.new.forged t
             ≡ (has_term self.old.forged t || same_term (model_term t) (model_term term.now))) }
@@ -67,10 +67,10 @@ impl Evidence {
         self.forged.add(term)
     }
 
-    /// Notes that a device, if there is one, sealed a term, where it is removed.
+    /// Notes that a device, if there is one, sealed a term, if the device is removed.
     ///
     /// # Errors
-    /// Out of memory.
+    /// `AllocError`, if memory runs out.
     pub fn seal(
         &mut self,
         alloc: Global,
@@ -120,11 +120,11 @@ impl Evidence {
 
     /// Returns whether a term is foul.
     ///
-    /// It is where a removed device sealed it since its removal. It also is where it was forged and some device is
-    /// removed. The call forgets some seals of devices that were admitted since.
+    /// A term is foul if a removed device sealed it since its removal. It is also foul if it was forged and some
+    /// device is removed. The call forgets some seals of devices that were admitted since.
     ///
     /// # Errors
-    /// Out of memory.
+    /// `AllocError`, if memory runs out.
     pub fn is_foul(&mut self, windows: &Windows, term: &Term) -> Result<bool, AllocError>
         ensures foul { IfOk result (λ foul. foul ≡ is_foul windows.now self.old term.now) }
         ensures forgets { OnOk result (Forgets windows.now self.old self.new) }
@@ -140,7 +140,8 @@ impl Evidence {
         windows.any_open(windows.last) && self.forged.has(term)
     }
 
-    // Whether a removed device sealed the term. The seals after the last of these can't become late any more.
+    // Returns whether a removed device sealed the term. The seals after the last such seal can't become late any
+    // more.
     fn is_late(&mut self, windows: &Windows, term: &Term) -> Result<bool, AllocError>
         ensures late { IfOk result (λ late. late ≡ some_late windows.now (seals_of self.old term.now)) }
         ensures forgets { OnOk result (Forgets windows.now self.old self.new) }

@@ -1,10 +1,10 @@
-//! What lines say of keys.
+//! What lines say about keys.
 use zb_base::{Eui, Key};
 
-/// What one line says of a key, or of a device.
+/// What one line says about a key, or about a device.
 #[derive(Clone, Copy)]
 pub enum Fact {
-    /// The device came to hold the key.
+    /// The device holds the key from now on.
     Holds(Eui, Key),
     /// A term under the first key carries the second.
     Carries(Key, Key),
@@ -12,6 +12,6 @@ pub enum Fact {
     Removed(Eui),
     /// The key is a live network key of the node at that place.
     Lives(usize, Key),
-    /// The key is no network key of the node at that place any more.
+    /// The key is no longer a network key of the node at that place.
     Drops(usize, Key),
 }

@@ -2,7 +2,7 @@
 ghost use Rattle.std.specs.Prelude.{◌≡◌};
 ghost use Rattle.zb_audit_names.specs.Groups.{same_event};
 
-/// Returns whether a line of the second event goes on with the group of a line of the first.
+/// Returns whether a line of the second event continues the group of a line of the first.
 pub fn goes_on(before: Option<u32>, event: Option<u32>) -> bool
     ensures { result ≡ same_event before event }
 {

@@ -1,4 +1,4 @@
-//! How far keys are raised that are to become earlier.
+//! How far keys are raised when they become earlier.
 ghost use Rattle.std.specs.Prelude.{◌≤◌, IfOk};
 
 use crate::numbers::Numbers;
@@ -7,14 +7,14 @@ use zb_base::Key;
 use zb_trace_watch::holdings::Holdings;
 use zb_trace_watch::keys::Keys;
 
-/// Returns a level to which to raise a key, and what comes out under it. The level is at least `early`.
+/// Returns the level to which to raise a key and what comes out under it. It is at least `early`.
 ///
 /// A level above `early` saves work: the keys needn't be raised again for each removal that is a little earlier. No
-/// contract says how far it is above. It is half way to the level at which one of the keys would be late, or at which
-/// further ones would have to be raised.
+/// contract says how far above it is. It is half way to the level at which one of the keys would be late, or at which
+/// further keys would have to be raised.
 ///
 /// # Errors
-/// Out of memory.
+/// `AllocError`, if memory runs out.
 pub fn level_above(
     alloc: Global,
     leads: &Holdings<Key>,
@@ -40,7 +40,8 @@ pub fn level_above(
     Ok(half_way(early, highest))
 }
 
-// The highest level to which a key can be raised without more work: one that is as early already stays as it is.
+// Returns the highest level to which a key can be raised without more work. A key that is as early already stays as
+// it is.
 fn ceiling(noted: &Numbers, drawn: &Numbers, key: &Key, early: u64) -> u64 {
     let own = noted.of(key);
     if own < early {
@@ -56,7 +57,7 @@ fn lesser(a: u64, b: u64) -> u64
     if a < b { a } else { b }
 }
 
-/// Returns a number half way between two, or the first where the second isn't above it.
+/// Returns a number half way between two, or the first one if the second isn't above it.
 fn half_way(low: u64, high: u64) -> u64
     ensures { low ≤ result }
 {

@@ -1,8 +1,8 @@
-//! Where a transcript that anybody wrote first breaks lockout.
+//! Finds where a transcript, whoever wrote it, first breaks lockout.
 //!
-//! A removed device that isn't admitted again obtains no key that is drawn later. And a node that holds no network
-//! key that outsiders may know accepts in the network layer neither what a removed device sealed since, nor what was
-//! forged. `Lockout` keeps what this needs of the lines so far, and no line.
+//! Lockout has two parts. A removed device that isn't admitted again obtains no key that is drawn later. A node that
+//! holds no network key that outsiders may know accepts in the network layer neither what a removed device sealed
+//! since its removal nor what was forged. `Lockout` keeps what this needs of the lines so far, and no line.
 #![tactic(auto)]
 
 mod back;

@@ -25,34 +25,35 @@ use zb_seal::Term;
 use zb_trace::Line;
 use zb_trace_watch::carried_key;
 
-/// What is needed of the lines so far to tell where lockout first fails.
+/// What is needed of the lines so far to find where lockout first fails.
 ///
-/// It keeps no line. What it keeps stands in ordered maps and sets, and a line takes a few look-ups. For each key that
-/// comes out for a removed device it notes how early such a device was removed. So lockout can only fail where a noted
-/// key is drawn, or where a key comes out for a device that was removed before the key was drawn. An admission takes
-/// no note back. Where a note then tells that lockout may fail, what leads to its key is taken back, and the devices
-/// among that which are still removed are entered again.
+/// It keeps no line. It uses ordered maps and sets, and a line takes a few look-ups. For each key that comes out for
+/// a removed device it notes how early such a device was removed. So lockout can only fail if a noted key is drawn,
+/// or if a key comes out for a device that was removed before the key was drawn. An admission changes no note. So if
+/// a note says that lockout may fail, all that leads to its key is withdrawn, and the devices among that which are
+/// still removed are entered again.
 ///
-/// - A key that comes out costs a step for each key that terms carry under it. It costs that again where it comes out
-///   for a device that was removed earlier. So that this is rare, a key is noted as earlier than it need be.
+/// - A key that comes out costs a step for each key that terms carry under it. It costs that again if it comes out
+///   for a device that was removed earlier. To make this rare, a key is noted as earlier than necessary.
 /// - A device that is removed costs a step for each key that it ever held, unless it is noted as removed already.
-/// - A key that is taken back costs a step for each key under which terms carry it, and for each device that held it.
-///   A line takes each key back at most once, one that names a pair of devices twice.
-/// - What the lines of a group say of keys waits until the group ends. Then it is taken in once, as a watch over a
-///   transcript takes it in.
-/// - An accepted term is looked up among the forged ones and those that removed devices sealed. Of its seals the last
-///   ones are forgotten whose devices were admitted since, up to one that is still late.
-/// - Which live network keys outsiders may know is noted for each node as they learn keys, each key once. So a node
-///   that accepts foul terms has such a key at hand, and its keys are gone through at most once: then lockout fails.
+/// - A key that is withdrawn costs a step for each key under which terms carry it, and for each device that held it.
+///   A line withdraws each key at most once, or twice if it names a pair of devices.
+/// - What the lines of a group say about keys waits until the group ends. Then it is processed once, as a watch over
+///   a transcript does.
+/// - An accepted term is looked up among the forged terms and those that removed devices sealed. Its last seals are
+///   forgotten if their devices were admitted since, up to one that is still late.
+/// - Which live network keys outsiders may know is noted for each node as they learn keys, each key once. So for a
+///   node that accepts foul terms such a key is found at once, and its keys are searched at most once: then lockout
+///   fails.
 ///
-/// Over honest transcripts, and over most others, the time grows with the length. One case is known to take longer. A
-/// device is removed and admitted thousands of times, and each time a key that had come out for it is drawn. Thousands
-/// of keys come out for it meanwhile, or lead to that key. Memory grows with the length.
+/// For honest transcripts, and for most others, the time grows with the length. One case is known to take longer. A
+/// device is removed and admitted thousands of times, and each time a key that had come out for it is drawn.
+/// Meanwhile thousands of keys come out for it or lead to that key. Memory grows with the length.
 #[derive(Drop)]
 pub struct Lockout {
-    /// The number of the first line with which lockout fails.
+    /// The number of the first line at which lockout fails.
     pub first: Option<u32>,
-    /// What stood before the group of the last line.
+    /// What was known before the group of the last line.
     pub past: Past,
     /// Which keys lead to keys that were drawn after a removal.
     pub reach: Reach,
@@ -61,10 +62,10 @@ pub struct Lockout {
 }
 
 impl Lockout {
-    /// Makes the value of no lines.
+    /// Makes the state before the first line.
     ///
     /// # Errors
-    /// `NoMemory`.
+    /// `NoMemory`, if memory runs out.
     pub fn new(alloc: Global) -> Result<Lockout, NoMemory>
         ensures { IfOk result (λ lockout. (tools : Tools) (names : List Bytes) → Stands tools names lockout []) }
     {
@@ -76,7 +77,7 @@ impl Lockout {
         })
     }
 
-    /// Returns the number of the first line with which lockout fails, if there is one.
+    /// Returns the number of the first line at which lockout fails, if there is one.
     pub fn first_unlocked(&self) -> Option<u32>
         ensures { (tools : Tools) (names : List Bytes) (h : List AnyLine) → Stands tools names self.now h
             → result ≡ of_lines.first_unlocked tools h }
@@ -84,10 +85,10 @@ impl Lockout {
         self.first
     }
 
-    /// Goes on by one line, the `number`-th. `who` is the line's node. After `NoMemory` the value isn't used further.
+    /// Processes one line, the `number`-th. `who` is the line's node. After `NoMemory` the value must not be used.
     ///
     /// # Errors
-    /// `NoMemory`.
+    /// `NoMemory`, if memory runs out.
     pub fn line(
         &mut self,
         alloc: Global,
@@ -116,7 +117,7 @@ impl Lockout {
         Ok(())
     }
 
-    // Takes a line in, whose past stands already, and returns whether lockout still holds.
+    // Processes a line whose past is already there, and returns whether lockout still holds.
     fn judge(&mut self, alloc: Global, number: u32, line: &Line, who: Who) -> Result<bool, NoMemory>
         ensures judges { IfOk result (λ stays. Judges self.old self.new number line.now who stays) }
         ensures first { OnOk result (self.new.first ≡ self.old.first) }
@@ -233,7 +234,7 @@ impl Lockout {
         }
     }
 
-    // Whether the line's node may accept the term.
+    // Returns whether the line's node may accept the term.
     fn accepts(&mut self, who: Who, term: &Term) -> Result<bool, NoMemory>
         ensures stays { IfOk result (λ stays. stays ≡ accepts self.old who.place term.now) }
         ensures evidence { OnOk result (Forgets self.old.reach.windows self.old.evidence self.new.evidence) }
@@ -260,7 +261,7 @@ impl Lockout {
     }
 }
 
-/// Returns the number, unless lockout stays.
+/// Returns the number, unless lockout still holds.
 fn unless(stays: bool, number: u32) -> Option<u32>
     ensures { result ≡ (if stays then None else Some number) }
 {

@@ -35,10 +35,10 @@ impl Numbers {
         }
     }
 
-    /// Sets the number of a key, whatever it had.
+    /// Sets the number of a key, whatever it was.
     ///
     /// # Errors
-    /// Out of memory.
+    /// `AllocError`, if memory runs out.
     pub fn set(&mut self, key: Key, number: u64) -> Result<(), AllocError>
         ensures { OnOk result ((k : List ℕ) → number_of self.new k
             ≡ (if bytes_eq k key.0 then number else number_of self.old k)) }
@@ -65,7 +65,7 @@ impl Numbers {
     /// Raises keys to a number, and all keys that terms carry under raised ones. Returns the keys that were raised.
     ///
     /// # Errors
-    /// Out of memory.
+    /// `AllocError`, if memory runs out.
     pub fn raise(
         &mut self,
         alloc: Global,
@@ -85,7 +85,7 @@ impl Numbers {
         Ok(raised)
     }
 
-    /// Takes the number of a key away, and returns whether it had one.
+    /// Clears the number of a key, and returns whether it had one.
     fn clear_one(&mut self, key: &Key) -> bool
         ensures clears { result ≡ nat_lt 0 (number_of self.old key.now.0) }
         ensures numbers { (k : List ℕ) → number_of self.new k
@@ -96,10 +96,10 @@ impl Numbers {
         had
     }
 
-    /// Takes the numbers of keys away, and those of all keys that lead to them. Returns the keys that had one.
+    /// Clears the numbers of keys, and those of all keys that lead to them. Returns the keys that had one.
     ///
     /// # Errors
-    /// Out of memory.
+    /// `AllocError`, if memory runs out.
     pub fn clear(
         &mut self,
         alloc: Global,

@@ -19,13 +19,13 @@ pub struct Opening {
     pub device: Eui,
 }
 
-/// A number for each of some devices, and finds the least one without a walk.
+/// Holds a number for each of some devices, and finds the least one without a walk.
 ///
-/// A contract sees it as the list of the devices with their numbers.
+/// A contract sees it as a list of the devices with their numbers.
 #[derive(Drop)]
 pub struct Opened {
     numbers: BTreeMap<Eui, u32>,
-    /// The same, by the numbers.
+    /// The same, in the order of the numbers.
     order: BTreeSet<Opening>,
 }
 
@@ -65,7 +65,7 @@ impl Opened {
     /// Notes the number of a device, unless it has one.
     ///
     /// # Errors
-    /// Out of memory.
+    /// `AllocError`, if memory runs out.
     pub fn note(&mut self, device: Eui, number: u32) -> Result<(), AllocError>
         ensures { OnOk result ((d : ℕ) → number_in self.new d
             ≡ option_or (number_in self.old d) (if nat_eq d device.0 then Some number else None)) }
@@ -88,7 +88,7 @@ impl Opened {
     /// Returns the devices with their numbers, the least number first.
     ///
     /// # Errors
-    /// Out of memory.
+    /// `AllocError`, if memory runs out.
     pub fn list(&self, alloc: Global) -> Result<Vec<Opening>, AllocError>
         ensures { IfOk result (λ list. (n d : ℕ) → is_listed n d list.items ≡ is_number n (number_in self.now d)) }
     {
@@ -97,7 +97,7 @@ impl Opened {
         Ok(list)
     }
 
-    /// Takes a device out.
+    /// Removes a device.
     pub fn remove(&mut self, device: Eui)
         ensures { (d : ℕ) → number_in self.new d ≡ (if nat_eq d device.0 then None else number_in self.old d) }
     {
@@ -117,10 +117,10 @@ impl Opened {
     }
 }
 
-/// Puts the devices of an order after those of a list.
+/// Appends the devices of an order to a list.
 ///
 /// # Errors
-/// Out of memory.
+/// `AllocError`, if memory runs out.
 pub fn append_all(order: &BTreeSet<Opening>, list: &mut Vec<Opening>) -> Result<(), AllocError>
     ensures { OnOk result (list.new.items ≡ list.old.items ++ order.now.keys) }
 {

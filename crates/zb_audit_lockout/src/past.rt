@@ -1,4 +1,4 @@
-//! What stood before the group of a line.
+//! What was known before the group of a line.
 ghost use Rattle.std.specs.Prelude.{◌≡◌, ◌++◌, ◌∷◌, [], List, OnOk, IfOk};
 ghost use Rattle.zb_audit_lockout.specs.declared.fact.Fact.TheVariants.{Lives as lives, Holds as holds_it};
 ghost use Rattle.zb_audit_names.specs.Groups.{event_of};
@@ -20,12 +20,12 @@ use zb_base::{Eui, Key};
 use zb_trace::Line;
 use zb_trace_watch::carried_key;
 
-/// What stood before the group of the last line, and what the lines of that group state.
+/// What was known before the group of the last line, and what the lines of that group state.
 #[derive(Drop)]
 pub struct Past {
-    /// The event of the last line, if it is of one.
+    /// The event of the last line, if it has one.
     pub event: Option<u32>,
-    /// What stood before the group of the last line.
+    /// What was known before the group of the last line.
     pub before: Before,
     /// What the lines of that group state, in order.
     pub group: Vec<Fact>,
@@ -35,7 +35,7 @@ impl Past {
     /// Makes the past of no lines.
     ///
     /// # Errors
-    /// Out of memory.
+    /// `AllocError`, if memory runs out.
     pub fn new(alloc: Global) -> Result<Past, AllocError>
         ensures { IfOk result (λ past. (tools : Tools) (names : List Bytes) → IsPast tools names past []) }
     {
@@ -46,10 +46,10 @@ impl Past {
         })
     }
 
-    /// Goes on by one line. `who` is the line's node.
+    /// Processes one line. `who` is the line's node.
     ///
     /// # Errors
-    /// Out of memory.
+    /// `AllocError`, if memory runs out.
     pub fn line(&mut self, alloc: Global, line: &Line, who: Who) -> Result<(), AllocError>
         ensures { OnOk result ((tools : Tools) (names : List Bytes) (h : List AnyLine) → FindKeys tools
             → IsSpeaker who names (declared_in h) line.now → IsPast tools names self.old h
@@ -61,7 +61,7 @@ impl Past {
         self.note(line, who)
     }
 
-    // Ends the group, unless a line of that event goes on with it.
+    // Ends the group, unless a line of that event continues it.
     fn enter(&mut self, alloc: Global, event: Option<u32>) -> Result<(), AllocError>
         ensures { OnOk result ((tools : Tools) (names : List Bytes) (h : List AnyLine) (l : AnyLine)
             → event ≡ event_of l → IsPast tools names self.old h → Enters tools names self.new h l) }
@@ -73,7 +73,7 @@ impl Past {
         }
     }
 
-    // Ends the group: what its lines state stands before the next one.
+    // Ends the group: what its lines state is known before the next one.
     fn end_group(&mut self, alloc: Global) -> Result<(), AllocError>
         ensures recalls { OnOk result ((tools : Tools) (names : List Bytes) (h : List AnyLine)
             → Recalls tools names self.old.before self.old.group.items h → Recalls tools names self.new.before [] h) }
@@ -170,7 +170,7 @@ impl Past {
     }
 }
 
-/// Learns facts in turn.
+/// Learns facts, one after the other.
 fn learn_all(alloc: Global, before: &mut Before, facts: &[Fact]) -> Result<(), AllocError>
     ensures { OnOk result ((tools : Tools) (names : List Bytes) (h : List AnyLine)
         → Recalls tools names before.old facts.now h → Recalls tools names before.new [] h) }
@@ -181,7 +181,7 @@ fn learn_all(alloc: Global, before: &mut Before, facts: &[Fact]) -> Result<(), A
     Ok(())
 }
 
-/// Returns the address of a node, where it was declared.
+/// Returns the address of a node, if it was declared.
 pub fn eui_of(node: Option<Node>) -> Option<Eui>
     ensures { result ≡ eui_of_node node }
 {
@@ -191,7 +191,7 @@ pub fn eui_of(node: Option<Node>) -> Option<Eui>
     }
 }
 
-/// Returns the partner of a row, where the row is the centre's.
+/// Returns the partner of a row, if the row is the centre's.
 pub fn partner_at(is_centre: bool, partner: Eui) -> Option<Eui>
     ensures { result ≡ partner_of is_centre partner }
 {

@@ -36,7 +36,7 @@ pub struct Reach {
 }
 
 impl Reach {
-    /// Makes the value before the first line.
+    /// Makes the state before the first line.
     pub fn new(alloc: Global) -> Reach
         ensures found { (d : ℕ) → open_at result.windows d ≡ None }
         ensures last { result.windows.last ≡ 0 }
@@ -59,7 +59,7 @@ impl Reach {
     /// Notes that a key was drawn, and returns whether drawn keys stay out of the reach of removed devices.
     ///
     /// # Errors
-    /// Out of memory.
+    /// `AllocError`, if memory runs out.
     pub fn draw(&mut self, alloc: Global, key: Key) -> Result<bool, AllocError>
         ensures draws { OnOk result (Draws self.old self.new key) }
         ensures tells { IfOk result (λ stays. Tells self.old self.new stays) }
@@ -75,7 +75,7 @@ impl Reach {
     /// Notes that a term under a base key carries a key, and returns whether drawn keys stay out of reach.
     ///
     /// # Errors
-    /// Out of memory.
+    /// `AllocError`, if memory runs out.
     pub fn carry(&mut self, alloc: Global, base: Key, key: Key) -> Result<bool, AllocError>
         ensures carries { OnOk result (Carries self.old self.new base key) }
         ensures tells { IfOk result (λ stays. Tells self.old self.new stays) }
@@ -86,10 +86,10 @@ impl Reach {
         self.follow(alloc, key, early)
     }
 
-    /// Notes that a device came to hold a key, if there is a device. Returns whether drawn keys stay out of reach.
+    /// Notes that a device, if there is one, holds a key. Returns whether drawn keys stay out of reach.
     ///
     /// # Errors
-    /// Out of memory.
+    /// `AllocError`, if memory runs out.
     pub fn hold(&mut self, alloc: Global, device: Option<Eui>, key: Key) -> Result<bool, AllocError>
         ensures holds { OnOk result (CameToHold self.old self.new (λ d k. is_node device d && bytes_eq k key.0)) }
         ensures tells { IfOk result (λ stays. Tells self.old self.new stays) }
@@ -110,11 +110,10 @@ impl Reach {
         self.follow(alloc, key, early)
     }
 
-    /// Notes that two devices came to hold a key, as far as there are two. Returns whether drawn keys stay out of
-    /// reach.
+    /// Notes that up to two devices hold a key. Returns whether drawn keys stay out of reach.
     ///
     /// # Errors
-    /// Out of memory.
+    /// `AllocError`, if memory runs out.
     pub fn hold_both(
         &mut self,
         alloc: Global,
@@ -134,7 +133,7 @@ impl Reach {
     /// Notes that the line of that number removed a device.
     ///
     /// # Errors
-    /// Out of memory.
+    /// `AllocError`, if memory runs out.
     pub fn remove(&mut self, alloc: Global, device: Eui, number: u32) -> Result<(), AllocError>
         ensures { OnOk result (Removes self.old self.new device.0 number) }
     {
@@ -155,7 +154,7 @@ impl Reach {
         Ok(stays)
     }
 
-    // Returns how far to raise a key that is to become as early as `early`: so far that it needn't be raised again
+    // Returns how far to raise a key that has to become as early as `early`: so far that it needn't be raised again
     // soon.
     fn level(&self, alloc: Global, key: Key, early: u64) -> Result<u64, AllocError>
         ensures { IfOk result (λ level. early ≤ level) }
@@ -201,7 +200,7 @@ impl Reach {
         Ok(late)
     }
 
-    // Puts a key into a list, where it was drawn after a removal that is as early as the key is noted.
+    // Puts a key into a list, if it was drawn after a removal that is as early as the key is noted.
     fn sift(&self, key: Key, late: &mut Vec<Key>) -> Result<(), AllocError>
         ensures kept { OnOk result ((k : List ℕ) → is_among late.old.items k ≡ true
             → is_among late.new.items k ≡ true) }
@@ -217,7 +216,7 @@ impl Reach {
         }
     }
 
-    // Finds anew for which removed devices keys come out, and returns whether these were drawn before.
+    // Finds again for which removed devices keys come out, and returns whether these keys were drawn before.
     fn find_anew(&mut self, alloc: Global, keys: Vec<Key>) -> Result<bool, AllocError>
         ensures settles { OnOk result (Settles self.old self.new) }
         ensures checked { IfOk result (λ stays. Checked self.old self.new keys.items stays) }
@@ -227,7 +226,7 @@ impl Reach {
         Ok(stays)
     }
 
-    // Takes back that keys come out, with all that leads to them. Returns the devices among that which are removed.
+    // Withdraws that keys come out, with all that leads to them. Returns the devices among that which are removed.
     fn take_back(&mut self, alloc: Global, keys: Vec<Key>) -> Result<Vec<Opening>, AllocError>
         ensures settles { OnOk result (Settles self.old self.new) }
         ensures taken { IfOk result (λ openings. TakenBack self.old self.new keys.items openings.items) }
@@ -276,7 +275,7 @@ impl Reach {
         false
     }
 
-    // Whether the key was drawn after a removal that is as early as `early`.
+    // Returns whether the key was drawn after a removal that is as early as `early`.
     fn is_late(&self, key: &Key, early: u64) -> bool
         ensures { result ≡ is_late self.now.drawn early key.now.0 }
     {

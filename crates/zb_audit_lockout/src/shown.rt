@@ -13,13 +13,13 @@ use zb_trace_watch::keys::Keys;
 
 /// Notes the live network keys of each node that outsiders may know, so that one is found without a walk.
 ///
-/// Each key that they learn is gone through once, at the places where it ever was live. No contract says that what is
-/// noted is right, or all there is: who finds a key here looks it up, and who finds none goes through the keys.
+/// Each key that outsiders learn is processed once, at the places where it ever was live. No contract says that the
+/// notes are right or complete. A key that is found here is looked up; if none is found, all keys are searched.
 #[derive(Drop)]
 pub struct Shown {
     /// The keys that were found at each place.
     pub keys: Holdings<usize>,
-    /// The places of the nodes of which each key ever was a network key.
+    /// The places of the nodes that ever had each key as a network key.
     pub homes: Bags<Key, usize>,
     /// The keys that outsiders learnt.
     pub learnt: Keys,
@@ -46,10 +46,10 @@ impl Shown {
         }
     }
 
-    /// Goes on by one fact, which is among what is known and live.
+    /// Processes one fact, which is among what is known and live.
     ///
     /// # Errors
-    /// Out of memory.
+    /// `AllocError`, if memory runs out.
     pub fn follow(
         &mut self,
         alloc: Global,
@@ -66,7 +66,7 @@ impl Shown {
         }
     }
 
-    // Goes through a key that outsiders may have learnt, and all that comes out under it.
+    // Processes a key that outsiders may have learnt, and all that comes out under it.
     fn hear(
         &mut self,
         alloc: Global,
@@ -99,7 +99,7 @@ impl Shown {
         }
     }
 
-    // Goes once through each of these keys, and of those that come out under them.
+    // Processes each of these keys once, and those that come out under them.
     fn learn(
         &mut self,
         alloc: Global,
@@ -148,10 +148,10 @@ fn note(
     Ok(())
 }
 
-/// Takes a key of a node out.
+/// Removes a key of a node.
 ///
 /// # Errors
-/// Out of memory.
+/// `AllocError`, if memory runs out.
 pub fn drop_from(keys: &mut Holdings<usize>, place: usize, key: Key) -> Result<(), AllocError>
     ensures { OnOk result ((p : ℕ) (k : List ℕ)
         → lives_at keys.new p k ≡ (lives_at keys.old p k && not (nat_eq place p && bytes_eq k key.0))) }

@@ -19,19 +19,19 @@ use std::collections::{BTreeMap, BTreeSet};
 use zb_base::{Eui, Key, WELL_KNOWN};
 use zb_trace_watch::holdings::Holdings;
 
-/// Returns how early a removal is by the line of that number: the earlier, the greater.
+/// Returns how early a removal by the line of that number is: the earlier, the greater.
 pub fn earliness(number: u32) -> u64
     ensures { result + number ≡ earliest }
 {
     4294967296 - u64::from(number)
 }
 
-/// How early the removed devices were removed, and the first of those for which each key comes out.
+/// How early devices were removed, and how early one for which each key comes out.
 #[derive(Drop)]
 pub struct Spread {
     /// How early each device was removed.
     pub devices: BTreeMap<Eui, u64>,
-    /// How early a device was removed for which each key comes out.
+    /// For each key, how early a device was removed for which it comes out.
     pub keys: Numbers,
 }
 
@@ -71,7 +71,7 @@ impl Spread {
     /// Returns the keys that come out for it now, and came out for no device that was removed as early.
     ///
     /// # Errors
-    /// Out of memory.
+    /// `AllocError`, if memory runs out.
     pub fn enter(
         &mut self,
         alloc: Global,
@@ -113,7 +113,7 @@ impl Spread {
     /// Raises a key, and what comes out under it. Returns the keys that were raised.
     ///
     /// # Errors
-    /// Out of memory.
+    /// `AllocError`, if memory runs out.
     pub fn follow(
         &mut self,
         alloc: Global,
@@ -135,7 +135,7 @@ impl Spread {
     /// are still removed, the earliest removal first.
     ///
     /// # Errors
-    /// Out of memory.
+    /// `AllocError`, if memory runs out.
     pub fn forget(
         &mut self,
         alloc: Global,
@@ -231,7 +231,7 @@ impl Spread {
     }
 }
 
-/// Puts a device into a set, where it is still removed.
+/// Puts a device into a set, if it is still removed.
 fn note_open(
     windows: &Windows,
     device: Eui,

@@ -13,12 +13,12 @@ use zb_base::Eui;
 pub struct Windows {
     /// The number of the line that removed each device.
     pub removals: Opened,
-    /// The number of the last line that removed any device; 0 where there is none.
+    /// The number of the last line that removed any device, or 0 if there is none.
     pub last: u32,
 }
 
 impl Windows {
-    /// Makes the value before the first line.
+    /// Makes the state before the first line.
     pub fn new(alloc: Global) -> Windows
         ensures found { (d : ℕ) → open_at result d ≡ None }
         ensures last { result.last ≡ 0 }
@@ -32,7 +32,7 @@ impl Windows {
     /// Notes that the line of that number removed a device.
     ///
     /// # Errors
-    /// Out of memory.
+    /// `AllocError`, if memory runs out.
     pub fn remove(&mut self, device: Eui, number: u32) -> Result<(), AllocError>
         ensures found { OnOk result ((d : ℕ)
             → open_at self.new d ≡ option_or (open_at self.old d) (if nat_eq d device.0 then Some number else None)) }

@@ -1,4 +1,4 @@
--- What a directory holds, as names come and nodes are declared.
+-- What a directory holds, as names are added and nodes are declared.
 use Rattle.std.proofs.Common.{◌≡◌, ℕ, ◌+◌, Bool, true, false, not, ◌&&◌, ◌||◌, cond, List, [], ◌∷◌, ◌++◌, length, length-append, Option, Some, None, refl, ap, sym, subst, ◌∙◌, bytes_eq, arith}
 use Rattle.std.specs.BTreeMap.{BTreeMap, get, is_at, btree_map_len}
 use Rattle.std.specs.List.{find}
@@ -28,7 +28,7 @@ use Rattle.zb_audit_names.specs.declared.node.Node.{Node}
 use Rattle.zb_audit_names.specs.declared.node.Who.{Who}
 use Rattle.zb_audit_names.proofs.Places.{apart, itself, place_end, place_kept, same_bytes}
 
--- nothing was looked up
+-- Nothing was looked up.
 none_known : (looked_up : List (Option Known)) → looked_up ≡ [] → (names : List Bytes) (known : List Station)
     → AreKnown looked_up names known
 none_known looked_up none names known =
@@ -51,7 +51,7 @@ nothing : {A B : Type 0} (f : A → B) (o : Option A) → None ≡ option_map f 
 nothing f None e = refl
 nothing f (Some x) e = cc
 
--- One name more
+-- One more name
 
 told_on : (who : Who) (names later : List Bytes) (known : List Station) (name : Bytes) → Tells who names known name
     → Tells who (names ++ later) known name
@@ -69,7 +69,7 @@ known_on : (o : Option Known) (names later : List Bytes) (known : List Station) 
 known_on None names later known told = tt
 known_on (Some k) names later known told = (told_on k.who names later known k.name.bytes told.0, told.1)
 
--- the centre is a declared node
+-- The centre is a declared node.
 no_centre : (same is : Bool) (s : Station) (known : List Station) (name : Bytes) → bytes_eq s.name name ≡ same
     → (station_named known name ≡ None → is_centres known name ≡ false)
     → cond same (Some s) (station_named known name) ≡ None
@@ -92,7 +92,7 @@ centre_known (s ∷ known) name none = no_centre (bytes_eq s.name name) (is_cent
 at_name : (a b : ArrayString) → is_at (name_cmp a) b ≡ bytes_eq a.bytes b.bytes
 at_name a b = sym (texts_ties a.bytes b.bytes)
 
--- The entries after one was written.
+-- The entries after one was written
 written : (old new : Option Who) (same : Bool) (who : Who) (names : List Bytes) (known : List Station) (name : Bytes)
     → new ≡ cond same (Some who) old
     → (same ≡ true → Tells who names known name) → (same ≡ false → IsEntry old names known name)
@@ -184,7 +184,7 @@ stands_new d place entries old names known name last stands new none len updates
           (λ o. known_on o names (name.bytes ∷ []) known) d.looked_up.items stands.looked_up;
     }
 
--- the names with a new one, and with one that isn't
+-- The names with a new one, and with one that isn't new.
 pub with_new : (names : List Bytes) (name : Bytes) → place_in names name ≡ None → with_name names name ≡ names ++ name
     ∷ []
 unfolding with_name
@@ -231,7 +231,7 @@ named_it known s name none same =
     (ap (λ (o : Option Station). option_or o (cond (bytes_eq s.name name) (Some s) None)) none ∙ ap
     (λ (b : Bool). cond b (Some s) None) same)
 
--- the first centre, with one more node
+-- The first centre, with one more node.
 first_centre : (known : List Station) (s : Station) → centre_name (known ++ s ∷ [])
     ≡ option_or (centre_name known) (cond (is_centre s.role) (Some s.name) None)
 unfolding centre_name
@@ -294,7 +294,7 @@ entry_other : (o : Option Who) (names : List Bytes) (known : List Station) (s : 
 entry_other None names known s name differ entry = entry
 entry_other (Some who) names known s name differ entry = told_other who names known s name differ entry
 
--- a declared name is another one than that of a node that is declared now
+-- A name that was declared before is not that of a node that is declared now.
 no_node : (o : Option Node) (known : Option Station) → option_map (λ (n : Node). n.eui.0) o
     ≡ option_map (λ (s : Station). s.eui) known → is_some o ≡ true → known ≡ None → ⊥
 no_node None known e some none = cc some
@@ -413,7 +413,7 @@ stays_declared d names known s name node who is tells named stands =
     there None e = cc
     there (Some other) e = refl
 
--- A name more, if it is new
+-- One more name, if it is new
 
 pub on_ok : {T E : Type 0} (r : Result T E) (A B : Type 0) → (A → B) → OnOk r A → OnOk r B
 on_ok (Ok x) A B f a = f a
@@ -450,7 +450,7 @@ stands_with_known d looked_up names known are stands = record {
   looked_up = are;
 }
 
--- It is who the directory says.
+-- The node is the one that the directory gives.
 told_known : (k : Known) (name : ArrayString) (who : Who) (names : List Bytes) (known : List Station)
     → Tells k.who names known k.name.bytes
     → (if bytes_eq k.name.bytes name.bytes then Some k.who else None) ≡ Some who
@@ -501,14 +501,14 @@ tells_with_old d name who names known is stands =
     subst (λ (n : List Bytes). Tells who n known name.bytes) (sym (with_old names name.bytes who.place told.place))
     told
 
--- One line more
+-- One more line
 
 pub with_undeclared : (known : List Station) (s : Station) → station_named known s.name ≡ None → with_station known s
     ≡ known ++ s ∷ []
 unfolding with_station
 with_undeclared known s none = ap (or_added known s) none
 
--- a line that declares nothing
+-- A line that declares nothing.
 pub quiet : (l : Line)
     → ((name : ArrayString) (r : Role) (eui : Eui) (short : Short) (out_block : ℕ) (in_block : ℕ) → l
     ≡ line.Node name r eui short out_block in_block → ⊥)
@@ -557,7 +557,7 @@ pub declared_more : (h : List Line) (l : Line) → declared_in (h ++ l ∷ []) �
 unfolding declared_in
 declared_more h l = fold-append declares [] h (l ∷ [])
 
--- what an `||` answers
+-- The result of `||`.
 pub by_left : (a b : Bool) → a ≡ true → a ≡ (a || b)
 by_left true b e = refl
 by_left false b e = cc

@@ -54,7 +54,7 @@ one_place [] a b i f g = cc
 one_place (other ∷ names) a b i f g = at_head a b other (bytes_eq other a) (bytes_eq other b) (place_in names a)
     (place_in names b) i refl refl (one_place names a b) f g
 
--- A place stays as further names come.
+-- The place of a name stays the same as further names come.
 kept_head : (x : Bool) (p q : Option ℕ) (i : ℕ) → ((j : ℕ) → p ≡ Some j → q ≡ Some j)
     → (if x then Some 0 else option_map (λ (n : ℕ). n + 1) p) ≡ Some i
     → (if x then Some 0 else option_map (λ (n : ℕ). n + 1) q) ≡ Some i
@@ -69,7 +69,7 @@ place_kept [] later a i f = cc
 place_kept (other ∷ names) later a i f = kept_head (bytes_eq other a) (place_in names a) (place_in (names ++ later) a)
     i (place_kept names later a) f
 
--- A name that is new comes to stand after all others, and no other name does.
+-- A new name comes after all others, and no other name does.
 end_head : (x : Bool) (p q : Option ℕ) (n : ℕ) (y : Bool) → (p ≡ None → q ≡ (if y then Some n else None))
     → (if x then Some 0 else option_map (λ (n : ℕ). n + 1) p) ≡ None
     → (if x then Some 0 else option_map (λ (n : ℕ). n + 1) q) ≡ (if y then Some (suc n) else None)

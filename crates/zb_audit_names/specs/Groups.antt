@@ -3,7 +3,7 @@ use Rattle.std.specs.Prelude.{ℕ, Bool, false, if◌then◌else◌, List, [], �
 use Rattle.zb_trace.specs.declared.line.Line.{Line}
 use Rattle.zb_trace.specs.declared.line.Line.TheVariants as line
 
--- The number of a line's event: 0 at the start, none of the end line.
+-- The number of a line's event: 0 at the start, `None` for the end line.
 unfoldable pub event_of : Line → Option ℕ
 event_of (line.Node name r eui short out_block in_block) = Some 0
 event_of (line.GivenNet node key sequence) = Some 0
@@ -39,13 +39,13 @@ event_of (line.Boot event node) = Some event
 event_of (line.Dump event node bytes) = Some event
 event_of (line.End events seals accepts refusals ideal private) = None
 
--- whether both are of one event; no event is none's
+-- Whether both are of one event. A line without an event is in none.
 abbrev pub same_event : Option ℕ → Option ℕ → Bool
 same_event None other = false
 same_event (Some event) None = false
 same_event (Some event) (Some other) = nat_eq event other
 
--- a line before groups: it joins the first of them where that is of its event
+-- A line before groups: it joins the first group, if that is of its event.
 abbrev pub onto : Line → List (List Line) → List (List Line)
 onto l ((m ∷ run) ∷ runs) = if same_event (event_of l) (event_of m) then (l ∷ m ∷ run) ∷ runs
     else (l ∷ []) ∷ (m ∷ run) ∷ runs
@@ -55,6 +55,6 @@ unfoldable pub groups : List Line → List (List Line)
 groups [] = []
 groups (l ∷ ls) = onto l (groups ls)
 
--- the lines of groups
+-- The lines of groups.
 abbrev pub flat : List (List Line) → List Line
 flat gs = flat_map (λ (g : List Line). g) gs

@@ -1,6 +1,7 @@
--- Who is who in the lines of a transcript. Names tell nodes apart: a name's address, role and blocks are those of the
--- first `0 node` line of that name. The centre is the first node that is declared as one. What a line says of its node
--- is read by the lines before it.
+-- Which node a name is in the lines of a transcript.
+--
+-- Names distinguish nodes: a name's address, role and blocks are those of the first `0 node` line of that name. The
+-- centre is the first node that is declared as one. The lines before a line say which node it names.
 use Rattle.std.specs.Prelude.{ℕ, ◌+◌, Bool, false, if◌then◌else◌, List, [], ◌∷◌, ◌++◌, fold, find, bytes_eq, nat_eq, Option, Some, None}
 use Rattle.std.specs.Option.{option_map}
 use Rattle.zb_model.specs.Data.{Bytes, Station}
@@ -9,11 +10,11 @@ use Rattle.zb_node_types.specs.Changes.{model_role}
 use Rattle.zb_trace.specs.declared.line.Line.{Line}
 use Rattle.zb_trace.specs.declared.line.Line.TheVariants as line
 
--- the first declared node of that name
+-- The first declared node of that name.
 unfoldable pub station_named : List Station → Bytes → Option Station
 station_named known name = find (λ (s : Station). bytes_eq s.name name) known
 
--- one node more, where its name is new
+-- One node more, if its name is new.
 abbrev pub or_added : List Station → Station → Option Station → List Station
 or_added known s None = known ++ s ∷ []
 or_added known s (Some other) = known
@@ -21,7 +22,7 @@ or_added known s (Some other) = known
 unfoldable pub with_station : List Station → Station → List Station
 with_station known s = or_added known s (station_named known s.name)
 
--- The declared nodes, in order: a `0 node` line adds one where its name is new.
+-- The declared nodes, in order: a `0 node` line adds one, if its name is new.
 unfoldable pub declares : List Station → Line → List Station
 declares known (line.Node name r eui short out_block in_block) =
     with_station known
@@ -38,11 +39,11 @@ declares known _ = known
 unfoldable pub declared_in : List Line → List Station
 declared_in h = fold declares [] h
 
--- the address of a name
+-- The address of a name.
 unfoldable pub eui_of : List Station → Bytes → Option ℕ
 eui_of known name = option_map (λ (s : Station). s.eui) (station_named known name)
 
--- the name of the first centre
+-- The name of the first centre.
 unfoldable pub centre_name : List Station → Option Bytes
 centre_name known = option_map (λ (s : Station). s.name) (find (λ (s : Station). is_centre s.role) known)
 
@@ -50,11 +51,11 @@ abbrev pub is_name : Option Bytes → Bytes → Bool
 is_name None name = false
 is_name (Some other) name = bytes_eq other name
 
--- whether the first centre is the node of this name
+-- Whether the first centre is the node of this name.
 unfoldable pub is_centres : List Station → Bytes → Bool
 is_centres known name = is_name (centre_name known) name
 
--- whether the node of this name has this address
+-- Whether the node of this name has this address.
 abbrev pub is_eui : Option ℕ → ℕ → Bool
 is_eui None d = false
 is_eui (Some eui) d = nat_eq eui d
@@ -62,7 +63,7 @@ is_eui (Some eui) d = nat_eq eui d
 unfoldable pub is_of : List Station → ℕ → Bytes → Bool
 is_of known d name = is_eui (eui_of known name) d
 
--- The name of the node that a line speaks of; that of a frame's sender decides nothing.
+-- The name of the node of a line; that of a frame's sender doesn't count.
 unfoldable pub speaker : Line → Option Bytes
 speaker (line.Node name r eui short out_block in_block) = Some name.bytes
 speaker (line.GivenNet node key sequence) = Some node.bytes
@@ -96,7 +97,7 @@ place_in [] name = None
 place_in (other ∷ names) name = if bytes_eq other name then Some 0
     else option_map (λ (n : ℕ). n + 1) (place_in names name)
 
--- The names that a list of lines speaks of, in the order in which they come first.
+-- The names in a list of lines, in the order of their first occurrences.
 abbrev pub or_new : List Bytes → Bytes → Option ℕ → List Bytes
 or_new names name None = names ++ name ∷ []
 or_new names name (Some place) = names

@@ -1,5 +1,5 @@
--- Which keys the lines of a transcript show, who came to know them, and the two words of its end line. They are read
--- by names: the lines before a line say whose address a name has, and who the centre is.
+-- Which keys the lines of a transcript show, who learned them, and the two words of its end line. Nodes are
+-- identified by names: the lines before a line say whose address a name has, and which node is the centre.
 use Rattle.std.specs.Prelude.{ℕ, Bool, true, false, not, if◌then◌else◌, ◌&&◌, ◌||◌, List, [], ◌∷◌, ◌++◌, length, nat_eq, bytes_eq, flat_map, Option, Some, None}
 use Rattle.std.specs.List.{list_any}
 use Rattle.zb_base.specs.declared.state.Attribute.TheVariants as attribute
@@ -11,7 +11,7 @@ use Rattle.zb_trace.specs.Terms.{model_term}
 use Rattle.zb_trace.specs.declared.line.Line.{Line}
 use Rattle.zb_trace.specs.declared.line.Line.TheVariants as line
 
--- the terms of seal and forge lines
+-- The terms of seal and forge lines.
 abbrev pub terms_in : Line → List Term
 terms_in (line.Seal event node t) = model_term t ∷ []
 terms_in (line.Forge event t) = model_term t ∷ []
@@ -20,12 +20,12 @@ terms_in _ = []
 unfoldable pub terms_of : List Line → List Term
 terms_of h = flat_map terms_in h
 
--- The keys that come out for somebody who holds the start: in each round those that a term carries whose base key is
--- among them. There are as many rounds as lines.
+-- The keys that somebody who holds the start can learn. Each round adds the keys of terms whose base key is known.
+-- There are as many rounds as lines.
 unfoldable pub exposed : Tools → List Line → List Bytes → List Bytes
 exposed tools h from = rounds (length h) tools (terms_of h) from
 
--- What each line says, read by the nodes that are declared before it, one after the other.
+-- What each line says, one after the other. The nodes declared before a line give its meaning.
 abbrev pub along : {A : Type 0} → (List Station → Line → List A) → List Station → List Line → List A
 along says known [] = []
 along says known (l ∷ ls) = says known l ++ along says (declares known l) ls
@@ -67,7 +67,7 @@ network_in _ = []
 unfoldable pub network_keys : List Line → List Bytes
 network_keys h = flat_map network_in h
 
--- A test of each line and the lines before it.
+-- Whether a test holds for each line and the lines before it.
 unfoldable pub each_line : (List Line → Line → Bool) → List Line → List Line → Bool
 each_line test h [] = true
 each_line test h (l ∷ ls) = test h l && each_line test (h ++ l ∷ []) ls
@@ -92,7 +92,7 @@ bases h n = flat_map (base_in n) h
 unfoldable pub came_by : Tools → List Line → Bytes → Bytes → Bool
 came_by tools h n key = holds (codes_of h n) key || list_any (brings tools (bases h n) key) (terms_of h)
 
--- whether a name is that of a declared router or device
+-- Whether a name is that of a declared router or device.
 abbrev pub is_member : Role → Bool
 is_member Centre = false
 is_member Router = true
@@ -105,8 +105,8 @@ is_joiner (Some s) = is_member s.role
 unfoldable pub joins : List Station → Bytes → Bool
 joins known n = is_joiner (station_named known n)
 
--- Ideal: an accepted term was sealed or forged before. A key that a router or device took in is its code's, or came in
--- an earlier term under one of its keys. The second matters where a stop cut the acceptance off.
+-- Ideal: an accepted term was sealed or forged before. A key that a router or device installed is its code's, or came
+-- in an earlier term under one of its keys. The second part matters if a stop prevented the acceptance.
 unfoldable pub ideal_line : Tools → List Line → Line → Bool
 ideal_line tools h (line.Accept event node t) = list_any (same_term (model_term t)) (terms_of h)
 ideal_line tools h (line.Install event node key sequence) = not (joins (declared_in h) node.bytes)

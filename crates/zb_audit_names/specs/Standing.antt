@@ -1,4 +1,4 @@
--- What the program keeps of names and declared nodes.
+-- What the program keeps about names and declared nodes.
 use Rattle.std.specs.Prelude.{◌≡◌, true, List, length, Option, Some, None}
 use Rattle.std.specs.List.{All}
 use Rattle.std.specs.BTreeMap.{get, btree_map_len}
@@ -19,7 +19,7 @@ use Rattle.zb_audit_names.specs.declared.node.Who.{Who}
 abbrev pub name_cmp : ArrayString → ArrayString → Ordering
 name_cmp a b = slice_cmp nat_cmp a.bytes b.bytes
 
--- the node that a `0 node` line with that name declares
+-- The node that a `0 node` line with that name declares.
 pub record IsStation (s : Station) (name : Bytes) (node : Node) : Type 0 where
   pub name_is : s.name ≡ name
   pub eui_is : s.eui ≡ node.eui.0
@@ -27,7 +27,7 @@ pub record IsStation (s : Station) (name : Bytes) (node : Node) : Type 0 where
   pub out_is : s.out_block ≡ node.out_block
   pub in_is : s.in_block ≡ node.in_block
 
--- Who a name is, where these are the names and the declared nodes.
+-- Which node a name is, if these are the names and the declared nodes.
 pub record Tells (who : Who) (names : List Bytes) (known : List Station) (name : Bytes) : Type 0 where
   pub place : place_in names name ≡ Some who.place
   pub eui : option_map (λ (n : Node). n.eui.0) who.node ≡ eui_of known name
@@ -39,7 +39,7 @@ pub record Tells (who : Who) (names : List Bytes) (known : List Station) (name :
       ≡ option_map (λ (s : Station). s.in_block) (station_named known name)
   pub centre : who.is_centre ≡ is_centres known name
 
--- Who the node of a line is, where it speaks of one.
+-- Which node a line names, if it names one.
 abbrev pub TellsOf : Who → List Bytes → List Station → Option Bytes → Type 0
 TellsOf who names known None = Unit {0}
 TellsOf who names known (Some name) = Tells who names known name
@@ -51,12 +51,12 @@ abbrev pub IsEntry : Option Who → List Bytes → List Station → Bytes → Ty
 IsEntry None names known name = place_in names name ≡ None
 IsEntry (Some who) names known name = Tells who names known name
 
--- A declared name that was looked up is who the directory says.
+-- A declared name that was looked up is the node that the directory gives.
 abbrev pub IsKnown : Option Known → List Bytes → List Station → Type 0
 IsKnown None names known = Unit {0}
 IsKnown (Some k) names known = Tells k.who names known k.name.bytes × (is_some k.who.node ≡ true)
 
--- So is each of those that are remembered.
+-- So is each of those that are kept.
 abbrev pub AreKnown : List (Option Known) → List Bytes → List Station → Type 0
 AreKnown looked_up names known = All (λ (o : Option Known). IsKnown o names known) looked_up
 
@@ -65,6 +65,6 @@ pub record Stands (d : Directory) (names : List Bytes) (known : List Station) : 
   pub entries : (name : ArrayString) → IsEntry (get name_cmp d.names name) names known name.bytes
   pub count : btree_map_len d.names ≡ length names
   pub centre : d.has_centre ≡ is_some (centre_name known)
-  -- a name that no line speaks of is that of no declared node
+  -- A name that occurs in no line is not that of a declared node.
   pub silent : (name : Bytes) → place_in names name ≡ None → station_named known name ≡ None
   pub looked_up : AreKnown d.looked_up.items names known

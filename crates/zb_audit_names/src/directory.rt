@@ -1,4 +1,4 @@
-//! The names that lines speak of, and what was declared of them.
+//! The names in lines, and what was declared about them.
 ghost use Rattle.std.specs.Prelude.{◌≡◌, ◌++◌, ◌∷◌, [], ◌&&◌, List, None, Some, OnOk, IfOk, IfSome, bytes_eq, if◌then◌else◌, not};
 ghost use Rattle.std.specs.BTreeMap.{get};
 ghost use Rattle.zb_model.specs.Data.{Bytes, Station};
@@ -15,28 +15,29 @@ use std::collections::BTreeMap;
 use zb_base::{Name, NoMemory, Role};
 use zb_trace::Line;
 
-/// The names of a transcript so far. A name is looked up once a line; all else goes by its place.
+/// The names of a transcript so far. A name is looked up once for each line; everything else uses its place.
 #[derive(Drop)]
 pub struct Directory {
-    /// Who each name is.
+    /// The node of each name.
     pub names: BTreeMap<Name, Who>,
     /// Whether a centre was declared.
     pub has_centre: bool,
-    /// Declared names that were looked up, each at a place that its bytes make. No places before the first of them.
+    /// Declared names that were looked up. The hash of a name gives its place. There are no places before the first
+    /// such name.
     pub looked_up: Vec<Option<Known>>,
 }
 
-/// A name, and who it is.
+/// A name and its node.
 #[derive(Clone, Copy)]
 pub struct Known {
     /// The name.
     pub name: Name,
-    /// Who it is.
+    /// The node.
     pub who: Who,
 }
 
 impl Known {
-    /// Returns who this is, where it has that name.
+    /// Returns the node, if it has that name.
     fn who_of(&self, name: &Name) -> Option<Who>
         ensures { result ≡ (if bytes_eq self.now.name.bytes name.now.bytes then Some self.now.who else None) }
     {
@@ -60,11 +61,11 @@ impl Directory {
         }
     }
 
-    /// Goes on by one line, and returns who its node is by the lines before it. For a line that speaks of no node the
-    /// value says nothing.
+    /// Processes one line, and returns its node by the lines before it. For a line that names no node the value has
+    /// no meaning.
     ///
     /// # Errors
-    /// `NoMemory`.
+    /// `NoMemory`, if memory runs out.
     pub fn line(&mut self, line: &Line) -> Result<Who, NoMemory>
         ensures stands { OnOk result ((h : List AnyLine) → Stands self.old (names_in h) (declared_in h)
             → Stands self.new (names_in (h ++ line.now ∷ [])) (declared_in (h ++ line.now ∷ []))) }
@@ -76,7 +77,7 @@ impl Directory {
         Ok(who)
     }
 
-    /// Returns who the node of a line is.
+    /// Returns the node of a line.
     fn speaker(&mut self, line: &Line) -> Result<Who, NoMemory>
         ensures stands { OnOk result ((names : List Bytes) (known : List Station) → Stands self.old names known
             → Stands self.new (named_by names line.now) known) }
@@ -89,7 +90,7 @@ impl Directory {
         }
     }
 
-    /// Returns who a name is. A name that is new gets the next place.
+    /// Returns the node of a name. A new name gets the next place.
     fn who(&mut self, name: &Name) -> Result<Who, NoMemory>
         ensures stands { OnOk result ((names : List Bytes) (known : List Station) → Stands self.old names known
             → Stands self.new (with_name names name.now.bytes) known) }
@@ -102,7 +103,7 @@ impl Directory {
         }
     }
 
-    /// Returns who a name is, where it was looked up.
+    /// Returns the node of a name, if it was looked up before.
     fn remembered(&self, name: &Name) -> Option<Who>
         ensures { IfSome result (λ who. (names : List Bytes) (known : List Station) → Stands self.now names known
             → Tells who names known name.now.bytes) }
@@ -113,7 +114,7 @@ impl Directory {
         }
     }
 
-    /// Returns who a name is, by all names. A name that is new gets the next place.
+    /// Returns the node of a name from all names. A new name gets the next place.
     fn look_up(&mut self, name: &Name) -> Result<Who, NoMemory>
         ensures stands { OnOk result ((names : List Bytes) (known : List Station) → Stands self.old names known
             → Stands self.new (with_name names name.now.bytes) known) }
@@ -146,7 +147,7 @@ impl Directory {
         Ok(who)
     }
 
-    /// Takes in what a line declares, if anything. `who` is its node by the lines before it.
+    /// Notes what a line declares, if anything. `who` is its node by the lines before it.
     fn declare(&mut self, line: &Line, who: Who) -> Result<(), NoMemory>
         ensures { OnOk result ((names : List Bytes) (known : List Station) → IsSpeaker who names known line.now
             → Stands self.old names known → Stands self.new names (declares known line.now)) }
@@ -211,7 +212,7 @@ impl Directory {
 /// How many places there are for names that were looked up.
 const PLACES: usize = 1024;
 
-/// Returns the place that the bytes of a name make. Two names may have one place.
+/// Returns the place that the bytes of a name give. Two names may have one place.
 fn place_of(name: &Name) -> usize {
     let mut number: u64 = 0;
     for byte in name.as_str().as_bytes() {
@@ -220,7 +221,7 @@ fn place_of(name: &Name) -> usize {
     (number.wrapping_mul(0x9E37_79B9_7F4A_7C15) >> 54) as usize
 }
 
-/// Keeps who a declared name is, at the place of the name. What stood there is gone.
+/// Keeps the node of a declared name at the place of the name. It overwrites what was there.
 fn keep(looked_up: &mut Vec<Option<Known>>, found: Known) -> Result<(), NoMemory>
     ensures { OnOk result ((names : List Bytes) (known : List Station) → Tells found.who names known found.name.bytes
         → AreKnown looked_up.old.items names known → AreKnown looked_up.new.items names known) }
@@ -233,7 +234,7 @@ fn keep(looked_up: &mut Vec<Option<Known>>, found: Known) -> Result<(), NoMemory
     Ok(())
 }
 
-/// Makes the places, where there are none.
+/// Makes the places, if there are none.
 fn make_places(looked_up: &mut Vec<Option<Known>>) -> Result<(), NoMemory>
     ensures { OnOk result ((names : List Bytes) (known : List Station) → AreKnown looked_up.old.items names known
         → AreKnown looked_up.new.items names known) }
@@ -244,7 +245,7 @@ fn make_places(looked_up: &mut Vec<Option<Known>>) -> Result<(), NoMemory>
     Ok(())
 }
 
-/// Writes who a name is at a place, if there is such a place.
+/// Writes the node of a name at a place, if there is such a place.
 fn put_known(looked_up: &mut Vec<Option<Known>>, place: usize, found: Known)
     ensures { (names : List Bytes) (known : List Station) → IsKnown (Some found) names known
         → AreKnown looked_up.old.items names known → AreKnown looked_up.new.items names known }
@@ -254,7 +255,7 @@ fn put_known(looked_up: &mut Vec<Option<Known>>, place: usize, found: Known)
     }
 }
 
-/// Returns who is known at a place, if anybody.
+/// Returns the name and node at a place, if there are any.
 fn known_at(looked_up: &[Option<Known>], place: usize) -> Option<Known>
     ensures { IfSome result (λ found. (names : List Bytes) (known : List Station) → AreKnown looked_up.now names known
         → IsKnown (Some found) names known) }

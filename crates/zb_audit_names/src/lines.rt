@@ -1,4 +1,4 @@
-//! Whom a line speaks of, and of which event it is.
+//! The node and the event of a line.
 ghost use Rattle.std.specs.Prelude.{◌≡◌};
 ghost use Rattle.std.specs.Option.{option_map};
 ghost use Rattle.arrayvec.specs.ArrayString.{ArrayString};
@@ -8,7 +8,7 @@ ghost use Rattle.zb_audit_names.specs.Naming as naming;
 use zb_base::Name;
 use zb_trace::Line;
 
-/// Returns the name of the node that a line speaks of, if any. The sender of a frame isn't meant.
+/// Returns the name of the node of a line, if it names one. The sender of a frame doesn't count.
 #[tactic(auto, unfolding(crate::specs::Naming::speaker))]
 pub fn speaker(line: &Line) -> Option<Name>
     ensures { option_map (λ (name : ArrayString). name.bytes) result ≡ naming.speaker line.now }
@@ -50,7 +50,7 @@ pub fn speaker(line: &Line) -> Option<Name>
     }
 }
 
-/// Returns the number of a line's event: 0 at the start, none of the end line.
+/// Returns the number of a line's event: 0 at the start, `None` for the end line.
 #[tactic(auto, unfolding(crate::specs::Groups::event_of))]
 pub fn event(line: &Line) -> Option<u32>
     ensures { result ≡ event_of line.now }

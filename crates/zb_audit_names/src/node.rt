@@ -1,4 +1,4 @@
-//! What is known of a node.
+//! What is known about a node.
 use zb_base::{Eui, Role};
 
 /// What the first `0 node` line of a name declares.
@@ -6,7 +6,7 @@ use zb_base::{Eui, Role};
 pub struct Node {
     /// The EUI.
     pub eui: Eui,
-    /// The part in the network.
+    /// The role.
     pub role: Role,
     /// How many outgoing frame counters are reserved at once.
     pub out_block: u32,
@@ -14,18 +14,18 @@ pub struct Node {
     pub in_block: u32,
 }
 
-/// Who the node of a line is, by the lines before it.
+/// The node of a line, by the lines before it.
 #[derive(Clone, Copy)]
 pub struct Who {
-    /// The place of its name among all names, in the order in which lines first speak of them.
+    /// The place of its name among all names, in the order of their first occurrences.
     pub place: usize,
-    /// What was declared of it, if anything.
+    /// What was declared about it, if anything.
     pub node: Option<Node>,
     /// Whether it is the first declared centre.
     pub is_centre: bool,
 }
 
-/// Stands for the node of a line that speaks of none.
+/// The node of a line that names none.
 pub const NOBODY: Who = Who {
     place: 0,
     node: None,

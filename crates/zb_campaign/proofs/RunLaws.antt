@@ -1,4 +1,4 @@
--- What runs come to, one after the other.
+-- The ends of runs, one run after the other.
 use Rattle.std.proofs.Common.{◌≡◌, ℕ, zero, suc, ◌+◌, ◌-◌, ◌%◌, ◌<◌, ◌≤◌, List, [], ◌∷◌, ◌++◌, map, length, Option, Result, Ok, Err, refl, ap, sym, ◌∙◌, arith, append_assoc, append-nil}
 use Rattle.std.specs.List.{range_with_len}
 use Rattle.std.proofs.lemmas.List.{length-map, map-append}
@@ -30,7 +30,7 @@ pub behind_none : {A E : Type 0} (r : Result (List A) E) → behind [] r ≡ r
 behind_none (Ok zs) = refl
 behind_none (Err e) = refl
 
--- the first of some runs, and those after it
+-- The first of some runs, and those after it.
 next_run : (start first left : ℕ) (last : Line) → 0 < left → ending_of_run start first ≡ Ok last
     → endings start first left ≡ behind (last ∷ []) (endings start (first + 1) (left - 1))
 unfolding endings
@@ -46,7 +46,7 @@ next_clash start first zero e some is = absurd (omega arith)
 next_clash start first (suc left) e some is =
     ap (λ r. all_of (r ∷ map (λ i. ending_of_run start i) (range_with_len (first + 1) left))) is
 
--- So many runs came to these ends, and the others are still to come.
+-- So many runs have these ends, and the others are still to be played.
 abbrev pub AreRun : ℕ → ℕ → ℕ → ℕ → List Summary → Type 0
 AreRun start first count done ends =
     endings start first count ≡ behind (map last_line ends) (endings start (first + done) (count - done))
@@ -90,7 +90,7 @@ all_run start first count done ends past so_far =
     so_far ∙ ap (λ n. behind (map last_line ends) (endings start (first + done) n)) none
     ∙ ap (behind (map last_line ends)) (no_runs start (first + done)) ∙ ap Ok (append-nil (map last_line ends))
 
--- ---- one run
+-- ---- One run
 
 abbrev pub is_of : ℕ → ℕ → Result Schedule SchedError
 is_of start run = made_schedule (start + run) (1 + run % 8)
@@ -106,7 +106,7 @@ pub made_ended : (start run : ℕ) (p : Schedule) (end : Summary) → is_of star
 unfolding ending_of_run
 made_ended start run p end is sums = ap if_made is ∙ ap Ok (sym sums)
 
--- a run that fails ends the share
+-- A run that fails ends the share.
 pub a_run_fails : (start first count done : ℕ) (ends : List Summary) (f : CampaignFault) → done < count
     → AreRun start first count done ends
     → Answers last_line (Err f) (ending_of_run start (first + done))
@@ -116,7 +116,7 @@ a_run_fails start first count done ends (fault.Clash line cause) within so_far i
     a_run_clashes start first count done ends (record { line = line; cause = cause }) within so_far is
 a_run_fails start first count done ends fault.NoMemory within so_far is = tt
 
--- ---- the ends of a campaign
+-- ---- The ends of a campaign
 
 ends_of : {A E : Type 0} → Result (List A) E → ℕ
 ends_of (Ok xs) = length xs
@@ -135,7 +135,7 @@ all_of_length [] ys is = sym (ap ends_of is)
 all_of_length (Ok x ∷ xs) ys is = behind_length x (length xs) (all_of xs) ys (all_of_length xs) is
 all_of_length (Err e ∷ xs) ys is = absurd (cc is)
 
--- each run has one end
+-- Each run has one end.
 pub as_many : (start first count : ℕ) (ends : List Summary) → endings start first count ≡ Ok (map last_line ends)
     → length ends ≡ count
 unfolding endings
@@ -144,7 +144,7 @@ as_many start first count ends is =
     (map last_line ends) is
     ∙ length-map-range_with_len (λ i. ending_of_run start i) first count
 
--- at a fault of a run nothing is written
+-- If a run has a fault, nothing is written.
 pub not_written : (count start : ℕ) (f : CampaignFault) (before : Option Bytes) (old : ℕ)
     → Answers last_lines (Err f) (endings start 0 count)
     → Campaigns (campaigned count start) before before old old (Err f)

@@ -14,7 +14,7 @@ use Rattle.zb_player.specs.Runs.{last_line}
 use Rattle.zb_player.specs.declared.summary.Summary.{Summary}
 use Rattle.zb_sched.specs.declared.error.SchedError.{SchedError}
 
--- what is found first, and what is found then
+-- The first result, and then the next.
 abbrev then_all : {A E : Type 0} → Result (List A) E → Result (List A) E → Result (List A) E
 then_all (Ok xs) more = behind xs more
 then_all (Err e) more = Err e
@@ -40,7 +40,7 @@ range_both first (suc a) b =
     let from : first + suc a ≡ first + 1 + a = omega arith in
     rw more rw from (ap (λ xs. first ∷ xs) (range_both (first + 1) a b))
 
--- the runs of two shares, the second after the first
+-- The runs of two shares, the second after the first.
 endings_both : (start first a b : ℕ) → endings start first (a + b)
     ≡ then_all (endings start first a) (endings start (first + a) b)
 unfolding endings
@@ -55,11 +55,11 @@ joined_more : {A E : Type 0} (w : Result (List A) E) (more : List (Result (List 
 joined_more (Ok xs) more = refl
 joined_more (Err e) more = refl
 
--- what is wanted of each share
+-- What each share is expected to give.
 abbrev pub wanted_of : ℕ → List Share → List (Result (List Line) SchedError)
 wanted_of start shares = map (λ (share : Share). endings start share.first share.count) shares
 
--- The shares put one after the other are all runs.
+-- The shares together are all runs.
 pub joined_shares : (start size number first left : ℕ) (shares : List Share) → AreShares size number first left shares
     → joined (wanted_of start shares) ≡ endings start first left
 joined_shares start size number first left [] none = sym (ap (λ n. endings start first n) none ∙ no_runs start first)
@@ -74,7 +74,7 @@ joined_shares start size number first left (share ∷ more) cut =
     (joined_shares start size (number + 1) (first + part) (left - part) more cut.4)
     ∙ sym (endings_both start first part (left - part)) ∙ ap (λ n. endings start first n) whole
 
--- the start values of all runs are below 2^32
+-- The start values of all runs are below 2^32.
 pub within_all : (start size number first left : ℕ) (shares : List Share) → AreShares size number first left shares
     → start + first + left < 2 ^ 32
     → AllByRecursion (λ (share : Share). start + share.first + share.count < 2 ^ 32) shares
@@ -86,7 +86,7 @@ within_all start size number first left (share ∷ more) cut within =
           (omega (arith, within)),
     )
 
--- ---- the results of the shares, from the first on
+-- ---- The results of the shares, from the first on
 
 abbrev pub Came : Type 0
 Came = Result (Vec Summary Global) CampaignFault
@@ -108,7 +108,7 @@ joined_at (r ∷ played) (w ∷ wanted) zero d ends within is all =
 joined_at (r ∷ played) (w ∷ wanted) (suc i) d ends within is all = joined_at played wanted i d ends (omega arith) is
     all.1
 
--- what the shares so far came to, with what the others are to come to, is what all are to come to
+-- The results of the shares so far and the expected ones of the others make the results of all.
 abbrev pub AreJoined : List Came → ℕ → List Summary → Type 0
 AreJoined played i ends =
     (wanted : List (Result (List Line) SchedError)) → AreAnswered played wanted
@@ -142,7 +142,7 @@ all_joined played i ends past so_far wanted all =
     so_far wanted all ∙ ap (behind (map last_line ends)) (past_all played wanted i past all) ∙ ap Ok
     (append-nil (map last_line ends))
 
--- the first share that has a fault
+-- The first share that has a fault.
 fails_at : (played : List Came) (wanted : List (Result (List Line) SchedError)) (i : ℕ) (d : Came) (f : CampaignFault)
     → i < length played
     → get_or played i d ≡ Err f → AreAnswered played wanted → Answers last_lines (Err f) (joined (drop i wanted))
@@ -174,7 +174,7 @@ a_share_fails played i ends d f within is so_far wanted all =
     behind_fault (map last_line ends) f (joined wanted) (joined (drop i wanted)) (so_far wanted all)
     (fails_at played wanted i d f within is all)
 
--- ---- the calls of all shares
+-- ---- The calls of all shares
 
 zip_from_index : {A B : Type 0} (R : A → B → Type 0) (xs : List A) (ys : List B) → length xs ≡ length ys
     → ((i : ℕ) (d : A) (e : B) → i < length xs → R (get_or xs i d) (get_or ys i e)) → AllZip R xs ys

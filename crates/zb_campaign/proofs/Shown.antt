@@ -42,7 +42,7 @@ all_shown ends count total none one two empty runs all counted seals accepts ref
     all ∙ ap (λ xs. xs ++ total_text count total) (runs ∙ ap (λ xs. xs ++ runs_text 0 (map last_line ends)) empty)
     ∙ ap (λ xs. runs_text 0 (map last_line ends) ++ xs) (total_is count total ends counted seals accepts refusals)
 
--- what is written is the campaign
+-- What is written is the campaign.
 pub is_campaign : (count start : ℕ) (ends shown : List Summary) (page piece : Bytes) → endings start 0 count
     ≡ Ok (map last_line ends) → shown ≡ ends
     → page ≡ campaign_text (map last_line shown) → piece ≡ page → campaigned count start ≡ Ok piece

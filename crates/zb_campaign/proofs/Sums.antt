@@ -1,4 +1,4 @@
--- What runs come to, added up.
+-- The sums of the ends of runs.
 use Rattle.std.proofs.Common.{◌≡◌, ℕ, zero, suc, ◌+◌, ◌*◌, ◌<◌, ◌≤◌, List, [], ◌∷◌, ◌++◌, map, take, get_or, length, sum_by, add-one, refl, ap, sym, ◌∙◌, arith}
 use Rattle.std.proofs.lemmas.List.{map-append}
 use Rattle.std.proofs.lemmas.List.Sums.{fold-append}
@@ -8,7 +8,7 @@ use Rattle.zb_model.specs.Lines.{Line}
 use Rattle.zb_player.specs.Runs.{last_line}
 use Rattle.zb_player.specs.declared.summary.Summary.{Summary}
 
--- the total of the first n of these, which are few
+-- The total of the first n of these ends. There are few of them.
 pub record IsTotal (ends : List Summary) (n : ℕ) (total : Total) : Type 0 where
   pub seals : total.seals ≡ sum_by seals_in (map last_line (take n ends))
   pub accepts : total.accepts ≡ sum_by accepts_in (map last_line (take n ends))

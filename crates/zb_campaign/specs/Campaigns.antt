@@ -1,5 +1,5 @@
--- Campaigns: made schedules of consecutive start values, each played, and what the runs come to (this project's
--- profile).
+-- Campaigns: generated schedules with consecutive start values, each of them played, and the ends of the runs (this
+-- project's profile).
 use Rattle.std.specs.Prelude.{ℕ, ◌+◌, ◌%◌, List, [], ◌∷◌, ◌++◌, length, map, sum_by, codes, decimal, Result, Ok, Err}
 use Rattle.std.specs.List.{range_with_len}
 use Rattle.zb_gen.specs.Made.{made_schedule}
@@ -13,7 +13,7 @@ use Rattle.zb_sched.specs.Schedules.{Schedule}
 use Rattle.zb_sched.specs.declared.error.SchedError.{SchedError}
 use Rattle.zb_text.specs.Words.{then}
 
--- The last line of the transcript that the policy gives of a schedule.
+-- The last line of the transcript that the policy gives for a schedule.
 abbrev pub ending : Schedule → Line
 ending p = end_line real (length p.events) (run_lines real (schedule_of p))
 
@@ -26,7 +26,7 @@ if_made (Err e) = Err e
 unfoldable pub ending_of_run : ℕ → ℕ → Result Line SchedError
 ending_of_run start i = if_made (made_schedule (start + i) (1 + i % 8))
 
--- ---- what comes of several, one after the other, or the first fault
+-- ---- The results of several, one after the other, or the first fault
 
 abbrev pub behind : {A E : Type 0} → List A → Result (List A) E → Result (List A) E
 behind front (Ok more) = Ok (front ++ more)
@@ -37,7 +37,7 @@ all_of [] = Ok []
 all_of (Ok x ∷ more) = behind (x ∷ []) (all_of more)
 all_of (Err e ∷ more) = Err e
 
--- the same of lists, put one after the other
+-- The same for lists, appended to each other.
 abbrev pub joined : {A E : Type 0} → List (Result (List A) E) → Result (List A) E
 joined [] = Ok []
 joined (Ok xs ∷ more) = behind xs (joined more)
@@ -47,19 +47,19 @@ joined (Err e ∷ more) = Err e
 unfoldable pub endings : ℕ → ℕ → ℕ → Result (List Line) SchedError
 endings start first count = all_of (map (λ i. ending_of_run start i) (range_with_len first count))
 
--- ---- the text
+-- ---- The text
 
 -- `I end EVENTS SEALS ACCEPTS REFUSALS IDEAL PRIVATE`: the number of the run, and the words of its last line. That
 -- names no node.
 unfoldable pub run_line : ℕ → Line → Bytes
 run_line i last = decimal i ++ then (line_text [] last)
 
--- the lines of runs, the first of which has the number i
+-- The lines of runs, of which the first has the number i.
 abbrev pub runs_text : ℕ → List Line → Bytes
 runs_text i [] = []
 runs_text i (last ∷ more) = run_line i last ++ runs_text (i + 1) more
 
--- how many seals, acceptances and refusals the last line of a transcript tells
+-- How many seals, acceptances and refusals the last line of a transcript has.
 abbrev pub seals_in : Line → ℕ
 seals_in (End events seals accepts refusals ideal private) = seals
 seals_in _ = 0
@@ -78,7 +78,7 @@ total_line count seals accepts refusals =
     codes "total" ++ then (decimal count) ++ then (decimal seals) ++ then (decimal accepts) ++ then (decimal refusals)
     ++ 10 ∷ []
 
--- how many runs there are, and what they tell taken together
+-- How many runs there are, and the sums of their counts.
 unfoldable pub total_of : List Line → Bytes
 total_of lasts = total_line (length lasts) (sum_by seals_in lasts) (sum_by accepts_in lasts) (sum_by refusals_in lasts)
 
@@ -89,7 +89,7 @@ abbrev pub told : Result (List Line) SchedError → Result Bytes SchedError
 told (Ok lasts) = Ok (campaign_text lasts)
 told (Err e) = Err e
 
--- What a campaign of `count` runs writes, or the clash of the first run that has one. No jobs and no gates stand in
--- it.
+-- What a campaign of `count` runs writes, or the clash of the first run that has one. It doesn't depend on jobs and
+-- gates.
 unfoldable pub campaigned : ℕ → ℕ → Result Bytes SchedError
 campaigned count start = told (endings start 0 count)

@@ -1,4 +1,4 @@
--- How the writing of a campaign ends.
+-- What was written when the writing of a campaign ended.
 use Rattle.std.specs.Prelude.{◌≡◌, ℕ, Option, Result, Ok, Err}
 use Rattle.std.specs.Io.KnownBytes.{Appends, Keeps}
 use Rattle.zb_base.specs.Outside.{AppendsFront, Rose}
@@ -17,7 +17,8 @@ abbrev pub IsBegun : Result Bytes SchedError → Option Bytes → Option Bytes �
 IsBegun (Ok text) before after = AppendsFront before after text
 IsBegun (Err e) before after = ⊥
 
--- At Ok the campaign was written; where the sink failed, a prefix of it; at a clash, and out of memory, nothing.
+-- After `Ok`, the campaign was written. If the sink failed, a prefix of it. At a clash, and if memory ran out,
+-- nothing.
 abbrev pub Campaigns : Result Bytes SchedError → Option Bytes → Option Bytes → ℕ → ℕ → Result (Unit {0}) CampaignFault
     → Type 0
 Campaigns wanted before after old new (Ok done) = IsWritten wanted before after

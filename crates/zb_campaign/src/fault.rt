@@ -1,4 +1,4 @@
-//! What keeps a campaign from being written to its end.
+//! What can prevent that a campaign is written to its end.
 ghost use Rattle.std.specs.Prelude.{◌≡◌};
 ghost use Rattle.zb_campaign.specs.Faults.{made_fault};
 ghost use Rattle.zb_campaign.specs.declared.fault.CampaignFault.TheVariants.{Write as unwritten, NoMemory as lacks};
@@ -10,21 +10,21 @@ use zb_base::{Failed, NoMemory};
 use zb_gen::GenFault;
 use zb_sched::SchedCause;
 
-/// Why a campaign isn't written to its end.
+/// Why a campaign wasn't written to its end.
 #[derive(Clone, Copy, Debug, PartialEq, Eq)]
 pub enum CampaignFault {
-    /// The sink failed: its count of faults rose.
+    /// The sink failed, and its count of faults rose.
     Write,
     /// The schedule of a run clashes: two of its keys are equal, or one is the well-known key.
     ///
-    /// It is the first run that does. Nothing was written.
+    /// It is the first such run. Nothing was written.
     Clash {
         /// The first line of that schedule that clashes, from 1.
         line: u32,
-        /// What is wrong with it.
+        /// What is wrong with that line.
         cause: SchedCause,
     },
-    /// There was no memory left.
+    /// Memory ran out.
     NoMemory,
 }
 

@@ -1,4 +1,4 @@
-//! Campaigns: many made schedules, each of them played, and what they come to, worked out by any number of jobs.
+//! Campaigns: many generated schedules, each of them played, and the ends of their runs, with any number of jobs.
 #![tactic(auto)]
 
 mod fault;

@@ -14,7 +14,7 @@ use zb_text::numbers::put_number;
 use zb_text::page::{add_number, add_word, end_line, put};
 use zb_trace::put_line;
 
-/// Prints the lines of all runs, and the total. Requires at most 1,000 runs.
+/// Prints the lines of all runs, and the total. There must be at most 1,000 runs.
 #[tactic(auto, using(std::proofs::Common::append_assoc))]
 pub(crate) fn print(alloc: Global, ends: &[Summary]) -> Result<Vec<u8>, AllocError>
     requires { length ends.now ≤ most_runs }

@@ -1,4 +1,4 @@
-//! Runs: each plays a made schedule of its own, on the disks of the run before it.
+//! Runs: each plays a generated schedule of its own, on the disks of the run before it.
 ghost use Rattle.std.specs.Prelude.{◌≡◌, ◌+◌, ◌<◌, ◌^◌, IfOk};
 ghost use Rattle.zb_campaign.specs.Answers.{Answers, last_lines};
 ghost use Rattle.zb_campaign.specs.Campaigns.{ending_of_run, endings};
@@ -14,13 +14,13 @@ use zb_parallel::Share;
 use zb_player::{Spare, Summary, play_unread};
 use zb_sched::Schedule;
 
-/// Plays the runs of a share one after the other, and returns what they come to.
+/// Plays the runs of a share one after the other, and returns their ends.
 ///
-/// Each uses the disks of the one before it.
+/// Each run uses the disks of the run before it.
 ///
 /// # Errors
 ///
-/// `Clash` at the first run whose schedule clashes; `NoMemory`.
+/// `Clash` for the first run whose schedule clashes; `NoMemory`.
 pub(crate) fn play_share(
     alloc: Global,
     start: u32,
@@ -37,8 +37,8 @@ pub(crate) fn play_share(
     Ok(ends)
 }
 
-/// Plays the run of that number, from 0, on spare disks. The spare disks are then those that it left and those that it
-/// didn't use.
+/// Plays the run of that number, from 0, on spare disks. Afterwards the spare disks are those that the run used and
+/// those that it didn't.
 fn play_run(
     alloc: Global,
     start: u32,
@@ -53,7 +53,7 @@ fn play_run(
     Ok(end)
 }
 
-/// Plays a schedule whose transcript nobody reads, and puts its disks to the spare ones.
+/// Plays a schedule without writing its transcript, and adds its disks to the spare ones.
 fn play_unwritten(
     alloc: Global,
     schedule: &Schedule,

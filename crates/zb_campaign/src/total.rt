@@ -1,4 +1,4 @@
-//! What runs come to, taken together.
+//! The sums of the counts of runs.
 ghost use Rattle.std.specs.Prelude.{◌≡◌, ◌+◌, ◌*◌, ◌≤◌, ◌<◌, ◌^◌, length, map, sum_by};
 ghost use Rattle.zb_campaign.specs.Campaigns.{accepts_in, refusals_in, seals_in};
 ghost use Rattle.zb_player.specs.Runs.{last_line};
@@ -6,7 +6,7 @@ ghost use Rattle.zb_base.specs.Limits.{most_lines, most_runs};
 
 use zb_player::Summary;
 
-/// The counts of several runs, added up.
+/// The sums of the counts of several runs.
 #[derive(Clone, Copy, Debug, PartialEq, Eq)]
 pub(crate) struct Total {
     /// How many terms were sealed.
@@ -18,7 +18,7 @@ pub(crate) struct Total {
 }
 
 impl Total {
-    // Adds what a run came to.
+    // Adds the counts of a run.
     fn add(&mut self, end: &Summary)
         requires { (self.old.seals < 2 ^ 63) × (self.old.accepts < 2 ^ 63) × (self.old.refusals < 2 ^ 63) }
         ensures seals { self.new.seals ≡ self.old.seals + end.now.seals }
@@ -34,7 +34,7 @@ impl Total {
     }
 }
 
-/// Adds up the counts of runs. Requires at most 1,000 of them.
+/// Adds up the counts of runs. There must be at most 1,000 of them.
 pub(crate) fn total_of(ends: &[Summary]) -> Total
     requires { length ends.now ≤ most_runs }
     ensures seals { result.seals ≡ sum_by seals_in (map last_line ends.now) }

@@ -1,4 +1,4 @@
-//! Playing the runs of a campaign, and writing what they come to.
+//! Plays the runs of a campaign, and writes their ends.
 ghost use Rattle.std.specs.Prelude.{◌≡◌, ◌≢◌, ◌+◌, ◌≤◌, ◌<◌, ◌^◌, ℕ, List, Result, Err};
 ghost use Rattle.std.specs.List.{AllByRecursion, AllZip};
 ghost use Rattle.zb_base.specs.Outside.{Unrisen};
@@ -19,16 +19,16 @@ use zb_base::Sink;
 use zb_parallel::{Gate, IdleThread, Share, shares};
 use zb_player::Summary;
 
-/// Plays `count` made schedules by `jobs` jobs, and writes a line for each run and the total.
+/// Plays `count` generated schedules with `jobs` jobs, and writes a line for each run and the total.
 ///
 /// Run `i`, from 0, plays `make(start + i, 1 + i % 8)`, and its line is `i` and the words of the last line of its
 /// transcript. The lines are the same for every number of jobs and every gate. All runs are played before the first
-/// line goes out. Requires 1 to 1,000 runs, a start value of at most 4,294,966,295, and 1 to 64 jobs.
+/// line is written. There must be 1 to 1,000 runs, a start value of at most 4,294,966,295, and 1 to 64 jobs.
 ///
 /// # Errors
 ///
-/// `Clash` where the schedule of a run clashes: the first line to do so of the first such run. Nothing is written
-/// then. `Write` where the sink failed, which then has a prefix of the lines; `NoMemory`, and nothing is written.
+/// `Clash` if the schedule of a run clashes: the first such line of the first such run. Nothing is written then.
+/// `Write` if the sink failed, which then has a prefix of the lines. `NoMemory`, and nothing is written.
 pub fn campaign<T: Threads + Sync, G: Gate, W: Sink>(
     rt: &T,
     alloc: Global,
@@ -54,7 +54,7 @@ pub fn campaign<T: Threads + Sync, G: Gate, W: Sink>(
     Ok(())
 }
 
-/// Plays the runs of all shares, each share in a thread of its own, and returns what they come to.
+/// Plays the runs of all shares, each share in its own thread, and returns their ends.
 fn play_all<T: Threads + Sync, G: Gate>(
     rt: &T,
     alloc: Global,
@@ -82,7 +82,7 @@ fn play_all<T: Threads + Sync, G: Gate>(
     gather(alloc, played.as_slice())
 }
 
-/// Puts what consecutive shares came to one after the other. The first fault among them counts.
+/// Joins the ends of consecutive shares. The first fault among them counts.
 fn gather(
     alloc: Global,
     played: &[Result<Vec<Summary>, CampaignFault>],

@@ -1,4 +1,4 @@
--- Lines give after others what they give by themselves, where that fits.
+-- Lines give the same after other lines as by themselves, if that fits.
 use Rattle.std.proofs.Common.{◌≡◌, ℕ, ◌+◌, ◌<◌, ◌≤◌, List, [], ◌∷◌, ◌++◌, length, refl, ap, sym, ◌∙◌, subst, arith, length-append, append_assoc, append-nil, Bool, true, false, not, ◌&&◌, ◌||◌, nat_lt, bytes_eq, codes, if◌then◌else◌, Option, Some, None, Result, Ok, Err}
 use Rattle.std.specs.List.{list_all, list_any}
 use Rattle.std.proofs.lemmas.Bool.Decides.{nat_tests}
@@ -19,11 +19,11 @@ use Rattle.zb_capture.specs.declared.fault.CaptureCause.TheVariants.{Syntax, Bad
 under : (n most : ℕ) → n < most → nat_lt n most ≡ true
 under n most less = grind (arith, nat_tests)
 
--- What `step` makes of `d` it makes of `d` after `c`, where what comes of it fits after `c`; and then `d` fits too.
+-- What `step` makes of `d`, it makes of `d` after `c`, if the result fits after `c`. Then `d` fits too.
 abbrev Behind : (Capture → Result Capture CaptureCause) → Capture → Capture → Capture → Type 0
 Behind step c d e = (step (both c d) ≡ Ok (both c e)) × Fit c d
 
--- a key more
+-- One key more.
 
 key_fits : (c d : Capture) (key : Key) → Fit c (record d { keys = d.keys ++ key ∷ [] })
     → Behind (λ x. with_key x (Some key)) c d (record d { keys = d.keys ++ key ∷ [] })
@@ -58,7 +58,7 @@ code_behind c d e None ok fit = no_ok _ Syntax e _ refl ok
 code_behind c d e (Some None) ok fit = no_ok _ BadCode e _ refl ok
 code_behind c d e (Some (Some key)) ok fit = key_behind c d e (Some key) ok fit
 
--- a frame more
+-- One frame more.
 frame_fits : (c d : Capture) (frame : ArrayVec ℕ) → Fit c (record d { frames = d.frames ++ frame ∷ [] })
     → Behind (λ x. with_frame x (Some frame)) c d (record d { frames = d.frames ++ frame ∷ [] })
 frame_fits c d frame fit =
@@ -92,7 +92,7 @@ frame_behind : (c d e : Capture) (o : Option (ArrayVec ℕ)) → with_frame d o 
 frame_behind c d e None ok fit = no_ok _ Syntax e _ refl ok
 frame_behind c d e (Some frame) ok fit = frame_test c d e frame (nat_lt (length d.frames) 100000) ok fit
 
--- an address more
+-- One address more.
 and_both : (a b : Bool) → (a && b) ≡ true → (a ≡ true) × (b ≡ true)
 and_both true b both = (refl, both)
 and_both false b both = absurd (cc both)
@@ -148,7 +148,7 @@ addr_behind : (c d e : Capture) (o : Option (Short × Eui)) → with_addr d o �
 addr_behind c d e None ok fit = no_ok _ Syntax e _ refl ok
 addr_behind c d e (Some addr) ok fit = addr_test c d e addr (list_any (has_short addr.0) d.addrs) refl ok fit
 
--- a line
+-- A line.
 abbrev by_kind : Bool → Bool → Bool → Bool → List (List ℕ) → Capture → Result Capture CaptureCause
 by_kind f k o a more c =
     if f then with_frame c (frame_in more)
@@ -185,7 +185,7 @@ line_behind : (c d e : Capture) (line : List ℕ) → with_line d line ≡ Ok e 
 unfolding with_line
 line_behind c d e line ok fit = skip_behind c d e (words (Some line)) (is_skipped line) ok fit
 
--- lines, and what stands after them
+-- Lines, and what comes after them.
 abbrev Carried : ℕ → Capture → Capture → Capture → List (List ℕ) → List (List ℕ) → Type 0
 Carried n c d e piece rest = (with_lines n (both c d) (piece ++ rest) ≡ with_lines (n + length piece) (both c e) rest)
     × Fit c d
@@ -214,11 +214,11 @@ carried n m c d e (line ∷ piece) rest ok fit =
     carried_on n m c d e line piece rest (with_line d line) refl ok
     (λ next more. carried (n + 1) (m + 1) c next e piece rest more fit)
 
--- pieces
+-- Pieces.
 behind_nothing : (c : Capture) → both c empty ≡ c
 behind_nothing c = rw (append-nil c.keys, append-nil c.addrs, append-nil c.frames) refl
 
--- a piece that was read from nothing, after other lines
+-- A piece that was read by itself, after other lines.
 pub lead_behind : (r new more : Reading) (piece : List (List ℕ)) → Lead no_lines piece more
     → Fit r.capture more.capture
     → new.lines ≡ r.lines + more.lines → new.capture ≡ both r.capture more.capture → Lead r piece new

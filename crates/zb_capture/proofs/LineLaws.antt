@@ -1,4 +1,4 @@
--- Lines that are read one list after the other.
+-- Two lists of lines that are read one after the other.
 use Rattle.std.proofs.Common.{◌≡◌, ℕ, suc, ◌+◌, List, [], ◌∷◌, ◌++◌, length, refl, ap, ◌∙◌, arith, length-append, Result, Ok, Err}
 use Rattle.zb_capture.specs.Grammar.{with_line, with_lines, at_line}
 use Rattle.zb_capture.specs.Readings.{Reading, Lead, with_more}
@@ -18,7 +18,7 @@ count_on n more = omega arith
 pub no_more : (n : ℕ) → n ≡ n + 0
 no_more n = omega arith
 
--- lines after lines
+-- Lines after lines.
 line_then : (n : ℕ) (c d : Capture) (line : List ℕ) (first more : List (List ℕ)) (r : Result Capture CaptureCause)
     → at_line n r (λ next. with_lines (n + 1) next first) ≡ Ok d
     → ((next : Capture) → with_lines (n + 1) next first ≡ Ok d → with_lines (n + 1) next (first ++ more)
@@ -47,7 +47,7 @@ leads r s t first more lead next = record {
   count = omega (arith, lead.count, next.count, length-append first more);
 }
 
--- a bad line, whatever stands after it
+-- A bad line, whatever comes after it.
 bad_line : (n : ℕ) (first more : List (List ℕ)) (fault : CaptureError) (r : Result Capture CaptureCause)
     → at_line n r (λ next. with_lines (n + 1) next first) ≡ Err fault
     → ((next : Capture) → with_lines (n + 1) next first ≡ Err fault → with_lines (n + 1) next (first ++ more)

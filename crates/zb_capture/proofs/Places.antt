@@ -12,7 +12,7 @@ use Rattle.zb_capture.specs.declared.pieces.Piece.{Piece}
 use Rattle.zb_text.specs.Words.{parts, nothing}
 use Rattle.zb_text.proofs.Cuts.{parts_are_some}
 
--- parts of which the last begins after the byte
+-- Parts of which the last begins after the byte.
 parts_on : (b : Bool) (x : ℕ) (ps qs : List (List ℕ)) → nothing ps ≡ None
     → cond b ([] ∷ (ps ++ qs)) (onto_first x (ps ++ qs)) ≡ cond b ([] ∷ ps) (onto_first x ps) ++ qs
 parts_on true x ps qs some = refl
@@ -26,7 +26,7 @@ parts_behind c (x ∷ front) back same =
     ap (λ ps. cond (x == c) ([] ∷ ps) (onto_first x ps)) (parts_behind c front back same)
     ∙ parts_on (x == c) x (parts c front) (parts c back) (parts_are_some c front)
 
--- all parts but those of the last lines
+-- All parts but those of the last lines.
 lines_on : (ps qs : List (List ℕ)) → nothing qs ≡ None → lines_of_parts (ps ++ qs) ≡ map strip_carriage_return ps
     ++ lines_of_parts qs
 lines_on [] qs some = refl
@@ -46,7 +46,7 @@ two_pieces front back =
     ∙ ap (λ zs. zs ++ lines back)
     (sym (append-nil (map strip_carriage_return (parts 10 front))) ∙ sym (lines_behind front []))
 
--- the text up to a line feed, and after it
+-- The text up to a line feed, and after it.
 split_at : (n : ℕ) (text : List ℕ) → n < length text → get_or text n 0 ≡ 10
     → (text ≡ take n text ++ 10 ∷ drop (suc n) text) × (take (suc n) text ≡ take n text ++ 10 ∷ [])
 split_at n [] within is = absurd (omega (arith, within))
@@ -77,7 +77,7 @@ lines_found least at text some is =
     lines_cut (n + at) text within (sym (get_or-drop n text at 0) ∙ byte)
     ∙ ap (λ k. lines (take k text) ++ lines (drop k text)) place
 
--- a relation that holds place by place
+-- A relation that holds place by place.
 pub zip_from_index : {A B : Type 0} (R : A → B → Type 0) (xs : List A) (ys : List B) → length xs ≡ length ys
     → ((i : ℕ) (d : A) (e : B) → i < length xs → R (get_or xs i d) (get_or ys i e)) → AllZip R xs ys
 zip_from_index R [] [] same each = tt
@@ -89,7 +89,7 @@ zip_from_index R (x ∷ xs) (y ∷ ys) same each = (
       (λ i d e within. each (suc i) d e (omega (arith, within))),
 )
 
--- pieces that were read
+-- Pieces that were read.
 pub piece_within : (ps : List Piece) (i : ℕ) (d : Piece) → i < length ps → length (get_or ps i d).text.now
     ≤ length (flat_map (λ part. part) (all_texts ps))
 piece_within [] i d within = absurd (omega (arith, within))
@@ -112,7 +112,7 @@ all_read (p ∷ ps) [] read = absurd read
 all_read (p ∷ ps) (f ∷ fs) read =
     let rest = all_read ps fs read.1 in (rw (read.0.0, rest.0) refl, (read.0.1, rest.1))
 
--- a text that goes on after its last line feed
+-- A text that continues after its last line feed.
 pub lines_before : (n : ℕ) (text more : List ℕ) → n < length text → get_or text n 0 ≡ 10
     → lines (text ++ more) ≡ lines (take (suc n) text) ++ lines (drop (suc n) text ++ more)
 lines_before n text more within is =
@@ -121,7 +121,7 @@ lines_before n text more within is =
     ∙ ap (λ zs. lines zs ++ lines (drop (suc n) (text ++ more))) (take-append-le (suc n) text more within)
     ∙ ap (λ zs. lines (take (suc n) text) ++ lines zs) (drop-append-le (suc n) text more within)
 
--- a byte that stands at no place from one on
+-- A byte that occurs at no place from one on.
 not_any : (b c : Bool) → (b ≡ true → ⊥) → c ≡ false → (b || c) ≡ false
 not_any true c h e = absurd (h refl)
 not_any false c h e = e

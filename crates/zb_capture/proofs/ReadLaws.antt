@@ -1,4 +1,4 @@
--- Pieces of a text that are taken one after the other.
+-- Pieces of a text that are read one after the other.
 use Rattle.std.proofs.Common.{◌≡◌, ℕ, ◌+◌, ◌<◌, ◌≤◌, List, [], ◌∷◌, ◌++◌, length, refl, ap, sym, ◌∙◌, subst, arith, length-append, append_assoc, append-nil, Result, Ok, Err}
 use Rattle.std.specs.Result.{IsErrAnd}
 use Rattle.std.specs.List.{AllByRecursion, flat_map}
@@ -11,7 +11,7 @@ use Rattle.zb_capture.specs.Pieces.{all_found, AreCut, IsFound}
 use Rattle.zb_capture.specs.Readings.{Reading, Lead, with_more, AreRead}
 use Rattle.zb_capture.proofs.LineLaws.{bad_then, lead_then, leads}
 
--- some pieces of a text were taken, and others are left
+-- Some pieces of a text were read, and others are left.
 pub record IsUnderWay (old now : Reading) (text : List ℕ) (done left : List Found) : Type 0 where
   pub lead : Lead old (flat_map lines (all_found done)) now
   pub count : now.lines ≤ old.lines + length (flat_map (λ part. part) (all_found done))
@@ -30,7 +30,7 @@ with_part : {A : Type 0} (f : List ℕ → List A) (done : List Found) (piece : 
 with_part f done piece = parts_of f done (piece ∷ []) ∙ ap (λ zs. flat_map f (all_found done) ++ zs)
     (append-nil (f piece.text.now))
 
--- there is room for the next
+-- There is room for the next piece.
 pub has_room : (old now : Reading) (text : List ℕ) (done left more : List Found) (piece : Found) (most : ℕ)
     → IsUnderWay old now text done left
     → left ≡ piece ∷ more → old.lines + length text < most → now.lines + length piece.text.now < most
@@ -48,7 +48,7 @@ has_room old now text done left more piece most is next room =
       length-append (flat_map (λ part. part) (all_found done)) (flat_map (λ part. part) (all_found left)),
     )
 
--- the next was taken
+-- The next piece was read.
 pub one_taken : (old now then : Reading) (text : List ℕ) (done left more : List Found) (piece : Found)
     → IsUnderWay old now text done left
     → left ≡ piece ∷ more → Lead now (lines piece.text.now) then → then.lines ≤ now.lines + length piece.text.now
@@ -71,7 +71,7 @@ one_taken old now then text done left more piece is next lead count =
       found = (subst F next is.found).1;
     }
 
--- the next has a bad line
+-- The next piece has a bad line.
 bad_next : (old now : Reading) (text : List ℕ) (done left more : List Found) (piece : Found) (fault : CaptureError)
     → IsUnderWay old now text done left
     → left ≡ piece ∷ more → with_more now (lines piece.text.now) ≡ Err fault → with_more old (lines text) ≡ Err fault

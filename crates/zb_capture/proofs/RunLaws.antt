@@ -1,9 +1,9 @@
--- Frames in a text, and from a place on, past the runs before it.
+-- Frames in a text: from the first one on, and from a place on, after earlier runs.
 use Rattle.std.proofs.Common.{◌≡◌, ℕ, zero, suc, ◌+◌, ◌-◌, ◌*◌, ◌<◌, ◌≤◌, List, [], ◌∷◌, ◌++◌, length, get_or, take, drop, refl, ap, sym, subst, ◌∙◌, add-one, arith, length-append, append_assoc}
 use Rattle.arrayvec.specs.ArrayVec.{ArrayVec}
 use Rattle.zb_capture.specs.Runs.{all_runs, frames_in, AreEnds}
 
--- where frames end
+-- Where frames end.
 pub ends_within : (all start : ℕ) (ends : List ℕ) → AreEnds all start ends → start ≤ all
 ends_within all start [] is = omega (arith, is)
 ends_within all start (end ∷ ends) is = omega (arith, is.0, ends_within all end ends is.2)
@@ -25,7 +25,7 @@ ends_from all start (suc place) (end ∷ []) within is = absurd (omega (arith, w
 ends_from all start (suc place) (end ∷ next ∷ ends) within is =
     ends_from all end place (next ∷ ends) (omega (arith, within)) is.2
 
--- one frame
+-- One frame.
 pub record IsAt (all start end : ℕ) : Type 0 where
   pub order : start ≤ end
   pub few : end ≤ start + 127
@@ -38,7 +38,7 @@ is_at all start zero (end ∷ ends) within is =
     record { order = is.0; few = is.1; within = ends_within all end ends is.2 }
 is_at all start (suc place) (end ∷ ends) within is = is_at all end place ends (omega (arith, within)) is.2
 
--- the frames
+-- The frames.
 pub frame_count : (bytes : List ℕ) (start : ℕ) (ends : List ℕ) → length (frames_in bytes start ends) ≡ length ends
 frame_count bytes start [] = refl
 frame_count bytes start (end ∷ ends) = ap (λ n. suc n) (frame_count bytes end ends)
@@ -62,7 +62,7 @@ frame_is bytes start zero (end ∷ ends) other within = refl
 frame_is bytes start (suc place) (end ∷ ends) other within =
     frame_is bytes end place ends other (omega (arith, within))
 
--- a frame more
+-- One frame more.
 before_more : (start n : ℕ) (bytes more : List ℕ) → start + n ≤ length bytes → take n (drop start (bytes ++ more))
     ≡ take n (drop start bytes)
 before_more zero zero bytes more within = refl
@@ -117,7 +117,7 @@ push_frames bytes more new ends after end is one two three =
     ap (λ zs. frames_in zs 0 after) one ∙ ap (frames_in (bytes ++ more) 0) (three ∙ ap (λ n. ends ++ n ∷ []) two) ∙
     frames_more bytes more 0 ends is
 
--- runs, one after the other
+-- Runs, one after the other.
 abbrev Run : Type 0
 Run = List (ArrayVec ℕ)
 
@@ -132,7 +132,7 @@ past [] ys n within = ap (λ k. drop k ys) (omega arith)
 past (x ∷ xs) ys zero within = absurd (omega (arith, within))
 past (x ∷ xs) ys (suc n) within = past xs ys n (omega (arith, within)) ∙ ap (λ k. drop k ys) (omega arith)
 
--- a run is passed
+-- A run is passed.
 pub record IsPassed (left : ℕ) (runs : List Run) (last : Run) (i : ℕ) (rest : Run) : Type 0 where
   pub within : left < length (all_runs (drop i runs) ++ last)
   pub same : drop left (all_runs (drop i runs) ++ last) ≡ rest

@@ -10,14 +10,13 @@ use Rattle.zb_capture.specs.declared.fault.CaptureError.{CaptureError}
 abbrev pub capture_of : Draft → Capture
 capture_of draft = record { keys = draft.keys.items; addrs = draft.addrs; frames = draft.frames }
 
--- A step led to `new`, or to its fault, where `next` is what it has to lead to; it says nothing where memory is
--- wanting.
+-- A step led to `new`, or to its fault. `next` is what it has to lead to. If memory runs out, this says nothing.
 abbrev pub Steps : Result (Unit {0}) (OrMemory CaptureCause) → Capture → Result Capture CaptureCause → Type 0
 Steps (Ok done) new next = next ≡ Ok new
 Steps (Err (error.Fault cause)) new next = next ≡ Err cause
 Steps (Err error.NoMemory) new next = Unit {0}
 
--- An answer is the one that is expected; it says nothing where memory is wanting.
+-- An answer is the expected one. If memory runs out, this says nothing.
 abbrev pub Answers : {T E : Type 0} → Result T (OrMemory E) → Result T E → Type 0
 Answers (Ok value) expected = expected ≡ Ok value
 Answers (Err (error.Fault fault)) expected = expected ≡ Err fault

@@ -1,4 +1,5 @@
--- Captures (this project's profile): texts in lines of words. Empty lines and lines that begin with # are skipped.
+-- Captures (this project's profile): texts of lines, which are words. Empty lines and lines that begin with # are
+-- skipped.
 use Rattle.std.specs.Prelude.{ℕ, ◌+◌, ◌%◌, ◌==◌, ◌≤◌, ◌++◌, ◌&&◌, ◌||◌, nat_eq, nat_lt, Bool, true, if◌then◌else◌, List, [], ◌∷◌, length, codes, bytes_eq, Option, Some, None, Result, Ok, Err, option_and_then}
 use Rattle.arrayvec.specs.ArrayVec.{ArrayVec}
 use Rattle.std.specs.Char.{is_ascii_hexdigit}
@@ -18,12 +19,12 @@ use Rattle.zb_text.specs.Hexadecimal.{bytes_of}
 use Rattle.zb_text.specs.Words.{words, field, nothing}
 use Rattle.zb_base.specs.Limits.{most_frames, longest_frame, broadcast_eui, most_keys}
 
--- one step and then what depends on it
+-- One step, and then one that depends on its result.
 infixl 10 ◌>>=◌
 abbrev pub ◌>>=◌ : {A B : Type 0} → Option A → (A → Option B) → Option B
 step >>= next = option_and_then next step
 
--- What the words of a line give, after its first word
+-- What the words of a line after the first one give
 
 -- KEY
 unfoldable pub key_in : List (List ℕ) → Option Key
@@ -32,7 +33,7 @@ key_in line = do
   end ← nothing key.1
   Some (record { 0 = key.0 })
 
--- a string of bytes: `-` for none, or two hexadecimal digits each
+-- A string of bytes: `-` for none, or two hexadecimal digits each.
 abbrev pub is_hex : List ℕ → Bool
 is_hex word = bytes_eq word (codes "-")
     || (nat_lt 0 (length word) && length word % 2 == 0 && list_all is_ascii_hexdigit word)
@@ -44,18 +45,18 @@ abbrev pub key_given : Result (List ℕ) CodeError → Option Key
 key_given (Err fault) = None
 key_given (Ok code) = Some (record { 0 = code_key code })
 
--- the link key of the install code that a string of bytes is; a code and its CRC have at most 18 bytes
+-- The link key of the install code that a string of bytes is. A code and its CRC have at most 18 bytes.
 abbrev pub link_key_of : List ℕ → Option Key
 link_key_of word = bytes_of longest_code word >>= (λ bytes. key_given (code_of bytes))
 
--- HEX, and the link key where it is a code
+-- HEX, and the link key if it is a code.
 unfoldable pub code_in : List (List ℕ) → Option (Option Key)
 code_in line = do
   word ← field hex_in line
   end ← nothing word.1
   Some (link_key_of word.0)
 
--- an EUI that a node may have: not all bits 0, and not all 1
+-- Whether an EUI may be that of a node: its bits are not all 0 and not all 1.
 abbrev pub is_address : ℕ → Bool
 is_address eui = nat_lt 0 eui && nat_lt eui broadcast_eui
 
@@ -77,15 +78,15 @@ frame_in line = do
   end ← nothing bytes.1
   if length bytes.0 == 0 then None else Some (record { items = bytes.0 })
 
--- Lines, one after the other
+-- One line after the other
 
--- a given key, of at most 256
+-- A given key, of at most 256.
 abbrev pub with_key : Capture → Option Key → Result Capture CaptureCause
 with_key c None = Err Syntax
 with_key c (Some key) =
     if nat_lt (length c.keys) most_keys then Ok (record c { keys = c.keys ++ key ∷ [] }) else Err TooMany
 
--- the link key of a given code
+-- The link key of a given code.
 abbrev pub with_code : Capture → Option (Option Key) → Result Capture CaptureCause
 with_code c None = Err Syntax
 with_code c (Some None) = Err BadCode
@@ -94,13 +95,13 @@ with_code c (Some (Some key)) = with_key c (Some key)
 abbrev pub has_short : Short → Short × Eui → Bool
 has_short short addr = nat_eq addr.0.0 short.0
 
--- an address that no line before has
+-- An address that no earlier line has.
 abbrev pub with_addr : Capture → Option (Short × Eui) → Result Capture CaptureCause
 with_addr c None = Err Syntax
 with_addr c (Some addr) =
     if list_any (has_short addr.0) c.addrs then Err AddressTaken else Ok (record c { addrs = c.addrs ++ addr ∷ [] })
 
--- a frame, of at most 100,000
+-- A frame, of at most 100,000.
 abbrev pub with_frame : Capture → Option (ArrayVec ℕ) → Result Capture CaptureCause
 with_frame c None = Err Syntax
 with_frame c (Some frame) =
@@ -122,7 +123,7 @@ is_skipped (byte ∷ more) = nat_eq byte 35
 unfoldable pub with_line : Capture → List ℕ → Result Capture CaptureCause
 with_line c line = if is_skipped line then Ok c else with_words c (words (Some line))
 
--- what comes of a line with its number, and then of the lines after it
+-- The result of a line with its number, and then that of the lines after it.
 abbrev pub at_line : ℕ → Result Capture CaptureCause → (Capture → Result Capture CaptureError)
     → Result Capture CaptureError
 at_line number (Err cause) after = Err (record { line = number; cause = cause })
@@ -135,11 +136,11 @@ with_lines number c (line ∷ more) = at_line number (with_line c line) (λ next
 abbrev pub empty : Capture
 empty = record { keys = []; addrs = []; frames = [] }
 
--- the capture that a text is, or its first bad line, from 1, with the first cause
+-- The capture that a text is, or its first bad line, from 1, with the first cause.
 unfoldable pub captured : List ℕ → Result Capture CaptureError
 captured bytes = with_lines 1 empty (lines bytes)
 
--- the limits of a capture
+-- The limits of a capture.
 pub record IsCapture (c : Capture) : Type 0 where
   pub keys : length c.keys ≤ most_keys
   pub frames : length c.frames ≤ most_frames

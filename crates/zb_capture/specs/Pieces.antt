@@ -10,31 +10,31 @@ use Rattle.zb_capture.specs.declared.pieces.Piece.{Piece}
 use Rattle.zb_capture.specs.Grammar.{has_short, IsCapture}
 use Rattle.zb_capture.specs.Readings.{IsReadAlone}
 
--- the texts of pieces
+-- The texts of pieces.
 abbrev pub all_texts : List Piece → List (List ℕ)
 all_texts pieces = map (λ (piece : Piece). piece.text.now) pieces
 
 abbrev pub all_found : List Found → List (List ℕ)
 all_found found = map (λ (piece : Found). piece.text.now) found
 
--- texts that are one text, cut between lines
+-- Texts that together are one text, cut between lines.
 pub record AreCut (text : List ℕ) (parts : List (List ℕ)) : Type 0 where
   pub whole : flat_map (λ part. part) parts ≡ text
   pub lines : flat_map lines parts ≡ lines text
 
--- what a piece gives by itself
+-- What a piece gives by itself.
 abbrev pub IsFound : Found → Type 0
 IsFound found = IsReadAlone found.read found.text.now
 
--- two captures, the second one after the first
+-- Two captures, the second one after the first.
 abbrev pub both : Capture → Capture → Capture
 both c d = record { keys = c.keys ++ d.keys; addrs = c.addrs ++ d.addrs; frames = c.frames ++ d.frames }
 
--- no address of a list has the short address of this one
+-- Whether no address of a list has the short address of this one.
 abbrev pub is_new : List (Short × Eui) → Short × Eui → Bool
 is_new addrs addr = not (list_any (has_short addr.0) addrs)
 
--- both together keep the limits, and have no short address in common
+-- Both together keep the limits, and have no short address in common.
 pub record Fit (c d : Capture) : Type 0 where
   pub limits : IsCapture (both c d)
   pub apart : list_all (is_new c.addrs) d.addrs ≡ true

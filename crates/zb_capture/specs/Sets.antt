@@ -11,6 +11,6 @@ use Rattle.zb_capture.specs.Grammar.{has_short}
 abbrev pub short_cmp : Short → Short → Ordering
 short_cmp a b = nat_cmp a.0 b.0
 
--- the set has the short addresses of the list, and no others
+-- The set has the short addresses of the list, and no others.
 abbrev pub HaveShorts : BTreeSet Short → List (Short × Eui) → Type 0
 HaveShorts shorts addrs = (short : Short) → contains short_cmp shorts short ≡ list_any (has_short short) addrs

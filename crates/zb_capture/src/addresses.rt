@@ -6,7 +6,7 @@ use std::collections::BTreeSet;
 use std::marker::Model;
 use zb_base::{Eui, List, NoMemory, Short};
 
-/// Keeps addresses, and looks each short one up without a walk through all of them.
+/// Keeps addresses, and finds a short one without a walk through all of them.
 ///
 /// A contract sees them as their list.
 #[derive(Drop)]
@@ -49,7 +49,7 @@ impl Addresses {
     ///
     /// # Errors
     ///
-    /// `NoMemory`.
+    /// `NoMemory`, if memory runs out.
     pub fn add(&mut self, addr: (Short, Eui)) -> Result<bool, NoMemory>
         ensures new { IfOk result (λ new. new ≡ not (list_any (has_short addr.0) self.old)) }
         ensures adds { IfOk result (λ new. self.new ≡ (if new then self.old ++ addr ∷ [] else self.old)) }
@@ -79,7 +79,7 @@ impl Addresses {
     ///
     /// # Errors
     ///
-    /// `NoMemory`.
+    /// `NoMemory`, if memory runs out.
     pub fn add_all(&mut self, others: Addresses) -> Result<(), NoMemory>
         ensures { OnOk result (self.new ≡ self.old ++ others) }
     {

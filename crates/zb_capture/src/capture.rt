@@ -7,16 +7,16 @@ use crate::frames::Frames;
 use std::alloc::Global;
 use zb_base::{Eui, Key, List, NoMemory, Short};
 
-/// What is known of a network, and the frames that were caught in it.
+/// What is known about a network, and the frames that were heard in it.
 ///
 /// It has at most 256 keys and 100,000 frames: this is `IsCapture` of `specs/Grammar.antt`.
 #[derive(Debug, Drop)]
 pub struct Capture {
-    /// The given keys, link keys of install codes among them, in order; some may stand there twice.
+    /// The given keys, with the link keys of install codes, in order. A key may be there twice.
     pub keys: List<Key>,
     /// The EUIs of short addresses.
     pub addrs: List<(Short, Eui)>,
-    /// The frames, in the order in which they were caught.
+    /// The frames, in the order in which they were heard.
     pub frames: Frames,
 }
 
@@ -24,13 +24,13 @@ impl Capture {
     ghost use Rattle.std.specs.Prelude.{◌≡◌, ◌≤◌, [], length, IfOk};
     ghost use Rattle.zb_capture.specs.Grammar.{IsCapture};
 
-    /// Makes the capture of some frames under some keys, which knows no addresses.
+    /// Makes the capture of some frames under some keys, without addresses.
     ///
-    /// Requires at most 256 keys and 100,000 frames.
+    /// There must be at most 256 keys and 100,000 frames.
     ///
     /// # Errors
     ///
-    /// `NoMemory`.
+    /// `NoMemory`, if memory runs out.
     pub fn of(alloc: Global, keys: &[Key], frames: Frames) -> Result<Capture, NoMemory>
         requires keys { length keys.now ≤ most_keys }
         requires frames { length frames ≤ most_frames }

@@ -14,7 +14,7 @@ use zb_text::words::Words;
 /// The keys, addresses and frames of the lines so far.
 #[derive(Drop)]
 pub(crate) struct Draft {
-    /// The keys, those of install codes among them.
+    /// The keys, with those of install codes.
     pub keys: Vec<Key>,
     /// The addresses, of which no two have one short address.
     pub addrs: Addresses,
@@ -45,7 +45,7 @@ impl Draft {
     ///
     /// # Errors
     ///
-    /// `NoMemory`.
+    /// `NoMemory`, if memory runs out.
     pub fn with_room(alloc: Global, text: usize) -> Result<Draft, NoMemory>
         ensures { IfOk result (λ draft. capture_of draft ≡ empty) }
     {
@@ -72,7 +72,7 @@ impl Draft {
         }
     }
 
-    /// Returns whether what other lines give fits after this.
+    /// Returns whether the results of other lines fit after these.
     pub fn fits(&self, more: &Draft) -> bool
         requires own { IsCapture (capture_of self.now) }
         requires other { IsCapture (capture_of more.now) }
@@ -91,11 +91,11 @@ impl Draft {
             && more.frames.len() <= MOST_FRAMES - self.frames.len()
     }
 
-    /// Puts what other lines give after this.
+    /// Appends the results of other lines.
     ///
     /// # Errors
     ///
-    /// `NoMemory`.
+    /// `NoMemory`, if memory runs out.
     pub fn with(self, more: Draft) -> Result<Draft, NoMemory>
         requires { Fit (capture_of self) (capture_of more) }
         ensures { IfOk result (λ draft. capture_of draft ≡ both (capture_of self) (capture_of more)) }
@@ -112,11 +112,11 @@ impl Draft {
         Ok(all)
     }
 
-    /// Takes one line.
+    /// Reads one line.
     ///
     /// # Errors
     ///
-    /// The first cause for which it is no line of a capture here; or out of memory.
+    /// The first cause for which it isn't a line of a capture here; or `NoMemory`.
     #[tactic(auto, unfolding(crate::specs::Grammar::with_line))]
     pub fn take_line(&mut self, line: &[u8]) -> Result<(), OrMemory<CaptureCause>>
         requires { IsCapture (capture_of self.old) }
@@ -182,7 +182,7 @@ impl Draft {
         self.add_key(key)
     }
 
-    /// Adds a given key, of at most 256.
+    /// Adds a given key. At most 256 are allowed.
     fn add_key(&mut self, key: Key) -> Result<(), OrMemory<CaptureCause>>
         requires { IsCapture (capture_of self.old) }
         ensures exact { Steps result (capture_of self.new) (with_key (capture_of self.old) (Some key)) }
@@ -195,7 +195,7 @@ impl Draft {
         Ok(())
     }
 
-    /// Adds an address that no line before has.
+    /// Adds an address that no earlier line has.
     fn take_addr(&mut self, words: &mut Words<'_>) -> Result<(), OrMemory<CaptureCause>>
         requires { IsCapture (capture_of self.old) }
         ensures exact { Steps result (capture_of self.new)
@@ -211,7 +211,7 @@ impl Draft {
         Ok(())
     }
 
-    /// Adds a frame, of at most 100,000.
+    /// Adds a frame. At most 100,000 are allowed.
     fn take_frame(&mut self, words: &mut Words<'_>) -> Result<(), OrMemory<CaptureCause>>
         requires { IsCapture (capture_of self.old) }
         ensures exact { Steps result (capture_of self.new)

@@ -1,17 +1,17 @@
-//! What is wrong with a text that is no capture.
+//! What is wrong with a text that isn't a capture.
 use std::error::Error;
 use std::fmt;
 
-/// What is wrong with a line, in the order in which it is tried.
+/// What is wrong with a line. The causes are checked in this order.
 #[derive(Clone, Copy, Debug, PartialEq, Eq)]
 pub enum CaptureCause {
-    /// It is none of the lines of a capture.
+    /// It is not one of the lines of a capture.
     Syntax,
-    /// The digits of a `code` line are no install code.
+    /// The digits of a `code` line are not an install code.
     BadCode,
     /// It is the 257th `key` or `code` line, or the 100,001st `frame` line.
     TooMany,
-    /// An `addr` line before it has the same short address.
+    /// An earlier `addr` line has the same short address.
     AddressTaken,
 }
 

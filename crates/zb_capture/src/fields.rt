@@ -20,8 +20,9 @@ pub(crate) fn key(words: &mut Words<'_>) -> Option<Key>
     Some(key)
 }
 
-/// Reads a string of bytes in hexadecimal digits. It returns the link key of an install code, or None inside where it
-/// is no code.
+/// Reads a string of bytes in hexadecimal digits.
+///
+/// It returns the link key of the install code that the bytes are. If they aren't one, the inner value is `None`.
 #[tactic(auto, unfolding(crate::specs::Grammar::code_in))]
 pub(crate) fn code(words: &mut Words<'_>) -> Option<Option<Key>>
     ensures { result ≡ code_in (left words.old) }

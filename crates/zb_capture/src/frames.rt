@@ -9,10 +9,10 @@ use std::marker::Model;
 use std::mem;
 use zb_base::{Frame, MOST_FRAMES, NoMemory};
 
-/// Keeps the frames of a capture, in the order in which they were caught.
+/// Keeps the frames of a capture, in the order in which they were heard.
 ///
-/// They stay in the runs in which they were read, so none is copied where runs are put after each other. A contract
-/// sees them as one list.
+/// They stay in the runs in which they were read, so no frame is copied when runs are joined. A contract sees them as
+/// one list.
 #[derive(Debug, Drop)]
 pub struct Frames {
     runs: Vec<Run>,
@@ -52,7 +52,7 @@ impl Frames {
     pub(crate) fn with_room(alloc: Global, text: usize) -> Result<Frames, NoMemory>
         ensures { IfOk result (λ f. f ≡ []) }
     {
-        // The line of a frame has two digits for each byte, and 7 characters beside them.
+        // The line of a frame has two digits for each byte, and 7 other characters.
         Ok(Frames {
             runs: Vec::new(alloc),
             last: Run::with_room(alloc, text / 2, (text / 9 + 1).min(MOST_FRAMES))?,
@@ -62,7 +62,7 @@ impl Frames {
 
     /// Returns how many frames there are.
     ///
-    /// Requires at most 100,000 frames.
+    /// There must be at most 100,000 frames.
     pub fn len(&self) -> usize
         requires { length self.now ≤ most_frames }
         ensures { result ≡ length self.now }
@@ -70,9 +70,9 @@ impl Frames {
         self.count + self.last.len()
     }
 
-    /// Returns the frames from a place on, to the end of the run in which that place is. Places are counted from 0.
+    /// Returns the frames from a place on, to the end of the run that has that place. Places are counted from 0.
     ///
-    /// Requires a place of one of the frames.
+    /// `place` must be that of a frame.
     pub fn from(&self, place: usize) -> FrameRun<'_>
         requires { place < length self.now }
         ensures some { 0 < length result }
@@ -81,13 +81,13 @@ impl Frames {
         run_from(self.runs.as_slice(), &self.last, place)
     }
 
-    /// Puts a frame after these. It changes nothing where there is no memory.
+    /// Appends a frame. It changes nothing if memory runs out.
     ///
-    /// Requires fewer than 100,000 frames.
+    /// There must be fewer than 100,000 frames.
     ///
     /// # Errors
     ///
-    /// `NoMemory`.
+    /// `NoMemory`, if memory runs out.
     pub fn push(&mut self, frame: &Frame) -> Result<(), NoMemory>
         requires { length self.old < most_frames }
         ensures added { OnOk result (self.new ≡ self.old ++ frame.now ∷ []) }
@@ -97,13 +97,13 @@ impl Frames {
         Ok(())
     }
 
-    /// Puts further frames after these.
+    /// Appends further frames.
     ///
-    /// Requires at most 100,000 frames in all.
+    /// There must be at most 100,000 frames in all.
     ///
     /// # Errors
     ///
-    /// `NoMemory`.
+    /// `NoMemory`, if memory runs out.
     pub fn append(&mut self, more: Frames) -> Result<(), NoMemory>
         requires { length self.old + length more ≤ most_frames }
         ensures { OnOk result (self.new ≡ self.old ++ more) }
@@ -123,7 +123,7 @@ impl Frames {
     }
 }
 
-/// Returns the frames from a place on, to the end of the run in which that place is. `last` comes after `runs`.
+/// Returns the frames from a place on, to the end of the run that has that place. `last` comes after `runs`.
 fn run_from<'a>(runs: &'a [Run], last: &'a Run, place: usize) -> FrameRun<'a>
     requires { place < length (all_runs runs.now ++ last.now) }
     ensures some { 0 < length result }

@@ -1,8 +1,7 @@
-//! Captures: a text with the keys, the install codes and the addresses that are known, and the frames that were
-//! caught on the air.
+//! Captures: a text with known keys, install codes and addresses, and the frames that were heard.
 //!
 //! A capture has lines `key KEY`, `code HEX`, `addr SHORT EUI` and `frame HEX`. Empty lines and lines that begin with
-//! `#` are skipped, and count as lines.
+//! `#` are skipped, but have numbers.
 #![tactic(auto)]
 
 mod addresses;

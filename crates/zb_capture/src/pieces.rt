@@ -1,4 +1,4 @@
-//! Consecutive lines of a capture that are read side by side.
+//! Consecutive lines of a capture that several jobs read at once.
 ghost use Rattle.std.specs.Prelude.{◌≡◌, ◌≤◌, ◌<◌, ◌^◌, ◌-◌, ◌++◌, ◌==◌, ℕ, List, length, take, drop, position, false, IfOk};
 ghost use Rattle.std.specs.List.{AllByRecursion, list_any};
 ghost use Rattle.std.specs.Str.Lines.{lines};
@@ -26,7 +26,7 @@ pub(crate) struct Found<'a> {
     pub read: Result<CaptureReader, OrMemory<CaptureError>>,
 }
 
-/// Reads each piece of a text by itself, in at most as many pieces as there are jobs.
+/// Reads each piece of a text by itself. There are at most as many pieces as jobs.
 pub(crate) fn read_pieces<'a, T: Threads + Sync>(
     rt: &T,
     alloc: Global,
@@ -61,8 +61,9 @@ fn read_piece<'a>(alloc: Global, piece: Piece<'a>) -> Found<'a>
     Found { text, read }
 }
 
-/// Cuts a text into consecutive pieces after line feeds, at most as many as there are jobs. Each but the last has at
-/// least as many bytes as there are for a job.
+/// Cuts a text into consecutive pieces after line feeds, at most as many as there are jobs.
+///
+/// Each piece but the last has at least an equal share of the bytes.
 fn cut<'a>(alloc: Global, text: &'a [u8], jobs: u32) -> Result<Vec<Piece<'a>>, NoMemory>
     requires text { length text.now < 2 ^ 32 - 1 }
     requires jobs { 1 ≤ jobs }
@@ -79,7 +80,7 @@ fn cut<'a>(alloc: Global, text: &'a [u8], jobs: u32) -> Result<Vec<Piece<'a>>, N
     Ok(pieces)
 }
 
-/// Returns how many bytes the whole lines of a text have. What stands after them may go on.
+/// Returns how many bytes the whole lines of a text have. The rest may be the beginning of a line.
 pub fn whole_lines(text: &[u8]) -> usize
     ensures within { result ≤ length text.now }
     ensures all { list_any (λ byte. byte == 10) (drop result text.now) ≡ false }

@@ -1,4 +1,4 @@
-//! Reading a capture of which the text comes in parts.
+//! Reads a capture whose text comes in parts.
 ghost use Rattle.std.specs.Prelude.{◌≡◌, ◌+◌, ◌<◌, ◌≤◌, ◌^◌, ◌-◌, length, IfOk, OnOk};
 ghost use Rattle.zb_capture.specs.Drafts.{numbered};
 
@@ -13,9 +13,9 @@ use std::thread::Threads;
 use zb_base::OrMemory;
 use zb_text::lines::next_line;
 
-/// Reads a capture, part after part of its text.
+/// Reads a capture, one part of its text after the other.
 ///
-/// A contract sees it as what the lines so far give, and how many they are.
+/// A contract sees it as the results of the lines so far, and their number.
 #[derive(Drop)]
 pub struct CaptureReader {
     lines: u32,
@@ -51,11 +51,11 @@ impl CaptureReader {
 
     /// Reads the lines of a text by themselves.
     ///
-    /// Requires fewer than 2^32 - 1 bytes, since a line has its number in 32 bits.
+    /// The text must have fewer than 2^32 - 1 bytes, because a line number has 32 bits.
     ///
     /// # Errors
     ///
-    /// The first bad line, with its first cause.
+    /// The first bad line, with its first cause; or `NoMemory`.
     pub fn alone(alloc: Global, text: &[u8]) -> Result<CaptureReader, OrMemory<CaptureError>>
         requires { length text.now < 2 ^ 32 - 1 }
         ensures { IsReadAlone result text.now }
@@ -68,13 +68,13 @@ impl CaptureReader {
         Ok(reader)
     }
 
-    /// Reads the lines of a text by `jobs` jobs, after those before.
+    /// Reads the lines of a text with `jobs` jobs, after the earlier lines.
     ///
-    /// Requires a job, and that all lines have their numbers in 32 bits.
+    /// There must be at least one job, and all line numbers must fit into 32 bits.
     ///
     /// # Errors
     ///
-    /// The first bad line, with its first cause. The reader is of no use then.
+    /// The first bad line, with its first cause; or `NoMemory`. The reader must not be used after that.
     pub fn read<T: Threads + Sync>(
         &mut self,
         rt: &T,
@@ -98,13 +98,13 @@ impl CaptureReader {
         Ok(())
     }
 
-    /// Reads the lines of a text, after those before.
+    /// Reads the lines of a text, after the earlier lines.
     ///
-    /// Requires that all lines have their numbers in 32 bits.
+    /// All line numbers must fit into 32 bits.
     ///
     /// # Errors
     ///
-    /// The first bad line, with its first cause. The reader is of no use then.
+    /// The first bad line, with its first cause; or `NoMemory`. The reader must not be used after that.
     pub fn read_lines(&mut self, text: &[u8]) -> Result<(), OrMemory<CaptureError>>
         requires room { self.old.lines + length text.now < 2 ^ 32 - 1 }
         ensures exact { AreRead result self.old self.new text.now }
@@ -121,14 +121,14 @@ impl CaptureReader {
         Ok(())
     }
 
-    /// Takes the lines of a text, after those before, where `alone` is what they give by themselves.
+    /// Adds the lines of a text after the earlier lines. `alone` is their result by themselves.
     ///
-    /// Where they give no capture then, or one that doesn't fit after the lines before, they are read one by one.
-    /// Requires that `alone` is of this text, and that all lines have their numbers in 32 bits.
+    /// If that is a fault, or doesn't fit after the earlier lines, the lines are read one by one. `alone` must be of
+    /// this text, and all line numbers must fit into 32 bits.
     ///
     /// # Errors
     ///
-    /// The first bad line, with its first cause. The reader is of no use then.
+    /// The first bad line, with its first cause; or `NoMemory`. The reader must not be used after that.
     pub fn add(
         &mut self,
         alloc: Global,
@@ -146,9 +146,9 @@ impl CaptureReader {
         }
     }
 
-    /// Takes the lines of a text, of which `more` is what they give by themselves.
+    /// Adds the lines of a text. `more` is their result by themselves.
     ///
-    /// Where that doesn't fit after the lines before, they are read one by one.
+    /// If that doesn't fit after the earlier lines, the lines are read one by one.
     fn take_lines(
         &mut self,
         alloc: Global,
@@ -179,7 +179,7 @@ impl CaptureReader {
     }
 }
 
-/// Gives the fault of a line its number.
+/// Adds the number of its line to a fault.
 fn at_line(line: u32, fault: OrMemory<CaptureCause>) -> OrMemory<CaptureError>
     ensures { result ≡ numbered line fault }
 {

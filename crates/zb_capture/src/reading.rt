@@ -1,4 +1,4 @@
-//! Reading a whole capture.
+//! Reads a whole capture.
 ghost use Rattle.std.specs.Prelude.{◌≡◌, ◌≤◌, ◌<◌, ◌^◌, ◌-◌, length, IfOk};
 ghost use Rattle.zb_capture.specs.Drafts.{Answers};
 ghost use Rattle.zb_capture.specs.Grammar.{IsCapture, captured};
@@ -12,11 +12,11 @@ use zb_base::OrMemory;
 
 /// Reads a capture.
 ///
-/// Requires fewer than 2^32 - 1 bytes, since a line has its number in 32 bits.
+/// The text must have fewer than 2^32 - 1 bytes, because a line number has 32 bits.
 ///
 /// # Errors
 ///
-/// The first bad line, with its first cause.
+/// The first bad line, with its first cause; or `NoMemory`.
 #[tactic(auto, unfolding(crate::specs::Grammar::captured))]
 pub fn read_capture(alloc: Global, bytes: &[u8]) -> Result<Capture, OrMemory<CaptureError>>
     requires { length bytes.now < 2 ^ 32 - 1 }
@@ -28,13 +28,13 @@ pub fn read_capture(alloc: Global, bytes: &[u8]) -> Result<Capture, OrMemory<Cap
     Ok(reader.into_capture())
 }
 
-/// Reads a capture as `read_capture` does, by `jobs` jobs, each over consecutive lines.
+/// Reads a capture as `read_capture` does, with `jobs` jobs, each over consecutive lines.
 ///
-/// Requires a job, and fewer than 2^32 - 1 bytes.
+/// There must be at least one job, and fewer than 2^32 - 1 bytes.
 ///
 /// # Errors
 ///
-/// The first bad line, with its first cause.
+/// The first bad line, with its first cause; or `NoMemory`.
 #[tactic(auto, unfolding(crate::specs::Grammar::captured))]
 pub fn read_in_pieces<T: Threads + Sync>(
     rt: &T,

@@ -9,9 +9,9 @@ use std::marker::Model;
 use zb_base::{Frame, NoMemory};
 use zb_cursor::frame_from;
 
-/// Keeps frames that follow each other: their bytes, one frame after the other, and where each frame ends.
+/// Keeps frames that follow each other: their bytes in one text, and where each frame ends.
 ///
-/// So a frame takes hardly more memory than it has bytes. A contract sees them as the list of the frames.
+/// So a frame takes hardly more memory than it has bytes. A contract sees them as a list of frames.
 #[derive(Debug, Drop)]
 pub(crate) struct Run {
     bytes: Vec<u8>,
@@ -47,7 +47,7 @@ impl Run {
     ///
     /// # Errors
     ///
-    /// `NoMemory`.
+    /// `NoMemory`, if memory runs out.
     pub fn with_room(alloc: Global, bytes: usize, frames: usize) -> Result<Run, NoMemory>
         ensures { IfOk result (λ run. run ≡ []) }
     {
@@ -65,11 +65,11 @@ impl Run {
         self.ends.len()
     }
 
-    /// Puts a frame after these.
+    /// Appends a frame.
     ///
     /// # Errors
     ///
-    /// `NoMemory`.
+    /// `NoMemory`, if memory runs out.
     pub fn push(&mut self, frame: &Frame) -> Result<(), NoMemory>
         requires { length self.old < most_frames }
         ensures added { OnOk result (self.new ≡ self.old ++ frame.now ∷ []) }
@@ -103,7 +103,7 @@ fn run_from<'a>(bytes: &'a [u8], ends: &'a [u32], place: usize) -> FrameRun<'a>
     FrameRun { bytes, start, ends }
 }
 
-/// Returns where the frame at a place starts, of which the first starts at `start`.
+/// Returns where the frame at a place starts. The first frame starts at `start`.
 fn start_of(start: u32, ends: &[u32], place: usize) -> u32
     requires { place < length ends.now }
     ensures { result ≡ get_or (start ∷ ends.now) place 0 }
@@ -113,7 +113,7 @@ fn start_of(start: u32, ends: &[u32], place: usize) -> u32
 
 /// Shows frames of a capture that follow each other.
 ///
-/// A contract sees them as the list of the frames.
+/// A contract sees them as a list of frames.
 #[derive(Drop)]
 pub struct FrameRun<'a> {
     bytes: &'a [u8],
@@ -149,7 +149,7 @@ impl<'a> FrameRun<'a> {
 
     /// Returns the frame at a place, counted from 0.
     ///
-    /// Requires a place of one of the frames.
+    /// `place` must be that of a frame.
     #[tactic(auto, using(crate::proofs::RunLaws::frame_count))]
     pub fn at(&self, place: usize) -> Frame
         requires { place < length self.now }

@@ -18,7 +18,7 @@ use Rattle.zb_seal.specs.declared.term.Term.{Term}
 use Rattle.zb_core.specs.Answers.{IsAnswer, answer_to}
 use Rattle.zb_core.specs.Storing.{own_plan}
 
--- an event of the node's own, not a delivery
+-- An event of the node's own, not a delivery.
 abbrev is_own : Task → Bool
 is_own (Received bytes draw) = false
 is_own _ = true
@@ -59,7 +59,7 @@ not_delivered Timer other = refl
 not_delivered (Say to bytes) other = refl
 not_delivered (Share device partner) other = refl
 
--- what is planned by the rule of an event's task is the answer to it
+-- The plan by the rule of an event's task is the answer to that event.
 pub event_answer : (c : Setting) (s : NodeState) (e : CentreEvent) (r : Plan (Outcome Term Refusal))
     → is_centre c.me.role ≡ true → ((bytes : ArrayVec ℕ) (draw : Option Key) → e ≡ Deliver bytes draw → ⊥)
     → IsAnswer r (answer_to real c s (own_plan (own_at_centre c s (task_of e))))
@@ -68,7 +68,7 @@ unfolding answer
 event_answer c s e r centre other a =
     rw (own_plan_is c s (task_of e) (not_delivered e other), centre_own c s (task_of e) centre) a
 
--- what is planned by the rule of what the centre says is the answer to it
+-- The plan by the rule of application data is the answer to that event.
 pub say_answer : (c : Setting) (s : NodeState) (to : ℕ) (bytes : Bytes) (r : Plan (Outcome Term Refusal))
     → is_centre c.me.role ≡ true → IsAnswer r (answer_to real c s (own_plan (say s to bytes)))
     → IsAnswer r (answer real c s (SayTo to bytes))

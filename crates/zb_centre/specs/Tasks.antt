@@ -20,6 +20,6 @@ task_of (Share device partner) = DoShare device.0 partner.0
 abbrev pub IsTaskOf : CentreEvent → Task → Type 0
 IsTaskOf event task = task ≡ task_of event
 
--- there is a task for each event
+-- There is a task for each event.
 pub some_task : (e : CentreEvent) → (task : Task) × IsTaskOf e task
 some_task e = (task_of e, refl)

@@ -1,64 +1,64 @@
-//! What happens to the trust centre.
+//! The events of the trust centre.
 use zb_base::{Eui, Frame, Key, Short};
 use zb_send::Payload;
 
-/// What happens to the trust centre.
+/// An event of the trust centre.
 #[derive(Drop)]
 pub enum CentreEvent {
-    /// A device is admitted by the link key of its install code.
+    /// Admits a device with the link key of its install code.
     Provision {
         /// The device.
         device: Eui,
         /// The link key.
         key: Key,
     },
-    /// A device is removed.
+    /// Removes a device.
     Remove {
         /// The device.
         device: Eui,
         /// Its parent, or the centre itself.
         via: Eui,
     },
-    /// A new network key is drawn, and is to be sent to each device.
+    /// Draws a new network key, which is then sent to each device.
     Roll {
         /// The next key of the supply.
         draw: Option<Key>,
     },
-    /// All are told to switch to the new network key.
+    /// Tells all devices to switch to the new network key.
     Switch,
-    /// A device is to be sent the new network key once more.
+    /// Sends a device the new network key again.
     Again {
         /// The device.
         device: Eui,
     },
-    /// A device joins or rejoins under the centre.
+    /// Handles a device that joins or rejoins under the centre.
     Child {
         /// The device.
         device: Eui,
         /// Whether it was a member before.
         rejoin: bool,
     },
-    /// A frame comes.
+    /// Handles a frame that was received.
     Deliver {
         /// The bytes of the frame.
         bytes: Frame,
         /// The next key of the supply.
         draw: Option<Key>,
     },
-    /// The next device is due to be sent the new network key.
+    /// Sends the new network key to the next device for which it is due.
     Timer,
-    /// It sends application data to a short address.
+    /// Sends application data to a short address.
     Say {
         /// The address.
         to: Short,
         /// The data.
         bytes: Payload,
     },
-    /// The key of two devices goes to one of them.
+    /// Sends the key of two devices to one of them.
     Share {
-        /// The one that it goes to.
+        /// The device to which the key is sent.
         device: Eui,
-        /// The other one.
+        /// The other device.
         partner: Eui,
     },
 }

@@ -1,4 +1,4 @@
-//! The core of the trust centre: what it does at each event, for a host that stores first.
+//! The core of the trust centre: what it does at each event, for a host that stores before it sends.
 #![tactic(auto)]
 
 mod centre;

@@ -24,8 +24,8 @@ use zb_seal::{KeyMemo, Term};
 use zb_send::copied;
 use zb_setting::Network;
 
-// Decides an event of the centre's own by its rule. A delivery is none. Each arm returns its value, so that it is
-// copied once.
+// Decides an event of the centre's own by its rule. A delivery is not such an event. Each arm returns its value, so
+// that it is copied once.
 fn decide(network: &Network, tables: &Tables, event: &CentreEvent) -> Result<Effect, Refusal>
     ensures rule { decided result ≡ told (own_at_centre network.now tables.now (task_of event.now)) }
     ensures keeps { Keeps Event result }
@@ -47,7 +47,8 @@ fn decide(network: &Network, tables: &Tables, event: &CentreEvent) -> Result<Eff
     })
 }
 
-// Plans an event of the centre's own by its rule. The decision has its place here, so that others clear none.
+// Plans an event of the centre's own by its rule. The decision is a local of this function, so that other events
+// don't pay for clearing it.
 fn plan_by_rule(
     network: &Network,
     tables: &Tables,
@@ -61,7 +62,7 @@ fn plan_by_rule(
     plan_own(network, tables, memo, &decide(network, tables, event), plan);
 }
 
-// Plans an event from what the centre knows of its network, its tables and its base keys.
+// Plans an event from the centre's network, tables and base keys.
 fn plan_event(
     network: &Network,
     tables: &Tables,

@@ -1,5 +1,5 @@
--- A plan that is the policy's answer can be carried out step by step: what it accepts has counters below the greatest,
--- and what it seals has the next ones.
+-- A plan that is the policy's answer can be carried out step by step: accepted counters are below the greatest, and
+-- seals have the next counters.
 use Rattle.std.proofs.Common.{◌≡◌, ◌<◌, List, ◌++◌, Option, Some, None, refl, sym, ap, ◌∙◌, subst, append-nil}
 use Rattle.std.specs.List.{AllByRecursion}
 use Rattle.zb_core.specs.Carrying.{IsBelowLast, after_aps, after_heard, after_plan, one}
@@ -21,12 +21,12 @@ use Rattle.zb_plan.specs.Answers.{terms}
 use Rattle.zb_seal.specs.declared.term.Term.{Term}
 use Rattle.zb_stored_tables.specs.Cores.{CoreValue, tables_after}
 
--- the terms of two layers are those of one, and then those of the other
+-- The terms of two layers are those of one, and then those of the other.
 pub two_parts : (first second : Option Term) → terms first second ≡ one first ++ one second
 two_parts first None = sym (append-nil (one first))
 two_parts first (Some t) = refl
 
--- ---- what is accepted
+-- ---- What is accepted
 
 abbrev Below : model.Term → Type 0
 Below t = t.counter < greatest_counter
@@ -44,7 +44,7 @@ heard_below c p can = below_parts p.out.accepted_nwk p.out.accepted_aps
     (subst (AllByRecursion Below) (sym can.answer_is.accepts)
     (answer_below_last real real_opens c.setting c.tables can.task))
 
--- ---- what is sealed
+-- ---- What is sealed
 
 same_next : (layer : Layer) (key : Bytes) (s : NodeState) → keys.next_under layer key s ≡ next_under layer key s
 same_next Nwk key s = refl
@@ -64,7 +64,7 @@ heard_parts : (p : CorePlan) (s : NodeState) → accepted_all (accepts p) s
 heard_parts p s = ap (λ (ts : List model.Term). accepted_all ts s) (two_parts p.out.accepted_nwk p.out.accepted_aps) ∙
     accepted_parts (one p.out.accepted_nwk) (one p.out.accepted_aps) s
 
--- the state in which a plan's seals are made
+-- The state in which a plan's seals are made.
 abbrev before : CorePlan → NodeState → NodeState
 before p s = accepted_all (accepts p) (shown (applied_all (edits p.changes.items) s))
 
@@ -91,7 +91,7 @@ sealed_in_parts c p can =
     (two_parts p.out.sealed_aps p.out.sealed_nwk)
     (subst (λ (s : NodeState). SealsNext s (seals p)) (before_is p c.tables) (sealed_next c p can)))
 
--- ---- the tables after a plan
+-- ---- The tables after a plan
 
 pub after_is : (p : CorePlan) (s : NodeState) → after_plan p s ≡ tables_after p.changes.items (accepts p) (seals p) s
 after_is p s =
@@ -102,7 +102,7 @@ after_is p s =
 abbrev with_tables : CoreValue → NodeState → CoreValue
 with_tables c s = record { setting = c.setting; tables = s }
 
--- the core after a plan was carried out over its tables
+-- The core after a plan was carried out over its tables.
 pub carried : (c v : CoreValue) (p : CorePlan) (tables : NodeState) → v ≡ c → tables ≡ after_plan p v.tables
     → IsCoreAfter c p (with_tables v tables)
 carried c v p tables view is =

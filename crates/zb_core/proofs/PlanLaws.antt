@@ -10,7 +10,7 @@ use Rattle.zb_stored_tables.specs.Cores.{CoreValue}
 use Rattle.zb_stored_tables.specs.Stored.{IsStorable}
 use Rattle.zb_stored_tables.proofs.CoreValues.{value_leads}
 
--- what a core's `plan` shows, with what `NodeCore::keep` says
+-- What a core's `plan` shows, with what `NodeCore::keep` says.
 pub core_plan : {E : Type 0} (role : Role) (stands_for : E → Task → Type 0) (c : CoreValue) (e : E) (p : CorePlan)
     → c.setting.me.role ≡ role → (task : Task) × stands_for e task
     → ((task : Task) → stands_for e task → IsAnswer p (answer real c.setting c.tables task))
@@ -23,7 +23,7 @@ core_plan role stands_for c e p own some answers storable = record {
   storable = subst (λ (r : Role). IsStorable r c.tables p.changes.items) own (storable some.0 (answers some.0 some.1));
 }
 
--- ---- where a plan leads
+-- ---- Where a plan leads
 
 pub answer_leads : (c d : CoreValue) (p : CorePlan) (task : Task) → IsAnswer p (answer real c.setting c.tables task)
     → IsCoreAfter c p d

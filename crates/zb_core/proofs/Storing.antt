@@ -32,7 +32,7 @@ answer_storable c p task own kept range block is =
       short = few_short p.changes.items range (subst (λ (n : ℕ). n ≤ 14) (sym as_many) few);
     }
 
--- the same of a core's value, as it is seen inside of it
+-- The same for a core's value, as its code sees it.
 pub kept_storable : (c v : CoreValue) (p : CorePlan) (task : Task) (block : ℕ) → v ≡ c → v.tables.role
     ≡ v.setting.me.role → IsKept v.tables → AllByRecursion InRange p.changes.items → block ≡ v.setting.me.in_block → 1
     ≤ block

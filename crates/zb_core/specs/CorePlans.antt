@@ -12,20 +12,20 @@ use Rattle.zb_seal.specs.declared.term.Term.{Term}
 use Rattle.zb_stored_tables.specs.Cores.{CoreValue, IsValueAfter}
 use Rattle.zb_stored_tables.specs.Stored.{IsStorable}
 
--- a core's plan: the changes, and what goes out beside them
+-- A core's plan: the changes, and what is sent or reported.
 abbrev pub CorePlan : Type 0
 CorePlan = Plan (Outcome Term Refusal)
 
--- the terms that a plan accepts: that of NWK, then that of APS
+-- The terms that a plan accepts: that of NWK, then that of APS.
 abbrev pub accepts : CorePlan → List model.Term
 accepts p = terms p.out.accepted_nwk p.out.accepted_aps
 
--- the terms that a plan seals: that of APS, then that of NWK
+-- The terms that a plan seals: that of APS, then that of NWK.
 abbrev pub seals : CorePlan → List model.Term
 seals p = terms p.out.sealed_aps p.out.sealed_nwk
 
--- A plan of a core of this role for an event: it is the policy's answer to each task that the event represents, of
--- which there is one, and its changes can be stored.
+-- A plan of a core of this role for an event. It is the policy's answer to each task that the event represents, of
+-- which there is at least one, and its changes can be stored.
 pub record IsCorePlan {E : Type 0} (role : Role) (stands_for : E → Task → Type 0) (c : CoreValue) (e : E)
     (p : CorePlan) : Type 0 where
   pub some : (task : Task) × stands_for e task
@@ -33,8 +33,8 @@ pub record IsCorePlan {E : Type 0} (role : Role) (stands_for : E → Task → Ty
   pub role_is : c.setting.me.role ≡ role
   pub storable : IsStorable role c.tables p.changes.items
 
--- The core after a plan: its setting stays, and its tables are those after the changes, the accepted terms and the
--- seals.
+-- The core after a plan. Its setting is unchanged, and its tables are those after the changes, the accepted terms and
+-- the seals.
 abbrev pub IsCoreAfter : CoreValue → CorePlan → CoreValue → Type 0
 IsCoreAfter c p d = IsValueAfter p.changes.items (accepts p) (seals p) c d
 

@@ -1,4 +1,4 @@
--- What a core by a policy keeps of the law of cores, as a host needs it: see `Core` of zb_host.
+-- The law of cores for a core with a policy, as a host needs it: see `Core` of zb_host.
 use Rattle.std.specs.Prelude.{◌≡◌, ◌≢◌, ◌≤◌, ◌++◌, ℕ, List, [], get_or, length}
 use Rattle.zb_core.specs.CorePlans.{CorePlan, IsCoreAfter, IsCorePlan, accepts, seals}
 use Rattle.zb_host.specs.Plans.{gives}

@@ -1,4 +1,4 @@
-//! How a plan is carried out over a node's tables.
+//! Carries out a plan over a node's tables.
 ghost use Rattle.std.specs.Prelude.{◌≡◌};
 ghost use Rattle.std.specs.List.{AllByRecursion};
 ghost use Rattle.zb_core.specs.Carrying.{IsBelowLast, after_aps, after_heard, after_plan, one};
@@ -55,8 +55,8 @@ pub(crate) fn carry_out(tables: &mut StoredTables, plan: &Plan<Outcome<Term, Ref
     count(tables, &plan.out.sealed_nwk);
 }
 
-// Keeps the key that seals a term for the frames to come, but none of those that carry keys. They rarely come again,
-// and deriving one anew takes only as long as opening a frame.
+// Keeps the derived key that seals a term for later frames, but not a key that seals keys. Those are rarely used
+// again, and deriving one again takes only as long as opening a frame.
 pub(crate) fn remember(memo: &mut KeyMemo, term: &Option<Term>) {
     if let Some(term) = term {
         match term.label {

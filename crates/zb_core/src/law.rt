@@ -1,4 +1,4 @@
-//! Laws of plans that are the policy's answers. Each function here says laws and does nothing.
+//! Laws of plans that are the policy's answers, as contracts of functions that do nothing.
 ghost use Rattle.std.specs.Prelude.{◌≡◌, ◌≤◌};
 ghost use Rattle.std.specs.List.{AllByRecursion};
 ghost use Rattle.zb_core.specs.CorePlans.{CorePlan, IsCoreAfter};
@@ -23,7 +23,8 @@ pub fn an_answer_leads_to_the_state_that_the_policy_says()
 
 /// States that a plan which is the policy's answer can be stored.
 ///
-/// The tables are kept and of the node's role, the plan's values can be spelled, and an incoming block is 1 or more.
+/// The tables are kept and are those of the node's role, the plan's values can be encoded, and an incoming block is 1
+/// or more.
 pub fn an_answer_can_be_stored()
     ensures { (c : CoreValue) (p : CorePlan) (task : Task) → c.tables.role ≡ c.setting.me.role → IsKept c.tables
         → AllByRecursion InRange p.changes.items → 1 ≤ c.setting.me.in_block

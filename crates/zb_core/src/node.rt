@@ -46,13 +46,13 @@ impl Model for NodeCore {
 }
 
 impl NodeCore {
-    /// Makes what a node of that role has when it boots on a record and the payloads after it.
+    /// Restores a node of that role from a record and the payloads after it.
     ///
-    /// Requires a configuration of a node of that role, and no more bytes than a store has of them.
+    /// The configuration must be of a node of that role, and there must be no more bytes than a store has.
     ///
     /// # Errors
-    /// `BadRecord` at the place of the first fault, at 1 where the record is of another role. `NoMemory` where
-    /// memory is short.
+    /// `BadRecord` at the place of the first fault, or at 1 if the record is of another role. `NoMemory` if memory
+    /// runs out.
     pub fn restore(
         alloc: Global,
         role: Role,
@@ -97,7 +97,7 @@ impl NodeCore {
         &self.memo
     }
 
-    /// States that a plan which is the policy's answer to some task can be stored; does nothing.
+    /// States that a plan which is the policy's answer to some task can be stored. It does nothing.
     pub fn keep(&self, plan: &Plan<Outcome<Term, Refusal>>)
         ensures { (task : Task) → IsAnswer plan.now (answer real self.now.setting self.now.tables task)
             → IsStorable self.now.setting.me.role self.now.tables plan.now.changes.items }
@@ -107,9 +107,9 @@ impl NodeCore {
         self.network.in_block();
     }
 
-    /// Carries a plan out: makes its changes, keeps what it accepted, and counts what it sealed.
+    /// Carries out a plan: makes its changes, keeps what it accepted, and counts what it sealed.
     ///
-    /// Requires a plan that is the policy's answer to some task and can be stored.
+    /// The plan must be the policy's answer to some task, and it must be possible to store it.
     pub fn apply(&mut self, plan: &Plan<Outcome<Term, Refusal>>)
         requires { CanBeCarriedOut self.old plan.now }
         ensures { IsCoreAfter self.old plan.now self.new }
@@ -123,7 +123,7 @@ impl NodeCore {
 
     /// Writes the record of the node's tables, and returns its length.
     ///
-    /// Requires `RECORD_ROOM` bytes of room.
+    /// `into` must have room for `RECORD_ROOM` bytes.
     pub fn record(&self, into: &mut [u8]) -> u32
         requires { record_room ≤ length into.old }
         ensures len { result ≡ length (record_of self.now.tables) }

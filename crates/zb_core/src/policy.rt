@@ -23,7 +23,7 @@ use zb_stored_tables::change_bytes;
 
 /// Plans what a node of one role does at its events.
 pub trait Policy {
-    /// What happens to the node.
+    /// The type of the node's events.
     type Event;
 
     /// The role.
@@ -36,7 +36,7 @@ pub trait Policy {
     fn role() -> Role
         ensures { model_role result ≡ of };
 
-    /// Writes the plan of an event in place of the plan that stood there. Requires a node of the role.
+    /// Plans an event, and overwrites the plan that was there. The node must be of the role.
     fn plan(node: &NodeCore, event: &Self::Event, plan: &mut Plan<Outcome<Term, Refusal>>)
         requires { node.now.setting.me.role ≡ of }
         ensures { (task : model.Task) → stands_for event.now task
@@ -46,7 +46,7 @@ pub trait Policy {
     ghost some: { (e : Self.Event) → (task : model.Task) × stands_for e task };
 }
 
-/// Decides what a node does by the policy of its role.
+/// Decides what a node does with the policy of its role.
 ///
 /// A contract sees it as its setting and its tables.
 #[derive(Drop)]

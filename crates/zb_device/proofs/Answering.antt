@@ -18,7 +18,7 @@ use Rattle.zb_seal.specs.declared.term.Term.{Term}
 use Rattle.zb_plan.specs.Answers.{IsAnswer, answer_to}
 use Rattle.zb_plan.specs.Storing.{own_plan}
 
--- an event of the node's own, not a delivery
+-- An event of the node's own, not a delivery.
 abbrev pub is_own : Task → Bool
 is_own (Received bytes draw) = false
 is_own _ = true
@@ -46,7 +46,7 @@ member_own : (c : Setting) (s : NodeState) (task : Task) → is_centre c.me.role
 unfolding own
 member_own c s task member = rw member refl
 
--- what is planned by the rule of the task is the answer to it
+-- The plan by the rule of a task is the answer to that task.
 pub member_answer : (c : Setting) (s : NodeState) (known task : Task) (o : model.Outcome)
     (r : Plan (Outcome Term Refusal)) → is_centre c.me.role ≡ false → is_own known ≡ true
     → own_at_member real c s known ≡ o
@@ -74,7 +74,7 @@ the_task (Say to bytes) task other is = is
 the_task (Ask partner) task other is = is
 the_task (Tell partner bytes) task other is = is
 
--- what is planned by the rule of an event's task is the answer to it
+-- The plan by the rule of an event's task is the answer to that event.
 pub event_answer : (c : Setting) (s : NodeState) (e : DeviceEvent) (task : Task) (r : Plan (Outcome Term Refusal))
     → is_centre c.me.role ≡ false → ((bytes : ArrayVec ℕ) → e ≡ Deliver bytes → ⊥)
     → IsTaskOf e task → IsAnswer r (answer_to real c s (own_plan (own_at_member real c s (own_task e))))

@@ -4,7 +4,7 @@ use Rattle.zb_device.specs.declared.event.DeviceEvent.{DeviceEvent}
 use Rattle.zb_device.specs.declared.event.DeviceEvent.TheVariants.{Knock, Rejoin, Deliver, Timer, Say, Ask, Tell}
 use Rattle.zb_model.specs.Data.{Bytes, Task, SayTo, TellTo, DoKnock, DoRejoin, DoTimer, AskFor, Received}
 
--- one task, but for a delivery: since only the centre draws, it represents the delivery with any draw
+-- One task, except for a delivery: because only the centre draws, it represents the delivery with any draw.
 abbrev pub IsTaskOf : DeviceEvent → Task → Type 0
 IsTaskOf Knock task = task ≡ DoKnock
 IsTaskOf Rejoin task = task ≡ DoRejoin
@@ -14,7 +14,7 @@ IsTaskOf (Say to bytes) task = task ≡ SayTo to.0 bytes.items
 IsTaskOf (Ask partner) task = task ≡ AskFor partner.0
 IsTaskOf (Tell partner bytes) task = task ≡ TellTo partner.0 bytes.items
 
--- the task of an event of the node's own; that of a delivery is one with no draw
+-- The task of an event of the node's own. For a delivery, the one with no draw.
 abbrev pub own_task : DeviceEvent → Task
 own_task Knock = DoKnock
 own_task Rejoin = DoRejoin
@@ -24,7 +24,7 @@ own_task (Say to bytes) = SayTo to.0 bytes.items
 own_task (Ask partner) = AskFor partner.0
 own_task (Tell partner bytes) = TellTo partner.0 bytes.items
 
--- there is a task for each event
+-- There is a task for each event.
 pub some_task : (e : DeviceEvent) → (task : Task) × IsTaskOf e task
 some_task Knock = (DoKnock, refl)
 some_task Rejoin = (DoRejoin, refl)

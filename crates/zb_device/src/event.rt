@@ -1,34 +1,34 @@
-//! What happens to a device, and to a router of its own.
+//! The events of a device. They are also events of a router.
 use zb_base::{Eui, Frame, Short};
 use zb_send::Payload;
 
-/// What happens to a device.
+/// An event of a device.
 #[derive(Drop)]
 pub enum DeviceEvent {
-    /// It asks to be let into the network.
+    /// Asks to join the network.
     Knock,
-    /// It has lost its place in the network, and asks to be let in again.
+    /// Asks to rejoin the network after the device lost its place in it.
     Rejoin,
-    /// Bytes from the air reach it.
+    /// Handles bytes that were received.
     Deliver {
         /// The bytes.
         bytes: Frame,
     },
-    /// Its timer goes off.
+    /// Handles the end of the device's timer.
     Timer,
-    /// It sends application data to a short address.
+    /// Sends application data to a short address.
     Say {
-        /// To whom.
+        /// The address.
         to: Short,
         /// The data.
         bytes: Payload,
     },
-    /// It asks the centre for a key that it shares with a partner.
+    /// Asks the centre for a key that the device shares with a partner.
     Ask {
         /// The partner.
         partner: Eui,
     },
-    /// It tells a partner application data under the key of the two.
+    /// Sends application data to a partner, under the key of the two.
     Tell {
         /// The partner.
         partner: Eui,

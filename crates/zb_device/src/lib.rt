@@ -1,4 +1,4 @@
-//! What a device does at each event: the core of a device over its rules, and the plans that routers share.
+//! What a device does at each event: the core of a device, and the plans that it shares with routers.
 #![tactic(auto)]
 
 mod device;

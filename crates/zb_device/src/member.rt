@@ -23,8 +23,8 @@ use zb_seal::{KeyMemo, Term};
 use zb_send::copied;
 use zb_setting::Network;
 
-// Decides an event of the node's own by its rule. A delivery is none. Each arm returns its value, so that it is copied
-// once.
+// Decides an event of the node's own by its rule. A delivery is not such an event. Each arm returns its value, so
+// that it is copied once.
 fn decide(network: &Network, tables: &Tables, event: &DeviceEvent) -> Result<Effect, Refusal>
     ensures rule { decided result ≡ told (own_at_member real network.now tables.now (own_task event.now)) }
     ensures keeps { Keeps Event result }
@@ -45,7 +45,8 @@ fn decide(network: &Network, tables: &Tables, event: &DeviceEvent) -> Result<Eff
     })
 }
 
-// Plans an event of the node's own by its rule. The decision has its place here, so that a delivery clears none.
+// Plans an event of the node's own by its rule. The decision is a local of this function, so that a delivery doesn't
+// pay for clearing it.
 fn plan_by_rule(
     network: &Network,
     tables: &Tables,
@@ -59,9 +60,9 @@ fn plan_by_rule(
     plan_own(network, tables, memo, &decide(network, tables, event), plan);
 }
 
-/// Plans an event by its rule, from what the node knows of its network, its tables and its base keys.
+/// Plans an event by its rule, from the node's network, tables and base keys.
 ///
-/// Requires a node that isn't the centre.
+/// The node must not be the centre.
 fn plan_event(
     network: &Network,
     tables: &Tables,
@@ -88,7 +89,7 @@ fn plan_event(
 
 /// Plans an event of a router or device, by the rule of the event.
 ///
-/// Requires a node that isn't the centre.
+/// The node must not be the centre.
 pub fn plan_member(node: &NodeCore, event: &DeviceEvent, plan: &mut Plan<Outcome<Term, Refusal>>)
     requires { is_centre node.now.setting.me.role ≡ false }
     ensures { (task : Task) → IsTaskOf event.now task

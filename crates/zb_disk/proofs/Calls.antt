@@ -1,4 +1,4 @@
--- The calls of a disk in memory meet what the trait says of them.
+-- The calls of a disk in memory keep the contracts of the trait.
 use Rattle.std.proofs.Common.{◌≡◌, inr, ℕ, zero, suc, ◌+◌, ◌-◌, ◌≤◌, List, length, replicate, Bool, true, false, nat_le, nat_lt, ◌==◌, if◌then◌else◌, cond, Ok, Err, refl, sym, ◌∙◌, ap, subst, arith}
 use Rattle.std.proofs.lemmas.Bool.{false≢true, le-leb, le-ltb, lt-ltb, eqb-true, eq-eqb}
 use Rattle.std.proofs.lemmas.Bool.Decides.{nat_tests}
@@ -34,14 +34,14 @@ later_off (Stop calls) k = later_off_stop calls k (calls == 0) refl
 later_off (Fail call) k = refl
 later_off Stopped k = refl
 
--- it is off now where it is stopped
+-- The disk is off now exactly if it is stopped.
 pub off_now : (a : Arming) → off_after a 0 ≡ is_stopped a
 off_now Unarmed = refl
 off_now (Stop calls) = le-ltb calls 0 (omega arith)
 off_now (Fail call) = refl
 off_now Stopped = refl
 
--- it is going to refuse a call exactly where it refuses the one of some number
+-- The disk will refuse a call exactly if it refuses the one of some number.
 
 pub refuses_some : (a : Arming) (k : ℕ) → refuses a k ≡ true → will_refuse a ≡ true
 refuses_some Unarmed k here = here
@@ -67,7 +67,7 @@ elapses : (old new : Medium) → Elapses memory_tells (memory_view old) (memory_
 elapses old new =
     record { later = omega arith; nothing_else = λ t c before left. inr left; kept = λ told. absurd (false≢true told) }
 
--- a call that went through
+-- A call that succeeded.
 counted_ok : {E : Type 0} (m new : Medium) → refuses m.arming 0 ≡ false → m.faults ≤ (counted m).faults → new.arming
     ≡ (counted m).arming → new.torn ≡ m.torn → new.calls ≡ (counted m).calls → new.faults ≡ (counted m).faults
     → IsCounted {T = Unit {0}} {E = E} memory_tells (memory_view m) (memory_view new) (Ok tt)
@@ -90,7 +90,7 @@ counted_ok m new goes later arming torn calls faults = record {
   };
 }
 
--- a call that was refused
+-- A call that was refused.
 counted_err : {E : Type 0} (m : Medium) (e : E) → refuses m.arming 0 ≡ true → m.faults ≤ (counted m).faults
     → IsCounted {T = Unit {0}} {E = E} memory_tells (memory_view m) (memory_view (counted m)) (Err e)
 unfolding counted

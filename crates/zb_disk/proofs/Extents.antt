@@ -1,4 +1,4 @@
--- How far a disk was written since it was made new.
+-- How much of a disk was written since it was renewed.
 use Rattle.std.proofs.Common.{◌≡◌, inl, inr, ⊎_elim, ℕ, ◌+◌, ◌-◌, ◌≤◌, ◌<◌, List, ◌++◌, length, get_or, take, drop, replicate, max, min, Bool, true, false, nat_lt, if◌then◌else◌, refl, sym, ◌∙◌, ap, arith, length-take, get_or-take}
 use Rattle.std.proofs.lemmas.List.{ext_get_or, length-replicate, get_or-replicate, get_or_past, take_at, length-take-le}
 use Rattle.std.proofs.lemmas.Bool.{cases_lt}
@@ -9,9 +9,9 @@ use Rattle.zb_disk.proofs.Windows.{length-around, around_before, around_from, ar
 use Rattle.zb_disk.proofs.Images.{outside_patch, lowered}
 use Rattle.zb_disk.proofs.Tearing.{length-tear, tear_stands, tear_part}
 
--- ---- a disk that is made new
+-- ---- A disk that is renewed
 
--- a range that was blanked, where it ends with the bytes or before
+-- A range that was blanked, if it ends with the bytes or before.
 pub cleared_inside : (xs : List ℕ) (from to start end k : ℕ) → end ≡ min to (length xs) → start ≡ min from end → from
     ≤ k → k < to → get_or (patch xs start (replicate (end - start) 0)) k 0 ≡ 0
 cleared_inside xs from to start end k end_is start_is after before =
@@ -40,16 +40,16 @@ cleared_others xs start end k order within blank =
       ]
     ]
 
--- ---- a write
+-- ---- A write
 
--- what reads at a place of the prefix, after which all is 00
+-- What a read returns at a place of the prefix, if all bytes after it are 00.
 front_reads : (xs : List ℕ) (n k : ℕ) → ((j : ℕ) → n ≤ j → get_or xs j 0 ≡ 0) → get_or (take n xs) k 0 ≡ get_or xs k 0
 front_reads xs n k behind = elim (cases_lt k n) [
   | inl within ↦ get_or-take n xs k 0 within
   | inr past ↦ get_or_past (take n xs) k 0 (omega (arith, length-take n xs)) ∙ sym (behind k past)
 ]
 
--- lists that are alike at a place are so with the same piece over them
+-- Lists that are equal at a place are so with the same piece over them.
 patched_alike : (a b piece : List ℕ) (start k : ℕ) → start + length piece ≤ length a → start + length piece ≤ length b
     → get_or a k 0 ≡ get_or b k 0 → get_or (patch a start piece) k 0 ≡ get_or (patch b start piece) k 0
 patched_alike a b piece start k fits fits' alike = elim (cases_lt k start) [
@@ -62,7 +62,7 @@ patched_alike a b piece start k fits fits' alike = elim (cases_lt k start) [
   ]
 ]
 
--- what is written into all bytes is written into what reads
+-- What is written to all bytes is written to those that are read.
 pub put_front : (xs piece new : List ℕ) (start len : ℕ) → len ≤ length xs → ((j : ℕ) → len ≤ j → get_or xs j 0 ≡ 0)
     → new ≡ patch (spread xs (start + length piece) 0) start piece
     → take (max len (start + length piece)) new ≡ patch (spread (take len xs) (start + length piece) 0) start piece
@@ -85,15 +85,15 @@ put_front xs piece new start len within behind is =
     ∙ patched_alike all front piece start k fits fits_front
     (get_or-spread xs end k 0 ∙ sym (front_reads xs len k behind) ∙ sym (get_or-spread (take len xs) end k 0)))
 
--- and no other place changes
+-- No other place changes.
 pub put_outside : (xs piece new : List ℕ) (start k : ℕ) → new ≡ patch (spread xs (start + length piece) 0) start piece
     → IsOutside start (start + length piece) k → get_or xs k 0 ≡ 0 → get_or new k 0 ≡ 0
 put_outside xs piece new start k is where_it_is blank = ap (λ (l : List ℕ). get_or l k 0) is ∙ outside_patch xs piece
     start k 0 where_it_is ∙ blank
 
--- ---- a stop
+-- ---- A stop
 
--- no flag is up outside the window
+-- No flag is set outside the window.
 around_outside : (base : ℕ) (w : List Bool) (n k : ℕ) → IsOutside base (base + length w) k
     → get_or (flags_around base w n) k false ≡ false
 around_outside base w n k where_it_is = ⊎_elim (λ (before : k < base). around_before base w n k before)
@@ -105,7 +105,7 @@ torn_some_outside : (p bytes : List ℕ) (written : List Bool) (k : ℕ) (some :
 torn_some_outside p bytes written k true down = tear_stands p 0 bytes written k down
 torn_some_outside p bytes written k false down = refl
 
--- outside the window no byte is torn
+-- Outside the window no byte is torn.
 pub torn_outside : (p bytes : List ℕ) (base : ℕ) (w : List Bool) (n k : ℕ) (new : List ℕ) → new
     ≡ torn_by p bytes (flags_around base w n) → IsOutside base (base + length w) k → get_or bytes k 0 ≡ 0
     → get_or new k 0 ≡ 0
@@ -135,7 +135,7 @@ torn_some_front p bytes base w len true within fits =
     ap (λ (l : List ℕ). take len l) (torn_all p bytes base w len within fits) ∙ take_at front (drop len bytes) len long
 torn_some_front p bytes base w len false within fits = refl
 
--- what reads is torn as all bytes are
+-- The bytes that are read are torn like all bytes.
 pub torn_front : (p bytes : List ℕ) (base : ℕ) (w : List Bool) (len : ℕ) → base + length w ≤ len → len ≤ length bytes
     → take len (torn_by p bytes (flags_around base w (length bytes)))
     ≡ torn_by p (take len bytes) (flags_around base w len)

@@ -9,11 +9,11 @@ use Rattle.zb_disk.specs.Memory.{Medium, IsImage, spread, patch, stored}
 use Rattle.zb_disk.specs.MemoryInside.{IsOutside}
 use Rattle.zb_disk.proofs.Lists.{length-patch, length-spread, get_or-patch_before, get_or-patch_in, get_or-patch_after, get_or-spread}
 
--- the images of a disk in memory
+-- The images of a disk in memory.
 abbrev pub ImageOf : Medium → List ℕ → Type 0
 ImageOf m = IsImage m.bytes m.written m.grown
 
--- new is old with something written from a place to before another
+-- `new` is `old` with something written from one place to another, which is excluded.
 pub record IsPatched (at end : ℕ) (old new : Medium) : Type 0 where
   pub size : length new.bytes ≡ max (length old.bytes) end
   pub grown : new.grown ≡ old.grown + (end - length old.bytes)
@@ -21,7 +21,7 @@ pub record IsPatched (at end : ℕ) (old new : Medium) : Type 0 where
   pub flags : (k : ℕ) → IsOutside at end k → get_or new.written k false ≡ get_or old.written k false
   pub raised : (k : ℕ) → at ≤ k → k < end → get_or new.written k false ≡ true
 
--- outside the piece a patched list is as it was
+-- Outside the piece, a patched list is unchanged.
 pub outside_patch : {A : Type 0} (xs piece : List A) (at k : ℕ) (filling : A) → IsOutside at (at + length piece) k
     → get_or (patch (spread xs (at + length piece) filling) at piece) k filling ≡ get_or xs k filling
 outside_patch xs piece at k filling where_it_is =
@@ -55,7 +55,7 @@ stored_is m at piece =
           get_or-replicate (length piece) (k - at) true false (omega arith);
     }
 
--- a byte outside the range stands
+-- A byte outside the range is unchanged.
 pub torn_stands : (at n : ℕ) (d c : List ℕ) → Torn at n d c → (k : ℕ) → IsOutside at (at + n) k → k < length d
     → get_or c k 0 ≡ get_or d k 0
 torn_stands at n d c torn k it within = ⊎_elim
@@ -68,7 +68,7 @@ torn_stands at n d c torn k it within = ⊎_elim
     it
 
 module _ (at n : ℕ) (old new : Medium) (is : IsPatched at (at + n) old new) where
-  -- a byte of the old content in the range, and of the image elsewhere
+  -- A byte of the old content inside the range, and of the image elsewhere.
   pick : List ℕ → ℕ → ℕ
   pick c k = cond (nat_le at k && nat_lt k (at + n)) (get_or old.bytes k 0) (get_or c k 0)
 
@@ -83,7 +83,7 @@ module _ (at n : ℕ) (old new : Medium) (is : IsPatched at (at + n) old new) wh
       (⊎_elim (λ (before : k < at). and_left (nat_le at k) (nat_lt k (at + n)) (lt-leb at k before))
       (λ (after : at + n ≤ k). and_right (nat_le at k) (nat_lt k (at + n)) (le-ltb k (at + n) after)) it)
 
-  -- the old image that a new one comes from
+  -- The old image that a new one comes from.
   origin : List ℕ → List ℕ
   origin c = map (pick c) (range_with_len 0 (min (length c) (length old.bytes)))
 
@@ -135,11 +135,11 @@ module _ (at n : ℕ) (old new : Medium) (is : IsPatched at (at + n) old new) wh
         no_shorter = omega arith;
       }
 
-  -- each new image is an old one, torn
+  -- Each new image is an old one, torn.
   pub torn_from : Follows (Torn at n) (ImageOf old) (ImageOf new)
   torn_from c image = (origin c, origin_image c image, origin_torn c image)
 
-  -- and each old image, torn, is a new one
+  -- Each old image, torn, is a new one.
   pub torn_to : Opens (Torn at n) (ImageOf old) (ImageOf new)
   torn_to d c image torn =
       let size = is.size in
@@ -164,7 +164,7 @@ module _ (at n : ℕ) (old new : Medium) (is : IsPatched at (at + n) old new) wh
             ];
       }
 
--- where nothing was written, what reads is the one image
+-- If nothing was written, the bytes that are read are the only image.
 pub one_image : (bytes : List ℕ) (written : List Bool) → ((k : ℕ) → get_or written k false ≡ false)
     → Only bytes (IsImage bytes written 0)
 one_image bytes written none c image =

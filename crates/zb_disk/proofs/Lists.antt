@@ -1,4 +1,4 @@
--- Places of lists that were written over.
+-- Places of lists after an overwrite.
 use Rattle.std.proofs.Common.{◌≡◌, inl, inr, ℕ, ◌+◌, ◌-◌, ◌≤◌, ◌<◌, List, ◌++◌, length, get_or, take, drop, replicate, max, min, refl, sym, ◌∙◌, ap, arith, rules, length-take, length-drop, length-append, get_or-drop}
 use Rattle.std.proofs.lemmas.List.{length-replicate, take-append-le, take_all, drop_min, drop_all, append_assoc, append-nil, replicate-append-replicate, places, get_or-append_right, get_or_append_left, get_or-replicate, get_or_past}
 use Rattle.std.proofs.lemmas.Bool.{cases_lt}
@@ -40,7 +40,7 @@ get_or-spread xs n k filling = elim (cases_lt k (length xs)) [
   ]
 ]
 
--- a prefix of a list that was filled up
+-- A prefix of a list that was extended.
 spread_front : (old : List ℕ) (start n : ℕ) → take start (spread old (start + n) 0) ≡ take start (spread old start 0)
 spread_front old start n = elim (cases_lt start (length old)) [
   | inl within ↦ take-append-le start old (replicate (start + n - length old) 0) (omega arith) ∙ sym
@@ -63,7 +63,7 @@ spread_back old end = elim (cases_lt end (length old)) [
   | inr past ↦ drop_all end (spread old end 0) (omega (arith, length-spread old end 0)) ∙ sym (drop_all end old past)
 ]
 
--- a write past the end of a list that was filled up first
+-- A write past the end of a list that was extended first.
 pub overwrite_spread : (old bytes : List ℕ) (start : ℕ) → patch (spread old (start + length bytes) 0) start bytes
     ≡ overwrite old start bytes
 overwrite_spread old bytes start =
@@ -71,7 +71,7 @@ overwrite_spread old bytes start =
     (spread_front old start (length bytes))
     ∙ ap (λ (l : List ℕ). take start (spread old start 0) ++ bytes ++ l) (spread_back old (start + length bytes))
 
--- a window, as it is read: what is there, and then 00
+-- A window, as it is read: what is there, and then 00.
 pub window_is : (bytes : List ℕ) (at start n count : ℕ) → start ≡ min at (length bytes) → count
     ≡ min n (length bytes - start) → take count (drop start bytes) ++ replicate (n - count) 0 ≡ window bytes at n
 window_is bytes at start n count start_is count_is =

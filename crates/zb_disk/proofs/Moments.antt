@@ -1,9 +1,9 @@
--- How a run of device calls goes on.
+-- How a run of device calls continues.
 use Rattle.std.proofs.Common.{inl, inr, ⊎_elim, ℕ, List, refl, sym, ◌∙◌, subst, arith}
 use Rattle.zb_disk.specs.View.{Telling, View, IsStill, LeavesOnly}
 use Rattle.zb_disk.specs.Calls.{Elapses}
 
--- before the first call
+-- Before the first call.
 pub started : (v : View) (P : List ℕ → Type 0) → ((c : List ℕ) → v.since v.moment c → v.images c)
     → ((c : List ℕ) → v.images c → P c) → LeavesOnly v v P
 started v P only_now here =
@@ -14,7 +14,7 @@ started v P only_now here =
       before = λ t c before left. inl left;
     }
 
--- one call more, after which a crash leaves what has P
+-- One call more, after which a crash leaves only contents with P.
 pub goes_on : {tells : Telling} (old mid new : View) (P : List ℕ → Type 0) → LeavesOnly old mid P
     → Elapses tells mid new → ((c : List ℕ) → new.images c → P c) → LeavesOnly old new P
 goes_on old mid new P so_far time here = record {
@@ -25,7 +25,7 @@ goes_on old mid new P so_far time here = record {
       (time.nothing_else t c (omega (arith, before, so_far.later)) left);
 }
 
--- one run after another
+-- One run after another.
 pub goes_through : (old mid new : View) (P : List ℕ → Type 0) → LeavesOnly old mid P → LeavesOnly mid new P
     → LeavesOnly old new P
 goes_through old mid new P first second = record {
@@ -36,7 +36,7 @@ goes_through old mid new P first second = record {
       (second.before t c (omega (arith, before, first.later)) left);
 }
 
--- what has P has Q
+-- Contents with P have Q.
 pub weakened : (old new : View) (P Q : List ℕ → Type 0) → ((c : List ℕ) → P c → Q c) → LeavesOnly old new P
     → LeavesOnly old new Q
 weakened old new P Q weaker run = record {
@@ -47,7 +47,7 @@ weakened old new P Q weaker run = record {
       (run.before t c before left);
 }
 
--- a run that begins with calls that change nothing
+-- A run that begins with calls that change nothing.
 pub still_then : (old mid new : View) (P : List ℕ → Type 0) → IsStill old mid → LeavesOnly mid new P
     → LeavesOnly old new P
 still_then old mid new P still run =
@@ -60,7 +60,7 @@ still_then old mid new P still run =
           (run.before t c (omega (arith, same, before)) left);
     }
 
--- calls that change nothing, alone
+-- Calls that change nothing, alone.
 pub still_leaves : (old new : View) (P : List ℕ → Type 0) → IsStill old new
     → ((c : List ℕ) → old.since old.moment c → old.images c) → ((c : List ℕ) → old.images c → P c)
     → LeavesOnly old new P

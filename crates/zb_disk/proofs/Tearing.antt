@@ -1,4 +1,4 @@
--- What the power leaves when it comes back after a stop.
+-- What a disk has when the power comes back after a stop.
 use Rattle.std.proofs.Common.{◌≡◌, ◌⊎◌, inl, inr, ⊎_elim, ℕ, zero, suc, ◌+◌, ◌-◌, ◌%◌, ◌≤◌, ◌<◌, List, [], ◌∷◌, ◌++◌, length, get_or, set, take, drop, replicate, Bool, true, false, nat_lt, if◌then◌else◌, refl, sym, ◌∙◌, ap, arith, take-append-drop, length-set, get_or-set_same, get_or-set_other, append_assoc, length-drop}
 use Rattle.std.proofs.lemmas.List.{ext_get_or, drop_more, drop-set-lt, take-set-le, take_more_set, take_more, set_split, take-append-le, length-take-le, get_or-take, get_or-drop, drop-drop, drop_at, drop_all, take_all, append-nil, length-replicate, get_or-replicate, get_or_append_left}
 use Rattle.std.proofs.lemmas.Bool.{false≢true, cases_lt, cases_eq, cases_Bool, lt-ltb}
@@ -16,7 +16,7 @@ length-tear p phase (b ∷ bytes) [] = refl
 length-tear p phase (b ∷ bytes) (true ∷ written) = ap suc (length-tear p (phase + 1) bytes written)
 length-tear p phase (b ∷ bytes) (false ∷ written) = ap suc (length-tear p 0 bytes written)
 
--- a byte that wasn't written stands
+-- A byte that wasn't written is unchanged.
 pub tear_stands : (p : List ℕ) (phase : ℕ) (bytes : List ℕ) (written : List Bool) (k : ℕ) → get_or written k false
     ≡ false → get_or (tear p phase bytes written) k 0 ≡ get_or bytes k 0
 tear_stands p phase [] written k down = refl
@@ -26,7 +26,7 @@ tear_stands p phase (b ∷ bytes) (true ∷ written) (suc k) down = tear_stands 
 tear_stands p phase (b ∷ bytes) (false ∷ written) zero down = refl
 tear_stands p phase (b ∷ bytes) (false ∷ written) (suc k) down = tear_stands p 0 bytes written k down
 
--- what is torn is one of the images
+-- The torn bytes are one of the images.
 pub image_torn : (p : List ℕ) (bytes : List ℕ) (written : List Bool) (grown : ℕ)
     → IsImage bytes written grown (tear p 0 bytes written)
 image_torn p bytes written grown =
@@ -38,7 +38,7 @@ image_torn p bytes written grown =
           written k down;
     }
 
--- the first byte of a run becomes the first of the pattern
+-- The first byte of a run becomes the first of the pattern.
 tear_first : (p : List ℕ) (phase : ℕ) (bytes : List ℕ) (written : List Bool) (k : ℕ) → k < length bytes
     → get_or written k false ≡ true → (k ≡ 0 → phase ≡ 0) → ((j : ℕ) → j + 1 ≡ k → get_or written j false ≡ false)
     → get_or (tear p phase bytes written) k 0 ≡ get_or p (0 % length p) 0
@@ -58,7 +58,7 @@ tear_first p phase (b ∷ bytes) (false ∷ written) (suc k) within up begins al
 module _ (at : ℕ) (bytes : List ℕ) (written : List Bool) (grown : ℕ)
     (only : (c : List ℕ) → IsImage bytes written grown c → Torn at 1 bytes c)
     (each : (c : List ℕ) → Torn at 1 bytes c → IsImage bytes written grown c) (within : at < length bytes) where
-  -- nothing lies past the synced end, or the disk could come back shorter
+  -- Nothing lies past the synced end; otherwise the disk could come back shorter.
   not_grown : grown ≡ 0
   not_grown = elim (cases_eq grown 0) [
     | inl none ↦ none
@@ -78,7 +78,7 @@ module _ (at : ℕ) (bytes : List ℕ) (written : List Bool) (grown : ℕ)
   bumped : ℕ → List ℕ
   bumped k = set bytes k (get_or bytes k 0 + 1)
 
-  -- a byte elsewhere wasn't written
+  -- A byte elsewhere wasn't written.
   down_elsewhere : (k : ℕ) → (k ≡ at → ⊥) → get_or written k false ≡ false ⊎ (length bytes ≤ k)
   unfolding bumped
   down_elsewhere k other = elim (cases_lt k (length bytes)) [
@@ -101,7 +101,7 @@ module _ (at : ℕ) (bytes : List ℕ) (written : List Bool) (grown : ℕ)
     ]
   ]
 
-  -- the byte itself was
+  -- The byte itself was written.
   up_here : get_or written at false ≡ true
   unfolding bumped
   up_here = elim (cases_Bool (get_or written at false)) [
@@ -148,7 +148,7 @@ module _ (at : ℕ) (bytes : List ℕ) (written : List Bool) (grown : ℕ)
       ])
       ∙ as_set
 
--- one turn of the loop, at a byte that was written
+-- One step of the loop, at a byte that was written.
 pub tear_up : (p : List ℕ) (phase : ℕ) (bytes new next : List ℕ) (written : List Bool) (i : ℕ) (whole : List ℕ) → i
     < length bytes → i < length new → i < length written → get_or written i false ≡ true → drop i new ≡ drop i bytes
     → take i new ++ tear p phase (drop i bytes) (drop i written) ≡ whole → next
@@ -171,7 +171,7 @@ tear_up p phase bytes new next written i whole in_bytes in_new in_written up sam
     later_same : (a b : List ℕ) (i : ℕ) → drop i a ≡ drop i b → drop (i + 1) a ≡ drop (i + 1) b
     later_same a b i same = sym (drop-drop 1 i a) ∙ ap (λ (l : List ℕ). drop 1 l) same ∙ drop-drop 1 i b
 
--- and at one that wasn't
+-- And at a byte that wasn't.
 pub tear_down : (p : List ℕ) (phase : ℕ) (bytes new : List ℕ) (written : List Bool) (i : ℕ) (whole : List ℕ) → i
     < length bytes → i < length new → i < length written → get_or written i false ≡ false → drop i new ≡ drop i bytes
     → take i new ++ tear p phase (drop i bytes) (drop i written) ≡ whole
@@ -203,13 +203,13 @@ torn_by_image : (p : List ℕ) (bytes : List ℕ) (written : List Bool) (grown :
 torn_by_image p bytes written grown true = image_torn p bytes written grown
 torn_by_image p bytes written grown false = image_seen bytes written grown
 
--- what reads after the power came back was one of the images
+-- What is read after the power came back was one of the images.
 pub settled_image : (m : Medium) (stopped : Bool)
     → IsImage m.bytes m.written m.grown (if stopped then torn_by m.torn m.bytes m.written else m.bytes)
 settled_image m true = torn_by_image m.torn m.bytes m.written m.grown (nat_lt 0 (length m.torn))
 settled_image m false = image_seen m.bytes m.written m.grown
 
--- where exactly one byte was unsynced, it is the first of the pattern
+-- If exactly one byte was unsynced, it is the first of the pattern.
 pub settled_byte : (m : Medium) (at : ℕ) → IsUnsynced at 1 (memory_view m) → at < length m.bytes → is_stopped m.arming
     ≡ true → 0 < length m.torn → settled m ≡ overwrite m.bytes at (get_or m.torn 0 0 ∷ [])
 settled_byte m at one within stopped some =
@@ -217,7 +217,7 @@ settled_byte m at one within stopped some =
     ∙ ap (λ b. if b then tear m.torn 0 m.bytes m.written else m.bytes) (lt-ltb 0 (length m.torn) some)
     ∙ torn_byte at m.bytes m.written m.grown one.only one.each within m.torn some
 
--- a disk that wasn't stopped is synced, and a stopped one is torn first
+-- A disk that wasn't stopped is synced. A stopped one is torn first.
 pub powered_on : (m : Medium) → is_stopped m.arming ≡ false → synced m ≡ powered m
 unfolding synced powered
 powered_on m goes =
@@ -245,12 +245,12 @@ powered_off m bytes stopped is =
           else m.arming;
     } in n) (sym stopped)
 
--- and then what reads is the one image
+-- Then the bytes that are read are the only image.
 pub only_powered : (m : Medium) → Only (powered m).bytes (memory_view (powered m)).images
 unfolding powered
 only_powered m = one_image (settled m) (replicate (length m.written) false) (lowered (length m.written))
 
--- ---- what isn't written isn't torn
+-- ---- Bytes that weren't written aren't torn
 
 none_torn : (p : List ℕ) (phase : ℕ) (bytes : List ℕ) (written : List Bool)
     → ((k : ℕ) → get_or written k false ≡ false) → tear p phase bytes written ≡ bytes
@@ -272,7 +272,7 @@ torn_from_here p (b ∷ bytes) (true ∷ written) (suc n) none = absurd (false�
 torn_from_here p (b ∷ bytes) (false ∷ written) (suc n) none =
     ap (λ (l : List ℕ). b ∷ l) (torn_from_here p bytes written n (λ k low. none (suc k) (omega arith)))
 
--- what is torn after the window's end stands
+-- What is torn after the window's end is unchanged.
 pub tear_part : (p : List ℕ) (phase : ℕ) (bytes : List ℕ) (w rest : List Bool) → length w ≤ length bytes
     → ((k : ℕ) → get_or rest k false ≡ false)
     → tear p phase bytes (w ++ rest) ≡ tear p phase (take (length w) bytes) w ++ drop (length w) bytes
@@ -283,7 +283,7 @@ tear_part p phase (b ∷ bytes) (true ∷ w) rest within none = ap (λ (l : List
 tear_part p phase (b ∷ bytes) (false ∷ w) rest within none =
     ap (λ (l : List ℕ). b ∷ l) (tear_part p 0 bytes w rest (omega arith) none)
 
--- what a stop leaves is torn inside the window alone
+-- A stop tears only bytes inside the window.
 pub torn_window : (p : List ℕ) (bytes : List ℕ) (base : ℕ) (w : List Bool) → base + length w ≤ length bytes
     → take base bytes ++ (tear p 0 (take (length w) (drop base bytes)) w ++ drop (length w) (drop base bytes))
     ≡ tear p 0 bytes (flags_around base w (length bytes))
@@ -304,7 +304,7 @@ torn_window p bytes base w within =
     (w ++ replicate m false) false k (omega (arith, length-replicate base false)) ∙ get_or-replicate base k false
     false low)
 
--- after the last flag
+-- After the last flag.
 pub torn_at_last : (p : List ℕ) (phase : ℕ) (bytes new : List ℕ) (written : List Bool) (i : ℕ) (whole : List ℕ)
     → length bytes ≤ i → length new ≤ i
     → take i new ++ tear p phase (drop i bytes) (drop i written) ≡ whole → new ≡ whole

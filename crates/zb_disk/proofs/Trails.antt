@@ -1,4 +1,4 @@
--- The calls of a disk with a trail meet what the trait says of them.
+-- The calls of a disk with a trail keep the contracts of the trait.
 use Rattle.std.proofs.Common.{◌≡◌, ◌⊎◌, inl, inr, ℕ, zero, suc, ◌+◌, ◌≤◌, List, [], ◌∷◌, ◌++◌, length, take, drop, reverse, Ok, Err, refl, sym, ◌∙◌, ap, subst, arith, length-drop}
 use Rattle.std.proofs.lemmas.List.{take-append-le, drop-append-le, reverse-append, take_all, length-reverse}
 use Rattle.std.proofs.lemmas.Bool.{false≢true}
@@ -45,7 +45,7 @@ same_trail t a a' b b' c c' p q r =
     ∙ ap (λ (x : ℕ). let n : Trail = record t { steps = a'; taken = x; calls = c } in n) q
     ∙ ap (λ (x : ℕ). let n : Trail = record t { steps = a'; taken = b'; calls = x } in n) r
 
--- the newest step stands first
+-- The newest step comes first.
 pub newest_write : (log : List Logged) (pool piece : List ℕ) (at : ℕ) → total log ≡ length pool
     → reverse (steps_of (log ++ Wrote at (length piece) ∷ []) (pool ++ piece)) ≡ writes at piece
     ∷ reverse (steps_of log pool)
@@ -66,7 +66,7 @@ total_sync [] = refl
 total_sync (Wrote a n ∷ log) = ap (λ (k : ℕ). n + k) (total_sync log)
 total_sync (Synced ∷ log) = total_sync log
 
--- one step more
+-- One step more.
 elapses : (t : Trail) (step : Step) (new : Trail) → new.start ≡ t.start → new.steps ≡ step ∷ t.steps
     → Elapses trail_tells (trail_view t)
     (trail_view (record t { steps = step ∷ t.steps; calls = new.calls; faults = new.faults; taken = new.taken }))

@@ -1,4 +1,4 @@
--- The flags of a disk, of which a window is kept.
+-- The flags of a disk, of which only a window is kept.
 use Rattle.std.proofs.Common.{◌≡◌, inl, inr, ℕ, ◌+◌, ◌-◌, ◌≤◌, ◌<◌, List, [], ◌++◌, length, get_or, take, drop, replicate, max, Bool, true, false, sym, ◌∙◌, ap, arith, append_assoc, length-append, take-append-drop}
 use Rattle.std.proofs.lemmas.List.{ext_get_or, length-replicate, get_or-replicate, get_or_append_left, get_or-append_right, replicate-append-replicate, append-nil, take-append-le, drop-append-le}
 use Rattle.std.proofs.lemmas.Bool.{cases_lt}
@@ -20,7 +20,7 @@ length-around base w n within =
       length-replicate (n - base - length w) false,
     )
 
--- before the window all flags are lowered
+-- Before the window all flags are clear.
 pub around_before : (base : ℕ) (w : List Bool) (n k : ℕ) → k < base → get_or (flags_around base w n) k false ≡ false
 unfolding flags_around
 around_before base w n k low =
@@ -29,7 +29,7 @@ around_before base w n k low =
     ap (λ (l : List Bool). get_or l k false) (append_assoc front w back) ∙ get_or_append_left front (w ++ back) false
     k (omega (arith, length-replicate base false)) ∙ get_or-replicate base k false false low
 
--- from its beginning on they are the window's
+-- From the window's beginning on they are the window's.
 pub around_from : (base : ℕ) (w : List Bool) (n k : ℕ) → base ≤ k → get_or (flags_around base w n) k false
     ≡ get_or w (k - base) false
 unfolding flags_around
@@ -41,7 +41,7 @@ around_from base w n k from =
     ∙ ap (λ (i : ℕ). get_or (w ++ replicate i false) (k - base) false) (omega arith) ∙ get_or-spread w (m + length w)
     (k - base) false
 
--- where nothing was written, all are lowered
+-- If nothing was written, all are clear.
 pub around_none : (base n : ℕ) → base ≤ n → flags_around base [] n ≡ replicate n false
 unfolding flags_around
 around_none base n within =
@@ -49,7 +49,7 @@ around_none base n within =
     append_assoc (replicate base false) [] (replicate (n - base - 0) false) ∙ replicate-append-replicate base
     (n - base - 0) false ∙ ap (λ (i : ℕ). replicate i false) all
 
--- lowered flags may be put before the window
+-- Clear flags may be put before the window.
 pub around_more : (start more base : ℕ) (w : List Bool) (n : ℕ) → start + more ≡ base
     → flags_around start (replicate more false ++ w) n ≡ flags_around base w n
 unfolding flags_around
@@ -65,7 +65,7 @@ around_more start more base w n is =
     ∙ ap (λ (l : List Bool). l ++ replicate (n - base - length w) false)
     (sym (append_assoc front lower w) ∙ ap (λ (l : List Bool). l ++ w) both)
 
--- a longer disk has more lowered flags
+-- A longer disk has more clear flags.
 pub around_spread : (base : ℕ) (w : List Bool) (n end new : ℕ) → base + length w ≤ n → new ≡ max n end
     → spread (flags_around base w n) end false ≡ flags_around base w new
 around_spread base w n end new within is =
@@ -78,7 +78,7 @@ around_spread base w n end new within is =
       | inr from ↦ around_from base w n k from ∙ sym (around_from base w new k from)
     ])
 
--- flags that are set in the window are set on the disk
+-- Flags that are set in the window are set on the disk.
 pub around_patch : (base : ℕ) (w piece : List Bool) (start end n : ℕ) → base + length w ≤ n → base ≤ start → end
     ≡ start + length piece → end ≤ n
     → flags_around base (patch (spread w (end - base) false) (start - base) piece) n
@@ -114,14 +114,14 @@ around_patch base w piece start end n within from is fits =
       ]
     ])
 
--- and so they are once the window is emptied
+-- So they are after the window was emptied.
 pub around_emptied : (base : ℕ) (w new : List Bool) (n : ℕ) → base + length w ≤ n → new ≡ [] → flags_around base new n
     ≡ replicate (length (flags_around base w n)) false
 around_emptied base w new n within none =
     ap (λ (l : List Bool). flags_around base l n) none ∙ around_none base n (omega arith) ∙ ap
     (λ (i : ℕ). replicate i false) (sym (length-around base w n within))
 
--- over them stand those of the last write
+-- The flags of the last write are over them.
 pub patch_none : (xs : List Bool) (at : ℕ) → patch xs at [] ≡ xs
 patch_none xs at =
     let here : at + 0 ≡ at = omega arith in
@@ -135,7 +135,7 @@ length-flags base w n from to within order last =
     length-patch (flags_around base w n) (replicate (to - from) true) from
     (omega (arith, length-replicate (to - from) true)) ∙ long
 
--- a list that was written over is filled up like any other
+-- An overwritten list is extended like any other.
 spread_patch : (xs piece : List Bool) (start end : ℕ) → start + length piece ≤ length xs
     → spread (patch xs start piece) end false ≡ patch (spread xs end false) start piece
 spread_patch xs piece start end fits =
@@ -149,7 +149,7 @@ spread_patch xs piece start end fits =
     ∙ ap (λ (l : List Bool). take start xs ++ piece ++ l) (sym back)
     ∙ ap (λ (l : List Bool). l ++ piece ++ drop stop (xs ++ more)) (sym front)
 
--- what a write leaves: the flags of the one before it are in the window
+-- The result of a write: the flags of the write before it are in the window.
 pub around_written : (base : ℕ) (w : List Bool) (base' : ℕ) (w' piece : List Bool) (start end n new : ℕ)
     → base + length w ≤ n → new ≡ max n end → start + length piece ≤ n
     → flags_around base' w' new ≡ patch (flags_around base w new) start piece
@@ -158,7 +158,7 @@ around_written base w base' w' piece start end n new within is fits same =
     same ∙ ap (λ (l : List Bool). patch l start piece) (sym (around_spread base w n end new within is))
     ∙ sym (spread_patch (flags_around base w n) piece start end (omega (arith, length-around base w n within)))
 
--- a disk that has just been made
+-- A disk that has just been made.
 pub fresh_is : (bytes items torn : List ℕ) (w : List Bool) → items ≡ bytes → w ≡ [] → torn ≡ []
     → ◌≡◌ {A = Medium}
     (record {

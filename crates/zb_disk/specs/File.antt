@@ -1,4 +1,4 @@
--- A disk over a file: it tells nothing of what the file holds. And what is kept of a call that failed.
+-- A disk over a file, which claims nothing about what the file holds; and what is kept about a failed call.
 use Rattle.std.specs.Prelude.{ℕ, Bool, [], false, true, Option, Some, None}
 use Rattle.std.specs.IoError.{error_kind, raw_os_error}
 use Rattle.std.specs.declared.io.Error.{Error}
@@ -25,7 +25,8 @@ file_view calls faults = record {
   since = λ t c. ⊥;
 }
 
--- What is kept of the error of a call: the number that the system gave, and whether another process has the file.
+-- What is kept about the error of a call: the number that the system gave, and whether another process has the file
+-- open.
 abbrev pub would_block : ErrorKind → Bool
 would_block WouldBlock = true
 would_block _ = false
@@ -37,7 +38,7 @@ is_taken _ error = false
 abbrev pub file_fault : FileCall → Error → FileFault
 file_fault call error = record { call = call; errno = raw_os_error error; is_taken = is_taken call error }
 
--- the first of several faults
+-- The first of several faults.
 abbrev pub first_of : Option FileFault → FileFault → Option FileFault
 first_of None fault = Some fault
 first_of (Some first) fault = Some first

@@ -5,15 +5,15 @@ use Rattle.zb_disk.specs.declared.memory.MemDisk.TheInside.{Inside}
 use Rattle.zb_disk.specs.Memory.{Medium, patch}
 use Rattle.zb_base.specs.Sizes.{disk_size, slot_size}
 
--- the flags of all bytes of a disk of a size: those of a window from a place on, and lowered ones around it
+-- The flags of all bytes of a disk of a size: those of a window from a place on, and clear ones around it.
 unfoldable pub flags_around : ℕ → List Bool → ℕ → List Bool
 flags_around base written size = replicate base false ++ written ++ replicate (size - base - length written) false
 
--- a place that isn't from one to before another
+-- A place that isn't in the range from one place to another, which is excluded.
 abbrev pub IsOutside : ℕ → ℕ → ℕ → Type 0
 IsOutside at end k = (k < at) ⊎ (end ≤ k)
 
--- a place beyond what was written since the disk was made new
+-- A place beyond what was written since the disk was renewed.
 abbrev pub IsBeyond : Extent → ℕ → Type 0
 IsBeyond e k = (e.low ≤ k) × IsOutside slot_size e.high k
 
@@ -35,7 +35,7 @@ pub record IsMemDisk (d : Inside) : Type 0 where
   pub within : d.len ≤ vec_len d.bytes
   pub size : vec_len d.bytes ≤ disk_size
   pub grown : d.grown ≤ d.len
-  -- after what is read, and beyond what was written, all is 00
+  -- After what is read, and beyond what was written, all bytes are 00.
   pub behind : (k : ℕ) → d.len ≤ k → get_or d.bytes.items k 0 ≡ 0
   pub beyond : (k : ℕ) → IsBeyond d.extent k → get_or d.bytes.items k 0 ≡ 0
   pub room : disk_size ≤ vec_capacity d.bytes

@@ -1,16 +1,16 @@
--- A disk in memory that keeps each write and sync, and so tells what a crash at any moment might have left.
+-- A disk in memory that keeps each write and sync. So it describes what a crash at any moment could have left.
 use Rattle.std.specs.Prelude.{ℕ, ◌+◌, ◌≤◌, ◌≡◌, ◌&&◌, List, [], ◌∷◌, length, take, drop, Bool, true, false, nat_le, nat_lt, if◌then◌else◌}
 use Rattle.zb_base.specs.Outside.{risen}
 use Rattle.zb_disk.specs.declared.trail.Logged.{Logged}
 use Rattle.zb_disk.specs.declared.trail.Logged.TheVariants.{Wrote, Synced}
 use Rattle.zb_disk.specs.View.{View, Telling, Torn, overwrite}
 
--- one call that went through
+-- One call that succeeded.
 pub data Step : Type 0 where
   writes : ℕ → List ℕ → Step
   syncs : Step
 
--- a disk with its calls, the newest first, and the room that it was given
+-- A disk with its calls, the newest first, and the room that it was given.
 pub record Trail : Type 0 where
   pub start : List ℕ
   pub steps : List Step
@@ -20,13 +20,13 @@ pub record Trail : Type 0 where
   pub calls : ℕ
   pub faults : ℕ
 
--- what it reads after these steps
+-- What is read after these steps.
 abbrev pub replayed : List ℕ → List Step → List ℕ
 replayed start [] = start
 replayed start (writes at bytes ∷ steps) = overwrite (replayed start steps) at bytes
 replayed start (syncs ∷ steps) = replayed start steps
 
--- what a crash after these steps may leave
+-- What a crash after these steps may leave.
 abbrev pub LeftAfter : List ℕ → List Step → List ℕ → Type 0
 LeftAfter start [] c = c ≡ start
 LeftAfter start (writes at bytes ∷ steps) c = (d : List ℕ) × LeftAfter start steps d × Torn at (length bytes) d c
@@ -48,28 +48,28 @@ trail_view t = record {
   since = λ m c. (k : ℕ) × (k + m ≤ length t.steps) × LeftAfter t.start (drop k t.steps) c;
 }
 
--- a new disk
+-- A new disk.
 abbrev pub fresh_trail : List ℕ → ℕ → ℕ → Trail
 fresh_trail bytes calls room =
     record { start = bytes; steps = []; calls_room = calls; bytes_room = room; taken = 0; calls = 0; faults = 0 }
 
--- the steps that a log and the bytes of all its writes represent, the oldest first
+-- The steps that a log and the bytes of all its writes represent, the oldest first.
 abbrev pub steps_of : List Logged → List ℕ → List Step
 steps_of [] pool = []
 steps_of (Wrote at len ∷ log) pool = writes at (take len pool) ∷ steps_of log (drop len pool)
 steps_of (Synced ∷ log) pool = syncs ∷ steps_of log pool
 
--- how many bytes the writes of a log have
+-- How many bytes the writes of a log have.
 abbrev pub total : List Logged → ℕ
 total [] = 0
 total (Wrote at len ∷ log) = len + total log
 total (Synced ∷ log) = total log
 
--- whether there is room for one more call, which writes `len` bytes
+-- Whether there is room for one more call, which writes `len` bytes.
 abbrev pub has_room : Trail → ℕ → Bool
 has_room t len = nat_lt (length t.steps) t.calls_room && nat_le (t.taken + len) t.bytes_room
 
--- after a call that was refused, a write and a sync that were kept
+-- After a refused call, and after a write and a sync that were kept.
 unfoldable pub refused : Trail → Trail
 refused t = record t { calls = risen t.calls 1; faults = risen t.faults 1 }
 
@@ -80,7 +80,7 @@ kept_write t at bytes =
 unfoldable pub kept_sync : Trail → Trail
 kept_sync t = record t { steps = syncs ∷ t.steps; calls = risen t.calls 1 }
 
--- after a write and a sync that were asked for
+-- After a write and a sync were called.
 abbrev pub after_write : Trail → ℕ → List ℕ → Trail
 after_write t at bytes = if has_room t (length bytes) then kept_write t at bytes else refused t
 

@@ -1,11 +1,11 @@
--- The laws of the trait, at a disk with a trail.
+-- The laws of the trait, for a disk with a trail.
 use Rattle.std.specs.Prelude.{ℕ, ◌+◌, ◌-◌, ◌≤◌, ◌≡◌, ◌++◌, List, [], ◌∷◌, length, take, drop, replicate, refl}
 use Rattle.std.proofs.Common.{sym, ◌∙◌, ap, subst, arith, length-take, length-drop, length-append, append_assoc}
 use Rattle.std.proofs.lemmas.List.{take-take, drop-drop, drop_at, take-append-le, length-replicate}
 use Rattle.zb_disk.specs.View.{Torn, overwrite}
 use Rattle.zb_disk.specs.Trail.{Trail, Step, writes, syncs, replayed, LeftAfter}
 
--- a write is one of its torn results
+-- A write is one of its torn results.
 module _ (d : List ℕ) (at : ℕ) (bytes : List ℕ) where
   front : List ℕ
   front = take at (d ++ replicate (at - length d) 0)

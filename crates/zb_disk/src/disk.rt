@@ -9,15 +9,15 @@ use zb_base::Failed;
 /// The number of bytes of a disk.
 pub const DISK_ROOM: usize = 131_072;
 
-/// Stores at most 131,072 bytes, which outlast a crash once they are synced.
+/// Stores at most 131,072 bytes, which survive a crash after they are synced.
 ///
-/// Since the last sync each written range, and the part past the old end, may hold any bytes after a crash. All other
-/// bytes stand.
+/// After a crash, each range that was written since the last sync, and the part past the old end, may hold any bytes.
+/// All other bytes are unchanged.
 ///
 /// # Errors
-/// Each method returns `Failed` only where the count of faults rose.
+/// Each method returns `Failed` only if the count of faults rose.
 pub trait Disk {
-    /// What this kind of disk tells of itself.
+    /// Which facts about itself this kind of disk describes.
     ghost tells: { Telling };
 
     /// The disk at this moment.
@@ -34,23 +34,23 @@ pub trait Disk {
             → buf.new ≡ window (state self.old).seen at (length buf.old)) }
         ensures read { IsRead tells (state self.old) (state self.new) result };
 
-    /// Writes a range, and lengthens the disk where needed. A failed write leaves its range open to any bytes.
-    /// Requires that the range ends within 131,072 bytes.
+    /// Writes a range, and lengthens the disk if needed. After a failed write its range may hold any bytes. The range
+    /// must end within 131,072 bytes.
     fn write(&mut self, at: u64, bytes: &[u8]) -> Result<(), Failed>
         requires { at + length bytes.now ≤ disk_size }
         ensures { IsWrite tells at bytes.now (state self.old) (state self.new) result };
 
-    /// Makes what reads now the only image. A failed sync changes no image.
+    /// Makes the bytes that are read now the only image. A failed sync changes no image.
     fn sync(&mut self) -> Result<(), Failed>
         ensures { IsSync tells (state self.old) (state self.new) result };
 
-    /// What is read is one of the images.
+    /// The bytes that are read are one of the images.
     ghost reads_image: { (d : Self) → IsTrue tells.content → (state d).images (state d).seen };
 
-    /// This moment is one of those since an earlier one.
+    /// The images of this moment are among those since an earlier one.
     ghost counts_now: { (d : Self) (t : ℕ) (c : List ℕ) → t ≤ (state d).moment → (state d).images c
         → (state d).since t c };
 
-    /// Since this moment there is no other.
+    /// The images since this moment are those of this moment.
     ghost only_now: { (d : Self) (c : List ℕ) → (state d).since (state d).moment c → (state d).images c };
 }

@@ -9,11 +9,11 @@ use std::fs::OpenFile;
 use std::io::{self, ErrorKind, Read, Seek, SeekFrom, Write};
 use zb_base::{Failed, NoMemory};
 
-/// A disk whose bytes are those of a file. It tells nothing of content.
+/// A disk whose bytes are those of a file. It describes nothing of its content.
 ///
-/// The file is opened at first use, for this process alone. If it is missing or empty it reads as empty, and the first
-/// write makes it. After a failed sync every call fails: what the disk has is known only when the file is opened
-/// again. A sync fails if the path no longer names the file.
+/// The file is opened at first use, for this process alone. A missing or empty file reads as empty, and the first
+/// write makes it. After a failed sync every call fails, because the disk's content is unknown until the file is
+/// opened again. A sync fails if the path no longer names the file.
 #[derive(Drop)]
 pub struct FileDisk<'a, T: StoreFiles + AllocGlobal + Drop> {
     rt: &'a T,
@@ -25,16 +25,16 @@ pub struct FileDisk<'a, T: StoreFiles + AllocGlobal + Drop> {
     is_new: bool,
     // A sync failed.
     is_lost: bool,
-    /// The number of writes and syncs that were asked for.
+    /// The number of writes and syncs that were called.
     pub calls: u64,
     /// The number of calls that failed.
     pub faults: u64,
-    /// What failed first, if any call did.
+    /// The first failure, if any call failed.
     pub first_fault: Option<FileFault>,
 }
 
 impl<'a, T: StoreFiles + AllocGlobal + Drop> FileDisk<'a, T> {
-    /// Makes a disk over the file at this path; opens nothing.
+    /// Makes a disk over the file at this path. It opens nothing.
     ///
     /// # Errors
     /// `NoMemory`, for the path.
@@ -56,7 +56,7 @@ impl<'a, T: StoreFiles + AllocGlobal + Drop> FileDisk<'a, T> {
         })
     }
 
-    // Takes the file out, which is opened at first use; None if it is missing or empty. Each call puts it back.
+    // Takes out the file, which is opened at first use; `None` if it is missing or empty. Each call puts it back.
     fn take_file(&mut self) -> io::Result<Option<T::File>>
         ensures calls { self.new.calls ≡ self.old.calls }
         ensures faults { self.new.faults ≡ self.old.faults }
@@ -75,7 +75,7 @@ impl<'a, T: StoreFiles + AllocGlobal + Drop> FileDisk<'a, T> {
         Ok(found)
     }
 
-    // Takes the file out for a write, which makes it if it is missing or empty.
+    // Takes out the file for a write, which makes it if it is missing or empty.
     fn take_or_make(&mut self) -> io::Result<T::File>
         ensures calls { self.new.calls ≡ self.old.calls }
         ensures faults { self.new.faults ≡ self.old.faults }

@@ -1,6 +1,6 @@
 //! What a write does to the bytes of a disk, and to the flags of those that were written since the last sync.
 //!
-//! Flags are kept for a window alone, and for none of the last write. So a call costs what was written, or the gap
+//! Flags are kept only for a window, and never for the last write. So a call costs what was written, or the gap
 //! between two writes before the last one, and not the size of the disk.
 ghost use Rattle.std.specs.Prelude.{◌≡◌, ◌+◌, ◌-◌, ◌≤◌, ◌++◌, ℕ, true, false, length, replicate, max, vec_capacity};
 ghost use Rattle.zb_disk.specs.Memory.{spread, patch};
@@ -14,7 +14,7 @@ pub(crate) fn overlay(bytes: &mut [u8], start: usize, piece: &[u8])
     bytes[start..start + piece.len()].copy_from_slice(piece);
 }
 
-// Fills up with zeros to a length.
+// Extends the bytes to a length with zeros.
 fn lengthen(bytes: &mut Vec<u8>, end: usize)
     requires { end ≤ vec_capacity bytes.old }
     ensures after { bytes.new.items ≡ spread bytes.old.items end 0 }
@@ -35,7 +35,7 @@ pub(crate) fn put(bytes: &mut Vec<u8>, start: usize, piece: &[u8])
     overlay(bytes, start, piece);
 }
 
-// Sets the flags from a place to before another.
+// Sets the flags from `start` up to `end`, which is excluded.
 fn raise(written: &mut [bool], start: usize, end: usize)
     requires order { start ≤ end }
     requires within { end ≤ length written.old }
@@ -44,7 +44,7 @@ fn raise(written: &mut [bool], start: usize, end: usize)
     written[start..end].fill(true);
 }
 
-// Fills up with lowered flags to a length.
+// Extends the flags to a length with clear ones.
 fn lengthen_flags(written: &mut Vec<bool>, end: usize)
     requires { end ≤ vec_capacity written.old }
     ensures after { written.new.items ≡ spread written.old.items end false }
@@ -55,7 +55,8 @@ fn lengthen_flags(written: &mut Vec<bool>, end: usize)
     }
 }
 
-// Sets the flags from a place of the window to before another, and fills a gap before them with lowered ones.
+// Sets the flags of the window from `start` up to `end`, which is excluded, and fills a gap before them with clear
+// ones.
 fn mark(written: &mut Vec<bool>, start: usize, end: usize)
     requires order { start ≤ end }
     requires room { end ≤ vec_capacity written.old }
@@ -67,7 +68,7 @@ fn mark(written: &mut Vec<bool>, start: usize, end: usize)
     raise(written, start, end);
 }
 
-// Puts lowered flags before those of the window.
+// Puts clear flags before those of the window.
 fn widen(written: &mut Vec<bool>, more: usize)
     requires { length written.old.items + more ≤ vec_capacity written.old }
     ensures after { written.new.items ≡ replicate more false ++ written.old.items }

@@ -21,19 +21,19 @@ const SIZE: usize = 131_072;
 /// Where the second half of a disk begins. A store writes at the start of each half.
 const MIDDLE: usize = 65_536;
 
-/// Which calls a disk in memory is going to refuse.
+/// Which calls a disk in memory will refuse.
 #[derive(Clone, Copy, Debug, PartialEq, Eq)]
 pub enum Arming {
     /// Refuses none.
     Unarmed,
-    /// Refuses the next write or sync after some that go through, and every call after it.
+    /// Refuses one write or sync after some that succeed, and every call after it.
     Stop {
-        /// Counts the writes and syncs that go through first.
+        /// How many writes and syncs succeed first.
         calls: u8,
     },
-    /// Refuses one write or sync alone.
+    /// Refuses only one write or sync.
     Fail {
-        /// Its number, counted from 1; none has the number 0.
+        /// Its number, counted from 1; no call has the number 0.
         call: u8,
     },
     /// Refuses every call until the power comes back.
@@ -74,8 +74,8 @@ fn arm(arming: &mut Arming, next: Arming)
     }
 }
 
-// How far a disk was written since it was made new: each byte before `low`, and from the middle to before `high`, may
-// be any. All others are 00.
+// How much of a disk was written since it was renewed. Each byte before `low`, and each from the middle up to `high`,
+// may be any. All others are 00.
 #[derive(Clone, Copy)]
 struct Extent {
     low: usize,
@@ -83,7 +83,7 @@ struct Extent {
 }
 
 impl Extent {
-    // Takes in what was written from a place to before another.
+    // Includes a written range, from `start` up to `end`, which is excluded.
     fn include(&mut self, start: usize, end: usize)
         ensures { (k : ℕ) → IsBeyond self.new k → IsBeyond self.old k × IsOutside start end k }
     {
@@ -95,21 +95,21 @@ impl Extent {
     }
 }
 
-/// Stores its bytes in memory, refuses the calls that it is armed for, and tears what a stop catches.
+/// Stores its bytes in memory, refuses the calls that it is armed for, and tears unsynced writes at a stop.
 ///
-/// Its room is taken when it is made, and its other calls take no memory. It tells what it reads and its images, that
-/// a refused call leaves all as it was, and which calls it will refuse. It tells nothing of past moments.
+/// Its memory is allocated when it is made, and its other calls allocate none. It describes what is read and its
+/// images, that a refused call changes nothing, and which calls it will refuse. It describes no past moments.
 #[derive(Drop)]
 pub struct MemDisk {
-    // What is read, as many bytes as `len` says, and 00 after it.
+    // The bytes that are read, `len` of them, and 00 after them.
     bytes: Vec<u8>,
     len: usize,
-    // How far the bytes were written. Where the disk is made new, no more of them than that is cleared.
+    // How much of the bytes was written. When the disk is renewed, only that much is cleared.
     extent: Extent,
-    // Where the newest write that isn't synced begins and ends.
+    // Where the newest unsynced write begins and ends.
     from: usize,
     to: usize,
-    // Of each byte from `base` on whether an older write that isn't synced reached it. None reached another byte.
+    // For each byte from `base` on, whether an older unsynced write reached it. None reached any other byte.
     base: usize,
     written: Vec<bool>,
     // How many bytes lie past the end that the last sync left.
@@ -133,10 +133,10 @@ impl Model for MemDisk {
 }
 
 impl MemDisk {
-    /// Makes a disk of these bytes, which are its one image. Nothing is armed. Requires at most 131,072 bytes.
+    /// Makes a disk of these bytes, which are its only image. Nothing is armed. There must be at most 131,072 bytes.
     ///
     /// # Errors
-    /// `NoMemory`.
+    /// `NoMemory`, if memory runs out.
     pub fn new(alloc: Global, bytes: &[u8]) -> Result<MemDisk, NoMemory>
         requires { length bytes.now ≤ disk_size }
         ensures { IfOk result (λ d. d ≡ fresh bytes.now) }
@@ -162,8 +162,8 @@ impl MemDisk {
         })
     }
 
-    /// Makes a used disk a new one of no bytes, in the room that it has. It takes no memory, and clears only what was
-    /// written.
+    /// Makes a used disk a new one of no bytes, with the memory that it has. It allocates nothing, and clears only
+    /// what was written.
     pub fn renew(&mut self)
         ensures { self.new ≡ fresh [] }
     {
@@ -181,14 +181,14 @@ impl MemDisk {
         self.faults = 0;
     }
 
-    /// Returns the bytes that the disk reads.
+    /// Returns the bytes that are read.
     pub fn bytes(&self) -> &[u8]
         ensures { result.now ≡ self.now.bytes }
     {
         &self.bytes[..self.len]
     }
 
-    /// Returns whether a stop has fired and the power isn't back.
+    /// Returns whether a stop has happened and the power isn't back.
     pub fn is_off(&self) -> bool
         ensures { result ≡ is_stopped self.now.arming }
     {
@@ -198,8 +198,9 @@ impl MemDisk {
         }
     }
 
-    /// Returns whether the disk will refuse a write or a sync. It will where what was armed hasn't fallen, and where
-    /// it is off.
+    /// Returns whether the disk will refuse a write or a sync.
+    ///
+    /// It will if it is off, or if what was armed hasn't happened yet.
     pub fn will_refuse(&self) -> bool
         ensures { result ≡ will_refuse self.now.arming }
     {
@@ -210,9 +211,10 @@ impl MemDisk {
         }
     }
 
-    /// Arms a stop of the write or sync that comes after `calls` others. It is refused, and so is every call after it
-    /// until `power_on`. The runs of bytes that were written and not synced then become `torn`, repeated. An earlier
-    /// arming is replaced. A stopped disk stays as it is.
+    /// Arms a stop at the write or sync after `calls` others.
+    ///
+    /// That call is refused, and so is every call until `power_on`. The runs of bytes that were written and not
+    /// synced then become `torn`, repeated. The stop replaces an earlier arming. A stopped disk is unchanged.
     pub fn arm_stop(&mut self, calls: u8, torn: ArrayVec<u8, 32>)
         ensures { self.new ≡ record self.old {
           arming = armed self.old.arming (Arming.Stop calls);
@@ -225,30 +227,32 @@ impl MemDisk {
         }
     }
 
-    /// Arms a failure of one write or sync alone, by its number, counted from now and from 1. An earlier arming is
-    /// replaced. A stopped disk stays as it is.
+    /// Arms a failure of one write or sync, by its number, counted from now and from 1.
+    ///
+    /// It replaces an earlier arming. A stopped disk is unchanged.
     pub fn arm_fail(&mut self, call: u8)
         ensures { self.new ≡ record self.old { arming = armed self.old.arming (Arming.Fail call) } }
     {
         arm(&mut self.arming, Arming::Fail { call });
     }
 
-    /// Takes an arming back. A stopped disk stays as it is.
+    /// Cancels an arming. A stopped disk is unchanged.
     pub fn disarm(&mut self)
         ensures { self.new ≡ record self.old { arming = armed self.old.arming Arming.Unarmed } }
     {
         arm(&mut self.arming, Arming::Unarmed);
     }
 
-    /// Ends a stop or the state after a failed call. After a stop with `torn`, each longest run of bytes that were
-    /// written and not synced becomes `torn`, repeated from the first byte of the run. Then what reads is the one
-    /// image.
+    /// Ends a stop or the state after a failed call.
+    ///
+    /// After a stop with `torn`, each longest run of bytes that were written and not synced becomes `torn`, repeated
+    /// from the first byte of the run. The bytes that are then read are the only image.
     pub fn power_on(&mut self)
         ensures after { self.new ≡ powered self.old }
         ensures one_of_the_images { (memory_view self.old).images self.new.bytes }
         ensures only { Only self.new.bytes (memory_view self.new).images }
 
-        // Where exactly one byte is unsynced, it becomes the first of `torn`.
+        // If exactly one byte is unsynced, it becomes the first of `torn`.
         ensures one_byte { (at : ℕ) → IsUnsynced at 1 (memory_view self.old) → at < length self.old.bytes
             → IsTrue (is_stopped self.old.arming) → 0 < length self.old.torn
             → self.new.bytes ≡ overwrite self.old.bytes at (slice_index self.old.torn 0 ∷ []) }
@@ -314,7 +318,7 @@ impl MemDisk {
         self.to = end;
     }
 
-    // Makes what is read the one image.
+    // Makes the bytes that are read the only image.
     #[tactic(auto, unfolding(crate::specs::Memory::synced))]
     fn settle(&mut self)
         ensures { self.new ≡ synced self.old }
@@ -394,7 +398,7 @@ pub(crate) fn copy_window(bytes: &[u8], at: u64, buf: &mut [u8])
     blank(buf, count);
 }
 
-// Puts 00 into the buffer from a place on.
+// Fills the buffer with 00 from a place on.
 fn blank(buf: &mut [u8], from: usize)
     requires { from ≤ length buf.old }
     ensures { buf.new ≡ take from buf.old ++ replicate (length buf.old - from) 0 }
@@ -402,7 +406,7 @@ fn blank(buf: &mut [u8], from: usize)
     buf[from..].fill(0);
 }
 
-// Puts 00 into the bytes from a place to before another.
+// Fills the bytes from one place to another, which is excluded, with 00.
 fn blank_range(bytes: &mut [u8], start: usize, end: usize)
     requires order { start ≤ end }
     requires within { end ≤ length bytes.old }
@@ -411,7 +415,7 @@ fn blank_range(bytes: &mut [u8], start: usize, end: usize)
     bytes[start..end].fill(0);
 }
 
-// Puts 00 into the bytes from a place to before another, as far as there are bytes.
+// Fills the bytes from one place to another, which is excluded, with 00, as far as there are bytes.
 fn clear(bytes: &mut [u8], from: usize, to: usize)
     ensures inside { (k : ℕ) → from ≤ k → k < to → get_or bytes.new k 0 ≡ 0 }
     ensures others { (k : ℕ) → get_or bytes.old k 0 ≡ 0 → get_or bytes.new k 0 ≡ 0 }
@@ -420,7 +424,7 @@ fn clear(bytes: &mut [u8], from: usize, to: usize)
     blank_range(bytes, from.min(end), end);
 }
 
-// Puts 00 into all bytes that were written.
+// Fills all bytes that were written with 00.
 fn wipe(bytes: &mut Vec<u8>, extent: Extent)
     requires { (k : ℕ) → IsBeyond extent k → get_or bytes.old.items k 0 ≡ 0 }
     ensures after { (k : ℕ) → get_or bytes.new.items k 0 ≡ 0 }
@@ -431,7 +435,7 @@ fn wipe(bytes: &mut Vec<u8>, extent: Extent)
     clear(bytes, MIDDLE, extent.high);
 }
 
-// Each longest run of written bytes becomes the pattern, repeated, if there is one. The flags begin at `base`.
+// Makes each longest run of written bytes the pattern, repeated, if there is one. The flags begin at `base`.
 fn tear_all(bytes: &mut Vec<u8>, base: usize, written: &[bool], pattern: &[u8])
     requires { base + length written.now ≤ length bytes.old.items }
     ensures after { bytes.new.items
@@ -444,7 +448,7 @@ fn tear_all(bytes: &mut Vec<u8>, base: usize, written: &[bool], pattern: &[u8])
     }
 }
 
-// Each longest run of written bytes becomes the pattern, repeated. The flags begin at `base`.
+// Makes each longest run of written bytes the pattern, repeated. The flags begin at `base`.
 fn tear_window(bytes: &mut [u8], base: usize, written: &[bool], pattern: &[u8])
     requires some { 0 < length pattern.now }
     requires within { base + length written.now ≤ length bytes.old }
@@ -453,7 +457,7 @@ fn tear_window(bytes: &mut [u8], base: usize, written: &[bool], pattern: &[u8])
     tear_runs(&mut bytes[base..base + written.len()], written, pattern);
 }
 
-// Each longest run of written bytes becomes the pattern, repeated. Each byte has a flag.
+// Makes each longest run of written bytes the pattern, repeated. Each byte has a flag.
 fn tear_runs(bytes: &mut [u8], written: &[bool], pattern: &[u8])
     requires flags { length written.now ≡ length bytes.old }
     requires some { 0 < length pattern.now }

@@ -1,6 +1,6 @@
-//! What a store asks of the system: a file that this process alone has open and that its owner alone may read.
+//! What a store needs from the system: a file that only this process has open and only its owner may read.
 //!
-//! Nothing is ever deleted here: a file that one process gives up may be another's store already.
+//! No code here deletes a file: another process may already use it as its store.
 ghost use Rattle.std.specs.Prelude.{◌≤◌};
 
 use crate::DISK_ROOM;
@@ -14,38 +14,38 @@ const BLOCKS: usize = DISK_ROOM / 4096;
 
 /// Opens and makes the files of stores.
 pub trait StoreFiles: Files {
-    /// Opens the file of a store for this process alone. It returns None where nothing is at that path: no file, or an
+    /// Opens the file of a store for this process alone. It returns `None` if there is no file at that path, or an
     /// empty one.
     ///
-    /// It stays locked until it is dropped or the process ends, however it ends.
+    /// The file stays locked until it is dropped or the process ends, however it ends.
     ///
     /// # Errors
-    /// - `WouldBlock` where another process has it open.
-    /// - `InvalidInput` where it is no regular file or the path is empty.
-    /// - `NotFound` where the path names another file by the time it is locked.
-    /// - Those of the system's calls.
+    /// - `WouldBlock` if another process has it open.
+    /// - `InvalidInput` if it isn't a regular file or the path is empty.
+    /// - `NotFound` if the path names another file when it is locked.
+    /// - Those of the system calls.
     fn open_store(&self, path: &str) -> io::Result<Option<Self::File>>;
 
-    /// Makes the file of a new store for its owner alone, or takes an empty one. It locks the file, and gives it room
-    /// for the whole disk.
+    /// Makes the file of a new store for its owner alone, or uses an empty one. It locks the file, and allocates the
+    /// whole disk in it.
     ///
-    /// Of two processes that make one store at once, the one that locks the file first has it.
+    /// If two processes make one store at once, the one that locks the file first has it.
     ///
     /// # Errors
-    /// `AlreadyExists` where the file isn't empty, those of `open_store`, and those of the system's calls. Then no
-    /// file was made, or it was left empty.
+    /// `AlreadyExists` if the file isn't empty, those of `open_store`, and those of the system calls. Then no file
+    /// was made, or it was left empty.
     fn make_store(&self, path: &str) -> io::Result<Self::File>;
 
-    /// Checks that a path still names an open file, and not another one or none.
+    /// Checks that a path still names an open file.
     ///
     /// # Errors
-    /// `NotFound` if it doesn't, and those of the system's calls.
+    /// `NotFound` if it names another file or none, and those of the system calls.
     fn check_named(&self, path: &str, file: &Self::File) -> io::Result<()>;
 
-    /// Syncs the folder in which a path lies, so that the name of a new file is on the disk.
+    /// Syncs the folder of a path, so that the name of a new file is on the disk.
     ///
     /// # Errors
-    /// Those of the system's calls.
+    /// Those of the system calls.
     fn sync_folder(&self, path: &str) -> io::Result<()>;
 }
 
@@ -59,7 +59,7 @@ impl StoreFiles for HostRuntime {
         if file.metadata()?.len() == 0 {
             return Ok(None);
         }
-        // what an earlier process wrote and did not sync
+        // What an earlier process wrote and did not sync.
         file.sync_all()?;
         Ok(Some(file))
     }
@@ -70,14 +70,14 @@ impl StoreFiles for HostRuntime {
             Err(error) if error.kind() == ErrorKind::AlreadyExists => opened(self, path)?,
             Err(error) => return Err(error),
         };
-        // another process may have made the store before this one had the lock
+        // Another process may have made the store before this one had the lock.
         if file.metadata()?.len() != 0 {
             return Err(io::Error::from(ErrorKind::AlreadyExists));
         }
         match fill(&mut file) {
             Ok(()) => Ok(file),
             Err(error) => {
-                // a half made file would be no store; who finds it empty may make it
+                // A half-made file isn't a store. Whoever finds it empty may make it.
                 let _ = file.set_len(0);
                 Err(error)
             }
@@ -97,10 +97,10 @@ impl StoreFiles for HostRuntime {
     }
 }
 
-/// Returns whether nothing has that name yet.
+/// Returns whether the path is free: nothing has that name yet.
 ///
 /// # Errors
-/// `InvalidInput` where it names no regular file, and where no file can be made so.
+/// `InvalidInput` if it doesn't name a regular file, and if no file can be made there.
 fn is_free(rt: &HostRuntime, path: &str) -> io::Result<bool> {
     match fs::metadata(rt, path) {
         Ok(found) if found.is_file() => Ok(false),
@@ -113,7 +113,7 @@ fn is_free(rt: &HostRuntime, path: &str) -> io::Result<bool> {
     }
 }
 
-/// Refuses an empty path, a link that leads nowhere, which has the name already, and a folder that isn't one.
+/// Refuses an empty path, a link that leads nowhere (it has the name already), and a folder that isn't one.
 fn check_name(rt: &HostRuntime, path: &str) -> io::Result<()> {
     let is_taken = path.is_empty() || fs::symlink_metadata(rt, path).is_ok();
     if is_taken || !fs::metadata(rt, folder_of(path))?.is_dir() {
@@ -122,7 +122,7 @@ fn check_name(rt: &HostRuntime, path: &str) -> io::Result<()> {
     Ok(())
 }
 
-/// Returns the folder in which a path lies.
+/// Returns the folder of a path.
 fn folder_of(path: &str) -> &str {
     match path.rfind('/') {
         Some(0) => "/",
@@ -141,7 +141,7 @@ fn made(rt: &HostRuntime, path: &str) -> io::Result<File> {
     options.open(rt, path)
 }
 
-/// Opens the file at a path, and takes it.
+/// Opens and locks the file at a path.
 fn opened(rt: &HostRuntime, path: &str) -> io::Result<File> {
     let mut options = OpenOptions::new();
     options.read(true);
@@ -149,16 +149,16 @@ fn opened(rt: &HostRuntime, path: &str) -> io::Result<File> {
     taken(rt, path, options.open(rt, path)?)
 }
 
-/// Locks an open file, and looks that the path names it then: who made it may have deleted it before.
+/// Locks an open file, and checks that the path still names it, because its maker may have deleted it before.
 fn taken(rt: &HostRuntime, path: &str, file: File) -> io::Result<File> {
     let file = locked(file)?;
     rt.check_named(path, &file)?;
     Ok(file)
 }
 
-/// Locks an open file, as a descriptor above those of the standard streams.
+/// Locks an open file, under a descriptor above those of the standard streams.
 ///
-/// Where a standard stream is closed, what is meant for it would land in the file otherwise.
+/// If a standard stream is closed, output to it could otherwise go into the file.
 fn locked(file: File) -> io::Result<File> {
     let file = if file.as_raw_fd() <= 2 {
         file.try_clone()?
@@ -172,7 +172,7 @@ fn locked(file: File) -> io::Result<File> {
     }
 }
 
-/// Fills the whole room of an empty file with zeros, so that no later write lacks room on a full disk.
+/// Fills the whole space of an empty file with zeros, so that no later write fails on a full disk.
 fn fill(file: &mut File) -> io::Result<()> {
     let zeros = [0; 4096];
     for _ in 0..BLOCKS {
@@ -181,10 +181,10 @@ fn fill(file: &mut File) -> io::Result<()> {
     Ok(())
 }
 
-/// Warns on standard error where others may read or write the store, which holds keys.
+/// Warns on standard error if others may read or write the store, which holds keys.
 fn warn_of_readers(rt: &HostRuntime, path: &str, file: &File) -> io::Result<()> {
     if file.metadata()?.mode() & 0o077 != 0 {
-        // who has closed standard error misses a warning, and nothing else
+        // If standard error is closed, only the warning is lost.
         let _ = eprintln!(rt;
             "tc: others may read or write {}, which holds keys: chmod 600 is meant for it",
             path.escape_debug()

@@ -1,4 +1,4 @@
-//! A disk in memory that keeps each write and sync, and so tells its past moments.
+//! A disk in memory that keeps each write and sync, and so describes its past moments.
 ghost use Rattle.std.specs.Prelude.{◌≡◌, ◌+◌, ◌≤◌, ◌<◌, ◌^◌, ◌&&◌, ◌++◌, length, IfOk, OnOk, is_err, false, not, nat_lt, nat_le, vec_capacity};
 ghost use Rattle.zb_disk.specs.View.{window};
 ghost use Rattle.zb_disk.specs.Calls.{IsRead, IsWrite, IsSync};
@@ -13,7 +13,7 @@ use std::alloc::Global;
 use std::marker::Model;
 use zb_base::{Failed, NoMemory};
 
-/// A call that went through.
+/// A call that succeeded.
 #[derive(Clone, Copy, Debug, PartialEq, Eq)]
 pub(crate) enum Logged {
     /// A write at a place, of `len` bytes.
@@ -22,13 +22,13 @@ pub(crate) enum Logged {
     Synced,
 }
 
-/// Stores its bytes in memory and keeps each write and sync, so that it tells its past moments.
+/// Stores its bytes in memory, and keeps each write and sync, so that it describes its past moments.
 ///
-/// The room for them is taken when it is made. A call past that room is refused and leaves all as it was.
+/// Its memory is allocated when it is made. A call for which there is no room is refused and changes nothing.
 #[derive(Drop)]
 pub struct TrailDisk {
     bytes: Vec<u8>,
-    // What it read at first, each call since, and the bytes of all writes one after the other.
+    // The bytes at first, each call since, and the bytes of all writes one after the other.
     start: Vec<u8>,
     log: Vec<Logged>,
     pool: Vec<u8>,
@@ -51,11 +51,11 @@ impl Model for TrailDisk {
 }
 
 impl TrailDisk {
-    /// Makes a disk of these bytes, with room for `calls` calls and `room` written bytes. Requires at most 131,072
-    /// bytes.
+    /// Makes a disk of these bytes, with room for `calls` calls and `room` written bytes. There must be at most
+    /// 131,072 bytes.
     ///
     /// # Errors
-    /// `NoMemory`.
+    /// `NoMemory`, if memory runs out.
     pub fn new(alloc: Global, bytes: &[u8], calls: u32, room: u32) -> Result<TrailDisk, NoMemory>
         requires { length bytes.now ≤ disk_size }
         ensures { IfOk result (λ d. d ≡ fresh_trail bytes.now calls room) }
@@ -74,7 +74,7 @@ impl TrailDisk {
         })
     }
 
-    /// Returns the bytes that the disk reads.
+    /// Returns the bytes that are read.
     pub fn bytes(&self) -> &[u8]
         ensures { result.now ≡ replayed self.now.start self.now.steps }
     {
@@ -91,7 +91,7 @@ impl TrailDisk {
         self.faults = self.faults.saturating_add(1);
     }
 
-    // Whether there is room for one more call, which writes `len` bytes.
+    // Returns whether there is room for one more call, which writes `len` bytes.
     fn has_room(&self, len: usize) -> bool
         requires { len ≤ disk_size }
         ensures { result ≡ has_room self.now len }
@@ -105,7 +105,7 @@ impl TrailDisk {
         )
     }
 
-    // Writes a piece, for which there is room.
+    // Writes a piece. There must be room for it.
     #[tactic(auto, unfolding(crate::specs::Trail::kept_write))]
     fn keep_write(&mut self, start: usize, piece: &[u8])
         requires fits { start + length piece.now ≤ disk_size }
@@ -122,7 +122,7 @@ impl TrailDisk {
         put(&mut self.bytes, start, piece);
     }
 
-    // Keeps a sync, for which there is room.
+    // Keeps a sync. There must be room for it.
     #[tactic(auto, unfolding(crate::specs::Trail::kept_sync))]
     fn keep_sync(&mut self)
         requires calls { length self.old.steps < self.old.calls_room }
@@ -154,7 +154,7 @@ impl Disk for TrailDisk {
         Ok(self.bytes.len() as u64)
     }
 
-    // Nor does this.
+    // It never fails, and changes nothing.
     fn read(&mut self, at: u64, buf: &mut [u8]) -> Result<(), Failed>
         ensures bytes { OnOk result
             (buf.new ≡ window (replayed self.old.start self.old.steps) at (length buf.old)) }
@@ -166,7 +166,7 @@ impl Disk for TrailDisk {
         Ok(())
     }
 
-    // It is refused exactly where there is no room.
+    // It is refused exactly if there is no room.
     fn write(&mut self, at: u64, bytes: &[u8]) -> Result<(), Failed>
         requires { at + length bytes.now ≤ disk_size }
         ensures write { IsWrite trail_tells at bytes.now (trail_view self.old) (trail_view self.new) result }
@@ -195,7 +195,7 @@ impl Disk for TrailDisk {
     }
 }
 
-// Whether one more call fits, and its bytes.
+// Returns whether one more call and its bytes fit.
 fn fits(calls: usize, calls_room: u32, taken: usize, len: usize, bytes_room: u32) -> bool
     requires some { taken < 2 ^ 63 }
     requires small { len ≤ disk_size }
@@ -204,7 +204,7 @@ fn fits(calls: usize, calls_room: u32, taken: usize, len: usize, bytes_room: u32
     calls < calls_room as usize && taken + len <= bytes_room as usize
 }
 
-// Appends bytes for which there is room.
+// Appends bytes. There must be room for them.
 fn append(pool: &mut Vec<u8>, piece: &[u8])
     requires { length pool.old.items + length piece.now ≤ vec_capacity pool.old }
     ensures after { pool.new.items ≡ pool.old.items ++ piece.now }

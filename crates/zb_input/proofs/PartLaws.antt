@@ -1,4 +1,4 @@
--- A capture of which the text comes in parts.
+-- A capture whose text comes in parts.
 use Rattle.std.proofs.Common.{◌≡◌, ◌≢◌, ℕ, ◌+◌, ◌-◌, ◌<◌, ◌≤◌, List, [], ◌++◌, length, refl, ap, sym, ◌∙◌, subst, arith, append_assoc, append-nil, length-append, Option, Some, None, Result, Ok, Err, IfSome, OnOk}
 use Rattle.std.specs.Io.KnownBytes.{Consumes, IsAtEnd}
 use Rattle.std.specs.Result.{IsErrAnd}
@@ -18,7 +18,7 @@ use Rattle.zb_input.specs.declared.capture.CaptureFault.TheVariants as fault
 use Rattle.zb_input.specs.declared.input.InputFault.{InputFault}
 use Rattle.zb_input.specs.declared.input.InputFault.TheVariants as input
 
--- what was taken from a source, one after the other
+-- What was read from a source, one part after the other.
 taken_both : (old mid new : Option (List ℕ)) (first more : List ℕ) → Consumes old mid first → Consumes mid new more
     → Consumes old new (first ++ more)
 taken_both None mid new first more one two = tt
@@ -49,7 +49,7 @@ takes_more old mid new before now more limit grown next within = (
   omega (arith, ap (length {A = ℕ}) grown.2, length-append before grown.0, length-append grown.0 more, within),
 )
 
--- So many bytes came of an input. Its lines up to `part` were read, and what comes after gives the rest.
+-- So many bytes of an input were read. Its lines up to `part` were parsed, and the bytes after them give the rest.
 pub record IsComing (old now : Option (List ℕ)) (reading : Reading) (part : List ℕ) (all : ℕ) : Type 0 where
   pub taken : List ℕ
   pub from : Consumes old now taken
@@ -71,7 +71,7 @@ nothing_came old reading part count none empty zero =
       room = omega (arith, zero);
     }))
 
--- bytes more
+-- More bytes.
 pub more_came : (old mid new : Option (List ℕ)) (reading : Reading) (part after : List ℕ) (count later : ℕ)
     → IsComing old mid reading part count
     → Grows mid new part after → later + length part ≡ count + length after → IsComing old new reading after later
@@ -88,7 +88,7 @@ more_came old mid new reading part after count later is grown sum =
       room = omega (arith, is.room, sum, len);
     }
 
--- no more was taken than may be
+-- No more bytes were read than allowed.
 pub takes_came : (old now : Option (List ℕ)) (reading : Reading) (part : List ℕ) (count : ℕ)
     → IsComing old now reading part count → count ≤ 16777216
     → TakesAtMost old now 16777217
@@ -101,7 +101,7 @@ takes_on old mid new reading part count is within next =
     takes_then old mid new count (16777217 - count) 16777217 (is.taken, is.from, omega (arith, is.count)) next
     (omega (arith, within))
 
--- lines were read
+-- Lines were parsed.
 pub lines_came : (old now : Option (List ℕ)) (reading next : Reading) (part after : List ℕ) (count : ℕ)
     → IsComing old now reading part count
     → ((more : List ℕ) → with_more reading (lines (part ++ more)) ≡ with_more next (lines (after ++ more)))
@@ -114,7 +114,7 @@ lines_came old now reading next part after count is read room = record {
   room = omega (arith, is.room, room);
 }
 
--- the source has no more
+-- The source has no more.
 all_when : (P : List ℕ → Type 0) (old now : Option (List ℕ)) (taken : List ℕ) → Consumes old now taken → IsAtEnd now
     → P taken → IfSome old P
 all_when P None now taken from end p = tt
@@ -122,7 +122,7 @@ all_when P (Some xs) None taken from end p = absurd from
 all_when P (Some xs) (Some ys) taken from end p =
     let same : taken ≡ xs = sym (from ∙ ap (λ ws. taken ++ ws) end ∙ append-nil taken) in subst P same p
 
--- the last lines were read
+-- The last lines were parsed.
 pub all_read : (old now : Option (List ℕ)) (reading last : Reading) (part text : List ℕ) (count : ℕ) (c : Capture)
     → IsComing old now reading part count → IsAtEnd now
     → count ≤ 16777216 → text ≡ part → Lead reading (lines text) last → c ≡ last.capture
@@ -136,7 +136,7 @@ all_read old now reading last part text count c is end within same lead whole =
           ∙ lead.gives ∙ ap (λ x. Ok x) (sym whole),
     )
 
--- the last lines have a fault
+-- The last lines have a fault.
 pub last_fault : (e : OrMemory CaptureError) (old now : Option (List ℕ)) (reading last : Reading) (part text : List ℕ)
     (count faults later : ℕ)
     → IsComing old now reading part count → IsAtEnd now → count ≤ 16777216 → text ≡ part
@@ -151,7 +151,7 @@ last_fault (error.Fault e) old now reading last part text count faults later is 
     )
 last_fault error.NoMemory old now reading last part text count faults later is end within same bad = tt
 
--- there is more than may be
+-- There are more bytes than allowed.
 past_when : (old now new : Option (List ℕ)) (taken more : List ℕ) (count : ℕ) → Consumes old now taken → length taken
     ≡ count → Consumes now new more
     → 16777216 < count + length more → IfSome old (λ rest. 16777216 < length rest)
@@ -175,7 +175,7 @@ pub too_long : (old now new : Option (List ℕ)) (reading : Reading) (part : Lis
 too_long old now new reading part count is past = past_when old now new is.taken past.0 count is.from is.count past.1
     past.2
 
--- why reading on failed
+-- Why a further read failed.
 rose_later : (faults mid later : ℕ) → faults ≤ mid → Rose mid later → Rose faults later
 rose_later faults mid later less rose = omega (arith, less, rose)
 
@@ -189,7 +189,7 @@ why_input input.TooLong old now new reading part count faults mid later is less 
     too_long old now new reading part count is (past refl)
 why_input input.NoMemory old now new reading part count faults mid later is less read past = tt
 
--- some lines have a fault, and what is said once all came
+-- Some lines have a fault, and what is reported after all bytes were read.
 bad_text : (old now new : Option (List ℕ)) (reading : Reading) (part : List ℕ) (count : ℕ) (e : CaptureError)
     → IsComing old now reading part count
     → ((more : List ℕ) → with_more reading (lines (part ++ more)) ≡ Err e) → IsAll now new count
@@ -215,7 +215,7 @@ judged (fault.Text error) e old now new reading next part after count faults mid
     let P : OrMemory CaptureError → Type 0 = λ x. AreLinesRead (Err x) reading next part after in
     bad_text old now new reading part count error is (subst P why.0 bad) why.1
 
--- the whole lines of a part were read, or have a fault
+-- The whole lines of a part were parsed, or have a fault.
 pub part_read : (old next : Reading) (part first rest whole left : List ℕ) → Lead old (lines whole) next → whole
     ≡ first → left ≡ rest
     → ((more : List ℕ) → lines (part ++ more) ≡ lines first ++ lines (rest ++ more)) → (more : List ℕ)
@@ -244,7 +244,7 @@ part_not_read (Err x) e old next after part first rest whole is bad one cut =
     let P : OrMemory CaptureError → Type 0 = λ y. AreLinesRead (Err y) old after part part in
     subst P (sym is) (bad_part e old next after part first rest whole bad one cut)
 
--- an input that gives no capture
+-- An input that isn't a capture.
 pub not_captured : (r : Result Capture CaptureFault) (f : CaptureFault) (old new : Option (List ℕ)) (faults later : ℕ)
     → IsErrAnd r (λ x. x ≡ f)
     → TakesAtMost old new 16777217 → IsWhyNot f old faults later → (f ≢ fault.Input input.Read → Unrisen faults later)
@@ -259,7 +259,7 @@ not_captured (Err x) f old new faults later is few why unrisen = record {
   unrisen = λ not_read. unrisen (λ read. not_read (ap (λ e. Err e) (is ∙ read)));
 }
 
--- the source failed
+-- The source failed.
 pub read_of : {T : Type 0} (e : InputFault) → ◌≡◌ {A = Result T InputFault} (Err e) (Err input.Read) → fault.Input e
     ≡ fault.Input input.Read
 read_of e is = let same : e ≡ input.Read = cc is in ap (λ x. fault.Input x) same
@@ -269,7 +269,7 @@ grown_whole : (part first rest taken back left : List ℕ) → part ≡ first ++
 grown_whole part first rest taken back left whole came =
     ap (λ zs. first ++ zs) came ∙ sym (append_assoc first rest taken) ∙ ap (λ zs. zs ++ taken) (sym whole)
 
--- a text after another is cut after its whole lines
+-- A text after another is cut after its whole lines.
 cut_twice : (part first rest taken back left : List ℕ) → part ≡ first ++ rest
     → ((more : List ℕ) → lines (part ++ more) ≡ lines first ++ lines (rest ++ more)) → back ++ left ≡ rest ++ taken
     → ((more : List ℕ) → lines ((back ++ left) ++ more) ≡ lines back ++ lines (left ++ more)) → (more : List ℕ)
@@ -298,7 +298,7 @@ room_of_both : (read : Result (Unit {0}) (OrMemory CaptureError)) (n m k l a b :
 room_of_both (Ok done) n m k l a b few is = omega (arith, few, is)
 room_of_both (Err e) n m k l a b few is = tt
 
--- The whole lines of what came were read, and those of what came after it.
+-- The whole lines of the first bytes were parsed, and those of the bytes after them.
 pub round_read : (read : Result (Unit {0}) (OrMemory CaptureError)) (old new : Option (List ℕ))
     (before after : Incoming) (reading next : Reading)
     (first rest back left : List ℕ) → before.part.items ≡ first ++ rest
@@ -335,7 +335,7 @@ first_is_bad : (e : OrMemory CaptureError) (old next after : Reading) (front bac
 first_is_bad (error.Fault fault) old next after front back bad = bad_then old (lines front) (lines back) fault bad
 first_is_bad error.NoMemory old next after front back bad = tt
 
--- the first of two texts has a fault, or the second has
+-- The first of two texts has a fault, or the second has.
 pub first_bad : (r : Result (Unit {0}) (OrMemory CaptureError)) (e : OrMemory CaptureError) (old next after : Reading)
     (front back : List ℕ)
     → IsErrAnd r (λ x. x ≡ e) → AreRead (Err e) old next front → AreLines r old after (lines front ++ lines back)

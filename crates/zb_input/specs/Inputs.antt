@@ -1,4 +1,4 @@
--- What is read of an input.
+-- What is read from an input.
 use Rattle.std.specs.Prelude.{◌≡◌, ◌≢◌, ℕ, ◌+◌, ◌-◌, ◌<◌, ◌≤◌, ◌++◌, min, Bool, true, false, List, length, Option, Result, Ok, Err, IfOk, IfErr, OnOk, IfSome}
 use Rattle.std.specs.Io.KnownBytes.{Consumes, IsAtEnd}
 use Rattle.std.specs.Str.Lines.{lines}
@@ -17,15 +17,15 @@ use Rattle.zb_input.specs.declared.capture.CaptureFault.{CaptureFault}
 use Rattle.zb_input.specs.declared.capture.CaptureFault.TheVariants as fault
 use Rattle.zb_base.specs.Limits.{longest_input, first_too_long}
 
--- what a source gave stands after the bytes before
+-- The source's bytes come after the earlier ones.
 abbrev pub Grows : Option (List ℕ) → Option (List ℕ) → List ℕ → List ℕ → Type 0
 Grows old new before after = (taken : List ℕ) × Consumes old new taken × (after ≡ before ++ taken)
 
--- at most `limit` bytes were taken from a source
+-- At most `limit` bytes were read from a source.
 abbrev pub TakesAtMost : Option (List ℕ) → Option (List ℕ) → ℕ → Type 0
 TakesAtMost old new limit = (taken : List ℕ) × Consumes old new taken × (length taken ≤ limit)
 
--- Bytes that were read on, and how that ended: at Ok there are as many as may be, or the source has no more.
+-- Bytes that were read, and how that ended. After `Ok` there are as many as allowed, or the source has no more.
 pub record IsReadOn (result : Result (Unit {0}) InputFault) (old new : Option (List ℕ)) (before after : List ℕ)
     (limit faults faults_after : ℕ) : Type 0 where
   pub grown : OnOk result (Grows old new before after)
@@ -36,11 +36,11 @@ pub record IsReadOn (result : Result (Unit {0}) InputFault) (old new : Option (L
   pub unrisen : result ≢ Err input.Read → Unrisen faults faults_after
   pub within : result ≡ Err input.TooLong → ⊥
 
--- the source gave so much that it is longer than an input may be, where `count` bytes came before
+-- The source gave more bytes than an input may have. `count` bytes were read before.
 abbrev pub IsPastAll : Option (List ℕ) → Option (List ℕ) → ℕ → Type 0
 IsPastAll old new count = (taken : List ℕ) × Consumes old new taken × (longest_input < count + length taken)
 
--- Bytes came after others, and `true` is answered where there are as many as were asked for.
+-- Bytes were read after others. The result is `true` if there are as many as were asked for.
 pub record IsFilled (result : Result Bool InputFault) (old new : Option (List ℕ)) (before after : Incoming)
     (size faults faults_after : ℕ) : Type 0 where
   pub grown : OnOk result (Grows old new before.part.items after.part.items)
@@ -53,8 +53,8 @@ pub record IsFilled (result : Result Bool InputFault) (old new : Option (List �
   pub unrisen : result ≢ Err input.Read → Unrisen faults faults_after
   pub too_long : result ≡ Err input.TooLong → IsPastAll old new before.count
 
--- Bytes came after others, what stands after the whole lines of all these was split off, and these lines were read by
--- themselves.
+-- Bytes were read after others. What comes after the whole lines of all these was split off, and the lines were
+-- parsed by themselves.
 pub record IsTaken (result : Result Taken InputFault) (old new : Option (List ℕ)) (before after : Incoming)
     (faults faults_after : ℕ) : Type 0 where
   pub grown : IfOk result (λ taken. Grows old new before.part.items (after.part.items ++ taken.rest.part.items))
@@ -71,7 +71,7 @@ pub record IsTaken (result : Result Taken InputFault) (old new : Option (List �
   pub unrisen : result ≢ Err input.Read → Unrisen faults faults_after
   pub too_long : result ≡ Err input.TooLong → IsPastAll old new before.count
 
--- Lines of what came were read: whatever comes after that gives the same after what is left.
+-- Lines of the input were parsed: whatever comes later gives the same after the rest.
 abbrev pub AreLinesRead : Result (Unit {0}) (OrMemory CaptureError) → Reading → Reading → List ℕ → List ℕ → Type 0
 AreLinesRead (Ok done) old new before after = (more : List ℕ) → with_more old (lines (before ++ more))
     ≡ with_more new (lines (after ++ more))
@@ -79,13 +79,13 @@ AreLinesRead (Err (error.Fault fault)) old new before after = (more : List ℕ) 
     ≡ Err fault
 AreLinesRead (Err error.NoMemory) old new before after = Unit {0}
 
--- Lines were read after those before them, or have a fault; it says nothing where memory is wanting.
+-- Lines were parsed after the earlier ones, or have a fault. If memory runs out, this says nothing.
 abbrev pub AreLines : Result (Unit {0}) (OrMemory CaptureError) → Reading → Reading → List (List ℕ) → Type 0
 AreLines (Ok done) old new more = Lead old more new
 AreLines (Err (error.Fault fault)) old new more = with_more old more ≡ Err fault
 AreLines (Err error.NoMemory) old new more = Unit {0}
 
--- Bytes came after others, lines of all these were read, and what is left may go on.
+-- Bytes were read after others, and lines of all these were parsed. The rest may be the beginning of a line.
 pub record IsRead (read : Result (Unit {0}) (OrMemory CaptureError)) (old new : Option (List ℕ))
     (before after : Incoming) (reading next : Reading) : Type 0 where
   pub all : List ℕ
@@ -95,7 +95,7 @@ pub record IsRead (read : Result (Unit {0}) (OrMemory CaptureError)) (old new : 
   pub lines : AreLinesRead read reading next all after.part.items
   pub room : OnOk read (next.lines + length after.part.items ≤ reading.lines + length all)
 
--- One round of reading, in which bytes came and lines were read.
+-- One round, in which bytes were read and lines were parsed.
 pub record IsRound (result : Result (Result (Unit {0}) (OrMemory CaptureError)) InputFault)
     (old new : Option (List ℕ)) (before after : Incoming) (reading next : Reading) (faults faults_after : ℕ) : Type 0
   where
@@ -106,18 +106,18 @@ pub record IsRound (result : Result (Result (Unit {0}) (OrMemory CaptureError)) 
     pub unrisen : result ≢ Err input.Read → Unrisen faults faults_after
     pub too_long : result ≡ Err input.TooLong → IsPastAll old new before.count
 
--- all that the source had came, and is no longer than an input may be
+-- All bytes of the source were read, and there are no more than an input may have.
 abbrev pub IsAll : Option (List ℕ) → Option (List ℕ) → ℕ → Type 0
 IsAll old new count = (taken : List ℕ) × Consumes old new taken × IsAtEnd new × (count + length taken ≤ longest_input)
 
--- what is answered of an input of which lines have a fault, where `count` bytes came before
+-- What is reported for an input with a fault in its lines. `count` bytes were read before.
 abbrev pub IsJudged : CaptureFault → OrMemory CaptureError → Option (List ℕ) → Option (List ℕ) → ℕ → ℕ → ℕ → Type 0
 IsJudged (fault.Input input.Read) bad old new count faults later = Rose faults later
 IsJudged (fault.Input input.TooLong) bad old new count faults later = IsPastAll old new count
 IsJudged (fault.Input input.NoMemory) bad old new count faults later = Unit {0}
 IsJudged (fault.Text e) bad old new count faults later = (bad ≡ error.Fault e) × IsAll old new count
 
--- why an input is no capture
+-- Why an input isn't a capture.
 abbrev pub IsWhyNot : CaptureFault → Option (List ℕ) → ℕ → ℕ → Type 0
 IsWhyNot (fault.Input input.Read) rest faults later = Rose faults later
 IsWhyNot (fault.Input input.TooLong) rest faults later = IfSome rest (λ text. longest_input < length text)
@@ -125,7 +125,7 @@ IsWhyNot (fault.Input input.NoMemory) rest faults later = Unit {0}
 IsWhyNot (fault.Text e) rest faults later =
     IfSome rest (λ text. (length text ≤ longest_input) × (captured text ≡ Err e))
 
--- What reading an input as a capture comes to. A text that a capture has is at most 16,777,216 bytes long.
+-- The result of reading an input as a capture. The text of a capture has at most 16,777,216 bytes.
 pub record IsReadAsCapture (result : Result Capture CaptureFault) (old new : Option (List ℕ)) (faults later : ℕ) :
     Type 0 where
   pub exact : IfOk result (λ c. IfSome old (λ text. (length text ≤ longest_input) × (captured text ≡ Ok c)))

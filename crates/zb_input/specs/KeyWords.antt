@@ -14,11 +14,11 @@ abbrev pub key_or : Option (List ℕ) → Option Key → Option Key
 key_or None other = other
 key_or (Some key) other = Some (record { 0 = key })
 
--- the longest word for a key, in characters: the digits of the longest install code with its CRC
+-- The longest word for a key, in characters: the digits of the longest install code with its CRC.
 abbrev pub longest_key_word : ℕ
 longest_key_word = 36
 
--- the key that a word represents
+-- The key that a word represents.
 unfoldable pub key_word : List ℕ → Option Key
 key_word word =
     if nat_lt longest_key_word (length word) then None else key_or (key_of word) (code_given (code_of_text word))
@@ -27,11 +27,11 @@ abbrev pub key_before : Option Key → List Key → List Key
 key_before None keys = keys
 key_before (Some key) keys = key ∷ keys
 
--- the keys that words represent, in order
+-- The keys that words represent, in order.
 abbrev pub keys_in : List (List ℕ) → List Key
 keys_in [] = []
 keys_in (word ∷ more) = key_before (key_word word) (keys_in more)
 
--- whether each word represents a key
+-- Whether each word represents a key.
 abbrev pub all_keys : List (List ℕ) → Bool
 all_keys words = list_all (λ word. is_some (key_word word)) words

@@ -1,4 +1,4 @@
-//! Reading the capture that the input is, part after part, while it comes in.
+//! Reads a capture from the input, part by part, while the input arrives.
 ghost use Rattle.std.specs.Prelude.{◌≡◌, ◌≤◌, ◌+◌, ◌++◌, length, OnOk};
 ghost use Rattle.std.specs.Str.Lines.{lines};
 ghost use Rattle.zb_capture.specs.Readings.{IsReadAlone};
@@ -15,21 +15,21 @@ use zb_base::{NoMemory, OrMemory, Source};
 use zb_capture::{Capture, CaptureError, CaptureReader};
 use zb_parallel::IdleThread;
 
-/// How many bytes one job takes in before it reads their lines.
+/// How many bytes one job reads before it parses their lines.
 const PART: usize = 1_048_576;
 
-/// How many bytes come in for each job but one before several jobs begin a round.
+/// How many bytes are read for each job but one before several jobs begin a round.
 const FRONT: usize = 2_097_152;
 
-/// How many bytes one job takes in meanwhile. It reads their lines too, so they are fewer.
+/// How many bytes one job reads during a round. It parses their lines too, so they are fewer.
 const BACK: usize = 1_572_864;
 
-/// Why the input gives no capture.
+/// Why the input isn't a capture.
 #[derive(Clone, Copy, Debug, PartialEq, Eq)]
 pub enum CaptureFault {
-    /// It isn't known whole.
+    /// It wasn't read to its end.
     Input(InputFault),
-    /// Its text is no capture.
+    /// Its text isn't a capture.
     Text(CaptureError),
 }
 
@@ -70,10 +70,10 @@ impl From<OrMemory<CaptureError>> for CaptureFault {
     }
 }
 
-/// Reads the capture that the input is, by `jobs` jobs.
+/// Reads a capture from the input, with `jobs` jobs.
 ///
 /// # Errors
-/// `CaptureFault::Input` where the input isn't known whole, and `CaptureFault::Text` where its text is no capture.
+/// `CaptureFault::Input` if the input wasn't read to its end, and `CaptureFault::Text` if its text isn't a capture.
 pub fn read_capture_on<T: Threads + Sync, R: Source>(
     rt: &T,
     alloc: Global,
@@ -90,7 +90,7 @@ pub fn read_capture_on<T: Threads + Sync, R: Source>(
     }
 }
 
-/// Reads the capture that the input is, part after part, so that its text is never kept whole.
+/// Reads a capture from the input part by part, so that its whole text is never kept.
 fn read_by_one<R: Source>(alloc: Global, input: &mut R) -> Result<Capture, CaptureFault>
     ensures { IsReadAsCapture result (R.rest input.old) (R.rest input.new) (R.faults input.old) (R.faults input.new) }
 {
@@ -106,7 +106,7 @@ fn read_by_one<R: Source>(alloc: Global, input: &mut R) -> Result<Capture, Captu
     Ok(reader.into_capture())
 }
 
-/// Reads the capture that the input is, by two jobs or more, in rounds.
+/// Reads a capture from the input in rounds, with two jobs or more.
 fn read_by_several<T: Threads + Sync, R: Source>(
     rt: &T,
     alloc: Global,
@@ -131,9 +131,9 @@ fn read_by_several<T: Threads + Sync, R: Source>(
     Ok(reader.into_capture())
 }
 
-/// Does a round of two jobs or more. What stands after the whole lines is left.
+/// Does one round, with two jobs or more. What comes after the whole lines is left.
 ///
-/// While all but one of the jobs read the whole lines of what came, that one takes in what comes next and reads its
+/// All jobs but one parse the whole lines that were read. Meanwhile that one reads the next bytes and parses their
 /// whole lines.
 fn read_round<T: Threads + Sync, R: Source>(
     rt: &T,
@@ -165,9 +165,9 @@ fn read_round<T: Threads + Sync, R: Source>(
     Ok(read)
 }
 
-/// Reads the lines of a text by `jobs` jobs, and meanwhile takes in what comes after it.
+/// Parses the lines of a text with `jobs` jobs, and meanwhile reads the bytes after it.
 ///
-/// The whole lines of what comes are read by themselves.
+/// The whole lines of these bytes are parsed by themselves.
 fn read_both<T: Threads + Sync, R: Source>(
     rt: &T,
     alloc: Global,
@@ -203,7 +203,7 @@ fn read_both<T: Threads + Sync, R: Source>(
     (first, taken)
 }
 
-/// Reads the lines of a text by themselves, by `jobs` jobs.
+/// Parses the lines of a text by themselves, with `jobs` jobs.
 fn read_first<T: Threads + Sync>(
     rt: &T,
     alloc: Global,
@@ -219,7 +219,7 @@ fn read_first<T: Threads + Sync>(
     Ok(reader)
 }
 
-/// Takes the lines of two texts, after those before, where it is known what each text gives by itself.
+/// Adds the lines of two texts after the earlier ones. The results of each text by itself are given.
 fn add_both(
     alloc: Global,
     reader: &mut CaptureReader,

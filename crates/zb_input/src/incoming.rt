@@ -1,4 +1,4 @@
-//! The bytes of an input as they come in, and the lines in them.
+//! The bytes of an input as they are read, and their lines.
 ghost use Rattle.std.specs.Prelude.{◌≡◌};
 ghost use Rattle.zb_base.specs.Limits.{first_too_long, longest_input};
 
@@ -8,21 +8,21 @@ use std::alloc::{AllocError, Global};
 use zb_base::{OrMemory, Source};
 use zb_capture::{CaptureError, CaptureReader, whole_lines};
 
-/// The bytes that came of an input.
+/// The bytes that were read from an input.
 #[derive(Drop)]
 pub struct Incoming {
     /// How many there are.
     pub count: usize,
-    /// Those at the end of which the lines are still to be read.
+    /// The last of them, whose lines are not parsed yet.
     pub part: Vec<u8>,
 }
 
-/// What was taken in of an input.
+/// Bytes that one job read from an input, split after their whole lines.
 #[derive(Drop)]
 pub struct Taken {
     /// What the whole lines give by themselves.
     pub alone: Result<CaptureReader, OrMemory<CaptureError>>,
-    /// What stands after them.
+    /// What comes after them.
     pub rest: Incoming,
 }
 
@@ -32,7 +32,7 @@ impl Incoming {
     ghost use Rattle.zb_base.specs.Outside.{Unrisen};
     ghost use Rattle.zb_input.specs.Inputs.{AreLinesRead, IsFilled, IsJudged, IsTaken, TakesAtMost};
 
-    /// Starts where nothing came yet.
+    /// Makes the state before any byte was read.
     pub fn new(alloc: Global) -> Incoming
         ensures { (result.count ≡ 0) × (result.part.items ≡ []) }
     {
@@ -42,12 +42,12 @@ impl Incoming {
         }
     }
 
-    /// Reads on until `size` bytes more have come, and returns whether they have.
+    /// Reads until there are `size` more bytes, and returns whether there are.
     ///
     /// If not, the input is at its end.
     ///
     /// # Errors
-    /// `Read` where the source fails, `TooLong` where more bytes came than the longest input has, or `NoMemory`.
+    /// `Read` if the source fails, `TooLong` if there are more bytes than the longest input may have, or `NoMemory`.
     pub fn fill<R: Source>(&mut self, input: &mut R, size: usize) -> Result<bool, InputFault>
         requires count { self.old.count ≤ longest_input }
         requires size { 1 ≤ size }
@@ -66,10 +66,10 @@ impl Incoming {
         Ok(after == limit)
     }
 
-    /// Reads the whole lines of what came. What comes after them stays, since it may go on.
+    /// Parses the whole lines of the bytes. What comes after them stays, because it may be the beginning of a line.
     ///
     /// # Errors
-    /// The first fault of these lines, or out of memory.
+    /// The first fault of these lines, or `NoMemory`.
     pub fn read_whole_lines(
         &mut self,
         alloc: Global,
@@ -90,10 +90,10 @@ impl Incoming {
         Ok(())
     }
 
-    /// Splits off what stands after the whole lines, since it may go on.
+    /// Splits off what comes after the whole lines, because it may be the beginning of a line.
     ///
     /// # Errors
-    /// Out of memory.
+    /// `AllocError`, if memory runs out.
     pub fn split(&mut self) -> Result<Incoming, AllocError>
         ensures count { IfOk result (λ rest. rest.count ≡ self.old.count) }
         ensures parts { IfOk result (λ rest. self.old.part.items ≡ self.new.part.items ++ rest.part.items) }
@@ -107,12 +107,12 @@ impl Incoming {
         })
     }
 
-    /// Takes what is left of others in place of what came here.
+    /// Replaces the bytes by those that are left of others.
     ///
-    /// So the memory for it is used again.
+    /// So the memory is used again.
     ///
     /// # Errors
-    /// Out of memory.
+    /// `AllocError`, if memory runs out.
     pub fn go_on_from(&mut self, rest: &Incoming) -> Result<(), AllocError>
         ensures count { OnOk result (self.new.count ≡ rest.now.count) }
         ensures part { OnOk result (self.new.part.items ≡ rest.now.part.items) }
@@ -123,7 +123,7 @@ impl Incoming {
         Ok(())
     }
 
-    /// Reads on as `fill` does, splits off what comes after the whole lines, and reads these by themselves.
+    /// Reads as `fill` does, splits off what comes after the whole lines, and parses these by themselves.
     ///
     /// # Errors
     /// Those of `fill`.
@@ -147,7 +147,7 @@ impl Incoming {
         })
     }
 
-    /// Returns why the input is no capture, of which lines have a fault. Nothing is said of them before its end.
+    /// Returns why the input isn't a capture. Its lines have a fault, which is only reported after the input's end.
     pub fn refuse<R: Source>(
         &mut self,
         input: &mut R,

@@ -1,4 +1,4 @@
-//! Reading the whole input.
+//! Reads the whole input.
 ghost use Rattle.std.specs.Prelude.{◌≡◌, ◌≢◌, ◌-◌, ◌<◌, ◌≤◌, IfOk, OnOk, OnErr, Err, IfSome, length, vec_len};
 ghost use Rattle.std.specs.Io.KnownBytes.{IsAtEnd};
 ghost use Rattle.zb_base.specs.Outside.{Rose, Unrisen};
@@ -9,17 +9,17 @@ ghost use Rattle.zb_base.specs.Limits.{first_too_long, longest_input};
 use std::alloc::{AllocError, Global};
 use zb_base::Source;
 
-/// How many bytes the longest input of a command has.
+/// The most bytes that the input of a command may have.
 pub const LONGEST: u32 = 16_777_216;
 
-/// Why the input isn't known whole.
+/// Why the input wasn't read to its end.
 #[derive(Clone, Copy, Debug, PartialEq, Eq)]
 pub enum InputFault {
     /// The source failed.
     Read,
     /// It has more than `LONGEST` bytes.
     TooLong,
-    /// There was no memory left.
+    /// Memory ran out.
     NoMemory,
 }
 
@@ -31,10 +31,10 @@ impl From<AllocError> for InputFault {
     }
 }
 
-/// Reads on after bytes that came before, to the end of the input or until there are `limit`.
+/// Reads further bytes, to the end of the input or until there are `limit`.
 ///
 /// # Errors
-/// `Read` where the source fails, or `NoMemory`.
+/// `Read` if the source fails, or `NoMemory`.
 pub fn read_on<R: Source>(
     input: &mut R,
     bytes: &mut Vec<u8>,
@@ -57,10 +57,10 @@ pub fn read_on<R: Source>(
     Ok(())
 }
 
-/// Reads the input to its end, or one byte past the longest.
+/// Reads the input to its end, or to one byte past the longest.
 ///
 /// # Errors
-/// `Read` where the source fails, `TooLong` where it has more than `LONGEST` bytes, or `NoMemory`.
+/// `Read` if the source fails, `TooLong` if it has more than `LONGEST` bytes, or `NoMemory`.
 pub fn read_input<R: Source>(alloc: Global, input: &mut R) -> Result<Vec<u8>, InputFault>
     ensures whole { IfOk result (λ bytes. IfSome (R.rest input.old) (λ rest. bytes.items ≡ rest)) }
     ensures end { OnOk result (IsAtEnd (R.rest input.new)) }

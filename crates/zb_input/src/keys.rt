@@ -36,10 +36,10 @@ pub fn are_keys(words: &[String]) -> bool
     true
 }
 
-/// Reads the keys that words represent, in order; words that represent none are passed over.
+/// Reads the keys that words represent, in order. Other words are skipped.
 ///
 /// # Errors
-/// Out of memory.
+/// `AllocError`, if memory runs out.
 pub fn read_keys(alloc: Global, words: &[String]) -> Result<Vec<Key>, AllocError>
     ensures value { IfOk result (λ v. v.items ≡ keys_in (map string_bytes words.now)) }
     ensures few { IfOk result (λ v. vec_len v ≤ length words.now) }

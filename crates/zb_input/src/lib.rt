@@ -1,4 +1,4 @@
-//! What a command reads: the whole input, a capture that comes in part after part, and the words that represent keys.
+//! What a command reads: the whole input, a capture that arrives in parts, and the words that represent keys.
 #![tactic(auto)]
 
 mod capture;

@@ -1,4 +1,4 @@
--- A block that is looked at again, and blocks of which the first were.
+-- A block at a later look, and lists of blocks of which the first were looked at again.
 use Rattle.std.proofs.Common.{◌≡◌, ℕ, ◌+◌, ◌<◌, ◌≤◌, List, [], ◌∷◌, ◌++◌, refl, length, get_or, take, ap, sym, ◌∙◌, subst, append_assoc, true, Vec, Global}
 use Rattle.std.specs.List.{AllByRecursion, list_all}
 use Rattle.std.specs.Prelude.{slice_set}
@@ -19,7 +19,7 @@ use Rattle.zb_inspect.specs.Rings.{frames_shown}
 use Rattle.zb_inspect.proofs.FreshLeads.{both_true, settled_frames}
 use Rattle.zb_inspect.proofs.Lists.{Half, half_get, half_more, all_at, flat_next}
 
--- lines that are kept are those under further keys
+-- Kept lines are those under further keys.
 pub lines_stay : (known : ℕ) (frames : List (ArrayVec ℕ)) (addrs : List (Short × Eui)) (keys : List Key) (b : Block)
     (lines : Vec ℕ Global) → known ≤ length keys
     → Lines lines ≡ b.seen → Sees frames addrs (take known keys) b → StandsFor b.first (found_in frames addrs keys b)
@@ -30,7 +30,7 @@ lines_stay known frames addrs keys b lines within is seen =
     let same = settled_frames known addrs keys (frames_in frames b) within may.1 in
     (may.0 ∙ ap (frames_text b.first) (sym same), ap (list_all is_settled) same ∙ may.1)
 
--- frames that no key opened show what they show under no keys
+-- Frames that no key opened show what they show under no keys.
 pub unopened_frames : (addrs : List (Short × Eui)) (keys : List Key) (frames : List (ArrayVec ℕ))
     → list_all is_unopened (frames_shown addrs keys frames) ≡ true
     → frames_shown addrs [] frames ≡ frames_shown addrs keys frames
@@ -41,7 +41,7 @@ unopened_frames addrs keys (f ∷ frames) all =
     ap (λ s. s ∷ frames_shown addrs [] frames) (sym (unopened_same addrs keys f.items parts.0))
     ∙ ap (λ zs. frame_shown addrs keys f.items ∷ zs) (unopened_frames addrs keys frames parts.1)
 
--- one block more that is looked at
+-- One more block that is looked at.
 pub next_half : (frames : List (ArrayVec ℕ)) (addrs : List (Short × Eui)) (keys : List Key) (i : ℕ)
     (old now : List Block) (d y : Block) → i < length old
     → Half (IsNext frames addrs keys) i old now → SameFrames (get_or now i d) y → IsShown frames addrs keys y
@@ -63,7 +63,7 @@ next_fresh frames addrs keys i old now d before so_far after within half was is 
     ∙ append_assoc before (all_fresh frames addrs keys (take i old)) (fresh frames addrs keys (get_or old i d))
     ∙ ap (λ zs. before ++ zs) (sym (flat_next (fresh frames addrs keys) old i d within))
 
--- what the block that comes next was, before any was looked at
+-- What the next block was before any was looked at.
 pub still : (P : Block → Type 0) (frames : List (ArrayVec ℕ)) (addrs : List (Short × Eui)) (keys : List Key) (i : ℕ)
     (old now : List Block) (d : Block) → i < length old
     → Half (IsNext frames addrs keys) i old now → AllByRecursion P old → P (get_or now i d)

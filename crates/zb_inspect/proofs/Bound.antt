@@ -22,7 +22,7 @@ use Rattle.zb_inspect.specs.declared.key_ring.RingKey.{RingKey}
 use Rattle.zb_inspect.proofs.Growth.{Kept, Grows, carried_grows}
 use Rattle.zb_inspect.proofs.RingLaws.{learnt_grows, first_keys, not_shorter, unchanged}
 
--- how many of the keys are new to the ring, repeats counted
+-- How many of the keys are new to the ring, with repeats.
 abbrev one_if : Bool → ℕ
 one_if true = 0
 one_if false = 1
@@ -62,7 +62,7 @@ unknown_append : (ring : List RingKey) (xs ys : List Lead) → unknown ring (xs 
 unknown_append ring [] ys = omega arith
 unknown_append ring (x ∷ xs) ys = omega (arith, unknown_append ring xs ys)
 
--- learning adds no more than that
+-- Learning adds no more than that.
 learnt_by : (round : ℕ) (ring : List RingKey) (x : Lead) (xs : List Lead) (k : RingKey) (b : Bool)
     → ((r : List RingKey) → length (learnt round r xs) ≤ length r + unknown r xs)
     → length (learnt round (if b then ring else ring ++ k ∷ []) xs) ≤ length ring + (one_if b + unknown ring xs)
@@ -77,7 +77,7 @@ learnt_most round ring (x ∷ xs) =
     learnt_by round ring x xs (record { key = x.key; found = Some (x.frame, round) }) (has_key ring x.key)
     (λ r. learnt_most round r xs)
 
--- what was learnt is known
+-- What was learnt is known.
 abbrev pub AllKnown : List RingKey → List Lead → Type 0
 AllKnown ring xs = AllByRecursion (λ (x : Lead). has_key ring x.key ≡ true) xs
 
@@ -196,7 +196,7 @@ given_most ring (key ∷ keys) =
 abbrev led : Capture → List RingKey → List Lead
 led c ring = leads 1 (frames_shown c.addrs (keys_of ring) c.frames)
 
--- a ring has no more keys than are given and than are carried under the ring of the round before
+-- A ring has no more keys than are given and than are carried under the ring of the round before.
 round_most : (c : Capture) (n : ℕ) → length (ring_after c (suc n)) ≤ length c.keys + length (led c (ring_after c n))
 unfolding ring_after
 round_most c zero =
@@ -254,7 +254,7 @@ ring_most c (suc n) =
       length-map c.frames (λ (f : ArrayVec ℕ). frame_shown c.addrs (keys_of (ring_after c n)) f.items),
     )
 
--- a capture in its limits
+-- A capture within its limits.
 pub ring_few : (c : Capture) (n : ℕ) (ring : List RingKey) → IsCapture c → ring ≡ ring_after c n → length ring ≤ 300256
 ring_few c n ring limits is = omega (arith, ap (length {A = RingKey}) is, ring_most c n, limits.keys, limits.frames)
 
@@ -324,7 +324,7 @@ walk (suc most) n c ring is within most_rounds =
     step_from most n c ring (length (ring_after c (suc n)) == length (ring_after c n)) is within refl
     (λ more. walk most (suc n) c ring is more (omega (arith, most_rounds)))
 
--- there is one ring, and it is found
+-- There is one ring, and the rounds find it.
 pub ring_is : (c : Capture) (ring : Ring) → IsRing c ring → ring ≡ ring_of c
 ring_is c ring is =
     sym (walk (length c.keys + 3 * length c.frames + 1) 0 c ring is is.some (omega (arith, rounds_most c ring is)))

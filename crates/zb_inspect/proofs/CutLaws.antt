@@ -1,4 +1,4 @@
--- Frames that are cut into pieces, a piece for each share.
+-- Frames that are cut into pieces, one piece for each share.
 use Rattle.std.proofs.Common.{◌≡◌, ℕ, zero, suc, ◌+◌, ◌-◌, ◌*◌, ◌≤◌, List, ◌∷◌, [], ◌++◌, length, min, refl, ap, sym, ◌∙◌, subst, arith}
 use Rattle.std.specs.Int.{div_ceil}
 use Rattle.std.specs.List.{AllByRecursion, AllZip}
@@ -10,7 +10,7 @@ use Rattle.zb_inspect.specs.declared.piece.Piece.{Piece}
 use Rattle.zb_inspect.proofs.Lists.{all_append}
 use Rattle.zb_inspect.proofs.PieceLists.{counts_append, numbered_append}
 
--- one item more on each side
+-- One more item on each side
 
 zip_end : {A B : Type 0} (R : A → B → Type 0) (xs : List A) (ys : List B) (x : A) (y : B) → AllZip R xs ys → R x y
     → AllZip R (xs ++ x ∷ []) (ys ++ y ∷ [])
@@ -25,7 +25,7 @@ pub zip_more : {A B : Type 0} (R : A → B → Type 0) (xs : List A) (ys zs : Li
 zip_more {A} {B} R xs ys zs x y all related items =
     let P : List B → Type 0 = λ bs. AllZip R (xs ++ x ∷ []) bs in subst P (sym items) (zip_end R xs ys x y all related)
 
--- shares of so many items begin within them
+-- The shares of that many items begin within them.
 pub all_within : (items size number first left : ℕ) (shares : List Share) → AreShares size number first left shares
     → first + left ≤ items
     → AllByRecursion (IsShareWithin items) shares
@@ -35,7 +35,7 @@ all_within items size number first left (s ∷ shares) cut room = (
   all_within items size (number + 1) (first + min size left) (left - min size left) shares cut.4 (omega (arith, room)),
 )
 
--- the pieces have all frames, in their order
+-- The pieces have all frames, in order
 
 pub cut_numbers : (size number first left : ℕ) (shares : List Share) (pieces : List Piece)
     → AreShares size number first left shares
@@ -93,7 +93,7 @@ cut_lengths [] (p ∷ pieces) all = absurd all
 cut_lengths (s ∷ shares) [] all = absurd all
 cut_lengths (s ∷ shares) (p ∷ pieces) all = ap suc (cut_lengths shares pieces all.1)
 
--- there are no more pieces than jobs
+-- There are no more pieces than jobs.
 few_pieces : (size number left jobs : ℕ) (pieces : List Piece) → AreSized size number left pieces → left ≤ size * jobs
     → length pieces ≤ jobs
 few_pieces size number left jobs [] sized most = omega arith
@@ -101,7 +101,7 @@ few_pieces size number left zero (p ∷ more) sized most = absurd (omega (arith,
 few_pieces size number left (suc jobs) (p ∷ more) sized most =
     omega (arith, few_pieces size (number + 1) (left - min size left) jobs more sized.3 (omega (arith, most)))
 
--- the same of so many frames as there are
+-- The same for as many frames as there are.
 pub sized_as : (frames jobs all : ℕ) (pieces : List Piece) → all ≡ frames → AreSized (div_ceil all jobs) 0 all pieces
     → AreSized (div_ceil frames jobs) 0 frames pieces
 sized_as frames jobs all pieces is sized = let P : ℕ → Type 0 = λ n. AreSized (div_ceil n jobs) 0 n pieces in subst P

@@ -1,5 +1,5 @@
--- What a look finds anew is learnt as all that is found: the keys of frames of which the lines are kept were learnt
--- before.
+-- The keys that a look newly finds are learnt like all keys that it finds: those of frames with kept lines were
+-- learnt before.
 use Rattle.std.proofs.Common.{◌≡◌, ℕ, ◌+◌, ◌≤◌, List, [], ◌∷◌, ◌++◌, length, take, refl, ap, sym, ◌∙◌, subst, append-nil, append_assoc, Bool, true, false, ◌&&◌, if◌then◌else◌, Some}
 use Rattle.std.specs.List.{AllByRecursion, list_all}
 use Rattle.std.proofs.lemmas.List.{map-append, length-map}
@@ -22,7 +22,7 @@ use Rattle.zb_inspect.proofs.Bound.{AllKnown, known_split, known_more}
 use Rattle.zb_inspect.proofs.PieceLists.{frames_count, leads_append, learnt_append}
 use Rattle.zb_inspect.proofs.RingLaws.{learnt_grows}
 
--- what is found in a block was learnt, where its lines are kept
+-- What is found in a block was learnt, if its lines are kept.
 abbrev pub IsLearnt : List RingKey → List Lead → Seen → Type 0
 IsLearnt ring found Nothing = Unit {0}
 IsLearnt ring found Unopened = Unit {0}
@@ -64,7 +64,7 @@ learnt_more ring now found (Lines text) grown was =
     let P : List RingKey → Type 0 = λ r. AllKnown r found in subst P (sym grown.1) (known_more ring grown.0 found was)
 learnt_more ring now found (Whole kept) grown was = tt
 
--- keys that are known are not learnt again
+-- Keys that are known are not learnt again.
 kept_ring : (b : Bool) (ring : List RingKey) (k : RingKey) → b ≡ true → (if b then ring else ring ++ k ∷ []) ≡ ring
 kept_ring true ring k e = refl
 kept_ring false ring k e = cc
@@ -76,7 +76,7 @@ learnt_none round ring (x ∷ xs) known =
     (kept_ring (has_key ring x.key) ring (record { key = x.key; found = Some (x.frame, round) }) known.0)
     ∙ learnt_none round ring xs known.1
 
--- frames of which no layer is closed show the same under further keys
+-- Frames with no closed layer show the same under further keys.
 pub both_true : (a b : Bool) → (a && b) ≡ true → (a ≡ true) × (b ≡ true)
 both_true true b e = (refl, e)
 both_true false b e = cc
@@ -103,7 +103,7 @@ fresh_seen round now first old found (Lines text) same may known =
     sym (ap (λ f. learnt round now (leads first f)) (same may.1) ∙ learnt_none round now (leads first old) known)
 fresh_seen round now first old found (Whole kept) same may known = refl
 
--- the keys of a block and then those of others
+-- The keys of a block, and then those of others.
 both_led : (frames : List (ArrayVec ℕ)) (addrs : List (Short × Eui)) (keys : List Key) (frame : ℕ) (b : Block)
     (blocks : List Block) → b.first ≡ frame
     → IsWithin (length frames) b

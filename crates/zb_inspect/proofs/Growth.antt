@@ -1,4 +1,4 @@
--- What contents carry under some keys they carry under further ones.
+-- What contents carry under some keys, they carry under further ones.
 use Rattle.std.proofs.Common.{◌≡◌, ℕ, ◌≤◌, List, Option, Some, None, length, take, drop, refl, ap, sym, ◌∙◌, subst}
 use Rattle.std.specs.Option.{option_map}
 use Rattle.arrayvec.specs.ArrayVec.{ArrayVec}
@@ -18,7 +18,7 @@ use Rattle.zb_inspect_frame.specs.declared.shown.Below.{Below}
 use Rattle.zb_inspect_frame.specs.declared.shown.Shown.{Shown}
 use Rattle.zb_inspect_frame.proofs.MoreKeys.{nwk_further, aps_further, payload_kept, tunnel_kept, shown_parts}
 
--- a key that was carried still is
+-- A key that was carried still is.
 abbrev pub Kept : Option Key → Option Key → Type 0
 Kept None now = Unit {0}
 Kept (Some key) now = now ≡ Some key
@@ -48,7 +48,7 @@ aps_kept known keys given bytes within =
     kept_as _ _ _ (ap carries (aps_further known keys given bytes within))
     (carries_kept known (drop known keys) (found_aps (take known keys) given bytes))
 
--- the frame in a Tunnel
+-- The frame in a Tunnel.
 abbrev inside : List Key → Option Eui → Option (ArrayVec ℕ) → Option Finding
 inside keys given t = option_map (λ (i : ArrayVec ℕ). found_aps keys given i.items) t
 
@@ -94,7 +94,7 @@ layers_grow known keys given nwk now (Some p) also within is keeps =
       nwk = kept_as _ _ _ (ap carries (sym is)) (carries_kept known (drop known keys) nwk);
     })
 
--- a frame under further keys
+-- A frame under further keys.
 pub carried_grows : (known : ℕ) (addrs : List (Short × Eui)) (keys : List Key) (bytes : List ℕ) → known ≤ length keys
     → Grows (keys_carried (frame_shown addrs (take known keys) bytes)) (keys_carried (frame_shown addrs keys bytes))
 unfolding frame_shown

@@ -37,7 +37,7 @@ both_settled (x ∷ xs) ys e f = step (is_settled x) (list_all is_settled xs) (l
     step true b c e next = next e
     step false b c e next = cc
 
--- the frames of one block and those of the block after it
+-- The frames of one block and those of the block after it.
 pub frames_joined : (frames : List (ArrayVec ℕ)) (first n m : ℕ) → 1 ≤ first
     → frames_from frames first (n + m) ≡ frames_from frames first n ++ frames_from frames (first + n) m
 frames_joined frames first n m some =
@@ -46,7 +46,7 @@ frames_joined frames first n m some =
     ∙ ap (λ zs. take n (drop (first - 1) frames) ++ take m zs) (sym (drop_more frames (first - 1) n))
     ∙ take_more (drop (first - 1) frames) n m)
 
--- what is kept of lines
+-- What is kept for lines.
 lines_stand : (first : ℕ) (found : List Shown) (seen : Seen) → has_lines seen ≡ true → StandsFor first found seen
     → (lines_of seen ≡ frames_text first found) × (list_all is_settled found ≡ true)
 lines_stand first found Nothing e s = cc
@@ -88,7 +88,7 @@ joined_shown frames addrs keys front back joined j e f next within shown also =
     ∙ ap (λ n. frames_text front.first x ++ frames_text n y) (sym place) ∙ sym (shown_append front.first x y)
     ∙ ap (λ n. frames_text n (x ++ y)) (sym j.first)) (both_settled x y a.1 b.1))
 
--- where the last two of some blocks stand
+-- Where the last two of some blocks are.
 record LastTwo (frame : ℕ) (rest : List Block) (last block : Block) : Type 0 where
   rest_numbers : Numbered frame rest
   last_first : last.first ≡ frame + count_of rest
@@ -181,7 +181,7 @@ frames_done : (frames : List (ArrayVec ℕ)) (first done : ℕ) → 1 ≤ first 
 frames_done frames first done some room =
     omega (arith, length-take done (drop (first - 1) frames), length-drop (first - 1) frames, some, room)
 
--- one block more
+-- One more block.
 pub looked_more : (frames : List (ArrayVec ℕ)) (addrs : List (Short × Eui)) (keys : List Key) (first done : ℕ)
     (before : List Lead) (blocks new : List Block)
     (block : Block) (found after : List Lead) → IsLooked frames addrs keys first done before blocks found
@@ -227,7 +227,7 @@ looked_none frames addrs keys first before blocks is =
       leads = sym (append-nil before);
     }
 
--- the same, where the block has so many frames
+-- The same, if the block has that many frames.
 pub looked_next : (frames : List (ArrayVec ℕ)) (addrs : List (Short × Eui)) (keys : List Key) (first done size : ℕ)
     (before : List Lead) (blocks new : List Block)
     (block : Block) (found after : List Lead) → block.count ≡ size

@@ -1,4 +1,4 @@
--- A set of keys beside the ring.
+-- A set with the keys of the ring.
 use Rattle.std.proofs.Common.{◌≡◌, List, [], ◌∷◌, ◌++◌, Bool, true, false, cond, ◌||◌, refl, ap, sym, ◌∙◌, bytes_eq}
 use Rattle.std.specs.BTreeSet.{BTreeSet}
 use Rattle.std.specs.BTreeMap.{is_at}
@@ -16,7 +16,7 @@ either true false = refl
 either false true = refl
 either false false = refl
 
--- one key more
+-- One more key.
 pub known_with : (old new : BTreeSet Key) (ring : List RingKey) (k : RingKey)
     → ((key : Key) → is_known old key ≡ has_key ring key)
     → ((q : Key) → is_known new q ≡ cond (is_at (key_cmp k.key) q) true (is_known old q)) → (key : Key)

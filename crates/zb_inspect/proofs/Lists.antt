@@ -1,10 +1,10 @@
--- Lists that are mapped from the start on.
+-- Lists whose first items are mapped.
 use Rattle.std.proofs.Common.{◌≡◌, ℕ, zero, suc, ◌+◌, ◌<◌, ◌≤◌, List, [], ◌∷◌, ◌++◌, length, get_or, take, drop, map, refl, ap, sym, ◌∙◌, subst, arith, add-one, append_assoc, append-nil, Result, Ok, Err, IfOk}
 use Rattle.std.specs.List.{AllZip, AllByRecursion, flat_map}
 use Rattle.std.specs.Prelude.{slice_set}
 use Rattle.std.proofs.lemmas.List.{length-map}
 
--- one item more is mapped by f in place of g
+-- One more item is mapped by f instead of g.
 set_next : {A B : Type 0} (f g : A → B) (xs : List A) (i : ℕ) (x : A) → i < length xs → x ≡ get_or xs i x
     → slice_set (map f (take i xs) ++ map g (drop i xs)) i (f x) ≡ map f (take (suc i) xs) ++ map g (drop (suc i) xs)
 set_next f g [] i x within is = absurd (omega arith)
@@ -25,7 +25,7 @@ half_at f g [] i d x within = absurd (omega arith)
 half_at f g (y ∷ xs) zero d x within = refl
 half_at f g (y ∷ xs) (suc i) d x within = half_at f g xs i d x (omega arith)
 
--- the first item that isn't mapped by f yet
+-- The first item that isn't mapped by f yet.
 pub not_yet_mapped : {A B : Type 0} (f g : A → B) (xs : List A) (ys : List B) (i : ℕ) (d : B) (x : A) → i < length xs
     → x ≡ get_or xs i x
     → ys ≡ map f (take i xs) ++ map g (drop i xs) → get_or ys i d ≡ g x
@@ -69,7 +69,7 @@ half_end R (suc i) [] now most half = let P : List _ → Type 0 = λ zs. AllZip 
 half_end R (suc i) (x ∷ old) [] most half = absurd half
 half_end R (suc i) (x ∷ old) (y ∷ now) most half = (half.0, half_end R i old now (omega arith) half.1)
 
--- what holds of all items holds of each
+-- What holds for all items holds for each.
 pub all_at : {A : Type 0} (P : A → Type 0) (xs : List A) (i : ℕ) (d : A) → i < length xs → AllByRecursion P xs
     → P (get_or xs i d)
 all_at P [] i d within all = absurd (omega arith)
@@ -89,7 +89,7 @@ pub all_back : {A : Type 0} (P : A → Type 0) (xs ys : List A) → AllByRecursi
 all_back P [] ys all = all
 all_back P (x ∷ xs) ys all = all_back P xs ys all.1
 
--- one item more of what is mapped to lists
+-- One more item of what is mapped to lists.
 flat_suc : {A B : Type 0} (f : A → List B) (xs : List A) (i : ℕ) (d : A) → i < length xs
     → flat_map f (take (suc i) xs) ≡ flat_map f (take i xs) ++ f (get_or xs i d)
 flat_suc f [] i d within = absurd (omega arith)
@@ -102,7 +102,7 @@ pub flat_next : {A B : Type 0} (f : A → List B) (xs : List A) (i : ℕ) (d : A
     → flat_map f (take (i + 1) xs) ≡ flat_map f (take i xs) ++ f (get_or xs i d)
 flat_next f xs i d within = rw add-one (flat_suc f xs i d within)
 
--- a relation that holds place by place
+-- A relation that holds place by place.
 zip_from_index : {A B : Type 0} (R : A → B → Type 0) (xs : List A) (ys : List B) → length xs ≡ length ys
     → ((i : ℕ) (d : A) (e : B) → i < length xs → R (get_or xs i d) (get_or ys i e)) → AllZip R xs ys
 zip_from_index R [] [] same each = tt
@@ -116,7 +116,7 @@ get_mapped f [] i d = refl
 get_mapped f (x ∷ xs) zero d = refl
 get_mapped f (x ∷ xs) (suc i) d = get_mapped f xs i d
 
--- each call was Ok, and its value is as the call says
+-- Each call was Ok, and its value is as the call says.
 pub oks_zip : {A B E : Type 0} (R : A → B → Type 0) (old : List A) (new : List B) (results : List (Result B E))
     → results ≡ map (λ x. Ok x) new
     → length results ≡ length old

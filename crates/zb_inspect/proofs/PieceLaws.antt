@@ -1,4 +1,4 @@
--- A piece that is looked at, for the first time or again.
+-- A look at a piece, the first or a later one.
 use Rattle.std.proofs.Common.{◌≡◌, ℕ, ◌+◌, ◌<◌, ◌≤◌, List, [], ◌∷◌, ◌++◌, ap, arith}
 use Rattle.std.specs.List.{AllZip}
 use Rattle.arrayvec.specs.ArrayVec.{ArrayVec}
@@ -23,7 +23,7 @@ next_piece frames addrs keys old new number next found = record {
   leads = found;
 }
 
--- the numbers of two blocks fit together
+-- The numbers of two blocks fit together.
 pub room_for : (old rest : List Block) (last block : Block) → old ≡ rest ++ last ∷ [] → count_of (old ++ block ∷ [])
     < 4294967296
     → last.count + block.count < 4294967296

@@ -20,7 +20,7 @@ use Rattle.zb_inspect.specs.declared.key_ring.Lead.{Lead}
 use Rattle.zb_inspect.specs.declared.key_ring.RingKey.{RingKey}
 use Rattle.zb_inspect.proofs.Lists.{all_append, all_front, all_back}
 
--- the first of the pieces that are left
+-- The first of the pieces that are left.
 first_left : (pieces : List Piece) (i : ℕ) (p : Piece) → i < length pieces → p ≡ get_or pieces i p → drop i pieces ≡ p
     ∷ drop (i + 1) pieces
 first_left pieces i p within is =
@@ -87,7 +87,7 @@ frames_from frames n (b ∷ blocks) numbers =
     ∙ ap (λ zs. take b.count (drop n frames) ++ take (count_of blocks) zs) (sym (drop_more frames n b.count))
     ∙ take_more (drop n frames) b.count (count_of blocks)
 
--- the blocks of a capture have all its frames
+-- The blocks of a capture have all its frames.
 pub whole_frames : (c : Capture) (pieces : List Piece) → IsCut c pieces → all_frames c.frames (all_blocks pieces)
     ≡ c.frames
 whole_frames c pieces cut =
@@ -111,7 +111,7 @@ frames_count frames b within =
 
 -- Blocks of pieces
 
--- what holds of all blocks holds of those of each piece
+-- What holds for all blocks holds for those of each piece.
 pub in_pieces : (P : Block → Type 0) (pieces : List Piece) → AllByRecursion P (all_blocks pieces)
     → AllByRecursion (λ (p : Piece). AllByRecursion P p.blocks.items) pieces
 in_pieces P [] all = tt

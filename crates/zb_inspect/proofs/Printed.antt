@@ -27,7 +27,7 @@ use Rattle.zb_inspect.proofs.PieceLists.{frames_count, in_pieces, whole_frames, 
 use Rattle.zb_inspect.specs.Report.{tail_text, report_text, report_of}
 use Rattle.zb_inspect.specs.Texts.{block_text, blocks_text, pages_text, BlockHasRoom, HaveRoom}
 
--- Pieces that are printed, a page for each
+-- Pieces that are printed, one page for each
 
 abbrev pub IsPagePrinted : Piece → Vec ℕ Global → Type 0
 IsPagePrinted piece page = page.items ≡ blocks_text piece.blocks.items
@@ -107,7 +107,7 @@ room_in_pieces c keys pieces limits cut shown =
     in_pieces BlockHasRoom pieces
     (shown_room c.frames c.addrs keys (all_blocks pieces) limits.frames (within_cut c pieces cut) shown)
 
--- the report
+-- The report.
 pub is_report : (c : Capture) (ring : Ring) (pieces : List Piece) (frames : ℕ) (lines tail : List ℕ) → ring
     ≡ ring_of c → IsCut c pieces
     → AreShown c.frames c.addrs (keys_of ring.keys) (all_blocks pieces) → frames ≡ length c.frames → lines
@@ -123,7 +123,7 @@ is_report c ring pieces frames lines tail is cut shown count printed ends =
     (ends ∙ ap (λ n. tail_text n ring) count)
     ∙ ap (report_text c) is
 
--- Fronts
+-- Prefixes
 
 take_front : (ys rest : List ℕ) (n : ℕ) → (m : ℕ) × (take m (ys ++ rest) ≡ take n ys)
 take_front [] rest zero = (0, refl)
@@ -135,14 +135,14 @@ take_behind : (xs ys rest : List ℕ) (n : ℕ) → (m : ℕ) × (take m (xs ++ 
 take_behind [] ys rest n = take_front ys rest n
 take_behind (x ∷ xs) ys rest n = let r = take_behind xs ys rest n in (suc r.0, ap (λ l. x ∷ l) r.1)
 
--- whole pieces and then a prefix of the next one are a prefix of all
+-- Whole pieces and then a prefix of the next one are a prefix of all.
 front_of : (a b c : Option (List ℕ)) (xs ys rest : List ℕ) → Appends a b xs → AppendsFront b c ys
     → AppendsFront a c (xs ++ (ys ++ rest))
 front_of a b c xs ys rest first second =
     let r = take_behind xs ys rest second.0 in
     (r.0, subst (Appends a c) (sym r.1) (Appends-trans a b c xs (take second.0 ys) first second.1))
 
--- a prefix of what comes first is a prefix of all; so is all of it and a prefix of the rest
+-- A prefix of what comes first is a prefix of all; so is all of that and a prefix of the rest.
 pub front_first : (a b : Option (List ℕ)) (xs ys : List ℕ) → AppendsFront a b xs → AppendsFront a b (xs ++ ys)
 front_first a b xs ys first =
     let r = take_front xs ys first.0 in (r.0, subst (Appends a b) (sym r.1) first.1)

@@ -6,7 +6,7 @@ use Rattle.zb_inspect.specs.Rings.{learnt, with_key, has_key, keys_of}
 use Rattle.zb_inspect.specs.declared.key_ring.Lead.{Lead}
 use Rattle.zb_inspect.specs.declared.key_ring.RingKey.{RingKey}
 
--- keys are only added after those that are there
+-- Keys are only added after those that are there.
 one_more : (b : Bool) (ring : List RingKey) (k : RingKey) → (more : List RingKey)
     × ((if b then ring else ring ++ k ∷ []) ≡ ring ++ more)
 one_more true ring k = ([], sym (append-nil ring))
@@ -21,7 +21,7 @@ learnt_grows round ring (x ∷ xs) =
     let rest = learnt_grows round (with_key ring x.key (Some (x.frame, round))) xs in
     (first.0 ++ rest.0, rest.1 ∙ ap (λ r. r ++ rest.0) first.1 ∙ append_assoc ring first.0 rest.0)
 
--- a round that adds none leaves the ring
+-- A round that adds no key leaves the ring unchanged.
 same_length : (ring more : List RingKey) → length (ring ++ more) ≡ length ring → more ≡ []
 same_length ring [] same = refl
 same_length ring (k ∷ more) same = absurd (omega (arith, length-append ring (k ∷ more)))
@@ -33,7 +33,7 @@ unchanged round ring new xs is same =
     let none = same_length ring g.0 (ap (length {A = RingKey}) (sym (is ∙ g.1)) ∙ same) in
     is ∙ g.1 ∙ ap (λ more. ring ++ more) none ∙ append-nil ring
 
--- the keys before a round are the first of those after it
+-- The keys before a round are the first of those after it.
 pub first_keys : (round : ℕ) (ring new : List RingKey) (xs : List Lead) → new ≡ learnt round ring xs
     → take (length ring) (keys_of new) ≡ keys_of ring
 first_keys round ring new xs is =

@@ -22,7 +22,7 @@ nat_split n m within = grind arith
 minus_one : (n : ℕ) → n + 1 - 1 ≡ n
 minus_one n = omega arith
 
--- one round, told by what its calls say
+-- One round, by what its calls say.
 pub record Round (c : Capture) (rounds : ℕ) (ring new : List RingKey) (pieces : List Piece) : Type 0 where
   pub cut : IsCut c pieces
   pub shown : AreShown c.frames c.addrs (keys_of ring) (all_blocks pieces)
@@ -30,7 +30,7 @@ pub record Round (c : Capture) (rounds : ℕ) (ring new : List RingKey) (pieces 
   pub next : new ≡ learnt (rounds + 1) ring (leads 1 (frames_shown c.addrs (keys_of ring) c.frames))
   pub after : new ≡ ring_after c (rounds + 1)
 
--- what is learnt in a round
+-- What is learnt in a round.
 round_ends : (c : Capture) (rounds : ℕ) (ring new : List RingKey) → ring ≡ ring_after c rounds
     → new ≡ learnt (rounds + 1) ring (leads 1 (frames_shown c.addrs (keys_of ring) c.frames)) → new
     ≡ ring_after c (rounds + 1)
@@ -49,7 +49,7 @@ next_as frames all addrs others keys more old new d e f zip =
     let R : List Key → Type 0 = λ k. AllZip (IsNextPiece all others k) old new in
     subst R f (subst Q e (subst P d zip))
 
--- the blocks of each piece before a round
+-- The blocks of each piece before a round.
 pub ready : (c : Capture) (known : ℕ) (ring : List RingKey) (pieces : List Piece) (frames : List (ArrayVec ℕ))
     (addrs : List (Short × Eui)) (keys : List Key)
     → frames ≡ c.frames → addrs ≡ c.addrs → keys ≡ keys_of ring → AllSee c.frames c.addrs (take known (keys_of ring))
@@ -99,7 +99,7 @@ one_round c rounds known ring new old pieces frames addrs keys cut all f a k wit
       after = round_ends c rounds ring new before learns;
     }
 
--- the last round
+-- The last round.
 pub last_round : (c : Capture) (rounds : ℕ) (ring new keys : List RingKey) (pieces : List Piece)
     → Round c rounds ring new pieces
     → ((n : ℕ) → 0 < n → n < rounds + 1 → ring_after c n ≢ ring_after c (n - 1)) → length new ≡ length ring → keys
@@ -124,7 +124,7 @@ last_shown c rounds ring new keys pieces round same is =
     let P : List RingKey → Type 0 = λ r. AreShown c.frames c.addrs (keys_of r) (all_blocks pieces) in
     subst P (sym (is ∙ stays)) round.shown
 
--- a round that adds keys
+-- A round that adds keys.
 pub another_first : (c : Capture) (rounds : ℕ) (ring new : List RingKey) (pieces : List Piece)
     → Round c rounds ring new pieces
     → ((n : ℕ) → 0 < n → n < rounds + 1 → ring_after c n ≢ ring_after c (n - 1)) → length new ≢ length ring

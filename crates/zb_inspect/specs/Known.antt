@@ -9,6 +9,6 @@ use Rattle.zb_base.specs.declared.key.Key.{Key}
 abbrev pub key_cmp : Key → Key → Ordering
 key_cmp a b = slice_cmp nat_cmp a.0 b.0
 
--- whether the set has the key
+-- Whether the set has the key.
 abbrev pub is_known : BTreeSet Key → Key → Bool
 is_known set key = contains key_cmp set key

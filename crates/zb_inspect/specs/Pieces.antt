@@ -1,4 +1,4 @@
--- Frames that are cut into consecutive pieces of work, and these into blocks.
+-- Frames that are cut into consecutive pieces of work, and pieces that are cut into blocks.
 use Rattle.std.specs.Prelude.{◌≡◌, ℕ, ◌+◌, ◌-◌, ◌<◌, ◌≤◌, ◌^◌, min, List, [], ◌∷◌, ◌++◌, length, take, drop, Bool, true, false}
 use Rattle.std.specs.List.{AllByRecursion, flat_map, list_all}
 use Rattle.arrayvec.specs.ArrayVec.{ArrayVec}
@@ -17,21 +17,21 @@ use Rattle.zb_inspect.specs.declared.piece.Piece.{Piece}
 use Rattle.zb_inspect.specs.declared.key_ring.Lead.{Lead}
 use Rattle.zb_parallel.specs.declared.share.Share.{Share}
 
--- what pieces have, one after the other
+-- The blocks of pieces, one piece after the other.
 abbrev pub all_blocks : List Piece → List Block
 all_blocks pieces = flat_map (λ (piece : Piece). piece.blocks.items) pieces
 
 abbrev pub all_leads : List Piece → List Lead
 all_leads pieces = flat_map (λ (piece : Piece). piece.leads.items) pieces
 
--- the frames of a block, among those of a capture; and those of blocks, one after the other
+-- The frames of a block, among those of a capture; and those of blocks, one block after the other.
 abbrev pub frames_in : List (ArrayVec ℕ) → Block → List (ArrayVec ℕ)
 frames_in frames block = take block.count (drop (block.first - 1) frames)
 
 abbrev pub all_frames : List (ArrayVec ℕ) → List Block → List (ArrayVec ℕ)
 all_frames frames blocks = flat_map (frames_in frames) blocks
 
--- blocks are consecutive; the first has the number `frame`
+-- The blocks are consecutive. The first one has the number `frame`.
 abbrev pub Numbered : ℕ → List Block → Type 0
 Numbered frame [] = Unit {0}
 Numbered frame (block ∷ more) = (block.first ≡ frame) × Numbered (frame + block.count) more
@@ -40,29 +40,29 @@ abbrev pub count_of : List Block → ℕ
 count_of [] = 0
 count_of (block ∷ more) = block.count + count_of more
 
--- Pieces, numbered from `number` on, that have the frames that are left: each has `size` of them, and the last what is
--- left by then. Where no frame is left there is no piece.
+-- Pieces, numbered from `number` on, that have the frames that are left. Each has `size` of them, and the last one
+-- the rest. If no frame is left there is no piece.
 abbrev pub AreSized : ℕ → ℕ → ℕ → List Piece → Type 0
 AreSized size number left [] = left ≡ 0
 AreSized size number left (piece ∷ more) =
     (piece.number ≡ number) × (0 < left) × (count_of piece.blocks.items ≡ min size left)
     × AreSized size (number + 1) (left - min size left) more
 
--- the first `frames` frames hold the block
+-- The block is within the first `frames` frames.
 pub record IsWithin (frames : ℕ) (block : Block) : Type 0 where
   pub first : 1 ≤ block.first
   pub last : block.first + block.count ≤ frames + 1
 
--- What is kept of frames, the first of which has the number `first`. `found` is what they show. Nothing is kept where
--- no key opened the NWK layer of any of them, the lines of a report where no layer of any of them is closed, and else
--- all of it.
+-- What is kept for frames, of which the first has the number `first`. `found` is what they show. If no key opened the
+-- NWK layer of any of them, nothing is kept. If no layer of any of them is closed, the lines of a report are kept.
+-- Else everything is kept.
 abbrev pub StandsFor : ℕ → List Shown → Seen → Type 0
 StandsFor first found Nothing = ⊥
 StandsFor first found Unopened = list_all is_unopened found ≡ true
 StandsFor first found (Lines text) = (text.items ≡ frames_text first found) × (list_all is_settled found ≡ true)
 StandsFor first found (Whole kept) = kept.items ≡ found
 
--- the same of frames that may not have been looked at yet
+-- The same for frames that may not have been looked at yet.
 abbrev pub MayStandFor : ℕ → List Shown → Seen → Type 0
 MayStandFor first found Nothing = Unit {0}
 MayStandFor first found Unopened = StandsFor first found Unopened
@@ -72,11 +72,11 @@ MayStandFor first found (Whole kept) = StandsFor first found (Whole kept)
 abbrev pub found_in : List (ArrayVec ℕ) → List (Short × Eui) → List Key → Block → List Shown
 found_in frames addrs keys block = frames_shown addrs keys (frames_in frames block)
 
--- what the frames of a block show under the keys; they may not have been looked at yet
+-- What the frames of a block show under the keys. They may not have been looked at yet.
 abbrev pub Sees : List (ArrayVec ℕ) → List (Short × Eui) → List Key → Block → Type 0
 Sees frames addrs keys block = MayStandFor block.first (found_in frames addrs keys block) block.seen
 
--- what the frames of a block show under the keys
+-- What the frames of a block show under the keys.
 abbrev pub IsShown : List (ArrayVec ℕ) → List (Short × Eui) → List Key → Block → Type 0
 IsShown frames addrs keys block = StandsFor block.first (found_in frames addrs keys block) block.seen
 
@@ -95,18 +95,18 @@ is_nothing (Whole kept) = false
 abbrev pub IsUnseen : Block → Type 0
 IsUnseen block = is_nothing block.seen ≡ true
 
--- the first item of a share is one of `items`
+-- The first item of a share is one of `items`.
 abbrev pub IsShareWithin : ℕ → Share → Type 0
 IsShareWithin items share = share.first < items
 
--- a piece that has the frames of a share, which were not looked at yet
+-- A piece that has the frames of a share. It was not looked at yet.
 pub record HasShare (share : Share) (piece : Piece) : Type 0 where
   pub number : piece.number ≡ share.number
   pub numbers : Numbered (share.first + 1) piece.blocks.items
   pub count : count_of piece.blocks.items ≡ share.count
   pub unseen : AllByRecursion IsUnseen piece.blocks.items
 
--- the keys that a look at a block finds: those of frames of which the lines are kept were found before
+-- The keys that a look at a block newly finds. Those of frames with kept lines were found before.
 abbrev pub new_leads : List Lead → Seen → List Lead
 new_leads found Nothing = found
 new_leads found Unopened = found
@@ -119,12 +119,12 @@ fresh frames addrs keys block = new_leads (leads block.first (found_in frames ad
 abbrev pub all_fresh : List (ArrayVec ℕ) → List (Short × Eui) → List Key → List Block → List Lead
 all_fresh frames addrs keys blocks = flat_map (fresh frames addrs keys) blocks
 
--- the same frames
+-- The same frames.
 pub record SameFrames (old new : Block) : Type 0 where
   pub first : new.first ≡ old.first
   pub count : new.count ≡ old.count
 
--- a block that was looked at under the keys
+-- A block that was looked at under the keys.
 abbrev pub IsNext : List (ArrayVec ℕ) → List (Short × Eui) → List Key → Block → Block → Type 0
 IsNext frames addrs keys old new = SameFrames old new × IsShown frames addrs keys new
 
@@ -138,51 +138,51 @@ pub record IsNextPiece (frames : List (ArrayVec ℕ)) (addrs : List (Short × Eu
   pub shown : AreShown frames addrs keys new.blocks.items
   pub leads : new.leads.items ≡ all_fresh frames addrs keys old.blocks.items
 
--- `count` frames of a capture, of which the first has the number `first`
+-- `count` frames of a capture. The first one has the number `first`.
 abbrev pub frames_from : List (ArrayVec ℕ) → ℕ → ℕ → List (ArrayVec ℕ)
 frames_from frames first count = take count (drop (first - 1) frames)
 
--- the blocks of the pieces are all frames of the capture, in their order
+-- The blocks of the pieces are all frames of the capture, in order.
 pub record IsCut (c : Capture) (pieces : List Piece) : Type 0 where
   pub numbers : Numbered 1 (all_blocks pieces)
   pub count : count_of (all_blocks pieces) ≡ length c.frames
 
--- the lines that are kept
+-- The kept lines.
 abbrev pub lines_of : Seen → List ℕ
 lines_of Nothing = []
 lines_of Unopened = []
 lines_of (Lines text) = text.items
 lines_of (Whole kept) = []
 
--- the lines in a report of what is kept of `count` frames, the first of which has the number `first`
+-- The lines in a report for what is kept for `count` frames. The first one has the number `first`.
 abbrev pub seen_text : ℕ → ℕ → Seen → List ℕ
 seen_text first count Nothing = []
 seen_text first count Unopened = unopened_text first count
 seen_text first count (Lines text) = text.items
 seen_text first count (Whole kept) = frames_text first kept.items
 
--- the numbers of the frames are in their range
+-- The numbers of the frames are in their range.
 abbrev pub HasRoom : ℕ → ℕ → Seen → Type 0
 HasRoom first count Nothing = Unit {0}
 HasRoom first count Unopened = first + count < 2 ^ 32
 HasRoom first count (Lines text) = Unit {0}
 HasRoom first count (Whole kept) = first + length kept.items < 2 ^ 32
 
--- whether lines are kept
+-- Whether lines are kept.
 abbrev pub has_lines : Seen → Bool
 has_lines Nothing = false
 has_lines Unopened = false
 has_lines (Lines text) = true
 has_lines (Whole kept) = false
 
--- one block of two, with the lines of both
+-- One block that replaces two, with the lines of both.
 pub record AreJoined (front back joined : Block) : Type 0 where
   pub first : joined.first ≡ front.first
   pub count : joined.count ≡ front.count + back.count
   pub kept : has_lines joined.seen ≡ true
   pub lines : lines_of joined.seen ≡ lines_of front.seen ++ lines_of back.seen
 
--- A block after others, of which it may have become a part: what was shown of all of them still is.
+-- A block is added after others, and may become a part of the last one. What was shown by all of them is shown still.
 pub record IsAdded (old : List Block) (block : Block) (new : List Block) : Type 0 where
   pub numbers : (frame : ℕ) → Numbered frame (old ++ block ∷ []) → Numbered frame new
   pub count : count_of new ≡ count_of (old ++ block ∷ [])
@@ -191,7 +191,7 @@ pub record IsAdded (old : List Block) (block : Block) (new : List Block) : Type 
       → frame + count_of (old ++ block ∷ []) ≤ length frames + 1 → AreShown frames addrs keys (old ++ block ∷ [])
       → AreShown frames addrs keys new
 
--- one block that was not looked at, of these frames
+-- One block of these frames that was not looked at.
 abbrev pub IsOneUnseen : List Block → ℕ → ℕ → Type 0
 IsOneUnseen [] first count = ⊥
 IsOneUnseen (block ∷ []) first count = (is_nothing block.seen ≡ true) × (block.first ≡ first) × (block.count ≡ count)

@@ -7,25 +7,25 @@ use Rattle.zb_inspect.specs.declared.block.Block.{Block}
 use Rattle.zb_inspect.specs.declared.fault.InspectFault.{InspectFault}
 use Rattle.zb_inspect.specs.declared.fault.InspectFault.TheVariants.{Write, NoMemory}
 
--- the lines of what blocks keep
+-- The lines that blocks keep.
 abbrev pub block_text : Block → List ℕ
 block_text block = seen_text block.first block.count block.seen
 
 abbrev pub blocks_text : List Block → List ℕ
 blocks_text blocks = flat_map block_text blocks
 
--- the text of pages, one after the other
+-- The text of pages, one after the other.
 abbrev pub pages_text : List (Vec ℕ Global) → List ℕ
 pages_text pages = flat_map (λ (page : Vec ℕ Global). page.items) pages
 
--- the numbers of all frames are in their range
+-- The numbers of all frames are in their range.
 abbrev pub BlockHasRoom : Block → Type 0
 BlockHasRoom block = HasRoom block.first block.count block.seen
 
 abbrev pub HaveRoom : List Block → Type 0
 HaveRoom blocks = AllByRecursion BlockHasRoom blocks
 
--- how a fault is printed
+-- How a fault is printed.
 abbrev pub fault_text : InspectFault → List ℕ
 fault_text Write = codes "the report can't be written"
 fault_text NoMemory = codes "no memory"

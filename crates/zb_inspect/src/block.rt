@@ -20,16 +20,16 @@ use zb_inspect_frame::{
 };
 use zb_seal::SealingKeys;
 
-/// What is kept of the frames of a block.
+/// What is kept for the frames of a block.
 #[derive(Drop)]
 pub enum Seen {
     /// They weren't looked at yet.
     Nothing,
-    /// No key opened the NWK layer of any of them. So they show what they show under no keys, and nothing is kept.
+    /// No key opened the NWK layer of any of them. They show what they show under no keys, so nothing is kept.
     Unopened,
-    /// Their lines in a report: no layer of any of them is closed, so further keys show no more.
+    /// Their lines in a report. No layer of any of them is closed, so further keys show no more.
     Lines(Vec<u8>),
-    /// All that they show, since a layer of some of them is closed.
+    /// Everything that they show, because a layer of some of them is closed.
     Whole(Vec<Shown>),
 }
 
@@ -40,14 +40,14 @@ pub struct Block {
     pub first: u32,
     /// How many frames there are.
     pub count: u32,
-    /// What is kept of them.
+    /// What is kept for them.
     pub seen: Seen,
 }
 
-/// Looks at a block of the frames of a capture under all keys, and adds the keys that are found.
+/// Opens a block of the frames of a capture under all keys, and adds the keys that it finds.
 ///
-/// It may have been looked at under the first `known` keys. Frames of which the lines are kept show no more, and their
-/// keys were found before.
+/// It may have been opened under the first `known` keys. Frames with kept lines show no more, and their keys were
+/// found before.
 pub(crate) fn look_at(
     alloc: Global,
     frames: &Frames,
@@ -86,7 +86,7 @@ pub(crate) fn look_at(
     Ok(())
 }
 
-/// Shows `count` frames, from a place on, counted from 0.
+/// Shows `count` frames from a place on, counted from 0.
 fn show_all(
     alloc: Global,
     frames: &Frames,
@@ -158,7 +158,7 @@ fn show_unopened(
     Ok(show_again(frames, addrs, keys, known, from, before))
 }
 
-/// Shows frames under all keys, from a place on, counted from 0. What they show is known under the first `known`.
+/// Shows frames under all keys, from a place on, counted from 0. `seen` is what they show under the first `known`.
 fn show_again(
     frames: &Frames,
     addrs: &Addresses<'_>,
@@ -180,7 +180,7 @@ fn show_again(
     seen
 }
 
-/// Looks again at frames from a place on, counted from 0, that were looked at under the first `known` keys.
+/// Updates frames from a place on, counted from 0, that were opened under the first `known` keys.
 fn refresh_all(
     frames: &Frames,
     addrs: &Addresses<'_>,
@@ -202,7 +202,7 @@ fn refresh_all(
     }
 }
 
-/// Looks again at the frame at a place. Its bytes are read only where a layer of it was opened.
+/// Updates the frame at a place. Its bytes are read only if a layer of it was opened.
 fn refresh(
     frames: &Frames,
     addrs: &Addresses<'_>,
@@ -248,7 +248,8 @@ fn keep(
 
 /// Keeps what the frames of a block show at a later look, and adds the keys that their opened contents carry.
 ///
-/// All that unopened frames show is kept, too: where rounds find one key each, no frame is read anew in each of them.
+/// Everything that unopened frames show is kept, too: if each round finds one key, no frame is parsed again in each
+/// of them.
 fn keep_again(
     alloc: Global,
     block: &mut Block,
@@ -265,7 +266,8 @@ fn keep_again(
     Ok(())
 }
 
-/// Keeps nothing of frames that no key opened, the lines of frames of which no layer is closed, or else all they show.
+/// Keeps nothing for frames that no key opened, the lines for frames with no closed layer, and else everything they
+/// show.
 fn settle(alloc: Global, first: u32, all_shown: Vec<Shown>) -> Result<Seen, AllocError>
     requires { first + vec_len all_shown < 2 ^ 32 }
     ensures { IfOk result (λ seen. StandsFor first all_shown.items seen) }
@@ -277,7 +279,7 @@ fn settle(alloc: Global, first: u32, all_shown: Vec<Shown>) -> Result<Seen, Allo
     }
 }
 
-/// Keeps the lines of frames of which no layer is closed, or else all they show.
+/// Keeps the lines of frames with no closed layer, and else everything they show.
 fn settle_again(alloc: Global, first: u32, all_shown: Vec<Shown>) -> Result<Seen, AllocError>
     requires { first + vec_len all_shown < 2 ^ 32 }
     ensures { IfOk result (λ seen. StandsFor first all_shown.items seen) }
@@ -301,7 +303,7 @@ fn are_settled(all_shown: &[Shown]) -> bool
     all_shown.iter().all(|shown| is_settled(shown))
 }
 
-/// Prints the lines of frames, the first of which has the number `first`.
+/// Prints the lines of frames, of which the first has the number `first`.
 fn lines_of(alloc: Global, first: u32, all_shown: &[Shown]) -> Result<Vec<u8>, AllocError>
     requires { first + length all_shown.now < 2 ^ 32 }
     ensures { IfOk result (λ v. v.items ≡ frames_text first all_shown.now) }
@@ -311,7 +313,7 @@ fn lines_of(alloc: Global, first: u32, all_shown: &[Shown]) -> Result<Vec<u8>, A
     Ok(lines)
 }
 
-/// Adds the keys that opened contents carry, in the order of the frames, and in a frame from the inside out.
+/// Adds the keys that opened contents carry, frame by frame, and in each frame from the inside out.
 fn add_all_leads(found: &mut Vec<Lead>, first: u32, seen: &[Shown]) -> Result<(), AllocError>
     requires { first + length seen.now < 2 ^ 32 }
     ensures { OnOk result (found.new.items ≡ found.old.items ++ leads_in first seen.now) }
@@ -347,12 +349,12 @@ impl Block {
     ghost use Rattle.std.specs.Prelude.{◌≡◌, ◌++◌, IfOk};
     ghost use Rattle.zb_inspect.specs.Pieces.{HasRoom, lines_of as kept_lines, seen_text};
 
-    /// Puts the lines of the frames after a page. Where that is empty, lines that are kept become the page.
+    /// Appends the lines of the frames to a page. If the page is empty, kept lines become the page.
     ///
-    /// Requires that the numbers of the frames are below 2^32.
+    /// The numbers of the frames must be below 2^32.
     ///
     /// # Errors
-    /// Out of memory.
+    /// `AllocError`, if memory runs out.
     pub fn print(self, page: Vec<u8>) -> Result<Vec<u8>, AllocError>
         requires { HasRoom self.first self.count self.seen }
         ensures { IfOk result (λ printed. printed.items ≡ page.items ++ seen_text self.first self.count self.seen) }
@@ -368,7 +370,7 @@ impl Block {
         Ok(page)
     }
 
-    /// Returns the lines of the frames, where they are kept.
+    /// Returns the lines of the frames, if they are kept.
     pub(crate) fn lines(&self) -> &[u8]
         ensures { result.now ≡ kept_lines self.now.seen }
     {
@@ -381,7 +383,7 @@ impl Block {
     }
 }
 
-/// Puts lines after a page, which they become where it is empty.
+/// Appends lines to a page. If the page is empty, they become the page.
 fn put_behind(page: &mut Vec<u8>, lines: Vec<u8>) -> Result<(), AllocError>
     ensures { OnOk result (page.new.items ≡ page.old.items ++ lines.items) }
 {

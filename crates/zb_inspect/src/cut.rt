@@ -11,9 +11,9 @@ use std::alloc::Global;
 use zb_base::NoMemory;
 use zb_parallel::{Share, shares};
 
-/// Cuts `frames` frames into consecutive pieces, at most one for each job. No frame of them was looked at yet.
+/// Cuts `frames` frames into consecutive pieces, at most one for each job. No frame was looked at yet.
 ///
-/// Each piece but the last has as many frames as there are for a job, rounded up.
+/// Each piece but the last has an equal share of the frames, rounded up.
 pub(crate) fn cut(alloc: Global, frames: u32, jobs: u32) -> Result<Vec<Piece>, NoMemory>
     requires jobs { 1 ≤ jobs }
     requires frames { frames ≤ most_frames }

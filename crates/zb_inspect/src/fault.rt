@@ -1,4 +1,4 @@
-//! What keeps a report from being written to its end.
+//! What can prevent that a report is written to its end.
 ghost use Rattle.std.specs.Prelude.{◌≡◌};
 ghost use Rattle.zb_inspect.specs.declared.fault.InspectFault.TheVariants.{Write as unwritten, NoMemory as lacks};
 
@@ -7,12 +7,12 @@ use std::error::Error;
 use std::fmt;
 use zb_base::{Failed, NoMemory};
 
-/// Why a report isn't written to its end.
+/// Why a report wasn't written to its end.
 #[derive(Clone, Copy, Debug, PartialEq, Eq)]
 pub enum InspectFault {
-    /// The sink failed: its count of faults rose.
+    /// The sink failed, and its count of faults rose.
     Write,
-    /// There was no memory left.
+    /// Memory ran out.
     NoMemory,
 }
 

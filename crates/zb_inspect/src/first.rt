@@ -1,4 +1,5 @@
-//! The first look at frames: settled frames that follow each other come into one block, with their lines in one text.
+//! The first look at frames. Settled frames that follow each other are put into one block, with their lines in one
+//! text.
 ghost use Rattle.std.specs.Prelude.{◌≡◌, ◌+◌, ◌<◌, ◌≤◌, ◌^◌, ◌++◌, ◌∷◌, ◌&&◌, [], length, true, IfOk, OnOk};
 ghost use Rattle.zb_inspect.specs.Rings.{leads as leads_in, frames_shown};
 ghost use Rattle.zb_inspect.specs.Pieces.{AreShown, AreJoined, IsAdded, Numbered, count_of, frames_from, has_lines as lines_kept};
@@ -12,13 +13,13 @@ use zb_capture::Frames;
 use zb_inspect_frame::Addresses;
 use zb_seal::SealingKeys;
 
-/// How many frames are looked at together.
+/// How many frames are opened together.
 ///
-/// Where some of them were opened and a layer of one of them is closed, all that they show is kept.
+/// If some of them were opened and a layer of one of them is closed, everything that they show is kept.
 const FRAMES_TOGETHER: u32 = 8;
 
-/// Looks at `count` frames of a capture under all keys, and adds the keys that are found. The first frame has the
-/// number `first`.
+/// Opens `count` frames of a capture under all keys, and adds the keys that it finds. The first frame has the number
+/// `first`.
 pub(crate) fn look_first(
     alloc: Global,
     frames: &Frames,
@@ -54,7 +55,7 @@ pub(crate) fn look_first(
     Ok(blocks)
 }
 
-/// Adds a block after others. Where the lines of both are kept, it becomes a part of the last one.
+/// Adds a block after others. If both it and the last one have kept lines, it becomes a part of the last one.
 fn add_block(blocks: &mut Vec<Block>, block: Block) -> Result<(), AllocError>
     requires { count_of (blocks.old.items ++ block ∷ []) < 2 ^ 32 }
     ensures { OnOk result (IsAdded blocks.old.items block blocks.new.items) }
@@ -90,7 +91,7 @@ fn has_lines(block: &Block) -> bool
     }
 }
 
-/// Makes one block of two whose lines are kept.
+/// Makes one block of two with kept lines.
 fn join(front: Block, back: &Block) -> Result<Block, AllocError>
     requires kept { lines_kept front.seen ≡ true }
     requires room { front.count + back.now.count < 2 ^ 32 }

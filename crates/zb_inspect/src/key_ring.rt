@@ -13,16 +13,16 @@ use zb_seal::SealingKeys;
 pub struct RingKey {
     /// The key.
     pub key: Key,
-    /// Where it was found: the number of the frame, from 1, and of the round, from 1. A given key was not found.
+    /// Where it was found: the number of the frame, from 1, and of the round, from 1. `None` for a given key.
     pub found: Option<(u32, u32)>,
 }
 
-/// The keys that are given or that the frames give.
+/// The keys that are given, and those that the frames give.
 #[derive(Debug, Drop)]
 pub struct Ring {
     /// The keys, in the order in which they became known.
     pub keys: List<RingKey>,
-    /// How many rounds it took.
+    /// How many rounds it took to find them.
     pub rounds: u32,
 }
 
@@ -35,14 +35,14 @@ pub struct Lead {
     pub key: Key,
 }
 
-/// The ring so far, each key with its sealing keys expanded.
+/// The ring so far, with the expanded sealing keys of each key.
 ///
 /// A contract sees it as its keys.
 #[derive(Drop)]
 pub(crate) struct KeyRing {
     keys: Vec<RingKey>,
     sealing_keys: Vec<SealingKeys>,
-    /// The same keys, so that a key is found among them by its order.
+    /// The same keys as a set, for fast look-ups.
     known: BTreeSet<Key>,
 }
 
@@ -83,10 +83,10 @@ impl KeyRing {
         self.known.contains(key)
     }
 
-    /// Adds one key, if that is new.
+    /// Adds a key, if it is new.
     ///
     /// # Errors
-    /// `NoMemory`.
+    /// `NoMemory`, if memory runs out.
     pub fn with(self, key: Key, found: Option<(u32, u32)>) -> Result<KeyRing, NoMemory>
         ensures { IfOk result (λ r. r ≡ with_key self key found) }
     {
@@ -141,7 +141,7 @@ pub(crate) fn given_ring(alloc: Global, keys: &[Key]) -> Result<KeyRing, NoMemor
     Ok(ring)
 }
 
-/// Adds the keys that were found in a round, in their order.
+/// Adds the keys that were found in a round, in order.
 pub(crate) fn learn(ring: KeyRing, round: u32, leads: &[Lead]) -> Result<KeyRing, NoMemory>
     ensures { IfOk result (λ r. r ≡ learnt round ring leads.now) }
 {

@@ -10,11 +10,11 @@ use zb_base::NoMemory;
 use zb_capture::Capture;
 use zb_parallel::NoGate;
 
-/// Works out the ring of a capture: its given keys, and those that its frames give, with the rounds.
+/// Finds the ring of a capture: its given keys, and those that its frames give, with the rounds.
 ///
 /// # Errors
 ///
-/// `NoMemory`.
+/// `NoMemory`, if memory runs out.
 pub fn ring<T: Threads + Sync>(rt: &T, alloc: Global, capture: &Capture) -> Result<Ring, NoMemory>
     requires { IsCapture capture.now }
     ensures ring { IfOk result (λ r. r ≡ ring_of capture.now) }

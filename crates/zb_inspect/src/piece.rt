@@ -25,9 +25,9 @@ pub struct Piece {
     pub leads: Vec<Lead>,
 }
 
-/// Looks at a piece of the frames of a capture under all keys.
+/// Opens the frames of a piece under all keys.
 ///
-/// It may have been looked at under the first `known` keys.
+/// They may have been opened under the first `known` keys.
 pub(crate) fn look(
     alloc: Global,
     frames: &Frames,
@@ -55,7 +55,7 @@ pub(crate) fn look(
     }
 }
 
-/// Looks for the first time at `count` frames, the first of which has the number `first`.
+/// Opens `count` frames for the first time. The first one has the number `first`.
 fn look_new(
     alloc: Global,
     frames: &Frames,
@@ -85,7 +85,7 @@ fn look_new(
     })
 }
 
-/// Looks at the blocks of a piece in their order.
+/// Opens the blocks of a piece again, in order.
 fn look_again(
     alloc: Global,
     frames: &Frames,
@@ -125,7 +125,7 @@ fn look_again(
     })
 }
 
-/// Returns the first frame and the number of frames of a piece that wasn't looked at yet, which is one block.
+/// Returns the first frame and the number of frames of a piece that wasn't opened yet. It is one block.
 fn unseen(blocks: &[Block]) -> Option<(u32, u32)>
     ensures { IfSome result (λ f. IsOneUnseen blocks.now f.0 f.1) }
 {

@@ -1,4 +1,4 @@
-//! Working out a report, and writing it.
+//! Makes a report, and writes it.
 ghost use Rattle.std.specs.Prelude.{◌≡◌, ◌≢◌, ◌≤◌, ◌++◌, length, IfOk, Err, OnOk, OnErr};
 ghost use Rattle.std.specs.Io.KnownBytes.{Appends};
 ghost use Rattle.std.specs.List.{AllByRecursion};
@@ -19,13 +19,13 @@ use zb_base::{Failed, NoMemory, Sink};
 use zb_capture::Capture;
 use zb_parallel::{Gate, gather};
 
-/// Writes the report on a capture, worked out by `jobs` jobs. Nothing is written before the report is known.
+/// Writes the report on a capture, with `jobs` jobs. Nothing is written before the whole report is known.
 ///
-/// Requires a job.
+/// There must be at least one job.
 ///
 /// # Errors
 ///
-/// `Write` where the sink failed, which then has a prefix of the report; `NoMemory`.
+/// `Write` if the sink failed, which then has a prefix of the report; `NoMemory`.
 pub fn report<T: Threads + Sync, G: Gate, W: Sink>(
     rt: &T,
     alloc: Global,
@@ -39,7 +39,7 @@ pub fn report<T: Threads + Sync, G: Gate, W: Sink>(
     ensures ends { Reports capture.now (W.taken out.old) (W.taken out.new) (W.faults out.old)
         (W.faults out.new) result }
     ensures later { W.faults out.old ≤ W.faults out.new }
-    // No fault of the sink is reported as out of memory.
+    // No fault of the sink is reported as `NoMemory`.
     ensures unrisen { result ≢ Err InspectFault.Write → Unrisen (W.faults out.old) (W.faults out.new) }
 {
     let opened = open_all(rt, alloc, capture, jobs, gate)?;
@@ -60,7 +60,7 @@ fn print_tail(alloc: Global, frames: u32, ring: &Ring) -> Result<Vec<u8>, AllocE
     Ok(page)
 }
 
-/// Prints the lines of the frames of all pieces, a page for each piece. Each page is printed in a thread of its own.
+/// Prints the lines of the frames of all pieces, one page for each piece. Each page is printed in its own thread.
 fn print_all<T: Threads + Sync, G: Gate>(
     rt: &T,
     alloc: Global,
@@ -97,7 +97,7 @@ fn print_piece(alloc: Global, piece: Piece) -> Result<Vec<u8>, NoMemory>
     Ok(page)
 }
 
-/// Writes pages, one after the other, and then a tail.
+/// Writes pages one after the other, and then a tail.
 fn write_all<W: Sink>(pages: &[Vec<u8>], tail: &[u8], out: &mut W) -> Result<(), Failed>
     ensures whole { OnOk result (Appends (W.taken out.old) (W.taken out.new) (pages_text pages.now ++ tail.now)) }
     ensures front { OnErr result (AppendsFront (W.taken out.old) (W.taken out.new)

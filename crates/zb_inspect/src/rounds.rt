@@ -27,13 +27,13 @@ pub struct Opened {
     pub pieces: Vec<Piece>,
 }
 
-/// Works out the ring of a capture, and what its frames show under it, by `jobs` jobs.
+/// Finds the ring of a capture, and what its frames show under it, with `jobs` jobs.
 ///
-/// In each round only the layers that are still closed are tried, and only under the keys that are new. Frames of
-/// which no layer is closed are kept as the lines that they have in a report. Requires a job.
+/// In each round only the layers that are still closed are tried, and only under the new keys. Frames with no closed
+/// layer are kept as their lines in the report. There must be at least one job.
 ///
 /// # Errors
-/// `NoMemory`.
+/// `NoMemory`, if memory runs out.
 pub fn open_all<T: Threads + Sync, G: Gate>(
     rt: &T,
     alloc: Global,
@@ -86,7 +86,7 @@ pub fn open_all<T: Threads + Sync, G: Gate>(
     }
 }
 
-/// Looks at the frames of all pieces under all keys, each piece in a thread of its own.
+/// Opens the frames of all pieces under all keys, each piece in its own thread.
 fn look_at_all<T: Threads + Sync, G: Gate>(
     rt: &T,
     alloc: Global,

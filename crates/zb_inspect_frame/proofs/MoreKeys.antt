@@ -26,7 +26,8 @@ use Rattle.zb_inspect_frame.specs.declared.layer.Finding.TheVariants.{Malformed,
 use Rattle.zb_inspect_frame.specs.declared.shown.Below.{Below}
 use Rattle.zb_inspect_frame.specs.declared.shown.Shown.{Shown}
 
--- what others give under further keys is what they give, and one key before them changes nothing in that
+-- What later keys give under further keys is what they give by themselves, and an earlier key changes nothing about
+-- that.
 one_before : (s : Envelope) (source : Eui) (number m : ℕ) (key : Key) (fresh : List Key) (found : Option (List ℕ))
     (more before : Finding)
     → more ≡ tried m fresh before → unsealed s source number key found more
@@ -56,7 +57,7 @@ tried_further number keys fresh (Opened key term) = refl
 known_first : (known : ℕ) (keys : List Key) → known ≤ length keys → known ≡ 0 + length (take known keys)
 known_first known keys within = omega (arith, length-take known keys)
 
--- The same of the first keys of a list and of those after them.
+-- The same for the first keys of a list and those after them.
 pub found_further : (known : ℕ) (keys : List Key) (x : Finding) → known ≤ length keys
     → tried known (drop known keys) (tried 0 (take known keys) x) ≡ tried 0 keys x
 found_further known keys x within =
@@ -74,7 +75,7 @@ pub aps_further : (known : ℕ) (keys : List Key) (given : Option Eui) (bytes : 
 unfolding found_aps
 aps_further known keys given bytes within = found_further known keys (looked (seen_aps bytes) given) within
 
--- What is known of a layer stays known.
+-- What is known about a layer stays known.
 either_none : (b : Bool) (p : List ℕ) → (if b then None else None) ≡ Some p → ⊥
 either_none true p e = cc
 either_none false p e = cc
@@ -110,7 +111,7 @@ pub tunnel_kept : (number : ℕ) (fresh : List Key) (aps : Finding) (r : Result 
 tunnel_kept number fresh aps (Err fault) i e = e
 tunnel_kept number fresh aps (Ok f) i e = tunnel_of_frame number fresh aps f i e
 
--- the frame in a Tunnel that was known, under further keys
+-- The frame in a known Tunnel, under further keys.
 inner_of_tunnel : (known : ℕ) (keys : List Key) (given : Option Eui) (aps : Finding) (r : Result ApsFrame ApsError)
     (t : Option (ArrayVec ℕ)) (inner : Finding)
     → known ≤ length keys → tunnelled aps r ≡ t
@@ -129,7 +130,7 @@ both aps inner = record { aps = aps; inner = inner }
 same_below : (a b : Finding) (i j : Option Finding) → a ≡ b → i ≡ j → both a i ≡ both b j
 same_below a b i j e f = cc
 
--- What is below the NWK layer, where a Tunnel was known in it.
+-- What is below the NWK layer, if a Tunnel was known in it.
 pub below_further : (known : ℕ) (keys : List Key) (given : Option Eui) (payload : List ℕ) (seen : Below)
     (inner : Finding)
     → known ≤ length keys → seen ≡ below (take known keys) given payload → seen.inner ≡ Some inner
@@ -170,7 +171,7 @@ shown_parts addrs keys nwk (Ok f) = refl
 abbrev whole : Finding → Option Below → Shown
 whole nwk b = record { nwk = nwk; below = b }
 
--- A frame that is looked at again below its NWK layer.
+-- A frame that is opened again below its NWK layer.
 pub frame_anew : (known : ℕ) (addrs : List (Short × Eui)) (keys : List Key) (bytes : List ℕ) (seen : Shown) → known
     ≤ length keys
     → seen ≡ frame_shown addrs (take known keys) bytes
@@ -218,8 +219,8 @@ old_is : (f : List ℕ → Below) (o now : Option (List ℕ)) (old : Below) → 
 old_is f None now old e keeps p is = cc
 old_is f (Some q) now old e keeps p is = let kept : now ≡ Some q = keeps q refl in cc
 
--- The same, where `nwk` is what the NWK layer is found to be under all keys: what was known below it, and what is
--- known then.
+-- The same, if `nwk` is what the NWK layer is found to be under all keys: what was known below it, and what is known
+-- then.
 
 pub below_before : (known : ℕ) (addrs : List (Short × Eui)) (keys : List Key) (bytes : List ℕ) (seen : Shown)
     (nwk : Finding) (old : Below)
@@ -284,7 +285,7 @@ closed_before number fresh NoSource e = e
 closed_before number fresh (Closed s source) e = refl
 closed_before number fresh (Opened key term) e = e
 
--- A frame whose NWK layer stays closed shows what it showed.
+-- A frame whose NWK layer stays closed shows what it showed before.
 still_closed : (known : ℕ) (addrs : List (Short × Eui)) (keys : List Key) (bytes : List ℕ) (seen : Shown) → known
     ≤ length keys
     → seen ≡ frame_shown addrs (take known keys) bytes → is_closed (tried known (drop known keys) seen.nwk) ≡ true
@@ -312,7 +313,7 @@ still_shown known keys seen nwk true within found is =
     ap (λ n. whole n seen.below) found
     ∙ still_closed known addrs keys bytes seen within before (ap is_closed (sym found) ∙ sym is)
 
--- What is below the NWK layer, where no Tunnel was known in it.
+-- What is below the NWK layer, if no Tunnel was known in it.
 pub below_anew : (o : Option (List ℕ)) (known : ℕ) (keys : List Key) (given : Option Eui) (seen : Below)
     (aps : Finding) (inner : Option Finding)
     → known ≤ length keys → aps ≡ tried known (drop known keys) seen.aps

@@ -43,7 +43,7 @@ left_of : (list : List (Short × Eui)) (i : ℕ) → i < length list → drop i 
     ≡ get_or list i (record { 0 = 0 }, record { 0 = 0 }) ∷ drop (i + 1) list
 left_of list i within = rw add-one (drop-cons list i (record { 0 = 0 }, record { 0 = 0 }) within)
 
--- one address of a list more
+-- One more address of a list.
 pub next_noted : (old new : BTreeMap Short Eui) (list : List (Short × Eui)) (i q : ℕ) → i < length list
     → known_of new q ≡ option_or (known_of old q) (if (get_or list i (record { 0 = 0 }, record { 0 = 0 })).0.0 == q
     then Some (get_or list i (record { 0 = 0 }, record { 0 = 0 })).1 else None)

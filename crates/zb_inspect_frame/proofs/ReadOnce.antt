@@ -1,4 +1,4 @@
--- Frames that are read once: what they show is said of what was read.
+-- Frames that are parsed once: what they show follows from what was parsed.
 use Rattle.std.proofs.Common.{◌≡◌, ℕ, List, Option, None, Result, Ok, Err, refl, ap, ◌∙◌}
 use Rattle.std.specs.Option.{option_map}
 use Rattle.arrayvec.specs.ArrayVec.{ArrayVec}
@@ -19,7 +19,7 @@ use Rattle.zb_inspect_frame.specs.declared.shown.Shown.{Shown}
 use Rattle.zb_inspect_frame.specs.Layers.{found_aps, found_nwk, looked, tried}
 use Rattle.zb_inspect_frame.specs.Shows.{below, frame_shown, shown_under, tunnelled}
 
--- what a frame shows, by what is read of it
+-- What a frame shows, from what is parsed.
 abbrev nwk_by : List (Short × Eui) → List Key → Result NwkFrame NwkError → Shown
 nwk_by addrs keys r = shown_under addrs keys (tried 0 keys (looked (nwk_seen r) None)) r
 
@@ -38,7 +38,7 @@ pub frame_bad : (addrs : List (Short × Eui)) (keys : List Key) (bytes : List �
     → record { nwk = Malformed; below = None } ≡ frame_shown addrs keys bytes
 frame_bad addrs keys bytes e is = ap (nwk_by addrs keys) is ∙ is_nwk_by addrs keys bytes
 
--- the same of a payload
+-- The same for a payload.
 
 abbrev inside : List Key → Option Eui → Finding → Result ApsFrame ApsError → Option Finding
 inside keys given aps r = option_map (λ (i : ArrayVec ℕ). found_aps keys given i.items) (tunnelled aps r)

@@ -25,7 +25,7 @@ is_false : (b : Bool) → not b ≡ true → b ≡ false
 is_false true e = cc
 is_false false e = refl
 
--- no key is tried on a layer that isn't closed
+-- No key is tried on a layer that isn't closed.
 tried_same : (number : ℕ) (fresh : List Key) (x : Finding) → is_closed x ≡ false → tried number fresh x ≡ x
 tried_same number fresh Malformed e = refl
 tried_same number fresh NotSecured e = refl

@@ -8,7 +8,7 @@ use Rattle.zb_seal.specs.declared.envelope.Envelope.{Envelope}
 use Rattle.zb_inspect_frame.specs.Layers.{unsealed, opened_by}
 use Rattle.zb_inspect_frame.specs.declared.layer.Finding.TheVariants.{Opened}
 
--- the key opens the layer
+-- The key opens the layer.
 pub opens_here : (s t : Envelope) (source : Eui) (number : ℕ) (key : Key) (more : List Key)
     → content_of s (sealing_key s.label key.0) source ≡ Some t.text.items
     → t ≡ record s { text = t.text } → opened_by s source number (key ∷ more)
@@ -17,14 +17,14 @@ opens_here s t source number key more e same =
     ap (λ (found : Option (List ℕ)). unsealed s source (number + 1) key found (opened_by s source (number + 1) more)) e
     ∙ ap (λ (u : Envelope). Opened (number + 1) (term_of u key source)) (sym same)
 
--- the key doesn't, and others may
+-- The key doesn't open the layer, and others may.
 pub opens_later : (s : Envelope) (source : Eui) (number : ℕ) (key : Key) (more : List Key)
     → content_of s (sealing_key s.label key.0) source ≡ None
     → opened_by s source number (key ∷ more) ≡ opened_by s source (number + 1) more
 opens_later s source number key more e =
     ap (λ (found : Option (List ℕ)). unsealed s source (number + 1) key found (opened_by s source (number + 1) more)) e
 
--- the first of the keys that are left
+-- The first of the keys that are left.
 pub first_left : (keys : List Key) (i : ℕ) (key : Key) → i < length keys → key ≡ get_or keys i key → drop i keys ≡ key
     ∷ drop (i + 1) keys
 first_left keys i key within is =

@@ -1,4 +1,4 @@
--- A frame that no key opened shows the same under no keys, and its line says no more than that.
+-- A frame that no key opened shows the same under no keys, and its line says just that.
 use Rattle.std.proofs.Common.{◌≡◌, ℕ, suc, ◌+◌, ◌-◌, ◌<◌, ◌≤◌, ◌++◌, append-nil, append_assoc, ◌&&◌, not, is_some, List, [], ◌∷◌, Option, Some, None, length, refl, ap, sym, ◌∙◌, arith, Bool, true, false}
 use Rattle.std.specs.Bool.{OnTrue}
 use Rattle.std.specs.List.{list_all}
@@ -26,7 +26,7 @@ both_true : (a b : Bool) → (a && b) ≡ true → (a ≡ true) × (b ≡ true)
 both_true true b e = (refl, e)
 both_true false b e = cc
 
--- a layer that is still closed when keys were tried is as it was before
+-- A layer that is closed after keys were tried is as it was before.
 left_closed : (s : Envelope) (source : Eui) (number : ℕ) (key : Key) (found : Option (List ℕ)) (others : Finding)
     → is_closed (unsealed s source number key found others) ≡ true
     → (is_closed others ≡ true → others ≡ Closed s source)
@@ -55,7 +55,7 @@ nwk_closed : (keys : List Key) (bytes : List ℕ) → is_closed (found_nwk keys 
 unfolding found_nwk
 nwk_closed keys bytes e = tried_closed keys (looked (seen_nwk bytes) None) e
 
--- the NWK layer of what a frame shows
+-- The NWK layer of what a frame shows.
 nwk_of : (addrs : List (Short × Eui)) (keys : List Key) (bytes : List ℕ) → (frame_shown addrs keys bytes).nwk
     ≡ found_nwk keys bytes
 unfolding frame_shown
@@ -73,7 +73,7 @@ unopened_same addrs keys bytes e =
     closed_frame addrs keys (found_nwk keys bytes) r closed ∙ ap (λ n. whole n None) same
     ∙ sym (closed_frame addrs [] (found_nwk [] bytes) r (ap is_closed (sym same) ∙ closed))
 
--- the line of such a frame, and those of several
+-- The line of such a frame, and those of several.
 line_of : (frame : ℕ) (nwk : Finding) (b : Option Below) → is_closed nwk ≡ true → not (is_some b) ≡ true
     → frame_text frame (whole nwk b) ≡ unopened_line frame
 unfolding layer_line
@@ -100,7 +100,7 @@ unfolding unopened_text
 next_unopened frame end within =
     let place : end - frame ≡ suc (end - (frame + 1)) = omega (arith, within) in ap (unopened_text frame) place
 
--- the lines that are left, one printed, and none
+-- The remaining lines, after one or none was printed.
 pub printed_one : (frame end : ℕ) (before now after : List ℕ) → frame < end → now ++ unopened_text frame (end - frame)
     ≡ before
     → after ≡ now ++ unopened_line frame → after ++ unopened_text (frame + 1) (end - (frame + 1)) ≡ before

@@ -8,7 +8,7 @@ use Rattle.zb_inspect_frame.specs.declared.layer.Finding.TheVariants.{Malformed,
 use Rattle.zb_inspect_frame.specs.declared.shown.Below.{Below}
 use Rattle.zb_inspect_frame.specs.declared.shown.Shown.{Shown}
 
--- only what a key of the ring opened carries a key
+-- Only a content that a key of the ring opened carries a key.
 abbrev pub carries : Finding → Option Key
 carries (Opened number term) = carried term
 carries Malformed = None
@@ -24,6 +24,6 @@ abbrev pub keys_of_layers : Finding → Option Below → Carried
 keys_of_layers nwk None = record { inner = None; aps = None; nwk = carries nwk }
 keys_of_layers nwk (Some below) = record { inner = key_below below.inner; aps = carries below.aps; nwk = carries nwk }
 
--- the keys of a frame, from the innermost layer outwards
+-- The keys of a frame, from the innermost layer outwards.
 abbrev pub keys_carried : Shown → Carried
 keys_carried shown = keys_of_layers shown.nwk shown.below

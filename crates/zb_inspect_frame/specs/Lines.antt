@@ -13,7 +13,7 @@ use Rattle.zb_text.specs.Fields.{eui_text}
 use Rattle.zb_text.specs.Hexadecimal.{bytes_text}
 use Rattle.zb_text.specs.Words.{then}
 
--- LABEL, which stands at APS alone
+-- LABEL, which is only given at APS.
 abbrev pub label_text : Layer → Label → List ℕ
 label_text layer.Nwk sealed = []
 label_text layer.Aps sealed = then (choices.label_text sealed)
@@ -23,7 +23,7 @@ abbrev pub opened_text : Term → List ℕ
 opened_text term = label_text term.layer term.label ++ then (eui_text term.source.0) ++ then (decimal term.counter)
     ++ then (bytes_text term.content.items)
 
--- what was found at a layer
+-- What was found at a layer.
 abbrev pub finding_text : Finding → List ℕ
 finding_text Malformed = then (codes "malformed")
 finding_text NotSecured = then (codes "not-secured")
@@ -31,7 +31,7 @@ finding_text NoSource = then (codes "no-source")
 finding_text (Closed s source) = then (codes "no-key")
 finding_text (Opened key term) = then (codes "key") ++ then (decimal key) ++ opened_text term
 
--- the line of a layer of a frame
+-- The line of a layer of a frame.
 unfoldable pub layer_line : ℕ → List ℕ → Finding → List ℕ
 layer_line frame layer finding = decimal frame ++ then layer ++ finding_text finding ++ 10 ∷ []
 
@@ -43,16 +43,16 @@ abbrev pub below_text : ℕ → Option Below → List ℕ
 below_text frame None = []
 below_text frame (Some below) = layer_line frame (codes "aps") below.aps ++ inner_text frame below.inner
 
--- the lines of a frame
+-- The lines of a frame.
 abbrev pub frame_text : ℕ → Shown → List ℕ
 frame_text frame shown = layer_line frame (codes "nwk") shown.nwk ++ below_text frame shown.below
 
--- those of frames, the first of which has the number `frame`
+-- Those of frames, of which the first has the number `frame`.
 abbrev pub frames_text : ℕ → List Shown → List ℕ
 frames_text frame [] = []
 frames_text frame (shown ∷ more) = frame_text frame shown ++ frames_text (frame + 1) more
 
--- those of frames that no key opened
+-- The line of a frame that no key opened.
 abbrev pub unopened_line : ℕ → List ℕ
 unopened_line frame = decimal frame ++ then (codes "nwk") ++ then (codes "no-key") ++ 10 ∷ []
 

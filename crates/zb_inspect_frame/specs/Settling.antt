@@ -1,4 +1,4 @@
--- Frames of which further keys show no more.
+-- Frames for which further keys show no more.
 use Rattle.std.specs.Prelude.{◌≡◌, ℕ, ◌≤◌, ◌&&◌, Bool, true, not, is_some, List, [], length, take, Option, Some, None}
 use Rattle.zb_base.specs.declared.address.Eui.{Eui}
 use Rattle.zb_base.specs.declared.address.Short.{Short}
@@ -17,11 +17,11 @@ abbrev pub below_settled : Option Below → Bool
 below_settled None = true
 below_settled (Some below) = not (is_closed below.aps) && inner_settled below.inner
 
--- whether no layer of a frame is closed
+-- Whether no layer of a frame is closed.
 abbrev pub is_settled : Shown → Bool
 is_settled shown = not (is_closed shown.nwk) && below_settled shown.below
 
--- whether no key opened the NWK layer of a frame, so that nothing is known of what is below it
+-- Whether no key opened the NWK layer of a frame, so that nothing is known about what is below it.
 abbrev pub is_unopened : Shown → Bool
 is_unopened shown = is_closed shown.nwk && not (is_some shown.below)
 
@@ -35,7 +35,7 @@ abbrev pub ShowsNothing : Shown → Type 0
 ShowsNothing seen = (addrs : List (Short × Eui)) (keys : List Key) (bytes : List ℕ) → seen
     ≡ frame_shown addrs keys bytes → frame_shown addrs [] bytes ≡ seen
 
--- Where the first one is what a frame shows under the first keys, the second one is what it shows under all of them.
+-- If the first one is what a frame shows under the first keys, the second one is what it shows under all keys.
 abbrev pub ShowsOn : ℕ → List Key → Shown → Shown → Type 0
 ShowsOn known keys old new = (addrs : List (Short × Eui)) (bytes : List ℕ)
     → old ≡ frame_shown addrs (take known keys) bytes → new ≡ frame_shown addrs keys bytes

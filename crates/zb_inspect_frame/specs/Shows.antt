@@ -23,7 +23,7 @@ use Rattle.zb_inspect_frame.specs.declared.shown.Shown.{Shown}
 use Rattle.zb_inspect_frame.specs.declared.shown.Below.{Below}
 use Rattle.zb_inspect_frame.specs.Layers.{found_nwk, found_aps, clear}
 
--- the first EUI that is known of a short address
+-- The first known EUI of a short address.
 abbrev pub addr_of : Short → List (Short × Eui) → Option Eui
 addr_of short [] = None
 addr_of short (addr ∷ more) = if addr.0.0 == short.0 then Some addr.1 else addr_of short more
@@ -32,19 +32,19 @@ abbrev pub eui_or : Option Eui → Option Eui → Option Eui
 eui_or (Some eui) other = Some eui
 eui_or None other = other
 
--- the source of an APS frame that names none: the EUI of the NWK source, where the frame has it, else the known one
+-- The source of an APS frame that names none: the EUI of the NWK source, if the frame has it, else the known one.
 abbrev pub source_known : List (Short × Eui) → NwkHeader → Option Eui
 source_known addrs header = eui_or header.source_eui (addr_of header.source addrs)
 
--- the payload of a NWK data frame (type 0), where it is known
+-- The payload of a NWK data frame (type 0), if it is known.
 abbrev pub data_in : Finding → NwkFrame → Option (List ℕ)
 data_in nwk frame = if nwk_shape.kind frame.header.control == 0 then clear nwk frame.body.items else None
 
--- the payload of an APS command (type 1), where it is known
+-- The payload of an APS command (type 1), if it is known.
 abbrev pub command_in : Finding → ApsFrame → Option (List ℕ)
 command_in aps frame = if aps_shape.kind frame.header.control == 1 then clear aps frame.body.items else None
 
--- the frame in a Tunnel command
+-- The frame in a Tunnel command.
 abbrev pub tunnel_in : Result Command CmdError → Option (ArrayVec ℕ)
 tunnel_in (Ok (Tunnel destination inner)) = Some inner
 tunnel_in _ = None
@@ -56,7 +56,7 @@ abbrev pub tunnelled : Finding → Result ApsFrame ApsError → Option (ArrayVec
 tunnelled aps (Err fault) = None
 tunnelled aps (Ok frame) = option_and_then tunnel_of (command_in aps frame)
 
--- the APS layer of a payload, and of the frame in its Tunnel
+-- The APS layer of a payload, and of the frame in its Tunnel.
 abbrev pub below : List Key → Option Eui → List ℕ → Below
 below keys given payload = record {
   aps = found_aps keys given payload;
@@ -69,11 +69,11 @@ shown_under addrs keys nwk (Err fault) = record { nwk = nwk; below = None }
 shown_under addrs keys nwk (Ok frame) =
     record { nwk = nwk; below = option_map (below keys (source_known addrs frame.header)) (data_in nwk frame) }
 
--- what a frame shows
+-- What a frame shows.
 unfoldable pub frame_shown : List (Short × Eui) → List Key → List ℕ → Shown
 frame_shown addrs keys bytes = shown_under addrs keys (found_nwk keys bytes) (nwk_reading.frame_of bytes)
 
--- the payload of a frame's data, where it is known, and the source of an APS frame in it that names none
+-- The payload of a frame's data, if it is known, and the source of an APS frame in it that names none.
 abbrev pub payload_in : Finding → Result NwkFrame NwkError → Option (List ℕ)
 payload_in nwk (Err fault) = None
 payload_in nwk (Ok frame) = data_in nwk frame
@@ -82,6 +82,6 @@ abbrev pub given_in : List (Short × Eui) → Result NwkFrame NwkError → Optio
 given_in addrs (Err fault) = None
 given_in addrs (Ok frame) = source_known addrs frame.header
 
--- the same with the NWK layer made another one
+-- The same with another NWK layer.
 abbrev pub with_nwk : (Finding → Finding) → Shown → Shown
 with_nwk f seen = record { nwk = f seen.nwk; below = seen.below }

@@ -1,4 +1,4 @@
-//! The EUIs that are known of short addresses.
+//! The known EUIs of short addresses.
 ghost use Rattle.std.specs.Prelude.{◌≡◌, ◌==◌, ℕ, Some, None, OnOk, if◌then◌else◌};
 ghost use Rattle.std.specs.Option.{option_or};
 ghost use Rattle.zb_inspect_frame.specs.Known.{known_of};
@@ -8,9 +8,9 @@ use std::collections::BTreeMap;
 use std::marker::Model;
 use zb_base::{Eui, Short};
 
-/// Finds the EUIs that are known of short addresses.
+/// Finds the known EUIs of short addresses.
 ///
-/// A contract sees them as their list. Where a short address is in it twice, the first EUI counts.
+/// A contract sees them as their list. If a short address is in it twice, the first EUI counts.
 #[derive(Drop)]
 pub struct Addresses<'a> {
     list: &'a [(Short, Eui)],
@@ -35,10 +35,10 @@ impl<'a> Addresses<'a> {
     ghost use Rattle.std.specs.Prelude.{◌≡◌, IfOk};
     ghost use Rattle.zb_inspect_frame.specs.Shows.{addr_of};
 
-    /// Takes the addresses of a list.
+    /// Notes the addresses of a list.
     ///
     /// # Errors
-    /// Out of memory.
+    /// `AllocError`, if memory runs out.
     pub fn new(alloc: Global, list: &'a [(Short, Eui)]) -> Result<Addresses<'a>, AllocError>
         ensures { IfOk result (λ a. a ≡ list.now) }
     {
@@ -57,7 +57,7 @@ impl<'a> Addresses<'a> {
     }
 }
 
-/// Notes the EUI of a short address, unless one is there.
+/// Notes the EUI of a short address, if none is noted yet.
 fn note(by_short: &mut BTreeMap<Short, Eui>, addr: (Short, Eui)) -> Result<(), AllocError>
     ensures { OnOk result ((q : ℕ) → known_of by_short.new q ≡ option_or (known_of by_short.old q)
         (if addr.0.0 == q then Some addr.1 else None)) }

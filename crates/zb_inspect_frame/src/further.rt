@@ -1,5 +1,5 @@
-//! What a frame shows once more keys are known: only the layers that are still closed are tried, and only under the
-//! keys that are new.
+//! What a frame shows when more keys are known. Only the layers that are still closed are tried, and only under the
+//! new keys.
 ghost use Rattle.std.specs.Prelude.{◌≡◌, ◌<◌, ◌≤◌, ◌^◌, take, drop, length, IfSome};
 ghost use Rattle.std.specs.Bool.{OnTrue};
 ghost use Rattle.std.specs.Option.{option_map};
@@ -18,7 +18,8 @@ use zb_seal::SealingKeys;
 
 /// Tries the keys after the first `known` on the NWK layer of a frame, and returns whether it stays closed.
 ///
-/// Such a frame shows nothing more, whatever its bytes are. Of another one `show_below` shows the rest.
+/// A frame whose NWK layer stays closed shows nothing more, whatever its bytes are. For other frames `show_below`
+/// shows the rest.
 pub fn stays_closed(keys: &[SealingKeys], known: u32, seen: &mut Shown) -> bool
     requires within { known ≤ length keys.now }
     requires fits { length keys.now < 2 ^ 32 }
@@ -29,9 +30,9 @@ pub fn stays_closed(keys: &[SealingKeys], known: u32, seen: &mut Shown) -> bool
     is_closed(&seen.nwk)
 }
 
-/// Shows what is below the NWK layer of a frame under all keys. That is known under the first `known` of them.
+/// Shows what is below the NWK layer of a frame under all keys. It is known under the first `known` of them.
 ///
-/// Requires fewer than 2^32 keys, since each has its number in 32 bits.
+/// There must be fewer than 2^32 keys, because the number of a key has 32 bits.
 #[tactic(auto, using(crate::proofs::MoreKeys::frame_anew))]
 pub fn show_below(
     addrs: &Addresses<'_>,
@@ -72,7 +73,7 @@ fn try_further(keys: &[SealingKeys], known: u32, finding: &mut Finding)
     try_keys(finding, known, &keys[known as usize..]);
 }
 
-/// Shows the payload of a data frame under all keys, where it was known under the first `known`.
+/// Shows the payload of a data frame under all keys, if it was known under the first `known`.
 #[tactic(auto, using(crate::proofs::MoreKeys::aps_further, crate::proofs::MoreKeys::below_further))]
 fn look_further(
     addrs: &Addresses<'_>,
@@ -107,7 +108,7 @@ fn look_further(
     }
 }
 
-/// Shows the frame in a Tunnel, where the payload of a data frame is a Tunnel.
+/// Shows the frame in a Tunnel, if the payload of a data frame is a Tunnel.
 fn look_inner(
     addrs: &Addresses<'_>,
     keys: &[SealingKeys],

@@ -13,11 +13,11 @@ use zb_seal::{Envelope, OpenError, SealingKeys, Term};
 /// What is found at one layer of a frame.
 #[derive(Debug, Drop)]
 pub enum Finding {
-    /// The bytes are no frame of the layer.
+    /// The bytes are not a frame of the layer.
     Malformed,
     /// The frame is not secured.
     NotSecured,
-    /// The frame names no source, and none is known.
+    /// The frame names no source, and none is known otherwise.
     NoSource,
     /// No key of the ring opens the frame.
     Closed {
@@ -26,16 +26,16 @@ pub enum Finding {
         /// Who sealed it.
         source: Eui,
     },
-    /// The first key of the ring that opens the frame is that of this number, from 1.
+    /// A key of the ring opens the frame. It is the first one that does.
     Opened {
-        /// The number of the key.
+        /// The number of the key, from 1.
         key: u32,
         /// What the key opened.
         term: Term,
     },
 }
 
-/// Judges a layer before any key is tried. `given` is the source where the frame names none.
+/// Checks a layer before any key is tried. `given` is the source, if the frame names none.
 pub(crate) fn look(seen: Result<Envelope, OpenError>, given: Option<Eui>) -> Finding
     ensures { result ≡ looked seen given }
 {
@@ -51,7 +51,7 @@ pub(crate) fn look(seen: Result<Envelope, OpenError>, given: Option<Eui>) -> Fin
     }
 }
 
-/// Tries keys, one after the other, on a layer that no key before them opened; there are `number` of those.
+/// Tries keys, one after the other, on a layer that no earlier key opened. There are `number` earlier keys.
 pub(crate) fn try_keys(finding: &mut Finding, number: u32, keys: &[SealingKeys])
     requires { number + length keys.now < 2 ^ 32 }
     ensures { finding.new ≡ tried number keys.now finding.old }
@@ -62,7 +62,7 @@ pub(crate) fn try_keys(finding: &mut Finding, number: u32, keys: &[SealingKeys])
     }
 }
 
-/// Unseals a closed layer under the first of these keys that opens it, and returns the number and the base of that.
+/// Opens a closed layer with the first of these keys that fits, and returns that key's number and base key.
 fn unseal(finding: &mut Finding, number: u32, keys: &[SealingKeys]) -> Option<(u32, Key)>
     requires { number + length keys.now < 2 ^ 32 }
     ensures opened { IfSome result (λ r. tried number keys.now finding.old ≡ opened_as finding.new r.0 r.1) }
@@ -77,7 +77,7 @@ fn unseal(finding: &mut Finding, number: u32, keys: &[SealingKeys]) -> Option<(u
     }
 }
 
-/// Unseals an envelope under the first of these keys that opens it, and returns the number and the base of that.
+/// Opens an envelope with the first of these keys that fits, and returns that key's number and base key.
 fn unseal_first(
     envelope: &mut Envelope,
     source: Eui,
@@ -102,7 +102,7 @@ fn unseal_first(
     None
 }
 
-/// Makes an opened layer of a closed one that was unsealed.
+/// Makes an opened layer of a closed one.
 fn open_as(finding: &mut Finding, place: u32, base: &Key)
     ensures { finding.new ≡ opened_as finding.old place base.now }
 {
@@ -117,8 +117,8 @@ fn open_as(finding: &mut Finding, place: u32, base: &Key)
     }
 }
 
-/// Returns the content of a layer, where it is known. It is `body` where the frame is not secured, else what it was
-/// opened to.
+/// Returns the content of a layer, if it is known. It is `body` if the frame is not secured, else what it was opened
+/// to.
 pub(crate) fn clear<'a>(finding: &'a Finding, body: &'a Frame) -> Option<&'a [u8]>
     ensures value { option_copied result ≡ clear_of finding.now body.now.items }
     ensures fits { IfSome result (λ content. length content.now ≤ longest_frame) }

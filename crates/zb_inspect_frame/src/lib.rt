@@ -1,5 +1,5 @@
-//! What a frame shows under the keys of a ring. At each of its layers, that is what it is and which key opens it. The
-//! keys that opened contents carry and the lines of a report on the frame are here too.
+//! What a frame shows under the keys of a ring: what each of its layers is, and which key opens it. The keys that
+//! opened contents carry and the lines of a report on the frame are here too.
 #![tactic(auto)]
 
 mod addresses;

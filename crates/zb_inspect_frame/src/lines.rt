@@ -12,12 +12,12 @@ use zb_text::choices;
 use zb_text::numbers::put_number;
 use zb_text::page::{add_bytes, add_eui, add_number, add_word, end_line};
 
-/// Prints the lines of frames, the first of which has the number `first`.
+/// Prints the lines of frames, of which the first has the number `first`.
 ///
-/// Requires that their numbers are below 2^32.
+/// Their numbers must be below 2^32.
 ///
 /// # Errors
-/// Out of memory.
+/// `AllocError`, if memory runs out.
 pub fn put_frames(out: &mut Vec<u8>, first: u32, all_shown: &[Shown]) -> Result<(), AllocError>
     requires { first + length all_shown.now < 2 ^ 32 }
     ensures { OnOk result (out.new.items ≡ out.old.items ++ frames_text first all_shown.now) }
@@ -30,12 +30,12 @@ pub fn put_frames(out: &mut Vec<u8>, first: u32, all_shown: &[Shown]) -> Result<
     Ok(())
 }
 
-/// Prints the lines of `count` frames that no key opened, the first of which has the number `first`.
+/// Prints the lines of `count` frames that no key opened. The first one has the number `first`.
 ///
-/// Requires that their numbers are below 2^32.
+/// Their numbers must be below 2^32.
 ///
 /// # Errors
-/// Out of memory.
+/// `AllocError`, if memory runs out.
 pub fn put_unopened(out: &mut Vec<u8>, first: u32, count: u32) -> Result<(), AllocError>
     requires { first + count < 2 ^ 32 }
     ensures { OnOk result (out.new.items ≡ out.old.items ++ unopened_text first count) }

@@ -1,4 +1,4 @@
-//! Whether further keys could show more of a frame, and whether anything of it is known yet.
+//! Whether further keys could show more of a frame, and whether anything about it is known yet.
 ghost use Rattle.std.specs.Prelude.{◌≡◌};
 ghost use Rattle.std.specs.Bool.{OnTrue};
 ghost use Rattle.zb_inspect_frame.specs.Settling.{is_settled as settled, is_unopened as unopened, below_settled as below_is, inner_settled as inner_is, ShowsNoMore, ShowsNothing};

@@ -23,7 +23,7 @@ use zb_seal::{Envelope, OpenError, SealingKeys, envelope_aps, envelope_nwk, look
 pub struct Shown {
     /// The NWK layer.
     pub nwk: Finding,
-    /// What is below it, in a data frame whose payload is known.
+    /// What is below the NWK layer, in a data frame whose payload is known.
     pub below: Option<Below>,
 }
 
@@ -32,13 +32,13 @@ pub struct Shown {
 pub struct Below {
     /// The APS layer.
     pub aps: Finding,
-    /// The APS layer of the frame in a Tunnel, where the payload is a Tunnel command that is known in clear.
+    /// The APS layer of the frame in a Tunnel, if the payload is a Tunnel command known in clear.
     pub inner: Option<Finding>,
 }
 
-/// Shows a frame under the keys of a ring. `addrs` has the EUIs that are known.
+/// Shows a frame under the keys of a ring. `addrs` has the known EUIs.
 ///
-/// Requires fewer than 2^32 keys, since each has its number in 32 bits.
+/// There must be fewer than 2^32 keys, because the number of a key has 32 bits.
 #[tactic(auto, using(crate::proofs::ReadOnce::frame_read, crate::proofs::ReadOnce::frame_bad))]
 pub fn show(addrs: &Addresses<'_>, keys: &[SealingKeys], frame: &Frame) -> Shown
     requires { length keys.now < 2 ^ 32 }
@@ -56,7 +56,7 @@ pub fn show(addrs: &Addresses<'_>, keys: &[SealingKeys], frame: &Frame) -> Shown
     }
 }
 
-/// Shows a frame whose NWK layer is found to be this.
+/// Shows a frame whose NWK layer is already found.
 #[tactic(auto, using(crate::proofs::MoreKeys::closed_frame))]
 pub(crate) fn show_under(
     addrs: &Addresses<'_>,
@@ -76,7 +76,7 @@ pub(crate) fn show_under(
     }
 }
 
-/// Judges the NWK layer of a frame that was read.
+/// Finds what the NWK layer of a parsed frame is.
 fn find_nwk(keys: &[SealingKeys], bytes: &[u8], frame: &NwkFrame) -> Finding
     requires keys { length keys.now < 2 ^ 32 }
     requires spells { SpellsNwk bytes.now frame.now }
@@ -87,7 +87,7 @@ fn find_nwk(keys: &[SealingKeys], bytes: &[u8], frame: &NwkFrame) -> Finding
     nwk
 }
 
-/// Returns the envelope of a NWK frame that was read.
+/// Returns the envelope of a parsed NWK frame.
 fn look_nwk(bytes: &[u8], frame: &NwkFrame) -> Result<Envelope, OpenError>
     requires { SpellsNwk bytes.now frame.now }
     ensures { result ≡ nwk_envelope frame.now frame.now.aux }
@@ -98,7 +98,7 @@ fn look_nwk(bytes: &[u8], frame: &NwkFrame) -> Result<Envelope, OpenError>
     }
 }
 
-/// Judges the APS layer of a frame that was read.
+/// Finds what the APS layer of a parsed frame is.
 fn find_aps(keys: &[SealingKeys], given: Option<Eui>, bytes: &[u8], frame: &ApsFrame) -> Finding
     requires keys { length keys.now < 2 ^ 32 }
     requires spells { SpellsAps bytes.now frame.now }
@@ -123,7 +123,7 @@ fn look_below(addrs: &Addresses<'_>, keys: &[SealingKeys], nwk: Finding, frame: 
     }
 }
 
-/// Returns the payload of a data frame, where it is known.
+/// Returns the payload of a data frame, if it is known.
 pub(crate) fn data_in<'a>(nwk: &'a Finding, frame: &'a NwkFrame) -> Option<&'a [u8]>
     ensures { option_copied result ≡ data_in nwk.now frame.now }
 {
@@ -134,7 +134,7 @@ pub(crate) fn data_in<'a>(nwk: &'a Finding, frame: &'a NwkFrame) -> Option<&'a [
     }
 }
 
-/// Returns the source of an APS frame that names none: the EUI of the NWK source, where it is known.
+/// Returns the source of an APS frame that names none: the EUI of the NWK source, if it is known.
 pub(crate) fn source_known(addrs: &Addresses<'_>, header: &NwkHeader) -> Option<Eui>
     ensures { result ≡ source_known addrs.now header.now }
 {
@@ -162,7 +162,7 @@ fn show_payload(keys: &[SealingKeys], given: Option<Eui>, payload: &[u8]) -> Bel
     }
 }
 
-/// Shows the frame in a Tunnel, where there is one.
+/// Shows the frame in a Tunnel, if there is one.
 pub(crate) fn find_inner(
     keys: &[SealingKeys],
     given: Option<Eui>,
@@ -187,7 +187,7 @@ fn find_inner_aps(keys: &[SealingKeys], given: Option<Eui>, bytes: &[u8]) -> Fin
     inner
 }
 
-/// Returns the frame in a Tunnel, where a payload is an APS command that is one and is known in clear.
+/// Returns the frame in a Tunnel, if a payload is an APS Tunnel command known in clear.
 pub(crate) fn tunnelled_in(aps: &Finding, payload: &[u8]) -> Option<Frame>
     ensures { result ≡ tunnelled aps.now (reading.frame_of payload.now) }
 {
@@ -197,7 +197,7 @@ pub(crate) fn tunnelled_in(aps: &Finding, payload: &[u8]) -> Option<Frame>
     }
 }
 
-/// Returns the frame in a Tunnel, where an APS command is one and is known in clear.
+/// Returns the frame in a Tunnel, if an APS command is a Tunnel and known in clear.
 fn tunnelled(aps: &Finding, frame: &ApsFrame) -> Option<Frame>
     ensures { result ≡ tunnelled aps.now (Ok frame.now) }
 {
@@ -217,7 +217,7 @@ fn tunnel(content: &[u8]) -> Option<Frame>
     }
 }
 
-/// Returns the payload of an APS command, where it is known.
+/// Returns the payload of an APS command, if it is known.
 fn command_in<'a>(aps: &'a Finding, frame: &'a ApsFrame) -> Option<&'a [u8]>
     ensures value { option_copied result ≡ command_in aps.now frame.now }
     ensures fits { IfSome result (λ content. length content.now ≤ longest_frame) }

@@ -1,4 +1,4 @@
--- A MAC header has three bytes at least.
+-- A MAC header has at least three bytes.
 use Rattle.std.proofs.Common.{◌≡◌, ℕ, ◌<◌, ◌≤◌, ◌&&◌, List, length, Bool, true, false, refl, ap, arith, if◌then◌else◌, ◌-◌}
 use Rattle.std.specs.Prelude.{nat_lt}
 use Rattle.std.proofs.lemmas.Bool.Decides.{nat_tests}

@@ -15,7 +15,7 @@ use Rattle.zb_pcap.specs.declared.header.Form.{Form}
 use Rattle.zb_pcap.specs.declared.header.Order.{Order}
 use Rattle.zb_pcap.specs.declared.packets.Packet.{Packet}
 
--- the records that were read, before those that come
+-- The records that were read, before those that follow.
 abbrev pub prepended : List Record → Result (List Record) PcapError → Result (List Record) PcapError
 prepended xs (Ok ys) = Ok (xs ++ ys)
 prepended xs (Err e) = Err e
@@ -36,7 +36,7 @@ next_record left place order (byte ∷ more) one after some is =
 left_of : (n : ℕ) → n < 100000 → 100000 - n ≡ suc (100000 - (n + 1))
 left_of n few = omega arith
 
--- one record more
+-- One more record.
 pub so_far_more : (order : Order) (all : Result (List Record) PcapError) (packets new : List Packet) (p : Packet)
     (place : ℕ) (rest after : List ℕ)
     → prepended (map record_in packets) (records (100000 - length packets) place order rest) ≡ all → 0 < length rest
@@ -56,7 +56,7 @@ so_far_more order all packets new p place rest after so_far some few is grown =
     ∙ ap (λ n. prepended (map record_in packets) (records n place order rest)) (sym (left_of (length packets) few))
     ∙ so_far
 
--- a record that isn't whole
+-- A record that isn't whole.
 cut_record : (left place : ℕ) (order : Order) (bytes : List ℕ) → 0 < length bytes → record_of order bytes ≡ None
     → records left place order bytes ≡ Err (fault_at place Cut)
 unfolding records
@@ -71,7 +71,7 @@ pub cut_here : (left place : ℕ) (order : Order) (all : Result (List Record) Pc
 cut_here left place order all xs rest so_far some is =
     sym so_far ∙ ap (prepended xs) (cut_record left place order rest some is)
 
--- one too many
+-- One record too many.
 last_record : (place : ℕ) (order : Order) (bytes : List ℕ) (one : Record × List ℕ) → 0 < length bytes
     → record_of order bytes ≡ Some one
     → records 0 place order bytes ≡ Err (fault_at place TooMany)
@@ -88,7 +88,7 @@ too_many_here count place order all xs rest one so_far many some is =
     sym so_far ∙ ap (λ n. prepended xs (records n place order rest)) none ∙ ap (prepended xs)
     (last_record place order rest one some is)
 
--- the end
+-- The end.
 at_end : (left place : ℕ) (order : Order) (bytes : List ℕ) → length bytes ≡ 0 → records left place order bytes ≡ Ok []
 unfolding records
 at_end left place order [] none = refl

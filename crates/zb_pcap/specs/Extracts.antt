@@ -16,11 +16,11 @@ use Rattle.zb_pcap.specs.declared.mac.Mac.TheVariants.{Payload, BadCheck, Other}
 use Rattle.zb_pcap.specs.declared.packets.Packet.{Packet}
 use Rattle.zb_base.specs.Limits.{most_frames}
 
--- a packet as a record of its file
+-- A packet as a record of its file.
 abbrev pub record_in : Packet → Record
 record_in packet = (packet.bytes.now, packet.cut)
 
--- a packet that was cut isn't judged further
+-- A packet that was cut isn't checked further.
 unfoldable pub verdict : Bool → Record → Mac
 verdict check packet = if packet.1 then Other else mac_of check packet.0
 
@@ -39,7 +39,7 @@ other_of (Payload at len) = 0
 other_of BadCheck = 0
 other_of Other = 1
 
--- the payloads of data frames in order, and how many packets have a wrong check sequence and how many are none of both
+-- The payloads of data frames in order, how many packets have a wrong check sequence, and how many are neither.
 abbrev pub frames_in : Bool → List Record → List (ArrayVec ℕ)
 frames_in check [] = []
 frames_in check (packet ∷ more) = frames_of packet.0 (verdict check packet) ++ frames_in check more
@@ -67,17 +67,17 @@ extract_form keys bytes (Err cause) = Err (fault_at 0 cause)
 extract_form keys bytes (Ok form) =
     extract_packets keys form.check (records most_frames 1 form.order (drop file_header_size bytes))
 
--- What a capture file gives under some keys, or its first fault. At most 100,000 records are taken.
+-- What a capture file gives under some keys, or its first fault. At most 100,000 records are read.
 unfoldable pub extracted : List Key → List ℕ → Result Extraction PcapError
 extracted keys bytes = extract_form keys bytes (header_of bytes)
 
--- An answer is the one that is expected; it says nothing where memory is wanting.
+-- An answer is the expected one. If memory runs out, this says nothing.
 abbrev pub Answers : {T U E : Type 0} → (T → U) → Result T (OrMemory E) → Result U E → Type 0
 Answers view (Ok value) expected = expected ≡ Ok (view value)
 Answers view (Err (error.Fault fault)) expected = expected ≡ Err fault
 Answers view (Err error.NoMemory) expected = Unit {0}
 
--- A record that was taken off, and the bytes after it, are those that are expected.
+-- A record that was taken off, and the bytes after it, are the expected ones.
 abbrev pub Takes : Option (Packet × Bor (List ℕ)) → Option (Record × List ℕ) → Type 0
 Takes None expected = expected ≡ None
 Takes (Some taken) expected = expected ≡ Some (record_in taken.0, taken.1.now)

@@ -8,7 +8,7 @@ use Rattle.zb_pcap.specs.declared.header.Form.{Form}
 use Rattle.zb_pcap.specs.declared.header.Order.{Order}
 use Rattle.zb_pcap.specs.declared.header.Order.TheVariants.{Big, Little}
 
--- numbers in the order of a file's bytes
+-- Numbers in the byte order of a file.
 abbrev pub bytes16 : List ℕ → ℕ → List ℕ
 bytes16 bytes at = slice_index bytes at ∷ slice_index bytes (at + 1) ∷ []
 
@@ -24,7 +24,7 @@ abbrev pub number32_at : Order → List ℕ → ℕ → ℕ
 number32_at Big bytes at = from_be_bytes w32 (bytes32 bytes at)
 number32_at Little bytes at = from_le_bytes w32 (bytes32 bytes at)
 
--- A1B2C3D4 for times in microseconds and A1B23C4D for nanoseconds, in the order of the file's bytes
+-- A1B2C3D4 for times in microseconds and A1B23C4D for nanoseconds, in the byte order of the file.
 abbrev pub order_of : List ℕ → Option Order
 order_of magic =
     if bytes_eq magic (0xa1 ∷ 0xb2 ∷ 0xc3 ∷ 0xd4 ∷ []) || bytes_eq magic (0xa1 ∷ 0xb2 ∷ 0x3c ∷ 0x4d ∷ []) then Some Big
@@ -32,14 +32,14 @@ order_of magic =
     then Some Little
     else None
 
--- the link types of IEEE 802.15.4, with check sequences and without
+-- The link types of IEEE 802.15.4, with check sequences and without.
 abbrev pub with_check_sequences : ℕ
 with_check_sequences = 195
 
 abbrev pub without_check_sequences : ℕ
 without_check_sequences = 230
 
--- whether there are check sequences, by the low 16 bits of the link type
+-- Whether there are check sequences, by the low 16 bits of the link type.
 abbrev pub link_of : ℕ → Option Bool
 link_of link =
     if link % 2 ^ 16 == with_check_sequences then Some true
@@ -50,26 +50,26 @@ abbrev pub form_of : Order → Option Bool → Result Form PcapCause
 form_of order None = Err Link
 form_of order (Some check) = Ok (record { order = order; check = check })
 
--- the number of bytes before the first record
+-- The number of bytes before the first record.
 abbrev pub file_header_size : ℕ
 file_header_size = 24
 
--- version 2.4
+-- Version 2.4.
 abbrev pub form_in : List ℕ → Option Order → Result Form PcapCause
 form_in bytes None = Err Magic
 form_in bytes (Some order) =
     if number16_at order bytes 4 == 2 && number16_at order bytes 6 == 4
     then form_of order (link_of (number32_at order bytes 20)) else Err Version
 
--- what the header says, or the first of its faults
+-- What the header says, or its first fault.
 unfoldable pub header_of : List ℕ → Result Form PcapCause
 header_of bytes = if nat_lt (length bytes) file_header_size then Err Magic else form_in bytes (order_of (take 4 bytes))
 
--- a packet, and whether it was cut when it was caught
+-- A packet, and whether it was cut when it was caught.
 abbrev pub Record : Type 0
 Record = List ℕ × Bool
 
--- seconds 4, fraction 4, kept length 4, whole length 4, and the kept bytes; what is after a record that is whole
+-- Seconds 4, fraction 4, kept length 4, whole length 4, and the kept bytes; and what comes after a whole record.
 unfoldable pub record_of : Order → List ℕ → Option (Record × List ℕ)
 record_of order bytes =
     let kept = number32_at order bytes 8 in
@@ -80,7 +80,7 @@ record_of order bytes =
 abbrev pub fault_at : ℕ → PcapCause → PcapError
 fault_at place cause = record { place = place; cause = cause }
 
--- a record that is one too many, unless it isn't whole
+-- A record that is one too many, unless it isn't whole.
 abbrev pub beyond : ℕ → Option (Record × List ℕ) → Result (List Record) PcapError
 beyond place None = Err (fault_at place Cut)
 beyond place (Some one) = Err (fault_at place TooMany)
@@ -94,8 +94,8 @@ abbrev pub with_record : ℕ → Option (Record × List ℕ) → (List ℕ → R
 with_record place None rest = Err (fault_at place Cut)
 with_record place (Some one) rest = behind one.0 (rest one.1)
 
--- The records, the first of which has the number `place`, at most `left` of them; or the first that isn't whole or is
--- one too many.
+-- At most `left` records, of which the first has the number `place`; or the first that isn't whole or is one too
+-- many.
 unfoldable pub records : ℕ → ℕ → Order → List ℕ → Result (List Record) PcapError
 records left place order [] = Ok []
 records zero place order (byte ∷ more) = beyond place (record_of order (byte ∷ more))

@@ -7,7 +7,7 @@ use Rattle.zb_pcap.specs.declared.header.Form.{Form}
 use Rattle.zb_pcap.specs.declared.pcap.Pcap.{Pcap}
 use Rattle.zb_base.specs.Limits.{most_frames}
 
--- the kept bytes of each packet, and whether it was cut when it was caught
+-- The kept bytes of each packet, and whether it was cut when it was caught.
 abbrev pub kept_of : List Record → List (List ℕ)
 kept_of packets = map (λ (one : Record). one.0) packets
 
@@ -25,6 +25,6 @@ abbrev pub held_form : List ℕ → Result Form PcapCause → Result Pcap PcapEr
 held_form bytes (Err cause) = Err (fault_at 0 cause)
 held_form bytes (Ok form) = held_packets form.check (records most_frames 1 form.order (drop file_header_size bytes))
 
--- What a capture file holds, or its first fault. At most 100,000 records are taken.
+-- What a capture file holds, or its first fault. At most 100,000 records are read.
 unfoldable pub pcap_in : List ℕ → Result Pcap PcapError
 pcap_in bytes = held_form bytes (header_of bytes)

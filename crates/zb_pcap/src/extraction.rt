@@ -36,11 +36,11 @@ pub struct Extraction {
 
 /// Extracts the frames of a capture file, under some keys.
 ///
-/// Requires at most 256 keys.
+/// There must be at most 256 keys.
 ///
 /// # Errors
 ///
-/// The first fault of the file.
+/// The first fault of the file, or `NoMemory`.
 #[tactic(auto, unfolding(crate::specs::Extracts::extracted))]
 pub fn extract(alloc: Global, bytes: &[u8], keys: &[Key]) -> Result<Extraction, OrMemory<PcapError>>
     requires { length keys.now ≤ most_keys }
@@ -57,7 +57,7 @@ pub fn extract(alloc: Global, bytes: &[u8], keys: &[Key]) -> Result<Extraction, 
     Ok(found)
 }
 
-/// Takes the payloads of data frames, and counts the other packets.
+/// Keeps the payloads of data frames, and counts the other packets.
 fn sort(
     alloc: Global,
     check: bool,
@@ -98,7 +98,7 @@ impl Sorted {
     ghost use Rattle.std.specs.Prelude.{◌≡◌, ◌+◌, ◌≤◌, ◌++◌, ◌<◌, length, OnOk};
     ghost use Rattle.zb_pcap.specs.Extracts.{record_in, verdict, frames_of, bad_of, other_of};
 
-    /// Takes a packet.
+    /// Adds a packet.
     fn take(&mut self, check: bool, packet: &Packet<'_>) -> Result<(), NoMemory>
         requires room { self.old.bad_check + self.old.other + length self.old.frames < most_frames }
         ensures frames { OnOk result (self.new.frames ≡ self.old.frames ++ frames_of packet.now.bytes.now
@@ -121,7 +121,7 @@ impl Sorted {
     }
 }
 
-/// Judges what a packet is. One that was cut isn't judged further.
+/// Finds what a packet is. A packet that was cut isn't checked further.
 #[tactic(auto, unfolding(crate::specs::Extracts::verdict))]
 fn judge(check: bool, packet: &Packet<'_>) -> Mac
     ensures value { result ≡ verdict check (record_in packet.now) }

@@ -1,15 +1,15 @@
-//! What is wrong with bytes that are no capture file.
+//! What is wrong with bytes that aren't a capture file.
 use std::error::Error;
 use std::fmt;
 
-/// What is wrong with a file, in the order in which it is tried.
+/// What is wrong with a file. The causes are checked in this order.
 #[derive(Clone, Copy, Debug, PartialEq, Eq)]
 pub enum PcapCause {
-    /// There are fewer than 24 bytes, or they don't begin as such a file does.
+    /// There are fewer than 24 bytes, or they don't begin as a capture file does.
     Magic,
     /// The version isn't 2.4.
     Version,
-    /// The link type is another.
+    /// The link type isn't one of IEEE 802.15.4.
     Link,
     /// A record isn't whole.
     Cut,

@@ -4,12 +4,12 @@ ghost use Rattle.zb_pcap.specs.Files.{number16_at, number32_at, order_of as orde
 
 use crate::fault::PcapCause;
 
-/// The order in which the bytes of a number stand.
+/// The order of the bytes of a number.
 #[derive(Clone, Copy, Debug, PartialEq, Eq)]
 pub(crate) enum Order {
-    /// The highest one first.
+    /// The highest byte comes first.
     Big,
-    /// The lowest one first.
+    /// The lowest byte comes first.
     Little,
 }
 
@@ -25,8 +25,8 @@ pub(crate) struct Form {
 /// Reads the header: 24 bytes.
 ///
 /// # Errors
-/// The first that is met: `Magic` in fewer than 24 bytes or after another magic number, `Version` unless it is 2.4,
-/// `Link` at an unknown link type.
+/// The first of these: `Magic` if there are fewer than 24 bytes or another magic number, `Version` if it isn't 2.4,
+/// `Link` if the link type is unknown.
 #[tactic(auto, unfolding(crate::specs::Files::header_of))]
 pub(crate) fn read_header(bytes: &[u8]) -> Result<Form, PcapCause>
     ensures value { result ≡ header_of bytes.now }
@@ -71,7 +71,7 @@ fn is_version(order: Order, bytes: &[u8]) -> bool
     number16(order, bytes, 4) == 2 && number16(order, bytes, 6) == 4
 }
 
-/// Returns whether packets of a link type end with their check sequence, where the link type is known.
+/// Returns whether packets of a link type end with their check sequence; `None` if the link type is unknown.
 fn link_of(link: u32) -> Option<bool>
     ensures { result ≡ link_in link }
 {

@@ -1,5 +1,4 @@
-//! Capture files: packets of IEEE 802.15.4 that were caught on the air, as pcap files keep them, and the frames that
-//! they hold.
+//! Capture files: packets of IEEE 802.15.4 that were heard, in pcap files, and the frames that they hold.
 //!
 //! A file has a header of 24 bytes and records of 16 bytes and a packet, in either byte order. The link type says
 //! whether packets end with their check sequence. The frames are the payloads of plain MAC data frames.

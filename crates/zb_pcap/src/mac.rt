@@ -22,7 +22,7 @@ pub enum Mac {
     Other,
 }
 
-/// Returns what a packet is. `check` says that it ends with its check sequence, low byte first.
+/// Returns what a packet is. `check` says whether it ends with its check sequence, low byte first.
 #[tactic(auto, unfolding(crate::specs::Mac::mac_of))]
 pub fn classify(packet: &[u8], check: bool) -> Mac
     ensures value { result ≡ mac_of check packet.now }

@@ -12,7 +12,7 @@ use zb_base::{MOST_FRAMES, OrMemory};
 /// The packet of a record.
 #[derive(Clone, Copy, Debug, PartialEq, Eq)]
 pub(crate) struct Packet<'a> {
-    /// Its bytes that are kept.
+    /// Its kept bytes.
     pub bytes: &'a [u8],
     /// Whether more bytes were caught than are kept.
     pub cut: bool,
@@ -21,8 +21,7 @@ pub(crate) struct Packet<'a> {
 /// Reads records, at most 100,000.
 ///
 /// # Errors
-/// The place of the first record that isn't whole (`Cut`) or is one too many (`TooMany`), counted from 1. Out of
-/// memory.
+/// The place, from 1, of the first record that isn't whole (`Cut`) or is one too many (`TooMany`); or `NoMemory`.
 pub(crate) fn read_packets<'a>(
     alloc: Global,
     order: Order,
@@ -55,7 +54,7 @@ fn fault(place: u32, cause: PcapCause) -> OrMemory<PcapError>
     OrMemory::Fault(PcapError { place, cause })
 }
 
-/// Returns the packet of the first record, and the bytes after that, where the record is whole.
+/// Returns the packet of the first record and the bytes after it, if the record is whole.
 #[tactic(auto, unfolding(crate::specs::Files::record_of))]
 fn take_record<'a>(order: Order, bytes: &'a [u8]) -> Option<(Packet<'a>, &'a [u8])>
     ensures value { Takes result (record_of order bytes.now) }

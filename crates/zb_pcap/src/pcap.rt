@@ -9,14 +9,14 @@ use crate::packets::{Packet, read_packets};
 use std::alloc::Global;
 use zb_base::{List, NoMemory, OrMemory};
 
-/// What a capture file holds: one packet a record, in the order of the file.
+/// What a capture file holds: one packet for each record, in the order of the file.
 #[derive(Debug, Drop)]
 pub struct Pcap {
     /// Whether packets end with their check sequence.
     pub check: bool,
-    /// The bytes of each packet that are kept.
+    /// The kept bytes of each packet.
     pub packets: List<List<u8>>,
-    /// Of each packet, whether it had more bytes than are kept.
+    /// For each packet, whether it had more bytes than are kept.
     pub cut: List<bool>,
 }
 

@@ -1,17 +1,17 @@
-//! What happens to a router.
+//! The events of a router.
 use zb_base::Eui;
 use zb_device::DeviceEvent;
 
-/// What happens to a router.
+/// An event of a router.
 #[derive(Drop)]
 pub enum RouterEvent {
-    /// What happens to a device too.
+    /// An event that devices also have.
     Own(DeviceEvent),
-    /// A child knocks at it.
+    /// Handles a child that asks to join or rejoin.
     Child {
         /// The child.
         device: Eui,
-        /// Whether it asks to be let in again.
+        /// Whether it asks to rejoin.
         rejoin: bool,
     },
 }

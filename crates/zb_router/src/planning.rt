@@ -16,9 +16,9 @@ use zb_node_types::Refusal;
 use zb_seal::{KeyMemo, Term};
 use zb_setting::Network;
 
-/// Plans what a child leads to that knocks, or asks to be let in again.
+/// Plans what the router does if a child asks to join or rejoin.
 ///
-/// Requires a node that isn't the centre.
+/// The node must not be the centre.
 fn plan_child(
     network: &Network,
     tables: &Tables,
@@ -41,7 +41,7 @@ fn plan_child(
 
 /// Plans an event of a router, by the rule of the event.
 ///
-/// Requires a node that isn't the centre.
+/// The node must not be the centre.
 pub(crate) fn plan_router(
     node: &NodeCore,
     event: &RouterEvent,

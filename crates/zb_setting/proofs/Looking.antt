@@ -1,4 +1,4 @@
--- Looking for a node among the program's and among the model's, and that there is a centre where one is counted.
+-- Looking for a node among the program's and among the model's; and that there is a centre if one is counted.
 use Rattle.std.proofs.Common.{◌≡◌, Bool, List, [], ◌∷◌, map, refl, sym, ap, subst, ◌∙◌, true, false, if◌then◌else◌, Option, Some, None}
 use Rattle.std.specs.Prelude.{count_by, filter, find, length, option_map}
 use Rattle.std.proofs.lemmas.List.Sums.{length-filter}
@@ -39,13 +39,13 @@ no_centre_kept (p ∷ peers) e =
     (ap (λ (b : Bool). if b then Some p else find (λ (q : Peer). is_centre (known q).role) peers)
     (sym (same_role p.role)) ∙ e)
 
--- where no centre is found, none is counted
+-- If no centre is found, none is counted.
 pub no_centre : (peers : List Peer) → find (λ (p : Peer). is_centre (known p).role) peers ≡ None
     → count_by (λ (p : Peer). config.is_centre p.role) peers ≡ 0
 no_centre peers e = sym (length-filter (λ (p : Peer). config.is_centre p.role) peers) ∙ ap (length {A = Peer})
     (no_centre_kept peers e)
 
--- what is found passes the test
+-- What is found passes the test.
 pub found_passes : {X : Type 0} (p : X → Bool) (xs : List X) (x : X) → find p xs ≡ Some x → p x ≡ true
 found_passes p [] x e = absurd cc
 found_passes p (y ∷ ys) x e = by_test (p y) refl e (found_passes p ys x)

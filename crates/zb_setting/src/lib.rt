@@ -1,5 +1,5 @@
-//! What one node knows of its network, made once from its configuration: who is declared, who is the centre, and the
-//! node's own addresses, role and blocks of counters.
+//! What one node knows of its network, made once from its configuration: which nodes are declared, which one is the
+//! centre, and the node's own addresses, role and blocks of counters.
 #![tactic(auto)]
 
 mod network;

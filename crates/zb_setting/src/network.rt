@@ -45,10 +45,10 @@ impl Model for Network {
 }
 
 impl Network {
-    /// Makes what a node of this configuration knows.
+    /// Makes what the node of this configuration knows.
     ///
     /// # Errors
-    /// Out of memory.
+    /// `AllocError`, if memory runs out.
     #[tactic(auto, unfolding(crate::specs::Settings::setting_for))]
     pub fn new(alloc: Global, config: &Config) -> Result<Network, AllocError>
         requires { IsConfig config.now }
@@ -77,7 +77,7 @@ impl Network {
         self.me.short
     }
 
-    /// Returns the part that the node plays.
+    /// Returns the node's role.
     pub fn role(&self) -> Role
         ensures { model_role result ≡ self.now.me.role }
     {
@@ -131,7 +131,7 @@ impl Network {
         source.0 == self.centre.0
     }
 
-    /// Returns the short address of a declared node, and FFFF where none has this EUI.
+    /// Returns the short address of a declared node, or FFFF if none has this EUI.
     #[tactic(auto, unfolding(zb_model::specs::Rules::short_of))]
     pub fn short_of(&self, eui: Eui) -> Short
         ensures { result.0 ≡ short_of self.now eui.0 }
@@ -142,7 +142,7 @@ impl Network {
         }
     }
 
-    /// Returns the short address of the source of a frame, and FFFF where it is unknown or not declared.
+    /// Returns the short address of the source of a frame, or FFFF if it is unknown or not declared.
     #[tactic(auto, unfolding(zb_model::specs::Rules::short_of))]
     pub fn short_of_source(&self, source: Option<Eui>) -> Short
         ensures { result.0 ≡ short_of self.now (eui_of (option_map (λ e. e.0) source)) }
@@ -182,8 +182,8 @@ impl Network {
 
     /// Returns whether a frame to this short address is for the node (05-3474-21, 3.6.5).
     ///
-    /// The address is the node's own, or that of a broadcast to it: all (FFFF), all that listen (FFFD), or the centre
-    /// and the routers (FFFC).
+    /// The address is the node's own, or a broadcast that includes it: all (FFFF), all that listen (FFFD), or the
+    /// centre and the routers (FFFC).
     pub fn hears(&self, to: Short) -> bool
         ensures { result ≡ hears self.now to.0 }
     {
@@ -194,7 +194,7 @@ impl Network {
         }
     }
 
-    // Returns whether a frame to this short address is for the node, be it a router or not.
+    // Returns whether an address is the node's own, that of all nodes (FFFF), or that of all that listen (FFFD).
     fn is_for(&self, to: Short) -> bool
         ensures { result ≡ (nat_eq to.0 self.now.me.short || (nat_eq to.0 0xffff || nat_eq to.0 0xfffd)) }
     {

@@ -1,4 +1,4 @@
-//! Looking for a node among those that are declared.
+//! Look-ups of a node among those that are declared.
 ghost use Rattle.std.specs.Prelude.{None, false, ◌≡◌, ◌&&◌, ◌<◌, ◌^◌, count_by, find, map, nat_eq, option_map};
 ghost use Rattle.std.specs.Option.{option_copied};
 ghost use Rattle.zb_base.specs.Config.{is_centre};
@@ -88,7 +88,7 @@ fn first_centre<'a>(peers: &'a [Peer]) -> Option<&'a Peer>
     peers.iter().find(|peer| is_centre(peer.role))
 }
 
-/// Returns an EUI, of which the contract says that it has 64 bits.
+/// Returns an EUI unchanged. The contract says that it has 64 bits.
 pub(crate) fn in_range(eui: Eui) -> Eui
     ensures same { result ≡ eui }
     ensures bits { result.0 < 2 ^ 64 }
@@ -96,7 +96,7 @@ pub(crate) fn in_range(eui: Eui) -> Eui
     eui
 }
 
-/// Returns the EUI of the centre. Requires that there is one.
+/// Returns the EUI of the centre. There must be one.
 #[tactic(auto, unfolding(zb_model::specs::Rules::centre_of), using(crate::proofs::Looking::find_map))]
 pub(crate) fn centre_among(peers: &[Peer]) -> Eui
     requires { count_by (λ peer. is_centre peer.role) peers.now ≡ 1 }
@@ -108,7 +108,7 @@ pub(crate) fn centre_among(peers: &[Peer]) -> Eui
     }
 }
 
-/// Returns whether a node is the one that represents nobody. It never is, since the number of nobody is no EUI.
+/// Returns whether a node represents nobody. None does, because the number of nobody isn't an EUI.
 fn is_nobody(peer: &Peer) -> bool
     ensures is { result ≡ nat_eq (known peer.now).eui nobody }
     ensures never { result ≡ false }

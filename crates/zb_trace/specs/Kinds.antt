@@ -3,7 +3,7 @@ use Rattle.std.specs.Prelude.{Bool, true, false}
 use Rattle.zb_trace.specs.declared.line.Line.{Line}
 use Rattle.zb_trace.specs.declared.line.Line.TheVariants as line
 
--- nodes, what they hold at the start, and their counters
+-- Nodes, what they hold at the start, and their counters.
 abbrev pub is_of_counters : Line → Bool
 is_of_counters (line.Node name role eui short out_block in_block) = true
 is_of_counters (line.GivenNet node key sequence) = true
@@ -13,7 +13,7 @@ is_of_counters (line.Reserve event node layer limit) = true
 is_of_counters (line.Floor event node layer key sender value) = true
 is_of_counters _ = false
 
--- network keys
+-- Network keys.
 abbrev pub is_of_keys : Line → Bool
 is_of_keys (line.Draw event key) = true
 is_of_keys (line.DropNet event node key) = true
@@ -23,7 +23,7 @@ is_of_keys (line.Active event node key) = true
 is_of_keys (line.Start event node key value) = true
 is_of_keys _ = false
 
--- link keys and devices
+-- Link keys and devices.
 abbrev pub is_of_devices : Line → Bool
 is_of_devices (line.Row event node partner key attribute) = true
 is_of_devices (line.Pair event node first second key) = true
@@ -35,7 +35,7 @@ is_of_devices (line.Told event device) = true
 is_of_devices (line.Untold event device) = true
 is_of_devices _ = false
 
--- commits and frames
+-- Commits and frames.
 abbrev pub is_of_frames : Line → Bool
 is_of_frames (line.Commit event node) = true
 is_of_frames (line.Accept event node term) = true

@@ -20,21 +20,21 @@ use Rattle.zb_base.specs.Limits.{longest_frame, greatest_count}
 
 -- The words that a line is made of.
 pub data Word : Type 0 where
-  -- a word that stands so in the line
+  -- A fixed word.
   Fixed : (text : List ℕ) → Word
-  -- one of some words
+  -- One of some words.
   Chosen : (among : List (List ℕ)) (text : List ℕ) → Word
-  -- a number in decimal digits, at most `limit`
+  -- A number in decimal digits, at most `limit`.
   Number : (limit : ℕ) (number : ℕ) → Word
-  -- a node's name, and one in whose place `-` may stand
+  -- A node's name; and a name that may be `-` instead.
   Called : (name : List ℕ) → Word
   CalledOrNobody : (name : List ℕ) → Word
-  -- an EUI in 16 hexadecimal digits, a short address in 4, a key in 32, a byte in 2
+  -- An EUI in 16 hexadecimal digits, a short address in 4, a key in 32, a byte in 2.
   Address : (eui : ℕ) → Word
   ShortAddress : (short : ℕ) → Word
   Secret : (key : List ℕ) → Word
   Octet : (byte : ℕ) → Word
-  -- at most `limit` bytes in two hexadecimal digits each, or `-` for no bytes; and the same without a limit
+  -- At most `limit` bytes in two hexadecimal digits each, or `-` for no bytes; and the same without a limit.
   Octets : (limit : ℕ) (bytes : List ℕ) → Word
   AllOctets : (bytes : List ℕ) → Word
 
@@ -51,7 +51,7 @@ spelled (Octet byte) = encode_upper (byte ∷ [])
 spelled (Octets limit bytes) = bytes_text bytes
 spelled (AllOctets bytes) = bytes_text bytes
 
--- Which words may stand in a line: names are names, and the values of the program's types are in their ranges.
+-- Which words a line may have: names are valid names, and the values of the program's types are in their ranges.
 abbrev pub MayStand : Word → Type 0
 MayStand (Fixed text) = Unit {0}
 MayStand (Chosen among text) = Unit {0}
@@ -74,14 +74,14 @@ abbrev pub line_of : List Word → List ℕ
 line_of [] = 10 ∷ []
 line_of (word ∷ more) = spelled word ++ (trailing more ++ 10 ∷ [])
 
--- The beginning of a line: the number of its event, its kind, and where it speaks of a node the node's name.
+-- The beginning of a line: the number of its event, its kind, and the name of its node, if it has one.
 abbrev pub opening : ℕ → List ℕ → List ℕ
 opening event kind = decimal event ++ then kind
 
 abbrev pub opening_of : ℕ → List ℕ → List ℕ → List ℕ
 opening_of event kind node = opening event kind ++ then node
 
--- What is chosen from lists of words
+-- Words that are chosen from lists
 
 abbrev pub roles : List (List ℕ)
 roles = map role_text choices.roles
@@ -109,26 +109,26 @@ answers = map answer_text choices.answers
 
 -- The words of a line's parts
 
--- a counter, a limit, the number of an event or a frame
+-- A counter, a limit, the number of an event or a frame.
 abbrev pub counted : ℕ → Word
 counted number = Number greatest_count number
 
--- the sequence number of a network key
+-- The sequence number of a network key.
 abbrev pub sequenced : ℕ → Word
 sequenced number = Number 255 number
 
--- a sealed layer: which key, the nonce, what is authenticated, what is encrypted
+-- A sealed layer: which key, the nonce, what is authenticated, what is encrypted.
 unfoldable pub term_words : Term → List Word
 term_words t =
     Chosen layers (layer_text t.layer) ∷ Chosen labels (label_text t.label) ∷ Secret t.base.0 ∷ Address t.source.0
     ∷ counted t.counter ∷ Octet t.control ∷ Octets longest_frame t.header.items
     ∷ Octets longest_frame t.content.items ∷ []
 
--- where and why an event was refused
+-- Where and why an event was refused.
 abbrev pub reason : Place → List ℕ → List Word
 reason at text = Chosen places (place_text at) ∷ Fixed text ∷ []
 
--- what is reported beside the word of a reason
+-- What is reported after the word of a reason.
 abbrev pub detail_words : Detail → List Word
 detail_words detail.Nothing = []
 detail_words (detail.Number number) = counted number ∷ []
@@ -138,7 +138,7 @@ unfoldable pub refusal_words : Refusal → List Word
 refusal_words r = Chosen places (place_text (place_of r)) ∷ Fixed (reason_word (reason_of r))
     ∷ detail_words (reason_detail (reason_of r))
 
--- the beginning of a line: the number of its event and its kind, and the node that it speaks of
+-- The beginning of a line: the number of its event, its kind, and its node.
 abbrev pub begun : ℕ → List ℕ → List Word → List Word
 begun event kind more = counted event ∷ Fixed kind ∷ more
 
@@ -206,8 +206,8 @@ text l = line_of (words l)
 abbrev pub texts : List Line → List ℕ
 texts lines = flat_map text lines
 
--- A line all of whose words may stand in a line. Only the names are a condition: the rest holds of each value of the
--- program's type.
+-- A line may have all of its words. Only the names are a condition: the rest holds for each value of the program's
+-- type.
 abbrev pub IsProper : Line → Type 0
 IsProper l = AllByRecursion MayStand (words l)
 

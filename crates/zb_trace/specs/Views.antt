@@ -1,6 +1,8 @@
--- The lines of the program as the model's. A line of the program names a node by its name, and the model by its EUI.
--- It is the EUI of the first node of that name that the lines before it declare, and `nobody` where there is none. The
--- lines that only the centre gives, and that don't show it, are the centre's: the first declared node of that role.
+-- The lines of the program as lines of the model.
+--
+-- A line of the program names a node by its name, a line of the model by its EUI. The EUI is that of the first node
+-- of that name that the lines before it declare, and `nobody` if there is none. Lines that only the centre gives, and
+-- that don't show the node, are the centre's: the first declared node of that role.
 use Rattle.std.specs.Prelude.{ℕ, List, find, bytes_eq, codes, Option, Some, None, if◌then◌else◌}
 use Rattle.zb_node_types.specs.Changes.{model_layer, model_role, model_state, model_attribute, is_sending, model_place, reason}
 use Rattle.zb_node_types.specs.Changes as changes
@@ -16,15 +18,15 @@ abbrev pub eui_or_nobody : Option Station → ℕ
 eui_or_nobody None = nobody
 eui_or_nobody (Some station) = station.eui
 
--- the EUI of the first declared node of that name
+-- The EUI of the first declared node of that name.
 unfoldable pub named : List Station → List ℕ → ℕ
 named stations name = eui_or_nobody (find (λ (s : Station). bytes_eq s.name name) stations)
 
--- the EUI of the first declared centre
+-- The EUI of the first declared centre.
 unfoldable pub the_centre : List Station → ℕ
 the_centre stations = eui_or_nobody (find (λ (s : Station). is_centre s.role) stations)
 
--- the sender of a frame, where that isn't an outsider
+-- The sender of a frame, if that isn't an outsider.
 unfoldable pub sent_by : List Station → List ℕ → Option ℕ
 sent_by stations name = if bytes_eq name (codes "-") then None else Some (named stations name)
 

@@ -50,7 +50,7 @@ pub(crate) fn put_floor(
     Ok(())
 }
 
-/// Prints the line of a key of the supply that is used.
+/// Prints the line of the use of the supply's next key.
 #[tactic(auto, using(std::proofs::Common::append_assoc), unfolding(crate::specs::Text::text))]
 pub(crate) fn put_draw(out: &mut Vec<u8>, event: u32, key: &Key) -> Result<(), AllocError>
     ensures { OnOk result (out.new.items ≡ out.old.items ++ spec.text (line.Draw event key.now)) }
@@ -191,7 +191,7 @@ pub(crate) fn put_pair(
     Ok(())
 }
 
-/// Prints the line of the state that a node comes to.
+/// Prints the line of a node's new state.
 #[tactic(auto, using(std::proofs::Common::append_assoc), unfolding(crate::specs::Text::text))]
 pub(crate) fn put_state(
     out: &mut Vec<u8>,
@@ -229,7 +229,7 @@ pub(crate) fn put_removed(out: &mut Vec<u8>, event: u32, device: Eui) -> Result<
     Ok(())
 }
 
-/// Prints the line of a rollover that begins or ends.
+/// Prints the line of the beginning or end of a rollover.
 #[tactic(auto, using(std::proofs::Common::append_assoc), unfolding(crate::specs::Text::text))]
 pub(crate) fn put_roll(
     out: &mut Vec<u8>,
@@ -256,7 +256,7 @@ pub(crate) fn put_told(out: &mut Vec<u8>, event: u32, device: Eui) -> Result<(),
     Ok(())
 }
 
-/// Prints the line of a device that is to be sent the newest network key again.
+/// Prints the line of a device that needs the newest network key again.
 #[tactic(auto, using(std::proofs::Common::append_assoc), unfolding(crate::specs::Text::text))]
 pub(crate) fn put_untold(out: &mut Vec<u8>, event: u32, device: Eui) -> Result<(), AllocError>
     ensures { OnOk result (out.new.items ≡ out.old.items ++ spec.text (line.Untold event device)) }

@@ -81,7 +81,7 @@ pub(crate) fn put_forge(out: &mut Vec<u8>, event: u32, term: &Term) -> Result<()
     Ok(())
 }
 
-/// Prints the line of a frame that goes on the air.
+/// Prints the line of a frame that is sent.
 #[tactic(auto, using(std::proofs::Common::append_assoc), unfolding(crate::specs::Text::text))]
 pub(crate) fn put_send(
     out: &mut Vec<u8>,
@@ -158,7 +158,7 @@ pub(crate) fn put_boot(out: &mut Vec<u8>, event: u32, node: &Name) -> Result<(),
     Ok(())
 }
 
-/// Prints the line of the record that a node's disk represents.
+/// Prints the line of the record that a node's disk holds.
 #[tactic(auto, using(std::proofs::Common::append_assoc), unfolding(crate::specs::Text::text))]
 pub(crate) fn put_dump(
     out: &mut Vec<u8>,

@@ -5,11 +5,11 @@ use zb_node_types::Refusal;
 
 /// One line of a transcript.
 ///
-/// `event` is the number of the event that gave the line, from 1. The lines of the start have the number 0. A node is
-/// named by its name. A partner, a sender or a device is named by its EUI.
+/// `event` is the number of the event that gave the line, from 1. The lines of the start have the number 0. Nodes are
+/// given by name; partners, senders and devices by EUI.
 #[derive(Drop)]
 pub enum Line {
-    /// At the start: a node, with the blocks in which it reserves outgoing counters and stores floors.
+    /// Declares a node at the start, with the blocks in which it reserves outgoing counters and stores floors.
     Node {
         name: Name,
         role: Role,
@@ -18,32 +18,32 @@ pub enum Line {
         out_block: u32,
         in_block: u32,
     },
-    /// At the start: a network key that the node holds and that is active.
+    /// Gives a network key that the node holds at the start and that is active.
     GivenNet {
         node: Name,
         key: Key,
         sequence: u8,
     },
-    /// At the start: the link key of the node's install code, shared with `partner`.
+    /// Gives the link key of the node's install code at the start, shared with `partner`.
     GivenLink {
         node: Name,
         partner: Eui,
         key: Key,
     },
-    /// At the start: the stored limit of an outgoing counter, where that isn't 0.
+    /// Gives the stored limit of an outgoing counter at the start, if it isn't 0.
     Counter {
         node: Name,
         layer: Layer,
         limit: u32,
     },
-    /// The outgoing counter of a layer is reserved up to, but not with, `limit`.
+    /// The outgoing counter of a layer is reserved up to `limit`, which is excluded.
     Reserve {
         event: u32,
         node: Name,
         layer: Layer,
         limit: u32,
     },
-    /// After a boot frames of `sender` under `key` with a counter below `value` are refused.
+    /// After a boot, frames of `sender` under `key` with a counter below `value` are refused.
     Floor {
         event: u32,
         node: Name,
@@ -90,7 +90,7 @@ pub enum Line {
         key: Key,
         value: u32,
     },
-    /// A link key is new, comes back into use or has a new attribute.
+    /// A link key is new, is in use again, or has a new attribute.
     Row {
         event: u32,
         node: Name,
@@ -133,12 +133,12 @@ pub enum Line {
         event: u32,
         device: Eui,
     },
-    /// The centre is to send a device the newest network key again.
+    /// The centre has to send a device the newest network key again.
     Untold {
         event: u32,
         device: Eui,
     },
-    /// The node's changes before it, of the same event, are stored.
+    /// The node's changes in earlier lines of the same event are stored.
     Commit {
         event: u32,
         node: Name,
@@ -149,7 +149,7 @@ pub enum Line {
         node: Name,
         term: Term,
     },
-    /// The event was refused.
+    /// The node refused the event.
     Refuse {
         event: u32,
         node: Name,
@@ -166,20 +166,20 @@ pub enum Line {
         event: u32,
         term: Term,
     },
-    /// A frame went on the air, as the `frame`-th of all; `node` is `-` where an outsider forged it.
+    /// A frame was sent, as the `frame`-th of all; `node` is `-` if an outsider forged the frame.
     Send {
         event: u32,
         node: Name,
         frame: u32,
         bytes: Frame,
     },
-    /// An outsider put bytes on the air, as the `frame`-th frame of all.
+    /// An outsider sent bytes, as the `frame`-th frame of all.
     Inject {
         event: u32,
         frame: u32,
         bytes: Frame,
     },
-    /// The node's disk stopped inside the event.
+    /// The node's disk stopped during the event.
     Stopped {
         event: u32,
         node: Name,
@@ -199,15 +199,16 @@ pub enum Line {
         event: u32,
         node: Name,
     },
-    /// The record that the node's disk represents.
+    /// The record that the node's disk holds.
     Dump {
         event: u32,
         node: Name,
         bytes: List<u8>,
     },
-    /// The end, with the numbers of events and of seal, accept and refuse lines. `ideal` says whether all that was
-    /// accepted, and all keys that were taken in, come from earlier seals or forgeries. `private` says whether
-    /// outsiders forged only with what outsiders know.
+    /// The end, with the numbers of events and of seal, accept and refuse lines.
+    ///
+    /// `ideal` says whether everything accepted and every key installed came from earlier seals or forgeries.
+    /// `private` says whether outsiders forged only with what outsiders know.
     End {
         events: u32,
         seals: u32,

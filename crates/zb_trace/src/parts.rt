@@ -1,4 +1,4 @@
-//! What many lines share: their beginnings, terms and refusals.
+//! What many lines share: beginnings, terms and refusals.
 ghost use Rattle.std.specs.Prelude.{◌≡◌, ◌++◌, OnOk};
 ghost use Rattle.zb_text.specs.Words.{then};
 ghost use Rattle.zb_trace.specs.Text.{opening, opening_of, trailing, term_words, detail_words, refusal_words};
@@ -21,7 +21,7 @@ pub(crate) fn begin(out: &mut Vec<u8>, event: u32, kind: &[u8]) -> Result<(), Al
     Ok(())
 }
 
-/// Begins a line that speaks of a node.
+/// Begins a line that names a node.
 #[tactic(auto, using(std::proofs::Common::append_assoc))]
 pub(crate) fn begin_of(
     out: &mut Vec<u8>,
@@ -63,7 +63,7 @@ pub(crate) fn add_refusal(out: &mut Vec<u8>, refusal: &Refusal) -> Result<(), Al
     Ok(())
 }
 
-// Prints what is reported beside the word of a reason, after a space.
+// Prints what is reported after the word of a reason, after a space.
 fn add_detail(out: &mut Vec<u8>, detail: Detail) -> Result<(), AllocError>
     ensures { OnOk result (out.new.items ≡ out.old.items ++ trailing (detail_words detail)) }
 {

@@ -14,10 +14,10 @@ use std::alloc::{AllocError, Global};
 use zb_base::{Failed, NoMemory, OrMemory, Sink};
 use zb_text::page::hand_out;
 
-/// Prints a line, with its line feed, after what is printed already. It takes memory only where the page grows.
+/// Prints a line, with its line feed, after what is already printed. It allocates memory only if the page grows.
 ///
 /// # Errors
-/// `AllocError`.
+/// `AllocError`, if memory runs out.
 pub fn put_line(out: &mut Vec<u8>, line: &Line) -> Result<(), AllocError>
     ensures { OnOk result (out.new.items ≡ out.old.items ++ spec.text line.now) }
 {
@@ -55,7 +55,7 @@ pub fn put_line(out: &mut Vec<u8>, line: &Line) -> Result<(), AllocError>
     }
 }
 
-/// Prints a line on network keys, or a later one.
+/// Prints a line about network keys, or one of a later group.
 fn put_key_line(out: &mut Vec<u8>, line: &Line) -> Result<(), AllocError>
     requires { is_of_counters line.now ≡ false }
     ensures { OnOk result (out.new.items ≡ out.old.items ++ spec.text line.now) }
@@ -86,7 +86,7 @@ fn put_key_line(out: &mut Vec<u8>, line: &Line) -> Result<(), AllocError>
     }
 }
 
-/// Prints a line on link keys and devices, or a later one.
+/// Prints a line about link keys and devices, or one of a later group.
 fn put_device_line(out: &mut Vec<u8>, line: &Line) -> Result<(), AllocError>
     requires { (is_of_counters line.now || is_of_keys line.now) ≡ false }
     ensures { OnOk result (out.new.items ≡ out.old.items ++ spec.text line.now) }
@@ -120,7 +120,7 @@ fn put_device_line(out: &mut Vec<u8>, line: &Line) -> Result<(), AllocError>
     }
 }
 
-/// Prints a line on a commit or a frame, or a later one.
+/// Prints a line about a commit or a frame, or one of a later group.
 fn put_frame_line(out: &mut Vec<u8>, line: &Line) -> Result<(), AllocError>
     requires { (is_of_counters line.now || (is_of_keys line.now || is_of_devices line.now)) ≡ false }
     ensures { OnOk result (out.new.items ≡ out.old.items ++ spec.text line.now) }
@@ -150,7 +150,7 @@ fn put_frame_line(out: &mut Vec<u8>, line: &Line) -> Result<(), AllocError>
     }
 }
 
-/// Prints a line on power and disks, or the end.
+/// Prints a line about power and disks, or the end line.
 fn put_last_line(out: &mut Vec<u8>, line: &Line) -> Result<(), AllocError>
     requires { (is_of_counters line.now || (is_of_keys line.now || (is_of_devices line.now || is_of_frames line.now)))
         ≡ false }
@@ -177,7 +177,7 @@ fn put_last_line(out: &mut Vec<u8>, line: &Line) -> Result<(), AllocError>
 /// Makes the text of a line, with its line feed.
 ///
 /// # Errors
-/// `NoMemory`.
+/// `NoMemory`, if memory runs out.
 pub fn text(alloc: Global, line: &Line) -> Result<Vec<u8>, NoMemory>
     ensures { IfOk result (λ bytes. bytes.items ≡ spec.text line.now) }
 {
@@ -186,11 +186,11 @@ pub fn text(alloc: Global, line: &Line) -> Result<Vec<u8>, NoMemory>
     Ok(bytes)
 }
 
-/// Hands the text of a line to a sink, in one write. Requires an empty page. The page is empty again after `Ok`, and
-/// keeps its room from line to line.
+/// Writes the text of a line to a sink, in one write. The page must be empty. It is empty again after `Ok`, and keeps
+/// its capacity from line to line.
 ///
 /// # Errors
-/// Where the sink fails, it took a prefix of the text. Out of memory it took nothing.
+/// If the sink fails, it took a prefix of the text. If memory runs out, it took nothing.
 pub fn write_line<W: Sink>(
     page: &mut Vec<u8>,
     out: &mut W,

@@ -11,7 +11,7 @@ use zb_base::{Eui, Key, Layer, Name, Role, Short};
 use zb_text::choices::{layer_text, role_text};
 use zb_text::page::{add_eui, add_key, add_number, add_short, add_word, end_line};
 
-/// Prints the line of a node, as it is declared.
+/// Prints the line of a declared node.
 #[tactic(auto, using(std::proofs::Common::append_assoc), unfolding(crate::specs::Text::text))]
 pub(crate) fn put_node(
     out: &mut Vec<u8>,

@@ -1,4 +1,4 @@
--- Hexadecimal digits in capital letters: what is printed has no others, and what is read in them is spelled so.
+-- Hexadecimal digits in capital letters: only these are printed, and what is read in them is spelled so.
 use Rattle.std.proofs.Common.{◌≡◌, ℕ, zero, suc, ◌+◌, ◌*◌, ◌/◌, ◌%◌, ◌<◌, ◌==◌, nat_lt, List, [], ◌∷◌, ◌++◌, length, get_or, Bool, true, false, Option, Some, None, Result, Ok, Err, cond, refl, arith, ap, sym, ◌∙◌, codes, bytes_eq, append_assoc}
 use Rattle.std.specs.Prelude.{if◌then◌else◌, IfSome}
 use Rattle.std.specs.Int.{w16, w64, to_be_bytes, from_be_bytes}
@@ -44,7 +44,7 @@ capital_eui eui = capital_digits (to_be_bytes w64 eui) (IsBytes-eui eui)
 pub capital_short : (short : ℕ) → lacks_small (short_text short) ≡ true
 capital_short short = capital_digits (to_be_bytes w16 short) (IsBytes-short short)
 
--- A word in capital letters is what it would be in any.
+-- If a word has no small letter, its meaning is the same as in any letters.
 pub kept : {X : Type 0} (meaning : List ℕ → Option X) (word : List ℕ) (x : X) → lacks_small word ≡ true
     → meaning word ≡ Some x → in_capitals meaning word ≡ Some x
 kept meaning word x fit e = rw (fit, e) refl
@@ -74,7 +74,7 @@ one_byte high low h l p q small =
     let second : (h * 16 + l) % 16 ≡ l = omega arith in
     rw (first, second, p, q) refl
 
--- what the text after some known bytes leads to is spelled by their digits and the text
+-- If the text after some known bytes leads to a result, their digits and that text spell it.
 abbrev Leads : List ℕ → List ℕ → Option (List ℕ) → Type 0
 Leads done text o = IfSome o (λ bytes. encode_upper bytes ≡ encode_upper done ++ text)
 
@@ -111,7 +111,7 @@ pairs_spelled done (high ∷ low ∷ rest) capital =
     pair_spelled done rest high low (hex_digit_value high) (hex_digit_value low) refl refl first.0 second.0
     (λ byte. pairs_spelled (done ++ byte ∷ []) rest second.1)
 
--- the digits of what a word decodes to are the word
+-- The digits of what a word decodes to are the word.
 pub digits_spelled : (word bytes : List ℕ) → lacks_small word ≡ true → result_ok (decode_of word) ≡ Some bytes
     → encode_upper bytes ≡ word
 unfolding encode_with
@@ -122,7 +122,7 @@ digits_spelled word bytes capital reads =
     leads None e spells = cc e
     leads (Some found) e spells = let same : found ≡ bytes = cc e in ap encode_upper (sym same) ∙ spells
 
--- What a number of bytes reads as: it decodes, there are so many, and they are bytes.
+-- What a number of bytes is read as: it decodes, there are that many, and they are bytes.
 sized : (odd same : Bool) (r : Result (List ℕ) FromHexError) (bytes : List ℕ)
     → result_ok (if odd then Err OddLength else if same then r else Err InvalidStringLength) ≡ Some bytes
     → (result_ok (if odd then Err OddLength else r) ≡ Some bytes) × (same ≡ true) × (r ≡ Ok bytes)
@@ -172,7 +172,7 @@ short_spelled word capital = spells (fixed_of 2 word) refl
         let fixed = fixed_spelled 2 word bytes capital e in
         ap encode_upper (be_bytes_2 bytes (from_be_bytes w16 bytes) fixed.1 fixed.2 refl) ∙ fixed.0
 
--- Bytes, or a dash.
+-- Bytes, or a dash
 text_of_digits : (bytes word : List ℕ) → (length word == 0) ≡ false → encode_upper bytes ≡ word → bytes_text bytes
     ≡ word
 unfolding encode_with

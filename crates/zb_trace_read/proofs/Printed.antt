@@ -36,7 +36,7 @@ use Rattle.zb_trace_read.specs.Grammar.{behind_reason, Field, OneOf, ANameOrDash
 use Rattle.zb_trace_read.proofs.Capitals.{kept, capital_digits, capital_bytes, capital_eui, capital_short}
 use Rattle.zb_trace_read.specs.Reading.{of_start, of_change, of_node, of_nobody, of_event, read_words}
 
--- A word reads as itself in its place, and is a word.
+-- A word is read as itself in its place, and is a word.
 abbrev pub Suits : Field → Word → Type 0
 Suits f w = (value_of f (spelled w) ≡ Some w) × IsWord (spelled w)
 
@@ -46,7 +46,7 @@ AllSuit [] (w ∷ ws) = ⊥
 AllSuit (f ∷ fs) [] = ⊥
 AllSuit (f ∷ fs) (w ∷ ws) = Suits f w × AllSuit fs ws
 
--- The words after the beginning of a line read as themselves.
+-- The words after the beginning of a line are read as themselves.
 
 abbrev put_before : Word → List Word → List Word
 put_before w ws = w ∷ ws
@@ -302,7 +302,7 @@ named : (f : Named → Option (List Word)) (node : List ℕ) (rest : List (List 
     → option_and_then f (field name_of (node ∷ rest)) ≡ f (node, rest)
 named f node rest h = rw h refl
 
--- a line that speaks of a node: `dispatch` says that the kind leads to this reading of what is after the name
+-- A line that names a node: `dispatch` says that the kind leads to this reading of what is after the name.
 of_named : (event : ℕ) (kind node : List ℕ) (behind : List (List ℕ) → Option (List Word)) (ws : List Word) → event
     ≤ 4294967295 → is_name node ≡ true → IsWord kind
     → ((rest : List (List ℕ)) → of_event event (kind ∷ node ∷ rest)
@@ -327,7 +327,7 @@ of_shape : (event : ℕ) (kind node : List ℕ) (fs : List Field) (ws : List Wor
 of_shape event kind node fs ws le name fit dispatch suit =
     of_named event kind node (shaped fs) ws le name fit dispatch (shaped_again fs ws suit) (are_words fs ws suit)
 
--- one of two forms
+-- One of two forms.
 of_form : (event : ℕ) (kind node form : List ℕ) (forms : List (List ℕ) → Option (List Word)) (fs : List Field)
     (ws : List Word) → event ≤ 4294967295 → is_name node ≡ true → IsWord kind → IsWord form
     → ((rest : List (List ℕ)) → of_event event (kind ∷ node ∷ rest)
@@ -340,7 +340,7 @@ of_form event kind node form forms fs ws le name fit fit_form dispatch way suit 
     (way (map spelled ws) ∙ ap (option_map (put_before (Fixed form))) (shaped_again fs ws suit))
     (fit_form, are_words fs ws suit)
 
--- a line that shows no node
+-- A line that shows no node.
 of_none : (event : ℕ) (kind : List ℕ) (fs : List Field) (ws : List Word) → event ≤ 4294967295 → IsWord kind
     → ((rest : List (List ℕ)) → of_event event (kind ∷ rest) ≡ option_map (begun event kind) (shaped fs rest))
     → AllSuit fs ws → Printed (begun event kind ws)

@@ -1,4 +1,4 @@
--- What the words of a line are read as is spelled by them: no other text is read as a line.
+-- The words of a line spell what they are read as: no other text is read as that line.
 use Rattle.std.proofs.Common.{◌≡◌, ℕ, ◌+◌, ◌*◌, ◌-◌, ◌/◌, ◌%◌, ◌^◌, ◌<◌, ◌≤◌, ◌==◌, nat_lt, nat_le, List, [], ◌∷◌, ◌++◌, map, Bool, true, false, Option, Some, None, refl, arith, ap, sym, ◌∙◌, codes, decimal, bytes_eq, append_assoc, append-nil}
 use Rattle.std.specs.Prelude.{if◌then◌else◌, IfSome}
 use Rattle.std.specs.Char.{is_ascii_digit}
@@ -33,7 +33,7 @@ no_smaller (c ∷ cs) n m e =
     let parts = digit_holds (is_ascii_digit c) (digits_after (n * 10 + (c - 48)) cs) m e in
     omega (arith, no_smaller cs (n * 10 + (c - 48)) m parts.1)
 
--- the digits of a number that is not 0, and then some more
+-- The digits of a number that is not 0, and then more digits.
 digits_behind : (digits : List ℕ) (n m : ℕ) → 0 < n → m < 2 ^ 64 → digits_after n digits ≡ Some m
     → decimal m ≡ decimal n ++ digits
 digits_behind [] n m some small e =
@@ -152,7 +152,7 @@ name_or_dash_is : (word : List ℕ) (dash named : Bool) → bytes_eq word (codes
 name_or_dash_is word true named e = sym ((bytes_eq-Decides word (codes "-")).0 e)
 name_or_dash_is word false named e = name_is word named
 
--- numbers of a place have a limit below 2 ^ 64
+-- The numbers of a place have a limit below 2 ^ 64.
 abbrev is_small : Field → Bool
 is_small (UpTo limit) = nat_lt limit 18446744073709551616
 is_small _ = true
@@ -315,7 +315,7 @@ named_are event kind one node words (Some out) are e =
     ap (λ k. decimal event ∷ k ∷ node ∷ map spelled out) (sym e)
     ∙ ap (λ more. decimal event ∷ kind ∷ node ∷ more) are
 
--- one kind of line, and those that may follow it in a chain
+-- One kind of line, and those that may follow it in a chain.
 or_named : (event : ℕ) (kind one node : List ℕ) (words : List (List ℕ)) (o next : Option (List Word)) → Are words o
     → Are (decimal event ∷ kind ∷ node ∷ words) next
     → Are (decimal event ∷ kind ∷ node ∷ words)
@@ -382,7 +382,7 @@ node_are event kind node words =
     (or_named event kind (codes "stopped") node words _ _ (shaped_are [] words refl)
     (change_are event kind node words)))))))
 
--- a line that speaks of a node, from its name on
+-- A line that names a node, from the name on.
 from_name : (front : List (List ℕ)) (f : Split → Option (List Word)) (node : List ℕ) (words : List (List ℕ))
     (named : Bool) → Are (front ++ node ∷ words) (f (node, words))
     → Are (front ++ node ∷ words)
@@ -431,7 +431,7 @@ from_event : (first : List ℕ) (words : List (List ℕ)) (o : Option ℕ) → I
 from_event first words None h = tt
 from_event first words (Some event) h = rw h at (event_are event words)
 
--- the words that a line was read from are those of what was read
+-- The words of a line that was read are those of the result.
 pub words_are : (words : List (List ℕ)) → Are words (read_words words)
 unfolding read_words
 words_are [] = tt

@@ -1,4 +1,4 @@
--- A line off the start of a text.
+-- One line is read from the start of a text.
 use Rattle.std.proofs.Common.{◌≡◌, ℕ, ◌<◌, ◌==◌, List, [], ◌∷◌, ◌++◌, length, get_or, map, true, false, Option, Some, None, refl, arith, ap, sym, ◌∙◌, append_assoc, append-nil, nat_lt, length-append}
 use Rattle.std.specs.Prelude.{IfSome}
 use Rattle.std.specs.List.{AllByRecursion, join_with_byte}
@@ -52,7 +52,7 @@ unfolding read_words
 read_nonempty [] are reads = cc reads
 read_nonempty (w ∷ ws) are reads = ap read_words (again.words_again (spelled w) (map spelled ws) are.0 are.1) ∙ reads
 
--- and what it is read as
+-- And what it is read as.
 pub body_again : (l : Line) → IsProper l → read_words (words_of (Some (body l))) ≡ Some (words l)
 body_again l proper = read_nonempty (words l) (words_again l proper).1 (words_again l proper).0
 
@@ -65,14 +65,14 @@ one_some x y e = cc e
 abbrev read_joined : List ℕ → Option (List Word)
 read_joined line = read_words (words_of (Some line))
 
--- What is before the first line feed of a text that begins with a line's, and after it.
+-- What is before the first line feed of a text that begins with a line, and what is after it.
 parts_of_text : (l : Line) (more : List ℕ) → IsProper l → parts 10 (text l ++ more) ≡ body l ∷ parts 10 more
 parts_of_text l more proper =
     let fits = IsLine-words (map spelled (words l)) (words_again l proper).1 in
     ap (parts 10) (text_front l more)
     ∙ slice_split_at (λ b. b == 10) (body l) 10 more (lacks_line_feed (body l) fits) refl
 
--- A text without a line feed begins with no line's.
+-- A text without a line feed doesn't begin with a line.
 pub no_line : (bytes : List ℕ) (l : Line) (more : List ℕ) → IsProper l → bytes ≡ text l ++ more
     → parts 10 bytes ≡ bytes ∷ [] → ⊥
 no_line bytes l more proper e none =
@@ -83,7 +83,7 @@ no_line bytes l more proper e none =
     no_parts [] some same = cc some
     no_parts (p ∷ ps) some same = cc same
 
--- The line that was taken off the start is the one that the text begins with.
+-- The line that was read is the one with which the text begins.
 pub begins_with : (bytes front : List ℕ) (after : List (List ℕ)) (l : Line) (more : List ℕ) → IsProper l → bytes
     ≡ text l ++ more → parts 10 bytes ≡ front ∷ after → read_joined front ≡ Some (words l)
 begins_with bytes front after l more proper e cut =
@@ -105,7 +105,7 @@ cut_text bytes front rest cut =
     ∙ (joined_parts front (parts 10 rest) (parts_are_some 10 rest)
     ∙ ap (λ t. front ++ 10 ∷ t) (join_with_byte-slice_split 10 rest)))
 
--- What is read is what stands before the line feed.
+-- What is read is what is before the line feed.
 read_front : (front : List ℕ) (l : Line) → read_joined front ≡ Some (words l) → body l ≡ front
 read_front front l reads =
     ap line_of_words (spells (read_joined front) reads (words_are (words_of (Some front))))
@@ -128,7 +128,7 @@ rest_is_shorter bytes front rest cut =
     let whole = ap (length {A = ℕ}) (cut_text bytes front rest cut) in omega
     (arith, whole, length-append front (10 ∷ rest))
 
--- A text begins with the text of one line at most.
+-- A text begins with the text of at most one line.
 
 same_words : (a b : Line) (p q : List ℕ) → IsProper a → IsProper b → text a ++ p ≡ text b ++ q → words a ≡ words b
 same_words a b p q proper_a proper_b e =
@@ -153,7 +153,7 @@ some_text l more e = no_end (body l) (sym (text_front l more) ∙ e)
     no_end [] h = cc h
     no_end (b ∷ bs) h = cc h
 
--- The lines whose text a text is are the same, word for word.
+-- Two lists of lines that have the same text are the same, word for word.
 pub one_text : (ls ms : List Line) → AllProper ls → AllProper ms → texts ls ≡ texts ms → map words ls ≡ map words ms
 one_text [] [] proper_a proper_b e = refl
 one_text [] (b ∷ ms) proper_a proper_b e = absurd (some_text b (texts ms) (sym e))
@@ -163,7 +163,7 @@ one_text (a ∷ ls) (b ∷ ms) proper_a proper_b e =
     ap (λ (first : List Word). first ∷ map words ls) both.0 ∙ ap (λ (more : List (List Word)). words b ∷ more)
     (one_text ls ms proper_a.1 proper_b.1 both.1)
 
--- The steps of taking a line
+-- The steps of reading one line
 
 pub read_none : (r : Option Unit) (l : Line) (x : Option (List Word)) → Shows words (read_into r l) x → r ≡ None
     → x ≡ None
@@ -181,7 +181,7 @@ read_fits (Some v) u l fits e = fits
 
 -- The steps of reading lines
 
--- A text that is the text of lines has no first bad line.
+-- A text of lines has no first bad line.
 pub no_bad : (before ls : List Line) (bytes rest : List ℕ) → AllProper before → AllProper ls → bytes ≡ texts before
     ++ rest → (rest ≡ [] → ⊥)
     → ((l : Line) (more : List ℕ) → IsProper l → rest ≡ text l ++ more → ⊥) → bytes ≡ texts ls → ⊥

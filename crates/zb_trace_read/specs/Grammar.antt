@@ -1,4 +1,4 @@
--- How the words of a line are read: each kind of line has a shape, which says what stands after its first words.
+-- How the words of a line are read. Each kind of line has a shape, which says what comes after its first words.
 use Rattle.std.specs.Prelude.{ℕ, ◌==◌, nat_lt, List, [], ◌∷◌, length, map, codes, bytes_eq, Bool, if◌then◌else◌, Option, Some, None}
 use Rattle.std.specs.List.{list_all}
 use Rattle.std.specs.Option.{option_map, option_and_then}
@@ -13,7 +13,7 @@ use Rattle.zb_text.specs.Words.{first_of, field, nothing}
 use Rattle.zb_trace.specs.Text.{Word, Fixed, Chosen, Number, Called, CalledOrNobody, Address, ShortAddress, Secret, Octet, Octets, AllOctets, layers, labels, places}
 use Rattle.zb_base.specs.Limits.{longest_frame, greatest_count}
 
--- What may stand in a place of a line.
+-- What a place of a line may have.
 pub data Field : Type 0 where
   OneOf : (among : List (List ℕ)) → Field
   UpTo : (limit : ℕ) → Field
@@ -33,7 +33,7 @@ choice among (one ∷ more) word = if bytes_eq word one then Some (Chosen among 
 abbrev pub name_or_dash : List ℕ → Option (List ℕ)
 name_or_dash word = if bytes_eq word (codes "-") then Some (codes "-") else name_of word
 
--- The bytes that a word spells, as many as there are: `-` is no bytes, and others have two digits each.
+-- The bytes that a word spells, any number of them: `-` is no bytes, and others have two digits each.
 abbrev pub all_bytes_of : List ℕ → Option (List ℕ)
 all_bytes_of word =
     if bytes_eq word (codes "-") then Some []
@@ -48,12 +48,12 @@ lacks_small word = list_all (λ byte. nat_lt byte 97) word
 abbrev pub in_capitals : {X : Type 0} → (List ℕ → Option X) → List ℕ → Option X
 in_capitals meaning word = if lacks_small word then meaning word else None
 
--- the one byte of some bytes
+-- One byte.
 abbrev pub octet_of : List ℕ → Option Word
 octet_of (byte ∷ []) = Some (Octet byte)
 octet_of _ = None
 
--- What a word is in such a place.
+-- What a word is in a place.
 abbrev pub value_of : Field → List ℕ → Option Word
 value_of (OneOf among) word = choice among among word
 value_of (UpTo limit) word = option_map (Number limit) (number_of limit word)
@@ -66,7 +66,7 @@ value_of AByte word = option_and_then octet_of (in_capitals (fixed_of 1) word)
 value_of (SomeBytes limit) word = option_map (Octets limit) (in_capitals (bytes_of limit) word)
 value_of AllBytes word = option_map AllOctets (in_capitals all_bytes_of word)
 
--- What words are in the places of a shape, with nothing after them.
+-- What words are in the places of a shape, if nothing comes after them.
 abbrev pub shaped : List Field → List (List ℕ) → Option (List Word)
 shaped [] words = option_map (λ _. []) (nothing words)
 shaped (place ∷ more) words =
@@ -84,13 +84,13 @@ a_sequence = UpTo 255
 abbrev pub a_layer : Field
 a_layer = OneOf layers
 
--- a term: layer, label, base key, source, counter, control byte, header, content
+-- A term: layer, label, base key, source, counter, control byte, header, content.
 abbrev pub a_term : List Field
 a_term =
     a_layer ∷ OneOf labels ∷ AKey ∷ AnAddress ∷ a_count ∷ AByte
     ∷ SomeBytes longest_frame ∷ SomeBytes longest_frame ∷ []
 
--- words after a word that says which of two forms they have
+-- Words after a word that says which of two forms they have.
 abbrev pub two_forms : List ℕ → List Field → List ℕ → List Field → List (List ℕ) → Option (List Word)
 two_forms one first other second words =
     option_and_then (λ (taken : List ℕ × List (List ℕ)).
@@ -127,7 +127,7 @@ behind_reason place word words =
     else option_and_then (λ reason. option_map (λ behind. place ∷ reason ∷ behind) (shaped [] words))
     (plain_reason word)
 
--- where and why an event was refused
+-- Where and why an event was refused.
 unfoldable pub a_refusal : List (List ℕ) → Option (List Word)
 a_refusal words =
     option_and_then (λ (place : Word × List (List ℕ)).

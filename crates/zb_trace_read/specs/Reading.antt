@@ -8,7 +8,7 @@ use Rattle.zb_trace.specs.Text.{Word, Fixed, roles, attributes, states, rollover
 use Rattle.zb_trace_read.specs.Grammar.{OneOf, ANameOrDash, AnAddress, AShort, AKey, SomeBytes, AllBytes, a_count, a_sequence, a_layer, a_term, shaped, two_forms, a_refusal}
 use Rattle.zb_base.specs.Limits.{longest_frame, greatest_count}
 
--- after the name of a node, at the start
+-- After the name of a node, at the start.
 unfoldable pub of_start : List ℕ → List ℕ → List (List ℕ) → Option (List Word)
 of_start kind node words =
     if bytes_eq kind (codes "node")
@@ -21,7 +21,7 @@ of_start kind node words =
     then option_map (begun_of 0 (codes "counter") node) (shaped (a_layer ∷ a_count ∷ []) words)
     else None
 
--- after the name of a node whose stable state changes
+-- After the name of a node whose stable state changes.
 unfoldable pub of_change : ℕ → List ℕ → List ℕ → List (List ℕ) → Option (List Word)
 of_change event kind node words =
     if bytes_eq kind (codes "reserve")
@@ -49,7 +49,7 @@ of_change event kind node words =
     else if event == 0 then of_start kind node words
     else None
 
--- after the name of a node to which something happens
+-- After the name of a node to which something happens.
 unfoldable pub of_node : ℕ → List ℕ → List ℕ → List (List ℕ) → Option (List Word)
 of_node event kind node words =
     if bytes_eq kind (codes "seal") then option_map (begun_of event (codes "seal") node) (shaped a_term words)
@@ -62,7 +62,7 @@ of_node event kind node words =
     else if bytes_eq kind (codes "stopped") then option_map (begun_of event (codes "stopped") node) (shaped [] words)
     else of_change event kind node words
 
--- lines that show no node
+-- Lines that show no node.
 unfoldable pub of_nobody : ℕ → List ℕ → List (List ℕ) → Option (List Word)
 of_nobody event kind words =
     if bytes_eq kind (codes "send")
@@ -79,14 +79,14 @@ of_nobody event kind words =
     then option_map (begun event (codes "untold")) (shaped (AnAddress ∷ []) words)
     else option_and_then (λ (node : List ℕ × List (List ℕ)). of_node event kind node.0 node.1) (field name_of words)
 
--- the record of a node's disk, which may be longer than any other word
+-- The record of a node's disk, which may be longer than any other word.
 abbrev pub of_dump : ℕ → List (List ℕ) → Option (List Word)
 of_dump event words =
     option_and_then
     (λ (node : List ℕ × List (List ℕ)). option_map (begun_of event (codes "dump") node.0)
     (shaped (AllBytes ∷ []) node.1)) (field name_of words)
 
--- after the number of an event
+-- After the number of an event.
 abbrev pub of_event : ℕ → List (List ℕ) → Option (List Word)
 of_event event words =
     option_and_then (λ (kind : List ℕ × List (List ℕ)).

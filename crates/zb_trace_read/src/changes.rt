@@ -15,7 +15,7 @@ use zb_base::Name;
 use zb_text::words::Words;
 use zb_trace::Line;
 
-/// Reads what stands after the name of a node whose stable state changes, or that is declared.
+/// Reads what comes after the name of a node whose stable state changes, or that is declared.
 #[tactic(auto, unfolding(crate::specs::Reading::of_change))]
 pub(crate) fn read_change(
     event: u32,

@@ -1,8 +1,8 @@
-//! Where a text is no transcript.
+//! Where a text isn't a transcript.
 use std::error::Error;
 use std::fmt;
 
-/// The first line, from 1, that is no text of a line of a transcript.
+/// The first line, from 1, that isn't a line of a transcript.
 #[derive(Clone, Copy, Debug, PartialEq, Eq)]
 pub struct TraceError {
     /// The number of the line.

@@ -1,4 +1,4 @@
-//! The words of a line, one by one, each as what stands in its place.
+//! The words of a line. Each is read as what its place may have.
 ghost use Rattle.std.specs.Prelude.{◌^◌, ◌≡◌, ◌∷◌, ◌≤◌, ◌<◌, ◌⊎◌, List, [], length, codes, IfSome, OnOk, IfOk, Option, Some, None, true};
 ghost use Rattle.hex.specs.Hex.{IsBytes};
 ghost use Rattle.zb_text.specs.Fields.{is_name};
@@ -14,7 +14,7 @@ use zb_base::{
 use zb_text::hexadecimal;
 use zb_text::words::Words;
 
-/// Takes one of the words for a role.
+/// Reads a word as a role.
 #[tactic(auto, using(crate::proofs::Choosing::role_field))]
 pub(crate) fn role(reader: &mut Words<'_>) -> Option<Role>
     ensures { Takes (λ r. Chosen spec.roles (spec.role_text r)) result (left reader.new)
@@ -24,7 +24,7 @@ pub(crate) fn role(reader: &mut Words<'_>) -> Option<Role>
     Some(role)
 }
 
-/// Takes one of the words for a layer.
+/// Reads a word as a layer.
 #[tactic(auto, using(crate::proofs::Choosing::layer_field))]
 pub(crate) fn layer(reader: &mut Words<'_>) -> Option<Layer>
     ensures { Takes (λ l. Chosen spec.layers (spec.layer_text l)) result (left reader.new)
@@ -34,7 +34,7 @@ pub(crate) fn layer(reader: &mut Words<'_>) -> Option<Layer>
     Some(layer)
 }
 
-/// Takes one of the words for a label.
+/// Reads a word as a label.
 #[tactic(auto, using(crate::proofs::Choosing::label_field))]
 pub(crate) fn label(reader: &mut Words<'_>) -> Option<Label>
     ensures { Takes (λ l. Chosen spec.labels (spec.label_text l)) result (left reader.new)
@@ -44,7 +44,7 @@ pub(crate) fn label(reader: &mut Words<'_>) -> Option<Label>
     Some(label)
 }
 
-/// Takes one of the words for an attribute.
+/// Reads a word as an attribute.
 #[tactic(auto, using(crate::proofs::Choosing::attribute_field))]
 pub(crate) fn attribute(reader: &mut Words<'_>) -> Option<Attribute>
     ensures { Takes (λ a. Chosen spec.attributes (spec.attribute_text a)) result (left reader.new)
@@ -54,7 +54,7 @@ pub(crate) fn attribute(reader: &mut Words<'_>) -> Option<Attribute>
     Some(attribute)
 }
 
-/// Takes one of the words for a state.
+/// Reads a word as a state.
 #[tactic(auto, using(crate::proofs::Choosing::state_field))]
 pub(crate) fn state(reader: &mut Words<'_>) -> Option<State>
     ensures { Takes (λ s. Chosen spec.states (spec.state_text s)) result (left reader.new)
@@ -64,7 +64,7 @@ pub(crate) fn state(reader: &mut Words<'_>) -> Option<State>
     Some(state)
 }
 
-/// Takes one of the words for a rollover.
+/// Reads a word as a rollover.
 #[tactic(auto, using(crate::proofs::Choosing::rollover_field))]
 pub(crate) fn rollover(reader: &mut Words<'_>) -> Option<Rollover>
     ensures { Takes (λ r. Chosen spec.rollovers (spec.rollover_text r)) result (left reader.new)
@@ -74,7 +74,7 @@ pub(crate) fn rollover(reader: &mut Words<'_>) -> Option<Rollover>
     Some(rollover)
 }
 
-/// Takes one of the words for a place.
+/// Reads a word as a place.
 #[tactic(auto, using(crate::proofs::Choosing::place_field))]
 pub(crate) fn place(reader: &mut Words<'_>) -> Option<Place>
     ensures { Takes (λ p. Chosen spec.places (spec.place_text p)) result (left reader.new)
@@ -84,7 +84,7 @@ pub(crate) fn place(reader: &mut Words<'_>) -> Option<Place>
     Some(place)
 }
 
-/// Takes one of the words for an answer.
+/// Reads a word as an answer.
 #[tactic(auto, using(crate::proofs::Choosing::answer_field))]
 pub(crate) fn answer(reader: &mut Words<'_>) -> Option<bool>
     ensures { Takes (λ a. Chosen spec.answers (spec.answer_text a)) result (left reader.new)
@@ -94,7 +94,7 @@ pub(crate) fn answer(reader: &mut Words<'_>) -> Option<bool>
     Some(answer)
 }
 
-/// Takes a counter, a limit, or the number of a frame.
+/// Reads a counter, a limit, or the number of a frame.
 pub(crate) fn count(reader: &mut Words<'_>) -> Option<u32>
     ensures value { Takes (λ n. counted n) result (left reader.new) (field (value_of a_count) (left reader.old)) }
     ensures fits { IfSome result (λ n. n ≤ greatest_count) }
@@ -102,7 +102,7 @@ pub(crate) fn count(reader: &mut Words<'_>) -> Option<u32>
     reader.number(u32::MAX)
 }
 
-/// Takes the sequence number of a network key.
+/// Reads the sequence number of a network key.
 pub(crate) fn sequence(reader: &mut Words<'_>) -> Option<u8>
     ensures value { Takes (λ n. sequenced n) result (left reader.new) (field (value_of a_sequence) (left reader.old)) }
     ensures fits { IfSome result (λ n. n ≤ 255) }
@@ -111,7 +111,7 @@ pub(crate) fn sequence(reader: &mut Words<'_>) -> Option<u8>
     Some(number as u8)
 }
 
-/// Takes a word of hexadecimal digits, which are printed in capital letters.
+/// Reads a word of hexadecimal digits, which must be in capital letters.
 fn digits<'a>(reader: &mut Words<'a>) -> Option<&'a [u8]>
     ensures { Takes (λ word. word.now) result (left reader.new) (field (in_capitals Some) (left reader.old)) }
 {
@@ -123,7 +123,7 @@ fn digits<'a>(reader: &mut Words<'a>) -> Option<&'a [u8]>
     }
 }
 
-/// Returns whether a word has no small letter. It looks at all bytes without a branch, so at many at once.
+/// Returns whether a word has no small letter. It checks all bytes without a branch, so many of them at once.
 pub(crate) fn has_no_small_letter(word: &[u8]) -> bool
     ensures { result ≡ lacks_small word.now }
 {
@@ -134,7 +134,7 @@ pub(crate) fn has_no_small_letter(word: &[u8]) -> bool
     none
 }
 
-/// Takes an EUI.
+/// Reads an EUI.
 pub(crate) fn eui(reader: &mut Words<'_>) -> Option<Eui>
     ensures value { Takes (λ e. Address e.0) result (left reader.new) (field (value_of AnAddress) (left reader.old)) }
     ensures fits { IfSome result (λ e. e.0 < 2 ^ 64) }
@@ -143,7 +143,7 @@ pub(crate) fn eui(reader: &mut Words<'_>) -> Option<Eui>
     zb_text::fields::eui(word)
 }
 
-/// Takes a short address.
+/// Reads a short address.
 pub(crate) fn short(reader: &mut Words<'_>) -> Option<Short>
     ensures value { Takes (λ s. ShortAddress s.0) result (left reader.new)
         (field (value_of AShort) (left reader.old)) }
@@ -153,7 +153,7 @@ pub(crate) fn short(reader: &mut Words<'_>) -> Option<Short>
     zb_text::fields::short(word)
 }
 
-/// Takes a key.
+/// Reads a key.
 pub(crate) fn key(reader: &mut Words<'_>) -> Option<Key>
     ensures value { Takes (λ k. Secret k.0) result (left reader.new) (field (value_of AKey) (left reader.old)) }
     ensures fits { IfSome result (λ k. IsBytes k.0 × (length k.0 ≡ 16)) }
@@ -162,7 +162,7 @@ pub(crate) fn key(reader: &mut Words<'_>) -> Option<Key>
     zb_text::fields::key(word)
 }
 
-/// Takes the bytes of a frame, of a header or of a content.
+/// Reads the bytes of a frame, of a header or of a content.
 pub(crate) fn some_bytes(reader: &mut Words<'_>) -> Option<Frame>
     ensures value { Takes
         (λ f. Octets longest_frame f.items) result (left reader.new)
@@ -173,7 +173,7 @@ pub(crate) fn some_bytes(reader: &mut Words<'_>) -> Option<Frame>
     hexadecimal::bytes::<127>(word)
 }
 
-/// Takes a byte in two digits.
+/// Reads a byte in two digits.
 pub(crate) fn octet(reader: &mut Words<'_>) -> Option<u8>
     ensures value { Takes (λ b. Octet b) result (left reader.new) (field (value_of AByte) (left reader.old)) }
     ensures fits { IfSome result (λ b. b < 256) }
@@ -183,7 +183,7 @@ pub(crate) fn octet(reader: &mut Words<'_>) -> Option<u8>
     Some(byte)
 }
 
-/// Takes the name of a frame's sender, or `-` for an outsider.
+/// Reads the name of a frame's sender, or `-` for an outsider.
 pub(crate) fn sender(reader: &mut Words<'_>) -> Option<Name>
     ensures value { Takes
         (λ n. CalledOrNobody n.bytes) result (left reader.new) (field (value_of ANameOrDash) (left reader.old)) }

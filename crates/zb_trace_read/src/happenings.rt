@@ -17,7 +17,7 @@ use zb_node_types::Refusal;
 use zb_text::words::Words;
 use zb_trace::Line;
 
-/// Reads what stands after the name of a node to which something happens, or whose stable state changes.
+/// Reads what comes after the name of a node to which something happens, or whose stable state changes.
 #[tactic(auto, unfolding(crate::specs::Reading::of_node))]
 pub(crate) fn read_of_node(
     event: u32,
@@ -115,7 +115,8 @@ fn read_refuse(event: u32, node: Name, reader: &mut Words<'_>, line: &mut Line) 
     Some(())
 }
 
-/// Writes a refused event into its place. As a call of its own it is made there, and not copied there.
+/// Writes a refused event into its place. In a function of its own, the value is made in its place and not copied
+/// there.
 fn put_refused(event: u32, node: Name, refusal: Refusal, line: &mut Line)
     ensures { line.new ≡ lines.Refuse event node refusal }
 {
@@ -138,7 +139,7 @@ fn read_boot(event: u32, node: Name, reader: &mut Words<'_>, line: &mut Line) ->
     Some(())
 }
 
-/// Reads a node that lost its power, by a reset or because its disk failed.
+/// Reads a node that lost its power: by a reset, or because its disk failed.
 fn read_down(event: u32, node: Name, reader: &mut Words<'_>, line: &mut Line) -> Option<()>
     requires { is_name node.bytes ≡ true }
     ensures value { Shows words (read_into result line.new)

@@ -1,4 +1,4 @@
-//! Transcripts read back: the lines that a text is the text of, or the first place where it is no text of a line.
+//! Reads transcripts: the lines of a text, or the number of its first line that isn't a line of a transcript.
 #![tactic(auto)]
 
 mod changes;

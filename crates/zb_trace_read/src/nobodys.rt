@@ -1,4 +1,4 @@
-//! The lines that show no node: those of the air, and those of changes that only the centre makes.
+//! The lines that show no node: those of frames that are sent, and those of changes that only the centre makes.
 ghost use Rattle.std.specs.Prelude.{◌≡◌, ◌∷◌, [], codes, IfSome, true};
 ghost use Rattle.std.specs.List.{AllByRecursion};
 ghost use Rattle.std.specs.Option.{option_map};
@@ -15,7 +15,7 @@ use crate::parts::{no_term, read_term};
 use zb_text::words::Words;
 use zb_trace::Line;
 
-/// Reads what stands after the number of an event and a kind.
+/// Reads what comes after the number of an event and a kind.
 #[tactic(auto, unfolding(crate::specs::Reading::of_nobody))]
 pub(crate) fn read_of_nobody(
     event: u32,
@@ -54,7 +54,7 @@ pub(crate) fn read_of_nobody(
     read_of_node(event, kind, node, reader, line)
 }
 
-/// Reads a frame on the air.
+/// Reads a frame that is sent.
 fn read_send(event: u32, reader: &mut Words<'_>, line: &mut Line) -> Option<()>
     ensures value { Shows words (read_into result line.new)
         (option_map (begun event (codes "send"))
@@ -156,7 +156,7 @@ fn read_told(event: u32, reader: &mut Words<'_>, line: &mut Line) -> Option<()>
     Some(())
 }
 
-/// Reads a device that is to be sent it again.
+/// Reads a device that needs the newest network key again.
 fn read_untold(event: u32, reader: &mut Words<'_>, line: &mut Line) -> Option<()>
     ensures value { Shows words (read_into result line.new)
         (option_map (begun event (codes "untold")) (shaped (AnAddress ∷ []) (left reader.old))) }

@@ -13,7 +13,7 @@ use zb_node_types::Refusal;
 use zb_seal::Term;
 use zb_text::words::Words;
 
-/// Reads the words of a term into a place, with nothing after them.
+/// Reads the words of a term into a place. Nothing may come after them.
 #[tactic(auto, unfolding(zb_trace::specs::Text::term_words))]
 pub(crate) fn read_term(reader: &mut Words<'_>, term: &mut Term) -> Option<()>
     ensures value { Shows term_words (read_into result term.new) (shaped a_term (left reader.old)) }
@@ -31,7 +31,7 @@ pub(crate) fn read_term(reader: &mut Words<'_>, term: &mut Term) -> Option<()>
     Some(())
 }
 
-/// Makes a term that others may be read into.
+/// Makes a term to overwrite.
 pub(crate) fn no_term() -> Term {
     Term {
         layer: Layer::Nwk,
@@ -45,7 +45,7 @@ pub(crate) fn no_term() -> Term {
     }
 }
 
-/// Reads the words of a refusal, with nothing after them.
+/// Reads the words of a refusal. Nothing may come after them.
 #[tactic(auto, unfolding(crate::specs::Grammar::a_refusal))]
 pub(crate) fn read_refusal(reader: &mut Words<'_>) -> Option<Refusal>
     ensures value { Shows refusal_words result (a_refusal (left reader.old)) }

@@ -1,4 +1,4 @@
-//! A transcript as a whole, line by line.
+//! Reads a transcript as a whole, or line by line.
 ghost use Rattle.std.specs.Prelude.{◌≡◌, ◌==◌, ◌<◌, ◌+◌, ◌^◌, ◌++◌, ◌∷◌, [], ℕ, List, length, position, codes, IfSome, IfOk, IfErr, OnErr, MatchOption, Some, false, map};
 ghost use Rattle.std.specs.List.{AllByRecursion};
 ghost use Rattle.hex.specs.Hex.{IsBytes};
@@ -24,16 +24,16 @@ use zb_trace::Line;
 
 /// Reads the lines of a transcript, which is the whole text.
 ///
-/// The text is exactly the text of these lines: hexadecimal digits are in upper case, and a line feed is after the
-/// last line. Requires a text shorter than 4 GiB.
+/// The text is exactly the text of these lines: hexadecimal digits are in upper case, and the last line has a line
+/// feed. The text must be shorter than 4 GiB.
 ///
 /// # Errors
-/// The first line that is no text of a line; or out of memory.
+/// The first line that isn't a line of a transcript; or `NoMemory`.
 pub fn read_lines(alloc: Global, bytes: &[u8]) -> Result<Vec<Line>, OrMemory<TraceError>>
     requires { length bytes.now < 2 ^ 32 }
     ensures found { IfOk result (λ lines. AllProper lines.items × (bytes.now ≡ texts lines.items)) }
     ensures fault { IfErr result (λ e. IsTraceFault bytes.now e) }
-    // Any lines that the text is the text of are those that were found, word for word.
+    // Any lines with this text are those that were found, word for word.
     ensures only { (ls : List ALine) → AllProper ls → bytes.now ≡ texts ls
         → IfOk result (λ lines. map words lines.items ≡ map words ls) }
     ensures accepts { (ls : List ALine) → AllProper ls → bytes.now ≡ texts ls → IfErr result IsNoMemory }
@@ -62,12 +62,12 @@ fn first_bad(before: usize) -> OrMemory<TraceError>
     })
 }
 
-/// Takes the line whose text a text begins with.
+/// Reads the line with which a text begins.
 ///
-/// Returns it with what is after it, or none where there is no such line.
+/// Returns it with what comes after it, or `None` if there is no such line.
 ///
 /// # Errors
-/// Out of memory.
+/// `NoMemory`, if memory runs out.
 pub fn take_line(alloc: Global, text: &[u8]) -> Result<Option<(Line, &[u8])>, AllocError>
     ensures found { IfOk result (λ o. IfSome o (λ t. IsProper t.0 × (text.now ≡ text_of t.0 ++ t.1.now))) }
     ensures none { IfOk result
@@ -81,7 +81,7 @@ pub fn take_line(alloc: Global, text: &[u8]) -> Result<Option<(Line, &[u8])>, Al
     }
 }
 
-/// Makes a line that others may be read into: an end line of an empty run.
+/// Makes a line to overwrite: the end line of an empty run.
 pub fn no_line() -> Line
     ensures { result ≡ End 0 0 0 0 false false }
 {
@@ -95,15 +95,15 @@ pub fn no_line() -> Line
     }
 }
 
-/// Takes the line whose text a text begins with into a place.
+/// Reads the line with which a text begins into a place.
 ///
-/// Returns what is after it, or none where there is no such line.
+/// Returns what comes after the line, or `None` if there is no such line.
 ///
-/// So a transcript can be read line by line, with no list of lines, and in one place. After `None` what stands there
-/// means nothing.
+/// So a transcript can be read line by line, without a list of lines, and in one place. After `None` the place has no
+/// meaningful value.
 ///
 /// # Errors
-/// Out of memory.
+/// `NoMemory`, if memory runs out.
 pub fn take_into<'a>(
     alloc: Global,
     text: &'a [u8],
@@ -124,7 +124,7 @@ pub fn take_into<'a>(
     }
 }
 
-/// Returns what stands before the first line feed, and what stands after it; None where there is no line feed.
+/// Returns what is before the first line feed, and what is after it; `None` if there is no line feed.
 #[tactic(auto, using(zb_text::proofs::Cuts::cut_none, zb_text::proofs::Cuts::cut_some))]
 fn first_line(text: &[u8]) -> Option<(&[u8], &[u8])>
     ensures { MatchOption result (parts 10 text.now ≡ text.now ∷ [])
@@ -235,7 +235,7 @@ fn read_dump(
     Ok(Some(()))
 }
 
-/// Reads the bytes that a word spells, as many as there are.
+/// Reads the bytes that a word spells, any number of them.
 fn all_bytes(alloc: Global, word: &[u8]) -> Result<Option<zb_base::List<u8>>, AllocError>
     ensures value { IfOk result (λ o. o ≡ in_capitals all_bytes_of word.now) }
     ensures fits { IfOk result (λ o. IfSome o (λ bytes. IsBytes bytes)) }

@@ -14,7 +14,7 @@ use zb_base::Name;
 use zb_text::words::Words;
 use zb_trace::Line;
 
-/// Reads what stands after the name of a node at the start.
+/// Reads what comes after the name of a node at the start.
 #[tactic(auto, unfolding(crate::specs::Reading::of_start))]
 pub(crate) fn read_start(
     kind: &[u8],
@@ -38,7 +38,7 @@ pub(crate) fn read_start(
     None
 }
 
-/// Reads a node as it is declared.
+/// Reads a declared node.
 fn read_node(name: Name, reader: &mut Words<'_>, line: &mut Line) -> Option<()>
     requires { is_name name.bytes ≡ true }
     ensures value { Shows words (read_into result line.new)

@@ -1,4 +1,4 @@
--- Words that represent what lines say represent one line more, where each part takes in what that line says.
+-- Words that represent what lines say also represent one more line, if each part adds what that line says.
 use Rattle.zb_model.specs.Data as model
 use Rattle.std.proofs.Common.{◌≡◌, ℕ, List, [], ◌∷◌, Bool, true, false, ◌||◌, ◌&&◌, Option, Some, None, ◌⊎◌, inl, inr, refl, ap, sym, ◌∙◌, bytes_eq, nat_eq}
 use Rattle.std.specs.List.{list_any}
@@ -127,7 +127,7 @@ module _ (tools : Tools) (counts : ℕ → Bool) (old new : EndWords) (s a after
     based = exposure.based ∙ (ap (λ (x : Bool). x && a.based) stands.based ∙ sym grows.based);
   }
 
--- Parts that stay as they are
+-- Parts that don't change
 
 module _ (tools : Tools) (counts : ℕ → Bool) (w : EndWords) (s a after : Sayings) (grows : Grows counts s a after)
     (stands : Represents tools counts w s) where

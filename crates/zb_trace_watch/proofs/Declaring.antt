@@ -71,7 +71,7 @@ one_or_none : {A B V : Type 0} (f : A → V) (g : B → V) (x : A) (y : B) (b : 
 one_or_none f g x y true e = ap Some e
 one_or_none f g x y false e = refl
 
--- What is found first among a list with one more item.
+-- What is found first in a list with one more item.
 found_first : {A B V : Type 0} (f : A → V) (g : B → V) (old new : Option A) (p : B → Bool) (known : List B) (s : B)
     (x : A) (b : Bool)
     → new ≡ option_or old (if b then Some x else None) → option_map f old ≡ option_map g (find p known) → p s ≡ b

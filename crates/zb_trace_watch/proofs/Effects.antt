@@ -1,4 +1,4 @@
--- What each line says, and what the words make of it.
+-- What each line says, and what the words make of it
 use Rattle.std.proofs.Common.{◌≡◌, ℕ, List, [], ◌∷◌, Bool, true, false, ◌||◌, ◌&&◌, Option, Some, None, ◌⊎◌, inl, inr, refl, ap, sym, ◌∙◌, bytes_eq, nat_eq, subst, ◌<◌, ◌^◌, ◌%◌}
 use Rattle.std.specs.List.{list_any}
 use Rattle.std.specs.Option.{IfSome, option_map}
@@ -79,7 +79,7 @@ holds_if : (key : Bytes) (b : Bool) (k : Bytes) → holds (if b then key ∷ [] 
 holds_if key true k = or_none (bytes_eq k key)
 holds_if key false k = refl
 
--- What is known doesn't hang on whether forgeries were based.
+-- What is known doesn't depend on whether forgeries were based.
 rebased : (e : Exposure) (b : Bool) → IsSettled e → IsSettled (record e { based = b })
 rebased e b settled = record {
   covers =
@@ -118,7 +118,7 @@ brings_as : (tools : Tools) (keys : List Bytes) (key : Bytes) (t : model.Term) (
 brings_as tools keys key t None e = rw e refl
 brings_as tools keys key t (Some k) e = rw e (ap (λ (b : Bool). holds keys t.base && b) (bytes_eq_sym key k))
 
--- What a call says that takes a key in.
+-- What a call that installs a key says.
 pub record TakesIn (old new : Origins) (node : Option ℕ) (key : Bytes) : Type 0 where
   pub ideal : IsTraced old node key → new.ideal ≡ (old.ideal && came old node key)
   pub traced : (n : ℕ) (k : Bytes) → number_has new.traced n k ≡ true → (number_has old.traced n k ≡ true)
@@ -171,7 +171,7 @@ centre_partner true partner d = turned_number d partner.0
 centre_partner false partner d = refl
 
 module _ (tools : Tools) (counts : ℕ → Bool) (w : EndWords) (s : Sayings) (stands : Represents tools counts w s) where
-  -- where a key that was taken in came from
+  -- Where an installed key came from
 
   came_under_is : (n : ℕ) (key : Bytes) → counts n ≡ true
       → meet (keys_at nat_cmp w.origins.bases n) (keys_at key_cmp w.origins.carriers (record { 0 = key }))
@@ -268,7 +268,7 @@ module _ (tools : Tools) (counts : ℕ → Bool) (w : EndWords) (s : Sayings) (s
         exposure_gains new key (is_node node) it.settled it.ever it.removed it.carried it.based no_term holds_it
         no_removed fine
 
-  -- given keys
+  -- Given keys
 
   pub given_net_follows : (who : Speaker) (node : ArrayString) (key : Key) (sequence : ℕ) (after : Sayings)
       → Grows counts s (said_by tools s who (line.GivenNet node key sequence)) after
@@ -322,7 +322,7 @@ module _ (tools : Tools) (counts : ℕ → Bool) (w : EndWords) (s : Sayings) (s
       (passing_gains tools counts w s a after grows stands passing key true refl refl network forged passed)
       (exposure_stays tools counts w s a after grows stands refl (λ n. refl) refl refl)
 
-  -- keys that are taken in
+  -- Installed keys
 
   pub install_follows : (who : Speaker) (event : ℕ) (node : ArrayString) (key : Key) (sequence : ℕ) (after : Sayings)
       → IfSome who.joiner (λ n. counts n ≡ true)
@@ -428,7 +428,7 @@ module _ (tools : Tools) (counts : ℕ → Bool) (w : EndWords) (s : Sayings) (s
       (origins_stay tools counts w s a after grows stands refl (λ n. refl) (λ n. refl) refl)
       (passing_stays tools counts w s a after grows stands refl refl) from
 
-  -- terms
+  -- Terms
 
   pub accept_follows : (who : Speaker) (event : ℕ) (node : ArrayString) (t : Term) (after : Sayings)
       → Grows counts s (said_by tools s who (line.Accept event node t)) after → (origins : Origins) → origins

@@ -1,5 +1,5 @@
--- What outsiders may know is the least set that has the start, and that has what a term carries wherever it has the
--- base key of the term.
+-- What outsiders may know is the least set that has the start, and that has the key of each term whose base key it
+-- has.
 use Rattle.std.proofs.Common.{◌≡◌, ℕ, ◌+◌, ◌<◌, ◌≤◌, zero, suc, List, [], ◌∷◌, ◌++◌, length, Bool, true, false, ◌||◌, Option, Some, None, ◌⊎◌, inl, inr, refl, arith, ap, sym, ◌∙◌, subst, bytes_eq, length-append}
 use Rattle.std.specs.Prelude.{if◌then◌else◌, fold}
 use Rattle.std.specs.List.{AllByRecursion, flat_map}
@@ -61,7 +61,7 @@ within_end : (S : Bytes → Bool) (keys : List Bytes) (key : Bytes) → Within S
 within_end S [] key within h = (h, tt)
 within_end S (k ∷ keys) key within h = (within.0, within_end S keys key within.1 h)
 
--- One step, by cases on what it asks
+-- One step, by cases
 
 abbrev stepped : Bool → Option Bytes → List Bytes → List Bytes
 stepped base o keys = if base then fold with_key keys (option_to_list o) else keys
@@ -160,7 +160,7 @@ module _ (tools : Tools) where
   fewer [] keys keys' more = omega arith
   fewer (t ∷ ts) keys keys' more = omega (arith, fewer_one (carried tools t) keys keys' more, fewer ts keys keys' more)
 
-  -- some term carries the key
+  -- Some term carries the key.
   abbrev IsCarried : Bytes → List Term → Type 0
   IsCarried k [] = ⊥
   IsCarried k (t ∷ ts) = (carried tools t ≡ Some k) ⊎ IsCarried k ts
@@ -177,7 +177,7 @@ module _ (tools : Tools) where
   less (t ∷ ts) k keys keys' more (inr there) before after =
       omega (arith, fewer_one (carried tools t) keys keys' more, less ts k keys keys' more there before after)
 
-  -- A round either brings nothing new, and then the keys are closed, or fewer are missing.
+  -- A round either adds nothing, and then the keys are closed, or fewer keys are missing.
   abbrev Turns : List Term → List Term → List Bytes → Type 0
   Turns all ts keys = (IsClosed tools (holds keys) ts × (fold (opened_by tools) keys ts ≡ keys))
       ⊎ (missing all (fold (opened_by tools) keys ts) < missing all keys)
@@ -288,7 +288,7 @@ rounds_least tools n ts from S covers closed k there =
     holds_within S (rounds n tools ts from) k
     (rounds_within tools n S ts from closed (all_within S from from covers (λ q h. h))) there
 
--- of lines
+-- The same for lines
 
 one_term : (l : Line) → length (terms_in l) ≤ 1
 one_term (Seal e n t) = omega arith

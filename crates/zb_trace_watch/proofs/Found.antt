@@ -1,5 +1,5 @@
--- The node of a line, whether it is a router or device, and whether it is the centre, as a watch finds them and as the
--- model reads them.
+-- The node of a line, whether it is a router or device, and whether it is the centre: a watch and the model find the
+-- same.
 use Rattle.zb_model.specs.Data as model
 use Rattle.std.proofs.Common.{◌≡◌, ℕ, List, [], ◌∷◌, Bool, true, false, cond, not, ◌||◌, Option, Some, None, refl, ap, sym, ◌∙◌, bytes_eq, nat_eq}
 use Rattle.std.specs.List.{AllByRecursion, find}
@@ -159,7 +159,7 @@ module _ (nodes : Nodes) (h : List Line) (declares : Declares nodes (stations_of
       (eui_or_nobody (find (λ (s : Station). bytes_eq s.name name.bytes) (stations_of h)))
       (find (λ (p : Station). is_centre p.role) (stations_of h)) refl)
 
-  -- Where a key that was taken in came from
+  -- Where an installed key came from
 
   came_same : (tools : Tools) (n : ℕ) (key : Bytes) → say.came_by tools (said tools h) n key ≡ came_by tools h n key
   unfolding came_by say.came_by

@@ -96,7 +96,7 @@ module _ (tools : Tools) (counts : ℕ → Bool) (s a after : Sayings) (grows : 
       ∙ (ap (λ (more : List Term). passes_on tools s
       || list_any (λ (t : Term). holds_some s.network (carried tools t)) more) nothing ∙ or_none (passes_on tools s))
 
-  -- What came stays so.
+  -- A key that came from somewhere still did.
   pub came_more : (n : ℕ) (key : Bytes) → counts n ≡ true → came_by tools s n key ≡ true → came_by tools after n key
       ≡ true
   unfolding came_by

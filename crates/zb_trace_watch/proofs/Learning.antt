@@ -1,4 +1,4 @@
--- A set that learns keys one by one, and with each key that is new those that terms carry under it.
+-- A set that learns keys one by one, and with each new key those that terms carry under it.
 use Rattle.std.proofs.Common.{◌≡◌, ℕ, ◌+◌, ◌≤◌, List, [], ◌∷◌, ◌++◌, length, Bool, true, false, cond, ◌||◌, Option, Some, inl, inr, refl, arith, ap, sym, ◌∙◌, bytes_eq}
 use Rattle.std.specs.Prelude.{if◌then◌else◌}
 use Rattle.std.specs.Map.{lookup}
@@ -58,7 +58,7 @@ module _ (carried : Holdings Key) (old now new : Keys) (start left : List Key) (
       → is_among left k ≡ true → S k ≡ true
   least_left S more k h = more k (among_append left (key ∷ []) k ∙ or_left _ _ h)
 
-  -- A key that is new brings those that terms carry under it.
+  -- A new key adds those that terms carry under it.
   pub learns_new : Learning carried old new start (left ++ keys_at key_cmp carried key)
   learns_new = record {
     keeps = λ k h. up k (l.keeps k h);
@@ -82,7 +82,7 @@ module _ (carried : Holdings Key) (old now new : Keys) (start left : List Key) (
         );
   }
 
-  -- A key that is known already brings nothing.
+  -- A known key adds nothing.
   pub learns_old : has now key.0 ≡ true → Learning carried old new start left
   learns_old already = record {
     keeps = λ k h. up k (l.keeps k h);

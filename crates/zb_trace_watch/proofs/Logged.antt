@@ -210,7 +210,7 @@ unfolding ideal_line
 declared_grows tools h s =
     grown tools h _ _ refl refl (λ n some. refl) (λ n some. refl) (λ d some. refl) refl refl refl refl
 
--- A line that asks nothing of who its node is.
+-- A line that needs nothing of its node.
 pub other_grows : (tools : Tools) (h : List Line) (l : AnyLine)
     → ((x0 : ArrayString) (x1 : Role) (x2 : Eui) (x3 : Short) (x4 : ℕ) (x5 : ℕ) → l ≡ line.Node x0 x1 x2 x3 x4 x5 → ⊥)
     → ((x0 : ArrayString) (x1 : Key) (x2 : ℕ) → l ≡ line.GivenNet x0 x1 x2 → ⊥)
@@ -288,7 +288,7 @@ other_grows tools h (line.End x0 x1 x2 x3 x4 x5) _ _ _ _ _ = grown tools h _ _ r
     refl)
     (λ d some. refl) refl refl refl refl
 
--- The stations stay where a line declares no node.
+-- The stations stay the same if a line declares no node.
 pub other_stations : (known : List Station) (l : AnyLine)
     → ((x0 : ArrayString) (x1 : Role) (x2 : Eui) (x3 : Short) (x4 : ℕ) (x5 : ℕ) → l ≡ line.Node x0 x1 x2 x3 x4 x5 → ⊥)
     → station_line known (logged known l) ≡ known
@@ -326,7 +326,7 @@ other_stations known (line.Boot x0 x1) differs = refl
 other_stations known (line.Dump x0 x1 x2) differs = refl
 other_stations known (line.End x0 x1 x2 x3 x4 x5) differs = refl
 
--- What it comes to
+-- Both together
 
 pub line_follows : (tools : Tools) (old new : Watch) (h : List Line) (who : Speaker) (l : AnyLine) (m : Line)
     → new.nodes ≡ old.nodes → station_line (stations_of h) m ≡ stations_of h

@@ -15,7 +15,7 @@ use Rattle.zb_trace_watch.specs.declared.exposure.Exposure.{Exposure}
 use Rattle.zb_trace_watch.proofs.Exposed.{rounds_cover, rounds_closed, rounds_least}
 use Rattle.zb_trace_watch.proofs.Truth.{and_left, and_right, both, decided, either, itself, not_both, or_left, or_right, same_bytes, same_number, same_truth, itself_number}
 
--- What removed devices ever held is among what outsiders may hold, and besides it there is the well-known key.
+-- What outsiders may hold is the well-known key and what removed devices ever held.
 outside_has : (f : ℕ → List Bytes) (d : ℕ) (k : Bytes) (ds : List ℕ) → list_any (nat_eq d) ds ≡ true → holds (f d) k
     ≡ true → holds (flat_map f ds) k ≡ true
 outside_has f d k [] gone did = cc
@@ -71,7 +71,7 @@ module _ (tools : Tools) (S : Bytes → Bool) where
     closed_from ts (λ base key known there. carries_all base key known (or_right _ _ there)),
   )
 
--- Where the parts of an exposure are what lines say.
+-- If the parts of an exposure are what lines say.
 module _ (tools : Tools) (e : Exposure) (s : Sayings) (few : length s.terms ≤ s.lines)
     (carried_is : (base key : Bytes) → is_carried e.carried base key ≡ list_any (carries tools base key) s.terms)
     (ever_is : (node : ℕ) → nat_eq node nobody ≡ false → (key : Bytes) → node_has e.ever node key

@@ -1,4 +1,4 @@
--- What outsiders may know stays the least set that covers what they come by, as they come by more.
+-- What outsiders may know stays the least set that covers what they get, as they get more.
 use Rattle.std.proofs.Common.{◌≡◌, ℕ, List, [], ◌∷◌, Bool, true, false, ◌||◌, ◌&&◌, ◌⊎◌, inl, inr, refl, ap, sym, ◌∙◌, bytes_eq, nat_eq}
 use Rattle.std.specs.BTreeSet.{BTreeSet, contains}
 use Rattle.zb_base.specs.declared.address.Eui.{Eui}

@@ -1,4 +1,4 @@
--- The words of no lines, a watch over none, and forms that answers share.
+-- The words of no lines, a watch over none, and shapes that answers share.
 use Rattle.zb_model.specs.Lines as log
 use Rattle.std.proofs.Common.{◌≡◌, ℕ, List, [], Bool, true, false, not, ◌&&◌, Option, Some, None, refl, Result, Ok, Err, arith}
 use Rattle.std.specs.Result.{OnOk}
@@ -90,7 +90,7 @@ pub watch_private : (tools : Tools) (h : List log.Line) → say.private tools (s
 unfolding private passes_on say.passes_on
 watch_private tools h = refl
 
--- The model's tools find what this program's readers find, where they read as these do.
+-- The model's tools find what this program's readers find, if they read as these do.
 
 command_found : (r : Result Command CmdError) → key_shown (command_shown r) ≡ bytes_of (carrying.key_in r)
 command_found (Ok (command.TransportNetwork key sequence destination source)) = refl

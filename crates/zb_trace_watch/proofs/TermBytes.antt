@@ -1,4 +1,4 @@
--- The bytes of terms tell them apart by all their parts.
+-- The bytes of terms distinguish them by all their parts.
 use Rattle.zb_model.specs.State.{same_layer, same_label}
 use Rattle.std.proofs.Common.{◌≡◌, ℕ, zero, suc, ◌+◌, ◌-◌, ◌*◌, ◌/◌, ◌%◌, ◌≤◌, List, [], ◌∷◌, ◌++◌, length, Bool, true, false, ◌&&◌, ◌||◌, cond, Option, Some, None, nat_eq, bytes_eq, refl, ap, sym, ◌∙◌, append_assoc, arith, div-add-mod', length-append}
 use Rattle.std.specs.Global.{Vec}
@@ -70,7 +70,7 @@ or_again false false = refl
 both_and : {a b p q : Bool} → a ≡ b → p ≡ q → (a && p) ≡ (b && q)
 both_and e f = λ i. e i && f i
 
--- a number is one with another where the low byte and the rest are
+-- A number equals another if the low byte and the rest do.
 
 divided : (a b : ℕ) → a % 256 ≡ b % 256 → a / 256 ≡ b / 256 → a ≡ b
 divided a b low high =
@@ -99,7 +99,7 @@ number_alike (suc n) a b c d =
     ∙ (and_assoc (nat_eq (a % 256) (b % 256)) (nat_eq (a / 256) (b / 256)) (bytes_eq c d) ∙ ap
     (λ (x : Bool). x && bytes_eq c d) (divided_alike a b))
 
--- a list with its length before it is told from another whatever follows
+-- A list with its length before it differs from another, whatever follows.
 
 between : (x l r s t : Bool) → (l && r) ≡ (s && t) → (l && (x && r)) ≡ ((x && s) && t)
 between true l r s t same = same
@@ -114,7 +114,7 @@ sized_alike (x ∷ a) (y ∷ b) c d =
     ∙ between (nat_eq x y) (nat_eq (length a) (length b)) (bytes_eq (a ++ c) (b ++ d)) (bytes_eq a b) (bytes_eq c d)
     (sized_alike a b c d)
 
--- the parts of a term from one on
+-- The parts of a term, from one on.
 
 from_control : Term → List ℕ
 from_control t = t.control ∷ (sized t.header.items ++ t.content.items)
@@ -199,7 +199,7 @@ same_head a b h =
     let sources : a.source.0 ≡ b.source.0 = same_number a.source.0 b.source.0 parts.2 in
     λ i. (sources i % 16777216 * 256 + layers i) * 4294967296 + (4294967295 - counters i)
 
--- The first bytes that are kept under a number are kept beside what was there.
+-- The first bytes that are kept under a number are added to what was there.
 
 first_kept : (here : Bool) (old : Option (Vec ℕ)) (new : Vec ℕ) (bytes : List ℕ) (others : Bool)
     → (here ≡ true → old ≡ None) → (here ≡ false → bytes_eq bytes new.items ≡ false)
@@ -233,7 +233,7 @@ first_added old new head bytes h b others updated none alone =
         number_so head h ∙ (ap (nat_eq head) (alone e) ∙ itself_number head) in
         cc (sym there ∙ yes)
 
--- Where the first bytes with a number are put back, the others have those that stood in their place.
+-- If the first bytes with a number are put back, the others get the bytes that were in their place.
 
 as_before : (here : Bool) (first bytes : Vec ℕ) (old mid new : Option (Vec ℕ)) → (here ≡ true → old ≡ Some first)
     → mid ≡ cond here (Some bytes) old → new ≡ cond here (Some first) mid → new ≡ old
@@ -258,8 +258,8 @@ back_in_place old mid new head first bytes h b others more was put back added =
     ∙ (ap (λ (x : Bool). is_kept (old h) b || x) added
     ∙ or_assoc (is_kept (old h) b) others (bytes_eq b bytes.items))
 
--- After an insertion a set has what it had, and what was inserted, under each test that answers alike where keys are
--- equal.
+-- After an insertion a set has what it had, and what was inserted, under each test that gives one answer for equal
+-- keys.
 pub inserted_alike : {K : Type 0} (cmp : K → K → Ordering) (test : K → Bool)
     → ((a b : K) → is_eq (cmp a b) ≡ true → test a ≡ test b)
     → (keys : List K) (key : K) → list_any test (insert_key cmp keys key) ≡ (list_any test keys || test key)
@@ -327,7 +327,7 @@ are_all t counter base source header content layer label size counters same_laye
     ++ (same_layers i ∷ sym keys i
     ∷ (bases i ++ (same_labels i ∷ (sources i ++ (t.control ∷ sizes i ∷ (headers i ++ contents i))))))
 
--- what was put there piece by piece is the bytes of the term
+-- What was put piece by piece is the bytes of the term.
 pub all_put : (t : Term) (old counter base source header content last : List ℕ) (layer label size : ℕ)
     → old ≡ [] → counter ≡ low_bytes 3 t.counter → layer ≡ layer_number t.layer → length t.base.0 ≡ 16 → base
     ≡ t.base.0 → label ≡ label_number t.label

@@ -1,4 +1,4 @@
--- The order of terms tells them apart by all their parts.
+-- The order of terms distinguishes them by all their parts.
 use Rattle.zb_model.specs.State.{same_layer, same_label}
 use Rattle.std.proofs.Common.{◌≡◌, Bool, true, false, ◌&&◌, nat_eq, bytes_eq, refl, ap, sym, ◌∙◌}
 use Rattle.std.specs.Ordering.{is_eq, ordering_then}
@@ -64,7 +64,7 @@ pub and_false : (a : Bool) → (a && false) ≡ false
 and_false true = refl
 and_false false = refl
 
--- the first of six facts may as well stand fifth
+-- The first of six facts may be the fifth.
 pub fifth : (c l b k s r : Bool) → (c && (l && (b && (k && (s && r))))) ≡ (l && (b && (k && (s && (c && r)))))
 fifth c true true true true r = refl
 fifth c true true true false r = and_false c

@@ -5,7 +5,7 @@ use Rattle.zb_model.specs.Data.{Bytes, Term}
 use Rattle.zb_model.specs.Secrets.{carried}
 use Rattle.zb_model.specs.Tools.{Tools}
 
--- where the set has the base key of a term, it has the key that the term carries
+-- If the set has the base key of a term, it has the key that the term carries.
 abbrev pub Passes : Tools → (Bytes → Bool) → Term → Type 0
 Passes tools S t = S t.base ≡ true → IfSome (carried tools t) (λ key. S key ≡ true)
 

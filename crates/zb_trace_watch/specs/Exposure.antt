@@ -8,12 +8,12 @@ use Rattle.zb_trace_watch.specs.declared.exposure.Exposure.{Exposure}
 use Rattle.zb_trace_watch.specs.declared.holdings.Holdings.{Holdings}
 use Rattle.zb_trace_watch.specs.declared.keys.Keys.{Keys}
 
--- whether the device was removed
+-- Whether the device was removed.
 abbrev pub was_removed : Exposure → ℕ → Bool
 was_removed e device = contains eui_cmp e.removed (record { 0 = device })
 
--- The sets of keys that outsiders may know at least. They have the well-known key and what removed devices ever held,
--- and with a base key what terms carry under it.
+-- The sets of keys that outsiders may know at least. They have the well-known key, what removed devices ever held,
+-- and with a base key also what terms carry under it.
 pub record Covers (e : Exposure) (S : List ℕ → Bool) : Type 0 where
   pub everybody : S well_known ≡ true
   pub removed : (d : ℕ) (k : List ℕ) → was_removed e d ≡ true → node_has e.ever d k ≡ true → S k ≡ true
@@ -24,7 +24,8 @@ pub record IsSettled (e : Exposure) : Type 0 where
   pub covers : Covers e (has e.known)
   pub least : (S : List ℕ → Bool) → Covers e S → (k : List ℕ) → has e.known k ≡ true → S k ≡ true
 
--- What a set of keys becomes as it learns more keys, and all that comes out under what is new: the least such set.
+-- What a set of keys becomes as it learns more keys, and all keys that come out under the new ones: the least such
+-- set.
 pub record Learns (carried : Holdings Key) (old new : Keys) (keys : List Key) : Type 0 where
   pub keeps : (k : List ℕ) → has old k ≡ true → has new k ≡ true
   pub learns : (k : List ℕ) → is_among keys k ≡ true → has new k ≡ true

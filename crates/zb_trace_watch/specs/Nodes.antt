@@ -36,12 +36,12 @@ is_member (Some role.Centre) = false
 is_member (Some role.Router) = true
 is_member (Some role.Device) = true
 
--- whether there is a node, and it is a router or device
+-- Whether there is a node, and it is a router or device.
 abbrev pub is_joiner : Nodes → Option Eui → Bool
 is_joiner nodes None = false
 is_joiner nodes (Some eui) = is_member (role_in nodes.roles eui.0)
 
--- whether there is a node and a centre, and they are one
+-- Whether there is a node and a centre, and they are the same.
 abbrev pub is_first_centre : Option Eui → Option Eui → Bool
 is_first_centre None _ = false
 is_first_centre (Some centre) None = false
@@ -50,7 +50,7 @@ is_first_centre (Some centre) (Some eui) = nat_eq centre.0 eui.0
 abbrev pub number_of : Option Eui → Option ℕ
 number_of node = option_map (λ (e : Eui). e.0) node
 
--- who the first node of that name is
+-- Who the first node of that name is.
 abbrev pub who_is : Nodes → ArrayString → Speaker
 who_is nodes name = record {
   number = number_of (address_of nodes name);
@@ -59,11 +59,11 @@ who_is nodes name = record {
   is_centre = is_first_centre nodes.centre (address_of nodes name);
 }
 
--- who is asked for nothing
+-- The node of a line of which nothing is needed.
 abbrev pub no_node : Speaker
 no_node = record { number = None; joiner = None; address = None; is_centre = false }
 
--- The first node of a name, of an address and of the centre's role are those of the list; and no node has the address
+-- The first node of a name, of an address and of the centre's role are those of the list. No node has the address
 -- that represents nobody.
 pub record Declares (nodes : Nodes) (stations : List Station) : Type 0 where
   pub addresses : (name : ArrayString) → option_map (λ (e : Eui). e.0) (address_of nodes name)
@@ -74,7 +74,7 @@ pub record Declares (nodes : Nodes) (stations : List Station) : Type 0 where
       ≡ option_map (λ (s : Station). s.eui) (find (λ (s : Station). is_centre s.role) stations)
   pub somebody : AllByRecursion (λ (s : Station). nat_eq s.eui nobody ≡ false) stations
 
--- the station of these parts
+-- The station with these parts.
 pub record IsOf (station : Station) (name : Bytes) (eui : ℕ) (r : Role) : Type 0 where
   pub name_is : station.name ≡ name
   pub eui_is : station.eui ≡ eui

@@ -4,14 +4,14 @@ use Rattle.std.specs.Ordering.{nat_cmp}
 use Rattle.zb_trace_watch.specs.Sets.{key_cmp, keys_at, meet, number_has}
 use Rattle.zb_trace_watch.specs.declared.origins.Origins.{Origins}
 
--- whether the key is that of the node's install code, or a term carries it under one of the node's keys; nothing is
--- asked where there is no node
+-- Whether the key is that of the node's install code, or a term carries it under one of the node's keys. True if
+-- there is no node.
 abbrev pub came : Origins → Option ℕ → List ℕ → Bool
 came o None key = true
 came o (Some node) key = number_has o.codes node key
     || meet (keys_at nat_cmp o.bases node) (keys_at key_cmp o.carriers (record { 0 = key }))
 
--- if this key of this node was traced, it came
+-- If this key of this node was traced, it came from somewhere.
 abbrev pub IsTraced : Origins → Option ℕ → List ℕ → Type 0
 IsTraced o None key = ⊤
 IsTraced o (Some node) key = number_has o.traced node key ≡ true → came o (Some node) key ≡ true

@@ -6,12 +6,12 @@ use Rattle.zb_base.specs.declared.state.Attribute.TheVariants.{Provisional}
 use Rattle.zb_trace_watch.specs.Sets.{has}
 use Rattle.zb_trace_watch.specs.declared.keys.Keys.{Keys}
 
--- a link key that was entered as an install code
+-- Whether the attribute is that of a link key that was entered as an install code.
 abbrev pub is_code : Attribute → Bool
 is_code Provisional = true
 is_code _ = false
 
--- whether there is a key, and the set has it
+-- Whether there is a key, and the set has it.
 abbrev pub has_that : Keys → Option Key → Bool
 has_that set None = false
 has_that set (Some key) = has set key.0

@@ -1,5 +1,5 @@
--- What lines of a transcript say of terms and keys, as values, however the lines are read: by addresses or by names.
--- The two words of the end line hang on these values alone.
+-- What lines of a transcript say about terms and keys, as values, whether nodes are identified by addresses or by
+-- names. The two words of the end line depend only on these values.
 use Rattle.std.specs.Prelude.{◌≡◌, ◌≤◌, ℕ, Bool, true, false, not, ◌&&◌, ◌||◌, if◌then◌else◌, List, [], ◌∷◌, length, nat_eq, Option, Some, None, flat_map}
 use Rattle.std.specs.List.{list_any}
 use Rattle.std.specs.Option.{IfSome}
@@ -14,45 +14,46 @@ use Rattle.zb_trace_watch.specs.Sets.{is_node, is_number}
 use Rattle.zb_trace_watch.specs.declared.speaker.Speaker.{Speaker}
 
 pub record Sayings : Type 0 where
-  -- the terms that were sealed or forged, and those that were forged
+  -- The terms that were sealed or forged, and those that were forged.
   pub terms : List Term
   pub forged : List Term
-  -- the keys of the install code of each node, and those under which it may be sent a key; a node goes by a number
+  -- The keys of each node's install code, and those under which it may be sent a key. A node is identified by a
+  -- number.
   pub codes : ℕ → List Bytes
   pub bases : ℕ → List Bytes
-  -- the keys that each device ever held, and the removed devices; a device goes by its address
+  -- The keys that each device ever held, and the removed devices. A device is identified by its address.
   pub ever : ℕ → List Bytes
   pub removed : List ℕ
-  -- the keys of the network
+  -- The keys of the network.
   pub network : List Bytes
-  -- how many lines there are
+  -- How many lines there are.
   pub lines : ℕ
-  -- whether all that was accepted or taken in came from earlier terms, and each forged term was under a known key
+  -- Whether everything accepted or installed came from earlier terms, and each forged term was under a known key.
   pub ideal : Bool
   pub based : Bool
 
--- What outsiders may know: the well-known key, what removed devices ever held, and what comes out with that.
+-- What outsiders may know: the well-known key, what removed devices ever held, and what terms carry under these keys.
 unfoldable pub exposed : Tools → Sayings → List Bytes
 exposed tools said = rounds said.lines tools said.terms (well_known ∷ flat_map said.ever said.removed)
 
--- whether a node's key is its install code's, or a term carries it under one of the node's keys
+-- Whether a node's key is its install code's, or a term carries it under one of the node's keys.
 unfoldable pub came_by : Tools → Sayings → ℕ → Bytes → Bool
 came_by tools said node key = holds (said.codes node) key
     || list_any (brings tools (said.bases node) key) said.terms
 
--- nothing is asked where there is no node
+-- The same for a node that may be missing. True if there is none.
 abbrev pub came_to : Tools → Sayings → Option ℕ → Bytes → Bool
 came_to tools said None key = true
 came_to tools said (Some node) key = came_by tools said node key
 
--- whether a forged term carries a key of the network
+-- Whether a forged term carries a key of the network.
 unfoldable pub passes_on : Tools → Sayings → Bool
 passes_on tools said = list_any (λ (t : Term). holds_some said.network (carried tools t)) said.forged
 
 abbrev pub private : Tools → Sayings → Bool
 private tools said = said.based && not (passes_on tools said)
 
--- What no lines say, and what one line says that says nothing of terms and keys.
+-- What no lines say, and what a line says that says nothing about terms and keys.
 abbrev pub start : Sayings
 start = record {
   terms = [];
@@ -73,7 +74,7 @@ nothing = record start { lines = 1 }
 abbrev pub only_if : Bool → Bytes → List Bytes
 only_if test key = if test then key ∷ [] else []
 
--- What a line says, whose node is `who`, after lines that say `said`.
+-- What a line of node `who` says, after lines that say `said`.
 abbrev pub said_by : Tools → Sayings → Speaker → Line → Sayings
 said_by tools said who (line.GivenNet node key sequence) = record nothing {
   network = key.0 ∷ [];
@@ -93,7 +94,7 @@ said_by tools said who (line.Install event node key sequence) = record nothing {
 said_by tools said who (line.Row event node partner key attribute) = record nothing {
   network = only_if (is_code attribute) key.0;
   bases = λ node. only_if (is_number who.number node) key.0;
-  -- a row of the centre's is with a device that holds its key, too
+  -- A row of the centre also has a device that holds its key.
   ever = λ device. only_if (is_node who.address device || (who.is_centre && nat_eq partner.0 device)) key.0;
   ideal = came_to tools said who.joiner key.0;
 }
@@ -110,7 +111,7 @@ said_by tools said who (line.Forge event t) = record nothing {
 }
 said_by tools said who _ = nothing
 
--- What lines say with one line more. Only these numbers are those of nodes, and nobody is no device.
+-- What lines say with one more line. Only these numbers are those of nodes, and nobody is no device.
 pub record Grows (counts : ℕ → Bool) (said more after : Sayings) : Type 0 where
   pub terms : (p : Term → Bool) → list_any p after.terms ≡ (list_any p said.terms || list_any p more.terms)
   pub forged : (p : Term → Bool) → list_any p after.forged ≡ (list_any p said.forged || list_any p more.forged)
@@ -123,17 +124,17 @@ pub record Grows (counts : ℕ → Bool) (said more after : Sayings) : Type 0 wh
   pub removed : (device : ℕ) → list_any (nat_eq device) after.removed
       ≡ (list_any (nat_eq device) said.removed || list_any (nat_eq device) more.removed)
   pub network : (key : Bytes) → holds after.network key ≡ (holds said.network key || holds more.network key)
-  -- no line has two terms
+  -- No line has two terms.
   pub few : length after.terms ≤ after.lines
   pub ideal : after.ideal ≡ (said.ideal && more.ideal)
   pub based : after.based ≡ (said.based && more.based)
 
--- whether a node takes a key in by this line
+-- Whether a node installs a key by this line.
 abbrev pub takes_in : Line → Bool
 takes_in (line.Install event node key sequence) = true
 takes_in (line.Row event node partner key attribute) = true
 takes_in _ = false
 
--- a router or device that takes a key in goes by the number of a node
+-- A router or device that installs a key is identified by the number of a node.
 abbrev pub JoinerCounts : (ℕ → Bool) → Speaker → Line → Type 0
 JoinerCounts counts who l = takes_in l ≡ true → IfSome who.joiner (λ node. counts node ≡ true)

@@ -1,4 +1,4 @@
--- What the two words represent: what lines say of terms and keys.
+-- What the two words represent: what lines say about terms and keys.
 use Rattle.zb_model.specs.Data as model
 use Rattle.std.specs.Prelude.{◌≡◌, ◌≤◌, ℕ, ◌&&◌, List, Bool, true, false, bytes_eq, nat_eq, length, Option, Some, None}
 use Rattle.std.specs.List.{list_any}
@@ -18,7 +18,7 @@ use Rattle.zb_trace_watch.specs.Sets.{has, is_carried, node_has, number_has}
 use Rattle.zb_trace_watch.specs.Terms.{has_term}
 use Rattle.zb_trace_watch.specs.declared.words.EndWords.{EndWords}
 
--- the bytes of a key, as the model has keys
+-- The bytes of a key, as the model has keys.
 abbrev pub bytes_of : Option Key → Option Bytes
 bytes_of key = option_map (λ (key : Key). key.0) key
 
@@ -29,45 +29,45 @@ pub record FindKeys (tools : Tools) : Type 0 where
   pub in_frame : (bytes : List ℕ) → clear_key tools (tools.read_aps bytes)
       ≡ bytes_of (carrying.clear_key (frame_of bytes))
 
--- whether there is a key, and it is this one
+-- Whether there is a key, and it is this one.
 abbrev pub is_that : Option Bytes → Bytes → Bool
 is_that None key = false
 is_that (Some other) key = bytes_eq key other
 
--- whether the term carries the key under the base key
+-- Whether the term carries the key under the base key.
 abbrev pub carries : Tools → Bytes → Bytes → model.Term → Bool
 carries tools base key t = bytes_eq base t.base && is_that (carried tools t) key
 
--- The two words represent lines that say this, where only these numbers are those of nodes.
+-- The two words represent lines that say this. Only these numbers are those of nodes.
 pub record Represents (tools : Tools) (counts : ℕ → Bool) (w : EndWords) (said : Sayings) : Type 0 where
-  -- the terms that were sealed or forged, and the keys that they carry
+  -- The terms that were sealed or forged, and the keys that they carry.
   pub few : length said.terms ≤ said.lines
   pub terms : (t : Term) → has_term w.origins.terms t ≡ list_any (same_term (model_term t)) said.terms
   pub carried : (base key : Bytes) → is_carried w.exposure.carried base key
       ≡ list_any (carries tools base key) said.terms
-  -- the keys that each device ever held, those of a node's install code, and those under which it may be sent a key
+  -- The keys that each device ever held, those of a node's install code, and those under which it may be sent a key.
   pub ever : (device : ℕ) → nat_eq device nobody ≡ false → (key : Bytes) → node_has w.exposure.ever device key
       ≡ holds (said.ever device) key
   pub codes : (node : ℕ) → counts node ≡ true → (key : Bytes) → number_has w.origins.codes node key
       ≡ holds (said.codes node) key
   pub bases : (node : ℕ) → counts node ≡ true → (key : Bytes) → number_has w.origins.bases node key
       ≡ holds (said.bases node) key
-  -- under which keys a key was carried; and what was traced came
+  -- The keys under which each key was carried; and a traced key came from somewhere.
   pub carriers : (base key : Bytes) → is_carried w.origins.carriers key base
       ≡ list_any (carries tools base key) said.terms
   pub traced : (node : ℕ) → counts node ≡ true → (key : Bytes) → number_has w.origins.traced node key ≡ true
       → came_by tools said node key ≡ true
-  -- the removed devices; nobody is none of them
+  -- The removed devices; nobody is none of them.
   pub removed : (device : ℕ) → was_removed w.exposure device ≡ list_any (nat_eq device) said.removed
   pub somebody : list_any (nat_eq nobody) said.removed ≡ false
-  -- what outsiders may know
+  -- What outsiders may know.
   pub known : (key : Bytes) → has w.exposure.known key ≡ holds (exposed tools said) key
-  -- the keys of the network, and those that forged terms carry
+  -- The keys of the network, and those that forged terms carry.
   pub network : (key : Bytes) → has w.passing.network key ≡ holds said.network key
   pub forged : (key : Bytes) → has w.passing.forged key
       ≡ list_any (λ (t : model.Term). is_that (Rattle.zb_model.specs.Secrets.carried tools t) key) said.forged
   pub passed_on : w.passing.passed_on ≡ passes_on tools said
-  -- the two words
+  -- The two words.
   pub ideal : w.origins.ideal ≡ said.ideal
   pub based : w.exposure.based ≡ said.based
 

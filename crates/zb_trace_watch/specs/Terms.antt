@@ -12,7 +12,7 @@ use Rattle.zb_seal.specs.declared.term.Term.{Term}
 use Rattle.zb_trace_watch.specs.declared.terms.Terms.{Terms}
 use Rattle.zb_model.specs.State.{greatest_counter}
 
--- the n lowest bytes of a number, and then what is left of it
+-- The n lowest bytes of a number, and then the rest of it.
 abbrev pub low_bytes : ℕ → ℕ → List ℕ
 low_bytes zero number = number ∷ []
 low_bytes (suc n) number = number % 256 ∷ low_bytes n (number / 256)
@@ -27,11 +27,11 @@ label_number label.Network = 1
 label_number label.Transport = 2
 label_number label.Load = 3
 
--- a list after its length
+-- A list after its length.
 abbrev pub sized : List ℕ → List ℕ
 sized bytes = length bytes ∷ bytes
 
--- all parts of a term, one after the other
+-- All parts of a term, one after the other.
 unfoldable pub term_bytes : Term → List ℕ
 term_bytes t =
     low_bytes 3 t.counter ++ (layer_number t.layer ∷ (sized t.base.0 ++ (label_number t.label
@@ -45,17 +45,17 @@ term_room = 287
 abbrev pub term_head : Term → ℕ
 term_head t = (t.source.0 % 16777216 * 256 + layer_number t.layer) * 4294967296 + (greatest_counter - t.counter)
 
--- whether these bytes are kept
+-- Whether these bytes are kept.
 abbrev pub is_kept : Option (Vec ℕ) → List ℕ → Bool
 is_kept None bytes = false
 is_kept (Some kept) bytes = bytes_eq bytes kept.items
 
--- whether bytes with this head are kept
+-- Whether bytes with this head are kept.
 abbrev pub has_spelled : Terms → ℕ → List ℕ → Bool
 has_spelled set head bytes =
     is_kept (get nat_cmp set.firsts head) bytes || list_any (λ (kept : Vec ℕ). bytes_eq bytes kept.items)
     set.others.keys
 
--- whether the set has the term
+-- Whether the set has the term.
 abbrev pub has_term : Terms → Term → Bool
 has_term set t = has_spelled set (term_head t) (term_bytes t)

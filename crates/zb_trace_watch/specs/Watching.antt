@@ -1,4 +1,4 @@
--- What a watch represents: a list of transcript lines, by the readings of the model.
+-- What a watch represents: a list of transcript lines, as the model reads them.
 use Rattle.std.specs.Prelude.{ℕ, not, Bool, List, [], ◌∷◌, ◌++◌, length, nat_eq, flat_map}
 use Rattle.zb_model.specs.Data.{nobody}
 use Rattle.zb_model.specs.Lines as log
@@ -14,7 +14,7 @@ use Rattle.zb_trace_watch.specs.declared.speaker.Speaker.{Speaker}
 use Rattle.zb_trace_watch.specs.declared.watch.Watch.{Watch}
 use Rattle.zb_trace_watch.specs.declared.words.EndWords.{EndWords}
 
--- What the model reads from lines. Nodes go by their addresses.
+-- What the model reads from lines. Nodes are identified by their addresses.
 abbrev pub said : Tools → List log.Line → Sayings
 said tools h = record {
   terms = terms_of h;
@@ -29,7 +29,7 @@ said tools h = record {
   based = each_line (based_line tools) [] h;
 }
 
--- whether this is a node's address: nobody has none
+-- Whether this is a node's address: nobody has none.
 abbrev pub is_somebody : ℕ → Bool
 is_somebody n = not (nat_eq n nobody)
 
@@ -42,7 +42,7 @@ pub record Stands (tools : Tools) (w : Watch) (h : List log.Line) : Type 0 where
 abbrev pub Follows : Watch → Watch → log.Line → List log.Line → Tools → Type 0
 Follows old new line h tools = FindKeys tools → Stands tools old h → Stands tools new (h ++ line ∷ [])
 
--- The words go on by a line of that speaker.
+-- The words after a line of that speaker represent that line too.
 abbrev pub FollowsBy : Tools → Speaker → Line → EndWords → EndWords → Type 0
 FollowsBy tools who line old new =
     (s : Sayings) → JoinerCounts is_somebody who line

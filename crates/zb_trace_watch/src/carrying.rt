@@ -1,4 +1,4 @@
-//! The key that a term carries, found without reading what can't carry one.
+//! The key that a term carries, found without parsing frames that can't carry one.
 ghost use Rattle.std.specs.Prelude.{◌≡◌, None, false};
 ghost use Rattle.zb_aps.specs.Reading.{frame_of};
 ghost use Rattle.zb_base.specs.declared.label.Layer.TheVariants.{Nwk};
@@ -9,7 +9,7 @@ use zb_seal::{Term, carried, is_command};
 
 /// Returns the key that a term carries, if any.
 ///
-/// What a NWK frame holds is read only where it begins as an APS command.
+/// A NWK frame is parsed only if it begins as an APS command.
 pub fn carried_key(term: &Term) -> Option<Key>
     ensures { result ≡ carried term.now }
 {
@@ -41,7 +41,7 @@ fn begins_as_command(bytes: &[u8]) -> bool
     }
 }
 
-/// States that bytes which don't begin as an APS command are none with a key in clear.
+/// States that bytes which don't begin as an APS command have no key in clear.
 fn no_key_in(bytes: &[u8])
     ensures { is_command_header bytes.now ≡ false → clear_key (frame_of bytes.now) ≡ None }
 {}

@@ -9,11 +9,14 @@ use std::alloc::{AllocError, Global};
 use std::collections::BTreeSet;
 use zb_base::{Eui, Key, WELL_KNOWN};
 
-/// What outsiders may know: the well-known key, what removed devices ever held, and what all that opens.
+/// What outsiders may know: the well-known key, what removed devices ever held, and what terms carry under these
+/// keys.
 #[derive(Drop)]
 pub struct Exposure {
-    /// The keys that outsiders may know. It is the least set that has the well-known key and what removed devices ever
-    /// held, and with the base key of a term also the key that the term carries.
+    /// The keys that outsiders may know.
+    ///
+    /// It is the least set that has the well-known key and what removed devices ever held, and with the base key of a
+    /// term also the key that the term carries.
     pub known: Keys,
     /// The keys that terms carry, by the base keys of these terms.
     pub carried: Holdings<Key>,
@@ -29,7 +32,7 @@ impl Exposure {
     /// Makes the exposure before the first line: outsiders know the well-known key alone.
     ///
     /// # Errors
-    /// `AllocError`.
+    /// `AllocError`, if memory runs out.
     pub fn new(alloc: Global) -> Result<Exposure, AllocError>
         ensures settled { IfOk result (λ e. IsSettled e) }
         ensures ever { IfOk result (λ e. (d : ℕ) (k : List ℕ) → node_has e.ever d k ≡ false) }
@@ -48,10 +51,10 @@ impl Exposure {
         Ok(exposure)
     }
 
-    /// Notes that a node came to hold a key; changes nothing where the node was never declared.
+    /// Notes that a node now holds a key. It changes nothing if the node was never declared.
     ///
     /// # Errors
-    /// `AllocError`.
+    /// `AllocError`, if memory runs out.
     pub fn hold(&mut self, alloc: Global, node: Option<Eui>, key: Key) -> Result<(), AllocError>
         ensures settled { OnOk result (IsSettled self.old → IsSettled self.new) }
         ensures ever { OnOk result ((d : ℕ) (k : List ℕ)
@@ -81,10 +84,10 @@ impl Exposure {
         Ok(())
     }
 
-    /// Notes that a device was removed: outsiders may know what it ever held.
+    /// Notes that a device was removed: outsiders may know all keys that it ever held.
     ///
     /// # Errors
-    /// `AllocError`.
+    /// `AllocError`, if memory runs out.
     pub fn remove(&mut self, alloc: Global, device: Eui) -> Result<(), AllocError>
         ensures settled { OnOk result (IsSettled self.old → IsSettled self.new) }
         ensures ever { OnOk result (self.new.ever ≡ self.old.ever) }
@@ -105,7 +108,7 @@ impl Exposure {
     /// Notes that a term under a base key carries a key, or none.
     ///
     /// # Errors
-    /// `AllocError`.
+    /// `AllocError`, if memory runs out.
     pub fn carry(&mut self, alloc: Global, base: Key, key: Option<Key>) -> Result<(), AllocError>
         ensures settled { OnOk result (IsSettled self.old → IsSettled self.new) }
         ensures ever { OnOk result (self.new.ever ≡ self.old.ever) }
@@ -159,7 +162,7 @@ fn learn_one(
     Ok(())
 }
 
-/// Learns keys, and all that comes out under them.
+/// Learns keys, and all keys that terms carry under them.
 fn learn(known: &mut Keys, carried: &Holdings<Key>, mut keys: Vec<Key>) -> Result<(), AllocError>
     ensures { OnOk result (Learns carried.now known.old known.new keys.items) }
 {

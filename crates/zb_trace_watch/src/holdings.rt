@@ -39,7 +39,7 @@ impl<O: Ord + Drop> Holdings<O> {
     /// Adds a key for an owner.
     ///
     /// # Errors
-    /// `AllocError`.
+    /// `AllocError`, if memory runs out.
     pub fn add(&mut self, alloc: Global, owner: O, key: Key) -> Result<(), AllocError>
         ensures { OnOk result ((o : O) (k : List ℕ)
             → held O.cmp self.new o k ≡ (held O.cmp self.old o k || (is_eq (O.cmp owner o) && bytes_eq k key.0))) }
@@ -57,7 +57,7 @@ impl<O: Ord + Drop> Holdings<O> {
         Ok(())
     }
 
-    /// Returns whether a key of the set is one of the owner's.
+    /// Returns whether the owner has a key of the set.
     pub fn meets(&self, owner: &O, keys: &Keys) -> bool
         ensures { result ≡ meet keys.now.keys.keys (keys_at O.cmp self.now owner.now) }
     {
@@ -67,10 +67,10 @@ impl<O: Ord + Drop> Holdings<O> {
         }
     }
 
-    /// Puts the keys of an owner after those of a list.
+    /// Appends the keys of an owner to a list.
     ///
     /// # Errors
-    /// `AllocError`.
+    /// `AllocError`, if memory runs out.
     pub fn append_to(&self, owner: &O, list: &mut Vec<Key>) -> Result<(), AllocError>
         ensures { OnOk result (list.new.items ≡ list.old.items ++ keys_at O.cmp self.now owner.now) }
     {
@@ -85,7 +85,7 @@ impl Holdings<Key> {
     /// Adds a key for another one, if there is one.
     ///
     /// # Errors
-    /// `AllocError`.
+    /// `AllocError`, if memory runs out.
     pub fn add_under(
         &mut self,
         alloc: Global,
@@ -106,7 +106,7 @@ impl Holdings<u64> {
     /// Adds a key for a node, if there is one.
     ///
     /// # Errors
-    /// `AllocError`.
+    /// `AllocError`, if memory runs out.
     pub fn add_at(&mut self, alloc: Global, node: Option<u64>, key: Key) -> Result<(), AllocError>
         ensures { OnOk result ((n : ℕ) (k : List ℕ)
             → number_has self.new n k ≡ (number_has self.old n k || (is_number node n && bytes_eq k key.0))) }

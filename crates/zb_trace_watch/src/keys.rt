@@ -33,7 +33,7 @@ impl Keys {
     /// Adds a key, and returns whether it is new.
     ///
     /// # Errors
-    /// `AllocError`.
+    /// `AllocError`, if memory runs out.
     pub fn add(&mut self, key: Key) -> Result<bool, AllocError>
         ensures new { IfOk result (λ new. new ≡ not (has self.old key.0)) }
         ensures adds { OnOk result ((k : List ℕ) → has self.new k ≡ (has self.old k || bytes_eq k key.0)) }
@@ -68,10 +68,10 @@ impl Keys {
         false
     }
 
-    /// Puts the keys after those of a list.
+    /// Appends the keys to a list.
     ///
     /// # Errors
-    /// `AllocError`.
+    /// `AllocError`, if memory runs out.
     pub fn append_to(&self, list: &mut Vec<Key>) -> Result<(), AllocError>
         ensures { OnOk result (list.new.items ≡ list.old.items ++ self.now.keys.keys) }
     {

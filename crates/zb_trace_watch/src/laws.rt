@@ -10,8 +10,8 @@ ghost use Rattle.zb_trace_watch.specs.Standing.{FindKeys};
 
 /// States that the exposed keys are the least set that is closed over a start.
 ///
-/// They have the keys of the start. Wherever they have the base key of a term, they have the key that it carries. They
-/// are no more than any such set of keys has.
+/// They have the keys of the start. If they have the base key of a term, they have the key that it carries. They are
+/// no more than any such set of keys has.
 pub fn exposed_keys_are_the_least_closed_set()
     ensures covers { (tools : Tools) (h : List Line) (from : List Bytes) (k : Bytes) → holds from k ≡ true
         → holds (exposed tools h from) k ≡ true }

@@ -1,9 +1,9 @@
-//! The two words of a transcript's end line, as its lines come. They say whether all that was accepted or taken in
-//! came from earlier terms, and whether outsiders forged only with what they may know. It keeps what these two words
-//! need, and no line.
+//! Finds the two words of a transcript's end line, line by line. The words say whether everything accepted or
+//! installed came from earlier terms, and whether outsiders forged only with what they may know. It keeps only what
+//! these words need, and no line.
 //!
-//! `EndWords` is for every reading of the lines: who the node of a line is, its caller says. `Watch` reads the lines
-//! of a run, by EUIs.
+//! `EndWords` serves every way to read lines: the caller says which node a line has. `Watch` reads the lines of a
+//! run, by EUIs.
 #![tactic(auto)]
 
 mod carrying;

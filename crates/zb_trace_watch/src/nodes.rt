@@ -1,4 +1,4 @@
-//! The nodes that a transcript declared so far.
+//! The nodes that a transcript has declared so far.
 ghost use Rattle.std.specs.Prelude.{◌≡◌, ◌++◌, ◌∷◌, [], ℕ, List, Some, OnOk, if◌then◌else◌, None, bytes_eq, nat_eq, ◌<◌, ◌^◌};
 ghost use Rattle.std.specs.Option.{option_map, option_or};
 ghost use Rattle.arrayvec.specs.ArrayString.{ArrayString};
@@ -13,7 +13,7 @@ use std::alloc::{AllocError, Global};
 use std::collections::BTreeMap;
 use zb_base::{Eui, Name, Role};
 
-/// What is needed of the declared nodes. Where two have one name or one EUI, the first counts.
+/// The declared nodes, as far as the two words need them. If two have one name or one EUI, the first counts.
 #[derive(Drop)]
 pub struct Nodes {
     /// The EUI of the first node of each name.
@@ -25,7 +25,7 @@ pub struct Nodes {
 }
 
 impl Nodes {
-    /// Makes the value before any node is declared.
+    /// Makes the state before any node is declared.
     pub fn new(alloc: Global) -> Nodes
         ensures { Declares result [] }
     {
@@ -36,7 +36,7 @@ impl Nodes {
         }
     }
 
-    /// Returns who the first node of that name is.
+    /// Returns the speaker that the first node of that name is.
     pub fn who(&self, name: &Name) -> Speaker
         ensures { result ≡ who_is self.now name.now }
     {
@@ -56,7 +56,7 @@ impl Nodes {
         self.addresses.get(name).copied()
     }
 
-    /// Returns the node where it is a router or device, and none else.
+    /// Returns the node, if it is a router or device.
     fn joiner(&self, node: Option<Eui>) -> Option<Eui>
         ensures { result ≡ (if is_joiner self.now node then node else None) }
     {
@@ -94,7 +94,7 @@ impl Nodes {
     /// Adds a declared node.
     ///
     /// # Errors
-    /// `AllocError`.
+    /// `AllocError`, if memory runs out.
     pub fn add(&mut self, name: Name, eui: Eui, role: Role) -> Result<(), AllocError>
         ensures { OnOk result ((known : List Station) (station : Station) → IsOf station name.bytes eui.0 role
             → Declares self.old known → Declares self.new (known ++ station ∷ [])) }
@@ -116,7 +116,7 @@ fn number(address: Option<Eui>) -> Option<u64>
     }
 }
 
-/// Returns the centre, where it was declared before, or is this node.
+/// Returns the centre, if it was declared before or is this node.
 fn first_centre(before: Option<Eui>, eui: Eui, role: Role) -> Option<Eui>
     ensures first { result ≡ option_or before (if is_centre (model_role role) then Some eui else None) }
     ensures somebody { eui.0 < 2 ^ 64 }
@@ -128,7 +128,7 @@ fn first_centre(before: Option<Eui>, eui: Eui, role: Role) -> Option<Eui>
     }
 }
 
-/// Notes the EUI of a name, unless one is there.
+/// Notes the EUI of a name, if none is noted yet.
 fn name_it(addresses: &mut BTreeMap<Name, Eui>, name: Name, eui: Eui) -> Result<(), AllocError>
     ensures { OnOk result ((q : ArrayString)
         → address_in addresses.new q
@@ -140,7 +140,7 @@ fn name_it(addresses: &mut BTreeMap<Name, Eui>, name: Name, eui: Eui) -> Result<
     Ok(())
 }
 
-/// Notes the role of an EUI, unless one is there.
+/// Notes the role of an EUI, if none is noted yet.
 fn give_role(roles: &mut BTreeMap<Eui, Role>, eui: Eui, role: Role) -> Result<(), AllocError>
     ensures { OnOk result ((q : ℕ)
         → role_in roles.new q ≡ option_or (role_in roles.old q) (if nat_eq q eui.0 then Some role else None)) }

@@ -1,4 +1,4 @@
-//! Where what was accepted, and the keys that were taken in, came from.
+//! Where accepted terms and installed keys came from.
 ghost use Rattle.std.specs.Ordering.{nat_cmp};
 ghost use Rattle.std.specs.Prelude.{◌≡◌, ◌||◌, ◌&&◌, ◌⊎◌, ℕ, List, OnOk, Some, bytes_eq, false, true, not};
 ghost use Rattle.zb_model.specs.Secrets.{same_term};
@@ -14,7 +14,8 @@ use std::alloc::{AllocError, Global};
 use zb_base::Key;
 use zb_seal::Term;
 
-/// The terms so far, and whether all that was accepted or taken in came from earlier ones. A node goes by a number.
+/// The terms so far, and whether everything accepted or installed came from earlier ones. A node is identified by a
+/// number.
 #[derive(Drop)]
 pub struct Origins {
     /// The terms that were sealed or forged.
@@ -25,11 +26,12 @@ pub struct Origins {
     pub bases: Holdings<u64>,
     /// For each key that terms carry, the base keys of these terms.
     pub carriers: Holdings<Key>,
-    /// For each node, keys of which it was found where they came from, so that none is looked for twice.
+    /// The keys of each node whose origin was found, so that none is looked up twice.
     pub traced: Holdings<u64>,
-    /// Whether all that was accepted or taken in came from earlier terms. Each accepted term was sealed or forged
-    /// before. Each key that a router or device took in is its install code's, or came in an earlier term under one of
-    /// its keys.
+    /// Whether everything accepted or installed came from earlier terms.
+    ///
+    /// Each accepted term was sealed or forged before. Each key that a router or device installed is its install
+    /// code's, or came in an earlier term under one of its keys.
     pub ideal: bool,
 }
 
@@ -56,7 +58,7 @@ impl Origins {
     /// Notes that a term was sealed or forged, and which key it carries, if any.
     ///
     /// # Errors
-    /// `AllocError`.
+    /// `AllocError`, if memory runs out.
     pub fn term(&mut self, alloc: Global, term: &Term, key: Option<Key>) -> Result<(), AllocError>
         ensures terms { OnOk result ((t : AnyTerm)
             → has_term self.new.terms t
@@ -81,11 +83,12 @@ impl Origins {
         self.ideal = self.ideal && self.terms.has(term);
     }
 
-    /// Notes that a router or device took a key in, or no node did. What was traced isn't looked for again, and once a
-    /// key came from nowhere none is.
+    /// Notes that a router or device, if any, installed a key.
+    ///
+    /// A traced key isn't looked up again. Once a key came from nowhere, no key is looked up.
     ///
     /// # Errors
-    /// `AllocError`.
+    /// `AllocError`, if memory runs out.
     pub fn take_in(&mut self, alloc: Global, node: Option<u64>, key: Key) -> Result<(), AllocError>
         ensures ideal { OnOk result (IsTraced self.old node key.0
             → self.new.ideal ≡ (self.old.ideal && came self.old node key.0)) }
@@ -126,7 +129,7 @@ impl Origins {
         Ok(())
     }
 
-    // Returns whether nothing is to be looked for: the key was traced, or the run isn't ideal anyway.
+    // Returns whether no look-up is needed: the key was traced, or the run isn't ideal anyway.
     fn is_settled(&self, number: &u64, key: &Key) -> bool
         ensures { result ≡ (not self.now.ideal || number_has self.now.traced number.now key.now.0) }
     {
@@ -150,10 +153,10 @@ impl Origins {
         }
     }
 
-    /// Notes the link key of a node's install code. It changes nothing where the node has no number.
+    /// Notes the link key of a node's install code. It changes nothing if the node has no number.
     ///
     /// # Errors
-    /// `AllocError`.
+    /// `AllocError`, if memory runs out.
     pub fn code(&mut self, alloc: Global, node: Option<u64>, key: Key) -> Result<(), AllocError>
         ensures codes { OnOk result ((n : ℕ) (k : List ℕ)
             → number_has self.new.codes n k
@@ -171,10 +174,10 @@ impl Origins {
         Ok(())
     }
 
-    /// Notes a node's link row with that key; changes nothing where the node has no number.
+    /// Notes a node's link row with that key. It changes nothing if the node has no number.
     ///
     /// # Errors
-    /// `AllocError`.
+    /// `AllocError`, if memory runs out.
     pub fn row(&mut self, alloc: Global, node: Option<u64>, key: Key) -> Result<(), AllocError>
         ensures bases { OnOk result ((n : ℕ) (k : List ℕ)
             → number_has self.new.bases n k

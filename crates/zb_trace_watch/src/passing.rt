@@ -14,12 +14,12 @@ pub struct Passing {
     pub network: Keys,
     /// The keys that forged terms carry.
     pub forged: Keys,
-    /// Whether some key is among both.
+    /// Whether some key is in both sets.
     pub passed_on: bool,
 }
 
 impl Passing {
-    /// Makes the value before the first line.
+    /// Makes the state before the first line.
     pub fn new(alloc: Global) -> Passing
         ensures network { (k : List ℕ) → has result.network k ≡ false }
         ensures forged { (k : List ℕ) → has result.forged k ≡ false }
@@ -35,7 +35,7 @@ impl Passing {
     /// Notes a key of the network.
     ///
     /// # Errors
-    /// `AllocError`.
+    /// `AllocError`, if memory runs out.
     pub fn network_key(&mut self, key: Key) -> Result<(), AllocError>
         ensures network { OnOk result ((k : List ℕ)
             → has self.new.network k ≡ (has self.old.network k || bytes_eq k key.0)) }
@@ -49,10 +49,10 @@ impl Passing {
         Ok(())
     }
 
-    /// Notes the key of a link row, which is the network's where it was entered as an install code.
+    /// Notes the key of a link row. It is a key of the network if it was entered as an install code.
     ///
     /// # Errors
-    /// `AllocError`.
+    /// `AllocError`, if memory runs out.
     pub fn row_key(&mut self, key: Key, attribute: Attribute) -> Result<(), AllocError>
         ensures network { OnOk result ((k : List ℕ)
             → has self.new.network k ≡ (has self.old.network k || (is_code attribute && bytes_eq k key.0))) }
@@ -70,7 +70,7 @@ impl Passing {
     /// Notes which key a forged term carries, if any.
     ///
     /// # Errors
-    /// `AllocError`.
+    /// `AllocError`, if memory runs out.
     pub fn forged_key(&mut self, key: Option<Key>) -> Result<(), AllocError>
         ensures network { self.new.network ≡ self.old.network }
         ensures forged { OnOk result ((k : List ℕ) → has self.new.forged k ≡ (has self.old.forged k || is_key key k)) }

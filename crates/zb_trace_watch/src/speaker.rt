@@ -1,12 +1,12 @@
-//! Who the node of a line is.
+//! The node of a line.
 use zb_base::Eui;
 
-/// Who the node of a line is, as far as the two words of the end line ask.
+/// The node of a line, as far as the two words of the end line need it.
 #[derive(Clone, Copy)]
 pub struct Speaker {
-    /// The number that its own keys go by, if it has one: its EUI, or the place of its name.
+    /// The number under which its own keys are kept, if any: its EUI or the place of its name.
     pub number: Option<u64>,
-    /// That number where it is a router or device.
+    /// That number, if the node is a router or device.
     pub joiner: Option<u64>,
     /// Its EUI, if it was declared.
     pub address: Option<Eui>,
@@ -14,7 +14,7 @@ pub struct Speaker {
     pub is_centre: bool,
 }
 
-/// The node of a line of which the two words ask nothing.
+/// The node of a line about which the two words need nothing.
 pub const NOBODY: Speaker = Speaker {
     number: None,
     joiner: None,

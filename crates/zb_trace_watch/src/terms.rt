@@ -18,16 +18,16 @@ use zb_seal::Term;
 /// Room for the bytes of a term: two frames, and 33 bytes for its other parts.
 type TermBytes = ArrayVec<u8, 287>;
 
-/// A set of terms. Terms are one where all their parts are: bytes on the air don't count.
+/// A set of terms. Terms are equal if all their parts are; the bytes that were sent don't count.
 ///
-/// Most terms differ in a number, their head. So a look-up compares numbers, and bytes once.
+/// Most terms differ in one number, their head. So a look-up compares numbers, and bytes only once.
 #[derive(Drop)]
 pub struct Terms {
     /// The first term with each head, as its bytes.
     pub firsts: BTreeMap<u64, Vec<u8>>,
     /// The other terms, each as its bytes, in order.
     pub others: BTreeSet<Vec<u8>>,
-    // Where the bytes of a new term are put.
+    // The allocator of new terms' bytes.
     alloc: Global,
 }
 
@@ -76,7 +76,7 @@ impl Terms {
     /// Adds a term.
     ///
     /// # Errors
-    /// `AllocError`.
+    /// `AllocError`, if memory runs out.
     pub fn add(&mut self, term: &Term) -> Result<(), AllocError>
         ensures { OnOk result ((t : Term)
             → has_term self.new t ≡ (has_term self.old t || same_term (model_term t) (model_term term.now))) }
@@ -88,8 +88,8 @@ impl Terms {
         Ok(())
     }
 
-    /// Keeps bytes with a head, mostly as the first that have it: then they are looked up once. The clause is for
-    /// bytes that have one head.
+    /// Keeps bytes with a head, mostly as the first that have it: then one look-up finds them. The clause is for
+    /// bytes that all have this head.
     fn keep(&mut self, head: u64, bytes: Vec<u8>) -> Result<(), AllocError>
         ensures { OnOk result ((h : ℕ) (b : List ℕ) → (bytes_eq b bytes.items ≡ true → h ≡ head)
             → has_spelled self.new h b ≡ (has_spelled self.old h b || bytes_eq b bytes.items)) }
@@ -102,7 +102,7 @@ impl Terms {
         Ok(())
     }
 
-    /// Puts the first bytes with a head back. Those that stand in their place become others.
+    /// Puts the first bytes with a head back. The bytes that were in their place become others.
     fn put_back(&mut self, head: u64, first: Vec<u8>) -> Result<(), AllocError>
         ensures firsts { OnOk result ((h : ℕ) → get nat_cmp self.new.firsts h
             ≡ cond (is_at (nat_cmp head) h) (Some first) (get nat_cmp self.old.firsts h)) }
@@ -124,7 +124,7 @@ impl Terms {
 
 /// Returns the head of a term.
 ///
-/// A later term of a node has a smaller one, so it is found at the first look into a block of the map.
+/// A later term of a node has a smaller head, so it is found at the first look into a block of the map.
 fn head_of(term: &Term) -> u64
     ensures { result ≡ term_head term.now }
 {
@@ -139,7 +139,7 @@ fn counters_after(counter: u32) -> u32
     u32::MAX - counter
 }
 
-// Puts the bytes of a term into room that is empty.
+// Puts the bytes of a term into empty room.
 fn put_bytes(bytes: &mut TermBytes, term: &Term)
     requires { bytes.old.items ≡ [] }
     ensures { bytes.new.items ≡ term_bytes term.now }
@@ -154,7 +154,7 @@ fn put_bytes(bytes: &mut TermBytes, term: &Term)
     put(bytes, term.content.as_slice());
 }
 
-// Puts the bytes at the end, where they have room.
+// Appends bytes. There must be room for them.
 fn put(out: &mut TermBytes, piece: &[u8])
     ensures { length out.old.items + length piece.now ≤ term_room → out.new.items ≡ out.old.items ++ piece.now }
 {

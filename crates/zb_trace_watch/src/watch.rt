@@ -17,7 +17,7 @@ use std::alloc::Global;
 use zb_base::{Eui, Name, NoMemory, Role};
 use zb_trace::Line;
 
-/// What is known of the lines of a run so far. A watch keeps no line.
+/// What is known about the lines of a run so far. A watch keeps no line.
 #[derive(Drop)]
 pub struct Watch {
     /// The declared nodes.
@@ -30,7 +30,7 @@ impl Watch {
     /// Makes a watch over no lines.
     ///
     /// # Errors
-    /// `NoMemory`.
+    /// `NoMemory`, if memory runs out.
     pub fn new(alloc: Global) -> Result<Watch, NoMemory>
         ensures { IfOk result (λ watch. (tools : Tools) → Stands tools watch []) }
     {
@@ -40,7 +40,7 @@ impl Watch {
         })
     }
 
-    /// Returns whether all that was accepted or taken in came from earlier terms.
+    /// Returns whether everything accepted or installed came from earlier terms.
     pub fn ideal(&self) -> bool
         ensures { (tools : Tools) (h : List log.Line) → Stands tools self.now h → result ≡ ideal_of tools h }
     {
@@ -54,10 +54,10 @@ impl Watch {
         self.words.private()
     }
 
-    /// Goes on by one line.
+    /// Processes one line.
     ///
     /// # Errors
-    /// `NoMemory`, after which the watch isn't used further.
+    /// `NoMemory`. The watch must not be used after that.
     pub fn line(&mut self, alloc: Global, line: &Line) -> Result<(), NoMemory>
         ensures { OnOk result ((tools : Tools) (h : List log.Line)
             → Follows self.old self.new (logged (stations_of h) line.now) h tools) }
@@ -77,7 +77,7 @@ impl Watch {
         }
     }
 
-    // Takes in a declared node.
+    // Adds a declared node.
     fn declare(&mut self, name: Name, eui: Eui, role: Role) -> Result<(), NoMemory>
         ensures { OnOk result ((tools : Tools) (h : List log.Line) (station : Station)
             → IsOf station name.bytes eui.0 role → Follows self.old self.new (Declared station) h tools) }
@@ -86,7 +86,7 @@ impl Watch {
         Ok(())
     }
 
-    // Goes on by a line that asks who the node of this name is.
+    // Processes a line that needs to know who the node of this name is.
     fn of_node(&mut self, alloc: Global, line: &Line, node: &Name) -> Result<(), NoMemory>
         ensures words { OnOk result ((tools : Tools) → FollowsBy tools (who_is self.old.nodes node.now) line.now
             self.old.words self.new.words) }
@@ -97,7 +97,7 @@ impl Watch {
         Ok(())
     }
 
-    // Goes on by a line that doesn't ask who a node is.
+    // Processes a line that doesn't need to know who a node is.
     fn of_nobody(&mut self, alloc: Global, line: &Line) -> Result<(), NoMemory>
         ensures words { OnOk result ((tools : Tools)
             → FollowsBy tools no_node line.now self.old.words self.new.words) }

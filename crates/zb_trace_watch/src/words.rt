@@ -18,27 +18,27 @@ use zb_base::{Attribute, Eui, Key, NoMemory};
 use zb_seal::Term;
 use zb_trace::Line;
 
-/// What is known of a transcript after the lines so far, and no line.
+/// What is known about a transcript after the lines so far. It keeps no line.
 ///
-/// What it keeps stands in ordered maps and sets. A step looks a key, a node or a term up, or puts it in, and costs
-/// logarithmic work. A line takes a fixed number of steps, and those of two tasks:
+/// It uses ordered maps and sets. A step looks up or adds a key, a node or a term, and costs logarithmic work. A line
+/// takes a fixed number of steps, and also those of two tasks:
 ///
-/// - Where a key came from is asked the first time that a router or device takes that key in, and no more once the
-///   lines aren't ideal. The node's link keys are looked up among the base keys under which the key was carried, or
-///   the other way round, whichever are fewer. Over a run these look-ups are at most as many as its routers and
+/// - Where a key came from is looked up the first time that a router or device installs that key, and no longer once
+///   the lines aren't ideal. The node's link keys are looked up among the base keys under which the key was carried,
+///   or the other way round, whichever are fewer. Over a run these look-ups are at most as many as its routers and
 ///   devices times its lines that carry a key. With 63 routers and devices that is at most 63 a line. A transcript of
-///   this program asks for at most 64 in any one line, since a router or device has at most 64 link rows, dropped ones
-///   among them.
-/// - What outsiders come to know is followed when they come to know it. Each key becomes known once, and what was
-///   carried under it is walked then. Over n lines that is at most 2n + 1 steps, but a single line, such as a
-///   removal, may take nearly all of them.
+///   this program needs at most 64 for any one line, because a router or device has at most 64 link rows, with the
+///   dropped ones.
+/// - What outsiders learn is followed when they learn it. Each key becomes known once, and then the keys that were
+///   carried under it are visited. Over n lines that is at most 2n + 1 steps, but a single line, such as a removal,
+///   may take nearly all of them.
 ///
-/// So in a network of at most 64 nodes a line costs logarithmic work, counted over the run and not for each line
-/// alone. A foreign transcript may declare more nodes: its n lines ask for at most n times the square root of n
+/// So in a network of at most 64 nodes a line costs logarithmic work, on average over the run and not for each line
+/// alone. A foreign transcript may declare more nodes: its n lines need at most n times the square root of n
 /// look-ups.
 #[derive(Drop)]
 pub struct EndWords {
-    /// Where what was accepted or taken in came from.
+    /// Where accepted terms and installed keys came from.
     pub origins: Origins,
     /// The keys of the network, and whether outsiders passed one on.
     pub passing: Passing,
@@ -50,7 +50,7 @@ impl EndWords {
     /// Makes the words of no lines.
     ///
     /// # Errors
-    /// `NoMemory`.
+    /// `NoMemory`, if memory runs out.
     pub fn new(alloc: Global) -> Result<EndWords, NoMemory>
         ensures { IfOk result (λ words. (tools : Tools) (counts : ℕ → Bool) → Represents tools counts words start) }
     {
@@ -61,10 +61,10 @@ impl EndWords {
         })
     }
 
-    /// Returns whether all that was accepted or taken in came from earlier terms.
+    /// Returns whether everything accepted or installed came from earlier terms.
     ///
-    /// Each accepted term was sealed or forged before. Each key that a router or device took in is its install code's,
-    /// or came in an earlier term under one of its keys.
+    /// Each accepted term was sealed or forged before. Each key that a router or device installed is its install
+    /// code's, or came in an earlier term under one of its keys.
     pub fn ideal(&self) -> bool
         ensures { (tools : Tools) (counts : ℕ → Bool) (said : Sayings) → Represents tools counts self.now said
             → result ≡ said.ideal }
@@ -80,10 +80,10 @@ impl EndWords {
         self.exposure.based && !self.passing.passed_on
     }
 
-    /// Goes on by one line, whose node is `who`.
+    /// Processes one line of node `who`.
     ///
     /// # Errors
-    /// `NoMemory`, after which the words aren't used further.
+    /// `NoMemory`. The words must not be used after that.
     pub fn line(&mut self, alloc: Global, line: &Line, who: Speaker) -> Result<(), NoMemory>
         ensures { OnOk result ((tools : Tools) (counts : ℕ → Bool) (said : Sayings) → JoinerCounts counts who line.now
             → Follows tools counts said (said_by tools said who line.now) self.old self.new) }
@@ -233,7 +233,7 @@ impl EndWords {
     }
 }
 
-/// Returns the partner of a node's link row where the node is the centre.
+/// Returns the partner of a node's link row, if the node is the centre.
 fn centres_partner(who: Speaker, partner: Eui) -> Option<Eui>
     ensures { result ≡ (if who.is_centre then Some partner else None) }
 {

@@ -1,1 +1,1 @@
-"""Tests of what the tools around a living centre share."""
+"""Tests of what the tools for a live trust centre share."""

@@ -1,5 +1,5 @@
-"""Runs for the tests: what `tc play` makes of a schedule, and a log of sessions whose answers are the centre's part
-of it."""
+"""Runs for the tests: the transcript of a schedule by `tc play`, and a log of sessions whose answers are the centre's
+part of it."""
 import subprocess
 
 from hub import tables
@@ -13,7 +13,7 @@ def play(schedule):
 
 
 def audit(text):
-    """Returns what `tc audit` says of a transcript."""
+    """Returns what `tc audit` says about a transcript."""
     how = {'input': text.encode(), 'stdout': subprocess.PIPE, 'stderr': subprocess.DEVNULL, 'check': False}
     return subprocess.run([find('tc'), 'audit'], **how).stdout.decode().strip()
 
@@ -55,7 +55,7 @@ def header_of(transcript):
 
 
 class HostLog:
-    """A log that a host would have written, had its centre been that of a run."""
+    """A log that a host would have written if its centre had been that of a run."""
 
     def __init__(self, schedule):
         self.transcript = play(schedule)
@@ -80,7 +80,7 @@ class HostLog:
         self.ask('backup', str(self.tables).replace("'", '"').replace('True', 'true').replace('False', 'false'))
 
     def happen(self, words, lines):
-        """Writes an event of the centre; of another node nothing."""
+        """Writes an event of the centre, and nothing for another node."""
         if words == ['boot', self.name]:
             self.begin()
         elif words != ['reset', self.name] and is_of(lines, self.name) and not lines[-1].endswith('no-frame'):

@@ -1,4 +1,4 @@
-"""Tests of examples/hub.py: it goes on at a refusal and at a frame without content, and only its owner reads its log."""
+"""Tests of examples/hub.py: it continues after a refusal and after an empty frame; only its owner can read its log."""
 import contextlib
 import importlib.util
 import io
@@ -25,7 +25,7 @@ class HubExample(unittest.TestCase):
         self.hub.radio = None
 
     def happens(self, answer):
-        """Returns what the hub prints at an event with that answer, which may be an exception."""
+        """Returns what the hub prints for an event with that answer, which may be an exception."""
 
         def ask(_):
             if isinstance(answer, Exception):

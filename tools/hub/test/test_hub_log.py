@@ -1,4 +1,4 @@
-"""Tests of hub-log: the sessions of a run give a transcript that `tc audit` finds sound, also where an answer is lost,
+"""Tests of hub-log: the sessions of a run give a transcript that `tc audit` finds sound, also if an answer is lost,
 and a false log doesn't."""
 import os
 import subprocess

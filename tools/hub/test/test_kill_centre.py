@@ -1,4 +1,4 @@
-"""Tests of kill-centre: it finds nothing where nothing is wrong, and a store that goes back in time."""
+"""Tests of kill-centre: it finds nothing if nothing is wrong, and finds a store that goes back in time."""
 import importlib.machinery
 import importlib.util
 import os
@@ -30,7 +30,7 @@ def kill_centre():
 @unittest.skipUnless(find('tc') and find('tc_centre'), 'a built program is missing')
 class KillCentre(unittest.TestCase):
     def tried(self, *words, centre=None):
-        """Returns the status of kill-centre and what it wrote."""
+        """Returns the status and the output of kill-centre."""
         env = {**os.environ, **({'GABZETU_TC_CENTRE': centre} if centre else {})}
         how = {'stdout': subprocess.PIPE, 'stderr': subprocess.STDOUT, 'env': env, 'check': False}
         ran = subprocess.run([f'{TOP}/tools/kill-centre', *words], **how)

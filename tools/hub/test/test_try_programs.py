@@ -1,4 +1,4 @@
-"""Tests of try-programs: it finds nothing in the programs, and what is wrong with some that stand before them."""
+"""Tests of try-programs: it finds nothing in the programs, and finds what wrapper programs spoil."""
 import importlib.machinery
 import importlib.util
 import os
@@ -9,7 +9,7 @@ import unittest
 from hub import session
 from hub.programs import TOP, find
 
-# A program before tc or tc_centre that spoils what they do, and the try that finds it.
+# A program around tc or tc_centre that spoils what they do, and the test that finds it.
 WRONG = (
     ('centre', 'cd "$(dirname "$1")" && exec {program} store', 'paths'),
     ('centre', '{program} "$1" >"$1.out"; status=$?; cat "$1.out"; exit $status', 'answers'),
@@ -41,7 +41,7 @@ class TryPrograms(unittest.TestCase):
         self.room.cleanup()
 
     def tried(self, name, **others):
-        """Makes a try with other programs in the place of the two. Returns what it found, or none."""
+        """Runs a test with other programs instead of the two. Returns what it found, or None."""
         paths = {'tc': find('tc'), 'centre': find('tc_centre'), **others}
         with tempfile.TemporaryDirectory(dir=self.room.name) as room:
             programs = self.tool.Programs(paths['tc'], paths['centre'], room)

@@ -1,6 +1,6 @@
-"""Tests of the lists of words that the tools have: each has the words of docs/FORMATS.md and docs/ADMIN.md, no other.
+"""Tests of the lists of words in the tools: each has exactly the words of docs/FORMATS.md and docs/ADMIN.md.
 
-A word that a list lacks is named. So a new line of a session or command of `admin` can't be forgotten in a tool."""
+A word that is missing in a list is named. So a new line of a session or command of `admin` can't be forgotten."""
 import importlib.machinery
 import importlib.util
 import re
@@ -92,7 +92,7 @@ class Words(unittest.TestCase):
         self.same('tools/drive-centre', {*drive.SAME, *drive.OF_ANY_NODE, 'roll', 'deliver'}, words.EVENTS)
         self.same('EACH_KIND of tools/kill-centre', kill.EACH_KIND, words.EVENTS)
         steps = library.Steps(library.random.Random(1))
-        # of these words the whole line is the word
+        # for these words the whole line is the word
         alone = {'timer', 'switch', *words.QUESTIONS}
         for word in {*words.EVENTS, *words.COMMANDS} - alone:
             self.assertNotEqual(steps.line(word), word, f'tools/drive-library has no line {word}')

@@ -1,4 +1,4 @@
-"""Tests of how rows of the policy are held against definitions, in both words for a step that refuses."""
+"""Tests of how rows of the policy are checked against definitions, in both words for a step that refuses."""
 import unittest
 
 from pages import rules

@@ -1,4 +1,4 @@
--- Each key that is new brings those that terms carry under it, once.
+-- Each new key adds those that terms carry under it, once.
 use Rattle.std.proofs.Common.{◌+◌, length}
 use Rattle.zb_trace_watch.proofs.Learning.{unopened}
 use Rattle.zb_audit_lockout.proofs.levels.level_above.Given as goal

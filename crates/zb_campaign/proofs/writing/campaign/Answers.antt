@@ -26,7 +26,7 @@ returns-in_err-ends-clause-ends g c =
     (g.W.Sink.faults c.args.out.now)
     (c.in_err-ends.ensures (div_ceil c.args.count c.args.jobs) c.args.count c.in_ok-shares.ensures.cut))
 
--- what all runs come to
+-- The ends of all runs.
 played : (g : _) (c : After-as_slice g) → endings c.args.start 0 c.args.count
     ≡ Ok (map last_line c.in_ok-ends.ends.items)
 played g c = c.in_ok-ends.ensures (div_ceil c.args.count c.args.jobs) c.args.count c.in_ok-shares.ensures.cut
@@ -37,7 +37,7 @@ print-requires g c =
     ap length c.as_slice.ensures.value ∙ as_many c.args.start 0 c.args.count c.in_ok-ends.ends.items (played g c) in
     omega (arith, same, c.requires.count)
 
--- what is written is the campaign
+-- What is written is the campaign.
 written : (g : _) (c : After-write g) → campaigned c.args.count c.args.start ≡ Ok c.as_slice-2.result.now
 written g c =
     is_campaign c.args.count c.args.start c.in_ok-ends.ends.items c.as_slice.result.now c.in_ok-page.page.items

@@ -6,7 +6,7 @@ use Rattle.zb_disk.proofs.Lists.{length-patch, length-spread}
 use Rattle.zb_disk.proofs.Windows.{around_patch, patch_none}
 use Rattle.zb_disk.proofs.flags.add.Goals as goal
 
--- how long the window is once flags were set in it
+-- The length of the window after flags were set in it.
 mark_long : (old new : List Bool) (base start end : ℕ) → base ≤ start → start ≤ end
     → new ≡ patch (spread old (end - base) false) (start - base) (replicate (end - base - (start - base)) true)
     → length new ≡ max (length old) (end - base)

@@ -15,7 +15,7 @@ print_all-requires-after_bounds g c κs within =
     c.requires.capture
     c.in_ok-opened.ensures.pieces c.in_ok-opened.ensures.shown
 
--- the lines that are written are the report
+-- The lines that are written are the report.
 reported : (g : _) (c : After-write_all g) → pages_text c.as_slice.result.now ++ c.as_slice-2.result.now
     ≡ report_of c.args.capture.now
 reported g c =

@@ -38,7 +38,7 @@ look_at_all-requires-clause-before g c κs within =
     c.in_ok-addrs.addrs c.sealing_keys.result.now
     refl (c.in_ok-addrs.ensures ∙ c.as_slice.ensures) c.sealing_keys.ensures c.rounds.invariant.seen
 
--- the round that was done
+-- The round that was done.
 done : (g : _) (c : In_ok-ring-2 g) → Round c.args.capture.now c.rounds.rounds c.rounds.ring c.in_ok-ring-2.ring
     c.in_ok-pieces-2.pieces.items
 done g c =

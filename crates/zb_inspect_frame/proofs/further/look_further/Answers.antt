@@ -3,7 +3,7 @@ use Rattle.zb_inspect_frame.specs.Shows.{payload_in, given_in}
 use Rattle.zb_inspect_frame.proofs.MoreKeys.{below_anew}
 use Rattle.zb_inspect_frame.proofs.further.look_further.Goals as goal
 
--- no Tunnel was known
+-- No Tunnel was known.
 pub returns-in-None : goal.returns-in-None
 returns-in-None c =
     let r = nwk_reading.frame_of c.args.frame.now.items in

@@ -1,4 +1,4 @@
--- Who was found as nobody would have to pass the test, and doesn't.
+-- A node that was found as nobody would pass the test, and none passes it.
 use Rattle.std.proofs.Common.{◌≡◌, true, sym}
 use Rattle.std.specs.Prelude.{nat_eq}
 use Rattle.zb_base.specs.declared.node.Peer.{Peer}

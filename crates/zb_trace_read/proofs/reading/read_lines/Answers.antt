@@ -1,4 +1,4 @@
--- The lines that were found are all lines that there are, and a text of lines has no bad one.
+-- The lines that were found are all lines of the text, and a text of lines has no bad one.
 use Rattle.std.proofs.Common.{rules, ◌≡◌, ◌∙◌, sym, length}
 use Rattle.zb_trace.specs.Text.{texts}
 use Rattle.zb_trace_read.proofs.Taking.{one_text, no_bad, match_none, nothing_left, not_empty}

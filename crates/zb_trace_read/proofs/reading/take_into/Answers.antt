@@ -1,4 +1,4 @@
--- The text begins with the text of a line exactly where what stands before its first line feed reads as one.
+-- The text begins with the text of a line exactly if what is before its first line feed is read as a line.
 use Rattle.std.proofs.Common.{◌∙◌, sym}
 use Rattle.zb_trace_read.proofs.Taking.{no_line, begins_with, read_fits, read_none, read_some, is_text, rest_is_shorter}
 use Rattle.zb_trace_read.proofs.reading.take_into.Goals as goal

@@ -1,4 +1,4 @@
--- Each key that is cleared brings the keys that lead to it, once.
+-- Each key that is cleared adds the keys that lead to it, once.
 use Rattle.std.proofs.Common.{◌+◌, length}
 use Rattle.zb_audit_lockout.proofs.Clearing.{Clearing, is_clear}
 use Rattle.zb_audit_lockout.proofs.Left.{left_of}

@@ -1,4 +1,4 @@
--- Each key that is raised brings the keys that it leads to, once.
+-- Each key that is raised adds the keys that it leads to, once.
 use Rattle.std.proofs.Common.{◌+◌, length}
 use Rattle.zb_audit_lockout.proofs.Left.{left_of}
 use Rattle.zb_audit_lockout.proofs.Raised.{Raising, is_high}

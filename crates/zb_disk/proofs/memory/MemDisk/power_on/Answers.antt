@@ -32,12 +32,12 @@ pub returns-then-not-is_off-clause-only : goal.returns-then-not-is_off-clause-on
 returns-then-not-is_off-clause-only c = only_of c.args.self.now c.settle.new.self
     (returns-then-not-is_off-clause-after c)
 
--- a sync doesn't look at which bytes were written
+-- A sync doesn't depend on which bytes were written.
 synced_same : (m : Medium) (w : List Bool) → length w ≡ length m.written → synced (record m { written = w }) ≡ synced m
 unfolding synced
 synced_same m w same = ap (λ (i : ℕ). let n : Medium = record m { written = replicate i false; grown = 0 } in n) same
 
--- what a stop leaves, once its pattern and its flags are seen
+-- What a stop leaves, if its pattern and its flags are known.
 torn_is : (p p' b new : List ℕ) (base : ℕ) (w w' : List Bool) (n : ℕ) → new ≡ torn_by p' b (flags_around base w' n)
     → p' ≡ p → w' ≡ w → new ≡ torn_by p b (flags_around base w n)
 torn_is p p' b new base w w' n is same_pattern same_flags =

@@ -7,7 +7,7 @@ use Rattle.zb_disk.proofs.Lists.{length-patch, length-spread}
 use Rattle.zb_disk.proofs.Extents.{put_front, put_outside}
 use Rattle.zb_disk.proofs.memory.MemDisk.store.Goals as goal
 
--- how long the bytes are after a write
+-- The length of the bytes after a write.
 put_long : (old new piece : List ℕ) (start : ℕ) → new ≡ patch (spread old (start + length piece) 0) start piece
     → length new ≡ max (length old) (start + length piece)
 put_long old new piece start is =
