@@ -5,3 +5,10 @@ mod Exchanges
 mod Steps
 mod Repeats
 mod Losses
+mod Low
+mod Readmits
+mod Stale
+mod Answers
+mod Rolls
+mod Halts
+mod Routes

@@ -1,5 +1,5 @@
 -- The worked run of a join under the centre, and the fronts that the instances are about.
-use Rattle.std.specs.Prelude.{ℕ, true, false, Option, Some, None, [], ◌∷◌, take}
+use Rattle.std.specs.Prelude.{ℕ, false, Option, Some, None, [], ◌∷◌, take}
 use Rattle.zb_model.specs.Data.{Bytes, Verified}
 use Rattle.zb_model.specs.State.{NetKey, LinkKey}
 use Rattle.zb_model.specs.Play.{Schedule}
