@@ -320,7 +320,8 @@ tunnel_heard = Received (tunnel_bytes toy centre router tunnel_seals for_device)
 
 abbrev relayed : KeyFrame
 relayed =
-    relayed_frame centre router device (state_of routed.lines c) may_join_through.introduced.net may_join_through.introduced.row
+    relayed_frame centre router device (state_of routed.lines c) may_join_through.introduced.net
+    may_join_through.introduced.row
 
 abbrev relay : Task
 relay = Received (key_bytes toy relayed) None
