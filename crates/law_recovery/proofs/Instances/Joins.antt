@@ -1,13 +1,16 @@
 -- A device joins, and a member rejoins. At a front of the worked run nothing is in the way, and it ends as the
 -- laws say.
 use Rattle.std.specs.Prelude.{◌≡◌, refl}
+use Rattle.std.proofs.Common.{sym, ap}
+use Rattle.std.proofs.lemmas.Bool.{false≢true}
 use Rattle.std.proofs.Math.Path.{subst}
 use Rattle.law_recovery.proofs.Instances.Worked.{w, c, d, network, code, drawn, knocked, confirmed}
 use Rattle.law_recovery.specs.Obstacles.{why_no_confirmation, why_no_offer, why_not_confirmed, why_not_heard, why_not_opened, why_offer_not_kept}
 use Rattle.law_recovery.specs.Fronts.{CanRejoin, EndsRejoined, after_event, after_events, rejoin_events}
 use Rattle.law_recovery.specs.RunsJoining.{CanJoin, EndsJoined, join_events}
 use Rattle.law_recovery.specs.KeyExchange.{EndsConfirmed, IsNew, NothingStops, joined_front, joining_events}
-use Rattle.law_recovery.specs.Rejoining.{why_not_sent, why_not_taken}
+use Rattle.law_recovery.specs.Meeting.{IsConfirmed}
+use Rattle.law_recovery.specs.Rejoining.{rejoining, why_not_sent, why_not_taken}
 use Rattle.zb_model.specs.Answer.{plan_of, part_of, may_seal, out_of, edits_of, answer_by, reserve_of, stored_floor, floor_of, counting_of, answer, answered}
 use Rattle.zb_model.specs.Commands.{take_net_key, take_row, take_link_key, take_app_key, take_switch, take_confirm, take_remove, take_tunnel, take_update, take_request, take_app_request, take_verify, take_command, take_leave}
 use Rattle.zb_model.specs.Fits.{rows_have_room, keys_differ, at_most_two_live, active_is_live, partners_agree, links_are_marked, floors_are_kept, limits_are_started, role_is_kept, pairs_are_kept, keeps_rules, fits, all_fit}
@@ -15,7 +18,7 @@ use Rattle.zb_model.specs.Judging.{reject, need, judge_net, judge_nwk, candidate
 use Rattle.zb_model.specs.OwnEvents.{say, knock, rejoin, request_key, verify_key, member_timer, ask, tell, child_of_router, child_of_centre, next_member, is_unfinished, centre_timer, provision, remove_device, roll, switch_over, again, share, own}
 use Rattle.zb_model.specs.Play.{start, disk_of, with_disk, stands, leaves_both, stored_lines, told_lines, group_of, cut_of, setting_of, supply, task_step, step_by, step}
 use Rattle.zb_model.specs.Readings.{speaker, after, heard_line, state_of, is_up, air, draws_used, commits_of, stations_of}
-use Rattle.zb_model.specs.Rules.{refuse_if, found_or, choose, station_of, station_at, centre_of, short_of, spent, both_spent, drop_partner, drop_others, drop_old}
+use Rattle.zb_model.specs.Rules.{in_rejoining, refuse_if, found_or, choose, station_of, station_at, centre_of, short_of, spent, both_spent, drop_partner, drop_others, drop_old}
 use Rattle.zb_model.specs.State.{active_row, usable_nets, usable_active, newest, usable_of, live_of, current, offered, is_live, is_known, is_told, code_row, other_user, pair_of, next_counter, stored_limit, sender_floor, applied, applied_all, after_sealing, after_counting, after_hearing, after_accepting, after_boot, shown, with_given_net, with_given_link, with_declared}
 use Rattle.zb_model.specs.Tools.{sealing_key}
 use Rattle.zb_model.proofs.Toy.{toy}
@@ -309,3 +312,7 @@ joins_and_is_confirmed = record {
   };
   ends = subst (λ y. EndsConfirmed w y c d network 0 drawn) eight_events ends;
 }
+
+-- A member that waits for a network key isn't confirmed, whatever keys it has.
+waits : IsConfirmed (rejoining (state_of confirmed.lines d)) c network 0 drawn → ⊥
+waits h = false≢true (sym (ap in_rejoining h.confirmed))
