@@ -240,6 +240,7 @@ ends =
 
 -- Instance of a_device_joins_and_is_confirmed_in_a_run.
 record JoinsAndIsConfirmedCase : Type 0 where
+  can : CanJoin w knocked c d
   is_new : IsNew w knocked c d can_join
   free : NothingStops toy w (joined_front toy w knocked c d) c d network 0 code drawn
   ends : EndsConfirmed w (after_events toy w knocked (joining_events toy w knocked c d)) c d network 0 drawn
@@ -260,6 +261,7 @@ unfolding toy plan_of part_of may_seal out_of edits_of answer_by reserve_of stor
     with_given_net with_given_link with_declared sealing_key after_event can_join why_no_confirmation why_no_offer
     why_not_confirmed why_not_heard why_not_opened why_offer_not_kept
 joins_and_is_confirmed = record {
+  can = can_join;
   is_new = record {
     met = record {
       apart = refl;

@@ -373,6 +373,7 @@ sent_once = refl
 
 -- Instance of a_lost_network_key_is_sent_again.
 record IsSentAgainCase : Type 0 where
+  can : CanJoin w knocked c d
   is_new : IsNew w knocked c d can_join
   again : JoinsAgain w knocked (after_event toy w knocked (Own c (HasChild d false))) c d can_join
 
@@ -391,6 +392,7 @@ unfolding toy plan_of part_of may_seal out_of edits_of answer_by reserve_of stor
     sender_floor applied applied_all after_sealing after_counting after_hearing after_accepting after_boot shown
     with_given_net with_given_link with_declared sealing_key after_event can_join can_still_join
 is_sent_again = record {
+  can = can_join;
   is_new = record {
     met = record {
       apart = refl;

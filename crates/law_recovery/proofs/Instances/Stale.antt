@@ -12,6 +12,7 @@ use Rattle.law_recovery.specs.Rejoining.{why_not_sent, why_not_taken}
 use Rattle.law_recovery.specs.Rounds.{CameFrom, CameFromCentre, RejoinsLater, after_rounds}
 use Rattle.law_recovery.specs.Stages.{Keys, HaveCome}
 use Rattle.law_recovery.specs.Stale.{AreAnswersStale, AreStale, CameFromDevice, CameFromTheCentre}
+use Rattle.law_recovery.specs.Stops.{IsAnswered}
 use Rattle.law_recovery.specs.Turns.{Offering}
 use Rattle.law_recovery.proofs.Instances.Low.{all_low}
 use Rattle.zb_model.specs.Answer.{plan_of, part_of, may_seal, out_of, edits_of, answer_by, reserve_of, stored_floor, floor_of, counting_of, answer, answered}
@@ -218,6 +219,7 @@ turns = record {
 
 -- Instance of stale_answers_are_fewer_than_a_block.
 record AnswersCase : Type 0 where
+  answered : IsAnswered Offering
   sizes : KeysInRange network 0 code
   come : HaveCome w device_booted c d keys Offering
   came : CameFromTheCentre Offering w device_booted c d keys
@@ -240,6 +242,7 @@ unfolding toy plan_of part_of may_seal out_of edits_of answer_by reserve_of stor
     with_given_net with_given_link with_declared sealing_key after_event why_no_confirmation why_no_offer
     why_not_confirmed why_not_heard why_not_opened why_offer_not_kept why_no_offer_again why_not_sent why_not_taken
 answers = record {
+  answered = tt;
   sizes = record { key_size = refl; small = ltb-true _ _ refl; link_size = refl };
   come = record {
     met = record {
