@@ -42,3 +42,4 @@ pub mod SpentLaw
 pub mod StoredChanges
 pub mod StoredFits
 pub mod SpentSteps
+mod Instances

@@ -58,7 +58,7 @@ schedule = record {
       [];
 }
 
-abbrev lines : List Line
+abbrev pub lines : List Line
 lines =
     Declared c_station ∷
     Declared d_station ∷

@@ -1,0 +1,14 @@
+-- For each law that has premises: a worked network in which they are met, and what the law says of it, computed.
+pub mod Worked
+pub mod Joins
+mod Exchanges
+mod Steps
+mod Repeats
+mod Losses
+mod Low
+mod Readmits
+mod Stale
+mod Answers
+mod Rolls
+mod Halts
+mod Routes
