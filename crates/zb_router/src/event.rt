@@ -1,17 +1,5 @@
 //! What happens to a router.
-use zb_base::Eui;
-use zb_device::DeviceEvent;
+use zb_device::NodeEvent;
 
-/// What happens to a router.
-#[derive(Drop)]
-pub enum RouterEvent {
-    /// What happens to a device too.
-    Own(DeviceEvent),
-    /// A child knocks at it.
-    Child {
-        /// The child.
-        device: Eui,
-        /// Whether it asks to be let in again.
-        rejoin: bool,
-    },
-}
+/// What happens to a router. It refuses the events of the centre as policy.
+pub type RouterEvent = NodeEvent;
