@@ -61,11 +61,11 @@ pub enum Line {
 pub enum Log {
     /// All lines.
     All,
-    /// Those in which no key stands.
+    /// Those that show no key.
     NoKeys,
 }
 
-/// Reads a line, or returns None where it is no line of a session.
+/// Reads a line, or returns None if it isn't a line of a session.
 pub fn read_line(line: &[u8]) -> Option<Line>
     ensures value { Shows sentence_of result (meaning_of line.now) }
     ensures joins { IfSome result (λ line. Joins (sentence_of line)) }
