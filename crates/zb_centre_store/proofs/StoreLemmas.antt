@@ -14,8 +14,7 @@ use Rattle.zb_centre_store.specs.declared.fault.AdminFault.TheVariants.{Disk as 
 use Rattle.zb_base.specs.Outside.{Rose, Unrisen}
 use Rattle.zb_base.specs.declared.fault.OrMemory.TheVariants.{Fault}
 use Rattle.zb_base.specs.declared.node.Config.{Config}
-use Rattle.zb_centre.specs.Tasks.{IsTaskOf, task_of}
-use Rattle.zb_centre.specs.declared.event.CentreEvent.{CentreEvent}
+use Rattle.zb_core.specs.Events.{NodeEvent, task_of}
 use Rattle.zb_core.proofs.PlanLaws.{core_plan_leads}
 use Rattle.zb_core.specs.CorePlans.{CorePlan, IsCoreAfter, IsCorePlan}
 use Rattle.zb_disk.proofs.Moments.{still_leaves, still_then, still_trans, weakened}
@@ -450,15 +449,15 @@ images_stand c (Some s) (Some host) v up image there = (
 
 -- ---- an event
 
-module _ (c : Setting) (event : CentreEvent) (before after : Hosted CoreValue) (p : CorePlan)
-    (plan : IsCorePlan Centre IsTaskOf before.core event p) (leads : IsCoreAfter before.core p after.core) where
+module _ (c : Setting) (event : NodeEvent) (before after : Hosted CoreValue) (p : CorePlan)
+    (plan : IsCorePlan Centre before.core event p) (leads : IsCoreAfter before.core p after.core) where
   abbrev pub task : Task
   task = task_of event
 
   next_core : (s : NodeState) → before.core ≡ record { setting = c; tables = s } → after.core
       ≡ record { setting = c; tables = tables_after c task s }
   next_core s e =
-      core_plan_leads Centre IsTaskOf before.core after.core event p plan leads task refl
+      core_plan_leads Centre before.core after.core event p plan leads
       ∙ ap (λ (x : CoreValue). let y : CoreValue =
       record { setting = x.setting; tables = shown (answered (answer real x.setting x.tables task) x.tables) } in
       y) e
@@ -466,7 +465,7 @@ module _ (c : Setting) (event : CentreEvent) (before after : Hosted CoreValue) (
   pub answer_so : (s : NodeState) → before.core ≡ record { setting = c; tables = s }
       → IsAnswer p (answer real c s task)
   answer_so s core = subst (λ (x : CoreValue). IsAnswer p (answer real x.setting x.tables task)) core
-      (plan.answer_is task refl)
+      plan.answer_is
 
   -- the same of a plan with these parts
   pub told_so : (all : ArrayVec Change) (out : Outcome Term Refusal) → out ≡ p.out → all ≡ p.changes → (s : NodeState)
@@ -494,7 +493,7 @@ module _ (c : Setting) (event : CentreEvent) (before after : Hosted CoreValue) (
       ≡ p.changes.items → shown before.core.tables ≡ before.core.tables → (changes ≡ [] → IsStill old new)
       → is_own task ≡ true → is_some out.refused ≡ true → IsStill old new × (after.core ≡ before.core)
   spared_so old new changes out same_out same forgets still own refused =
-      let is = plan.answer_is task refl in
+      let is = plan.answer_is in
       let a = answer real before.core.setting before.core.tables task in
       let some : is_some a.refusal ≡ true = ap is_some (sym is.refusal) ∙ some_mapped reason p.out.refused ∙ sym
       (ap (λ (o : Outcome Term Refusal). is_some o.refused) same_out) ∙ refused in
@@ -504,7 +503,7 @@ module _ (c : Setting) (event : CentreEvent) (before after : Hosted CoreValue) (
       let tables : shown (answered a before.core.tables) ≡ before.core.tables =
       ap shown (refused_effect before.core.setting before.core.tables task own some) ∙ forgets in (
         still none,
-        core_plan_leads Centre IsTaskOf before.core after.core event p plan leads task refl ∙ ap
+        core_plan_leads Centre before.core after.core event p plan leads ∙ ap
             (λ (t : NodeState). let y : CoreValue = record { setting = before.core.setting; tables = t } in y) tables,
       )
 
@@ -593,8 +592,8 @@ event_worn before old new Worn h is = (h.0, h.1)
 
 -- the call for an event
 
-pub handled_ok : (tells : Telling) (c : Setting) (event : CentreEvent) (before after : Hosted CoreValue)
-    (p : CorePlan) (plan : IsCorePlan Centre IsTaskOf before.core event p)
+pub handled_ok : (tells : Telling) (c : Setting) (event : NodeEvent) (before after : Hosted CoreValue)
+    (p : CorePlan) (plan : IsCorePlan Centre before.core event p)
     (leads : IsCoreAfter before.core p after.core) (old new : View) (all : ArrayVec Change) (changes : List Change)
     (out : Outcome Term Refusal)
     → out ≡ p.out → all ≡ p.changes → changes ≡ p.changes.items → shown before.core.tables ≡ before.core.tables
@@ -622,8 +621,8 @@ handled_ok tells c event before after p plan leads old new all changes out same 
       worn = tt;
     }
 
-pub handled_err : (tells : Telling) (c : Setting) (event : CentreEvent) (before after : Hosted CoreValue)
-    (p : CorePlan) (plan : IsCorePlan Centre IsTaskOf before.core event p)
+pub handled_err : (tells : Telling) (c : Setting) (event : NodeEvent) (before after : Hosted CoreValue)
+    (p : CorePlan) (plan : IsCorePlan Centre before.core event p)
     (leads : IsCoreAfter before.core p after.core) (old new : View) (f : HostFault) (g : AdminFault)
     → g ≡ fault_of f → (IsTrue tells.content → old.images old.seen)
     → ((z : Standing) → IsCurrent (restored Centre) recorded z before old → IsTrue tells.content

@@ -4,7 +4,7 @@ ghost use Rattle.zb_centre_store.specs.Calls.{HasBooted, HasHandled, HasLaidOut,
 ghost use Rattle.zb_centre_store.specs.Makings.{first_tables, tables_of};
 ghost use Rattle.zb_backup.specs.Reading.{IsOfCentre};
 ghost use Rattle.zb_base.specs.Config.{IsConfig};
-ghost use Rattle.zb_centre.specs.Tasks.{task_of};
+ghost use Rattle.zb_core.specs.Events.{task_of};
 ghost use Rattle.zb_base.specs.Outside.{Unrisen};
 ghost use Rattle.zb_keys.specs.Declarations.{declared_state};
 ghost use Rattle.zb_model.specs.Data as model;

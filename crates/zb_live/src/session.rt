@@ -1,7 +1,7 @@
 //! A session: what each line does to it.
 ghost use Rattle.std.specs.Prelude.{◌≡◌, ◌≢◌, ◌≤◌, ◌++◌, [], ℕ, List, None, Some, Ok, Err, is_some, true, IsTrue, OnOk, IfErr, IfOk};
 ghost use Rattle.zb_base.specs.Outside.{Unrisen};
-ghost use Rattle.zb_centre_store.specs.Tasks.{task_of};
+ghost use Rattle.zb_centre_store.specs.Events.{task_of};
 ghost use Rattle.zb_centre_store.specs.Calls.{IsShort};
 ghost use Rattle.zb_centre_store.specs.Standing.{IsUp};
 ghost use Rattle.zb_disk.specs.View.{IsStill};
@@ -13,7 +13,8 @@ ghost use Rattle.zb_live.specs.Answers.{ok_text, refused_text};
 ghost use Rattle.zb_live.specs.Grammar.{meaning_of};
 ghost use Rattle.zb_live.specs.Questions.{question_text};
 ghost use Rattle.zb_live.specs.Said.{Founds, Introduces, Logs, Opens, Happens, Asks, Joins};
-ghost use Rattle.zb_live.specs.Views.{event_of, sentence_of};
+ghost use Rattle.zb_live.specs.Views.{sentence_of};
+ghost use Rattle.zb_script.specs.Resolving.{said_of};
 ghost use Rattle.zb_model.specs.Answer.{Answer, answer};
 ghost use Rattle.zb_model.specs.Data.{Station};
 ghost use Rattle.zb_model.specs.Rules.{Setting};
@@ -28,7 +29,7 @@ ghost use Rattle.zb_trace_model.specs.Naming.{IsCalled};
 use crate::event::event_for;
 use crate::question::{Question, put_asked};
 use crate::telling::{Place, put_event};
-use crate::{Cause, Event, Line, Log, put_ok, put_refused, read_line};
+use crate::{Cause, Line, Log, put_ok, put_refused, read_line};
 use std::alloc::Global;
 use zb_base::{Eui, Name, OrMemory, Peer};
 use zb_centre_store::{AdminFault, Centre, CentreEvent, centre_tables, handle, judge};
@@ -36,7 +37,7 @@ use zb_disk::Disk;
 use zb_host::{Host, Outcome, Plan};
 use zb_keys::Tables;
 use zb_node_types::Refusal;
-use zb_script::{Draft, ScriptCause};
+use zb_script::{Draft, Said, ScriptCause};
 use zb_seal::Term;
 
 /// A session with a centre: its network, and once it is open the centre.
@@ -300,20 +301,20 @@ impl Session {
         &mut self,
         disk: &mut D,
         number: u32,
-        event: Event,
+        event: Said,
         page: &mut Vec<u8>,
     ) -> Result<(), AdminFault>
         requires { CanGoOn self.old }
         ensures taken { IsTrue D.tells.content → (found : Found)
             → IsAlive found self.old (D.state disk.old)
-            → HasTaken found self.old (done_by number found (Happens (event_of event)) self.old)
+            → HasTaken found self.old (done_by number found (Happens (said_of event)) self.old)
             (D.state disk.old) page.old.items result self.new (D.state disk.new) page.new.items }
-        ensures follows { OnOk result (HasFollowed (λ found. done_by number found (Happens (event_of event)) self.old)
+        ensures follows { OnOk result (HasFollowed (λ found. done_by number found (Happens (said_of event)) self.old)
             page.old.items self.new page.new.items) }
         ensures store { OnOk result (CanGoOn self.new) }
         ensures waits { OnOk result (self.new.centre ≡ None
             → (self.old.centre ≡ None) × IsStill (D.state disk.old) (D.state disk.new)) }
-        ensures faults { IfErr result (IsLineFault D.tells (Some (Happens (event_of event))) self.old
+        ensures faults { IfErr result (IsLineFault D.tells (Some (Happens (said_of event))) self.old
             (D.state disk.old) (D.state disk.new)) }
         ensures count { (D.state disk.old).faults ≤ (D.state disk.new).faults }
         ensures unrisen { result ≢ Err AdminFault.Disk

@@ -8,7 +8,7 @@ use Rattle.zb_disk.specs.Memory.{Medium}
 use Rattle.zb_model.specs.Data.{Bytes}
 use Rattle.zb_model.specs.Lines.{Line}
 use Rattle.zb_model.specs.Play.{Disk, Step, groups, stations, step}
-use Rattle.zb_model.specs.Schedules.{CountsCalls, SuitsRole}
+use Rattle.zb_model.specs.Schedules.{CountsCalls}
 use Rattle.zb_model_real.specs.Real.{real}
 use Rattle.law_schedules.specs.Schedules.{event_for, schedule_of, stations_for}
 use Rattle.law_schedules.proofs.Meets.{is_schedule}
@@ -67,7 +67,6 @@ fits_at p i d is bound =
     record {
       early = omega (arith, bound, is.so_far.few_events);
       fits = all_get (FitsSchedule p) p.events i d bound is.so_far.events;
-      roles = mapped_get (SuitsRole (schedule_of p)) (event_for (stations_for p)) p.events i d bound w.roles;
       calls = mapped_get CountsCalls (event_for (stations_for p)) p.events i d bound w.calls;
     }
 

@@ -9,7 +9,8 @@ use Rattle.zb_armed_host.specs.declared.fall.Fall.{Fall}
 use Rattle.zb_player_events.proofs.SeatLemmas.{same_some}
 use Rattle.zb_player_events.proofs.Adding.{adds_then, told_adds}
 use Rattle.zb_player_events.proofs.Telling.{air_stays, are_of_centre, fallen_is, kept_lines, none_kept, out_is}
-use Rattle.zb_player_events.specs.Acts.{IsFor, act_for}
+use Rattle.zb_model.specs.Schedules.{CountsCalls}
+use Rattle.zb_player_events.specs.Acts.{act_for}
 use Rattle.zb_player_events.specs.Told.{Adds, Before, Goes, IsTold, fall_line}
 use Rattle.zb_player_events.specs.declared.acts.Act.{Act}
 use Rattle.zb_player_events.specs.declared.ledger.Ledger.{Ledger}
@@ -32,9 +33,8 @@ use Rattle.law_run_steps.specs.Steps.{cut_lines, is_of_the_centre, whole_lines}
 use Rattle.law_run_steps.proofs.Turns.{answer_cut, answer_whole, boot_by, boot_cut, boot_whole, reset_by, task_down, task_up}
 use Rattle.law_run_steps.specs.Turns.{Turn, deliver_turn, event_turn, refused_turn, task_turn, turn}
 use Rattle.zb_player_node.proofs.Conditions.{in_later, power_is}
-use Rattle.zb_player_node.specs.Answers.{CanHave, Changes, HasBooted, HasHandled}
+use Rattle.zb_player_node.specs.Answers.{Changes, HasBooted, HasHandled}
 use Rattle.zb_player_node.specs.Nodes.{IsIn}
-use Rattle.zb_player_node.specs.Tasks.{suits}
 use Rattle.zb_player_node.specs.Values.{NodeValue}
 use Rattle.zb_player_node.specs.declared.node.Handled.{Handled}
 use Rattle.zb_player_node.specs.declared.node.Handled.TheVariants.{Whole, Cut}
@@ -109,11 +109,6 @@ down_goes w h x latest number n task old new node m before off adds =
     refusal_goes w (task_turn real h x number n task) h x latest number n Down old new node m
     (task_down real h x number n task (power_of w h x latest n old node m false before off)) before adds
 
-pub can_have : (w : Schedule) (h : List Line) (x : Condition) (latest n : ℕ) (task : model.Task) (k : Ledger)
-    (node : NodeValue) (m : Medium) → Before w h x latest n k node m → suits x.setting.me.role task ≡ true
-    → CanHave x latest task
-can_have w h x latest n task k node m before is = record { early = before.few; suits = is }
-
 -- the changes of a node that isn't the centre are none of the centre's
 centre_here : (w : Schedule) (h : List Line) (x : Condition) (latest n : ℕ) (k : Ledger) (node : NodeValue)
     (m : Medium) → Before w h x latest n k node m → is_centre x.setting.me.role ≡ true
@@ -159,17 +154,17 @@ whole_adds w h number n a changes out old new scribe page told stored told_is fi
 pub whole_goes : (w : Schedule) (h : List Line) (x : Condition) (latest number n : ℕ) (task : model.Task)
     (name : ArrayString) (result : Option Handled) (p : CorePlan) (old new : Ledger) (scribe : Scribe)
     (page : Option (List ℕ))
-    (node after : NodeValue) (m m' : Medium) → Before w h x latest n old node m → suits x.setting.me.role task
-    ≡ true → true ≡ is_some node.machine → name ≡ node.peer.name → result ≡ Some Whole
+    (node after : NodeValue) (m m' : Medium) → Before w h x latest n old node m → true ≡ is_some node.machine
+    → name ≡ node.peer.name → result ≡ Some Whole
     → HasHandled task node m result p after m' → TellsChanges w number name p.changes old scribe page
     → TellsOut w number name p.out scribe page new
     → Goes w (task_turn real h x number n task) h latest old new after m'
-whole_goes w h x latest number n task name result p old new scribe page node after m m' before is on named made
+whole_goes w h x latest number n task name result p old new scribe page node after m m' before on named made
     handled stored answered =
     let a = answer real x.setting x.state task in
     let how : HasHandled task node m (Some Whole) p after m' =
     subst (λ (r : Option Handled). HasHandled task node m r p after m') made handled in
-    let was = how x latest before.is_in (can_have w h x latest n task old node m before is) in
+    let was = how x latest before.is_in before.few in
     let called : IsCalled (stations w) n name.bytes = subst (λ (q : ArrayString). IsCalled (stations w) n q.bytes)
     (sym named) before.seat.called in
     let spelled : is_name name.bytes ≡ true = subst (λ (q : ArrayString). is_name q.bytes ≡ true) (sym named)
@@ -189,19 +184,19 @@ whole_goes w h x latest number n task name result p old new scribe page node aft
 
 pub cut_goes : (w : Schedule) (h : List Line) (x : Condition) (latest number n : ℕ) (task : model.Task)
     (name : ArrayString) (result : Option Handled) (p : CorePlan) (fall : Fall) (old between new : Ledger)
-    (node after : NodeValue) (m m' : Medium) → Before w h x latest n old node m → suits x.setting.me.role task
-    ≡ true → true ≡ is_some node.machine → name ≡ node.peer.name → result ≡ Some (Cut fall)
+    (node after : NodeValue) (m m' : Medium) → Before w h x latest n old node m → true ≡ is_some node.machine
+    → name ≡ node.peer.name → result ≡ Some (Cut fall)
     → HasHandled task node m result p after m' → TellsChanges w number name p.changes old between.scribe between.page
     → TellsFall w number name fall between new
     → Goes w (task_turn real h x number n task) h latest old new after m'
-cut_goes w h x latest number n task name result p fall old between new node after m m' before is on named made
+cut_goes w h x latest number n task name result p fall old between new node after m m' before on named made
     handled stored fallen =
     let a = answer real x.setting x.state task in
     let b = stands x.disk.armed (calls_by x.commits a.edits) in
     let some : List Line = if b then lines_of_edits number n a.edits else [] in
     let how : HasHandled task node m (Some (Cut fall)) p after m' =
     subst (λ (r : Option Handled). HasHandled task node m r p after m') made handled in
-    let was = how x latest before.is_in (can_have w h x latest n task old node m before is) in
+    let was = how x latest before.is_in before.few in
     let called : IsCalled (stations w) n name.bytes = subst (λ (q : ArrayString). IsCalled (stations w) n q.bytes)
     (sym named) before.seat.called in
     let own : AreOfCentre (stations w) n p.changes.items = are_of_centre (stations w) n p.changes.items
@@ -345,8 +340,8 @@ event_is n act made this event is one other = same_some this event (sym one ∙ 
 
 pub by_event : (w : Schedule) (h : List Line) (x : Condition) (latest number n : ℕ) (this event : Event)
     (old new : Ledger) (node : NodeValue) (m : Medium) → this ≡ event
-    → (IsFor x.setting.me.role this → Goes w (event_turn real w h x number this) h latest old new node m)
-    → IsFor x.setting.me.role event → Goes w (event_turn real w h x number event) h latest old new node m
+    → (CountsCalls this → Goes w (event_turn real w h x number this) h latest old new node m)
+    → CountsCalls event → Goes w (event_turn real w h x number event) h latest old new node m
 by_event w h x latest number n this event old new node m same goes =
-    subst (λ (e : Event). IsFor x.setting.me.role e → Goes w (event_turn real w h x number e) h latest old new
+    subst (λ (e : Event). CountsCalls e → Goes w (event_turn real w h x number e) h latest old new
     node m) same goes

@@ -2,11 +2,12 @@
 ghost use Rattle.std.specs.Prelude.{◌≡◌, ◌≤◌, ◌<◌, ◌+◌, ℕ, List, OnOk, Some, false, map, slice_get, [], ◌∷◌};
 ghost use Rattle.std.specs.Option.{option_map};
 ghost use Rattle.zb_base.specs.declared.key.Key.{Key as key};
-ghost use Rattle.zb_player_events.specs.Acts.{IsFor, act_for};
+ghost use Rattle.zb_player_events.specs.Acts.{act_for};
 ghost use Rattle.zb_player_events.specs.Told.{Adds, Before, Calls, Goes, HasRoom, IsTold, lines_told, most_event_lines};
 ghost use Rattle.zb_model.specs.Lines as log;
 ghost use Rattle.zb_model.specs.Play as model;
 ghost use Rattle.zb_model.specs.Play.{Schedule, stations};
+ghost use Rattle.zb_model.specs.Schedules.{CountsCalls};
 ghost use Rattle.zb_model_real.specs.Real.{real};
 ghost use Rattle.zb_player_events.specs.Calls.{event_calls};
 ghost use Rattle.law_run_steps.specs.Conditions.{Condition};
@@ -22,7 +23,7 @@ use std::alloc::Global;
 use zb_base::{Key, Name, NoMemory};
 use zb_disk::MemDisk;
 use zb_node_types::Refusal;
-use zb_player_node::{Node, NodePlan, Task};
+use zb_player_node::{Node, NodeEvent, NodePlan};
 use zb_player_scribe::{Page, Scribe};
 use zb_trace::Line;
 use zb_trace_model::refuse_line;
@@ -94,18 +95,18 @@ impl Ledger {
         ensures seat { node.new.peer ≡ node.old.peer }
         ensures goes { OnOk result ((w : Schedule) (h : List log.Line) (x : Condition) (latest n : ℕ)
             (event : model.Event) → Before w h x latest n self.old node.old disk.old
-            → map (λ (k : key). k.0) draws.now ≡ w.draws → act_for n act ≡ Some event → IsFor x.setting.me.role event
+            → map (λ (k : key). k.0) draws.now ≡ w.draws → act_for n act ≡ Some event → CountsCalls event
             → Goes w (event_turn real w h x number event) h latest self.old self.new node.new disk.new) }
         ensures calls { OnOk result ((w : Schedule) (h : List log.Line) (x : Condition) (latest n : ℕ)
             (event : model.Event) → Before w h x latest n self.old node.old disk.old
-            → map (λ (k : key). k.0) draws.now ≡ w.draws → act_for n act ≡ Some event → IsFor x.setting.me.role event
+            → map (λ (k : key). k.0) draws.now ≡ w.draws → act_for n act ≡ Some event → CountsCalls event
             → Calls (event_calls real w h x event) disk.old disk.new) }
     {
         match act {
-            Act::Own(task) => self.handle(node, disk, number, task),
+            Act::Own(what) => self.handle(node, disk, number, &what),
             Act::Roll => {
                 let draw = self.draw(draws);
-                self.handle(node, disk, number, Task::Roll { draw })
+                self.handle(node, disk, number, &NodeEvent::Roll { draw })
             }
             Act::Deliver(frame) => self.deliver(node, disk, draws, number, frame),
             Act::Reset => self.reset(node, disk, number),

@@ -1,6 +1,7 @@
 //! A node.
 ghost use Rattle.std.specs.Prelude.{◌≡◌, ◌+◌, ◌≤◌, ℕ, List, [], true, None, if◌then◌else◌, is_some, take, IfOk, MatchOption};
 ghost use Rattle.zb_base.specs.Config.{IsConfig};
+ghost use Rattle.zb_core.specs.Events.{task_of};
 ghost use Rattle.zb_disk.specs.Memory.{Medium};
 ghost use Rattle.zb_armed_host.specs.Driven.{IsShown};
 ghost use Rattle.zb_model.specs.Play.{FailAt, StopAfter};
@@ -10,19 +11,18 @@ ghost use Rattle.zb_model.specs.State.{NodeState};
 ghost use Rattle.law_run_steps.specs.Conditions.{Condition, after_arming, after_reset};
 ghost use Rattle.zb_player_node.specs.Answers.{CanStart, HasBooted, HasBootedOn, HasHandled, HasHandledOn, IsDump, IsStarted};
 ghost use Rattle.zb_player_node.specs.Nodes.{IsIn};
-ghost use Rattle.zb_player_node.specs.Tasks.{model_task};
 ghost use Rattle.zb_node_types.specs.Changes.{model_role};
 ghost use Rattle.zb_store.specs.Layout.{Standing};
 ghost use Rattle.zb_stored_tables.specs.Cores.{IsOfRole};
 ghost use Rattle.zb_stored_tables.specs.Stored.{restored};
 
 use crate::machine::{Machine, NodePlan};
-use crate::task::Task;
 use arrayvec::ArrayVec;
 use std::alloc::Global;
 use std::marker::Model;
 use zb_armed_host::{Arms, Fall, reset};
 use zb_base::{Config, Eui, Name, NoMemory, OrMemory, Peer, RECORD_ROOM, Role};
+use zb_core::NodeEvent;
 use zb_disk::MemDisk;
 use zb_node_types::Changes;
 
@@ -179,15 +179,20 @@ impl Node {
     ///
     /// Returns None where the node is down. Where a stop or a failure falls on the event, or the disk fails, the node
     /// is down after it. What is armed and didn't fall stays, whatever the disk did.
-    pub fn handle(&mut self, disk: &mut MemDisk, task: Task, plan: &mut NodePlan) -> Option<Handled>
-        ensures event { HasHandled (model_task task) self.old disk.old result plan.new self.new disk.new }
+    pub fn handle(
+        &mut self,
+        disk: &mut MemDisk,
+        event: &NodeEvent,
+        plan: &mut NodePlan,
+    ) -> Option<Handled>
+        ensures event { HasHandled (task_of event.now) self.old disk.old result plan.new self.new disk.new }
         ensures any { HasHandledOn self.old disk.old result plan.new.changes.items self.new disk.new }
         ensures peer { self.new.peer ≡ self.old.peer }
         ensures config { self.new.config ≡ self.old.config }
     {
         match &mut self.machine {
             None => None,
-            Some(machine) => match machine.handle(disk, &self.arms, task, plan) {
+            Some(machine) => match machine.handle(disk, &self.arms, event, plan) {
                 Ok(()) => Some(Handled::Whole),
                 Err(cut) => {
                     keep_stored(cut.stored, &mut plan.changes);
