@@ -77,7 +77,7 @@ impl Machine {
     /// Handles an event of a node that is up, over its disk, with what is armed on that.
     ///
     /// # Errors
-    /// How the event was cut: where a stop or a failure that was armed fell on it, or the disk failed otherwise.
+    /// How the event was cut: by a stop or a failure that was armed, or by another fault of the disk.
     pub(crate) fn handle(
         &mut self,
         disk: &mut MemDisk,
@@ -102,8 +102,8 @@ impl Machine {
 
     /// Writes the record that the disk of a node of that role represents, and returns its length.
     ///
-    /// Returns None where the disk is off, nothing stands on it, or what stands is no record of such a node. Requires
-    /// a configuration of a node of that role, and room for a record.
+    /// Returns None if the disk is off, or holds no record of such a node. Requires a configuration of a node of that
+    /// role, and room for a record.
     ///
     /// # Errors
     /// `NoMemory`.

@@ -26,10 +26,10 @@ use zb_core::NodeEvent;
 use zb_disk::MemDisk;
 use zb_node_types::Changes;
 
-/// What became of an event of a node that was up.
+/// How an event of a node that was up ended.
 #[derive(Clone, Copy, Debug, PartialEq, Eq)]
 pub enum Handled {
-    /// It was handled: the changes of its plan are stored, and what goes out goes out.
+    /// It was handled: the changes of its plan are stored, and its frame may go out.
     Whole,
     /// A stop or a failure of the disk cut it. The node is down. The plan has the changes that are stored: all or
     /// none.
@@ -70,7 +70,7 @@ impl Model for Node {
     }) };
 }
 
-// Keeps the changes of a cut event where they are stored.
+// Keeps the changes of a cut event if they are stored.
 fn keep_stored(stored: bool, changes: &mut Changes)
     ensures { changes.new.items ≡ (if stored then changes.old.items else []) }
 {
@@ -79,14 +79,14 @@ fn keep_stored(stored: bool, changes: &mut Changes)
     }
 }
 
-// Takes the power away. It has a place of its own, so that an event which goes well clears none.
+// Takes the power away. This has a function of its own, so that an event that succeeds clears no place for it.
 fn take_power(machine: &mut Option<Machine>)
     ensures { machine.new ≡ None }
 {
     *machine = None;
 }
 
-// Takes back what was armed once it fell. What didn't fall is still to come.
+// Disarms what fell. What didn't fall stays armed.
 fn spend(arms: &mut Arms, fired: bool)
     ensures { arms.new ≡ (if fired then Arms.Unarmed else arms.old) }
 {
@@ -95,7 +95,7 @@ fn spend(arms: &mut Arms, fired: bool)
     }
 }
 
-// Keeps what is shown: the first `len` bytes, or none where nothing is.
+// Keeps the bytes that are shown: the first `len`, or none.
 fn keep_shown(room: &mut Vec<u8>, len: Option<u32>)
     ensures shown { (bytes : List ℕ) → IsShown len room.old.items bytes → room.new.items ≡ bytes }
     ensures exact { MatchOption len (room.new.items ≡ []) (λ n. room.new.items ≡ take n room.old.items) }
@@ -107,9 +107,9 @@ fn keep_shown(room: &mut Vec<u8>, len: Option<u32>)
 }
 
 impl Node {
-    /// Boots a node for the first time, from the record that stands on its disk.
+    /// Boots a node for the first time, from the record on its disk.
     ///
-    /// Requires a configuration of this node. Where the disk holds no record of such a node it stays down.
+    /// Requires a configuration of this node. If the disk holds no record of such a node, the node stays down.
     ///
     /// # Errors
     /// `NoMemory`.
@@ -177,8 +177,8 @@ impl Node {
 
     /// Handles an event, over the node's disk, and writes its changes and what goes out into `plan`.
     ///
-    /// Returns None where the node is down. Where a stop or a failure falls on the event, or the disk fails, the node
-    /// is down after it. What is armed and didn't fall stays, whatever the disk did.
+    /// Returns None if the node is down. If a stop or a failure falls on the event, or the disk fails, the node is
+    /// down after it. What is armed and didn't fall stays armed, whatever the disk did.
     pub fn handle(
         &mut self,
         disk: &mut MemDisk,
@@ -219,8 +219,7 @@ impl Node {
 
     /// Boots the node, which is down, from its disk.
     ///
-    /// Returns how the boot ended, where it didn't end well. What is armed and didn't fall stays, whatever the disk
-    /// did.
+    /// Returns how the boot ended if it failed. What is armed and didn't fall stays armed, whatever the disk did.
     ///
     /// # Errors
     /// `NoMemory`.
@@ -251,7 +250,7 @@ impl Node {
 
     /// Returns the record that the node's disk represents.
     ///
-    /// It has no bytes where the disk is off, nothing stands on it, or what stands is no record of such a node.
+    /// It has no bytes if the disk is off, or holds no record of such a node.
     ///
     /// # Errors
     /// `NoMemory`.
