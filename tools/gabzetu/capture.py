@@ -8,7 +8,8 @@ from .formats import mac
 from .formats.checks import Checks
 from .formats.headers import try_nwk
 from .formats.links import Links, LeftOut
-from .formats.packets import Ended, open_source, read_packets
+from .formats.packets import read_packets
+from .formats.sources import Ended, open_source
 from .opening import MOST_FRAMES, Frame
 
 QUIET, LONGEST_WAIT, MOST_WAITING = 0.3, 1.0, 10000

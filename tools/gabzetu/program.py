@@ -25,7 +25,7 @@ def is_program(path):
 
 
 def find_tc():
-    """Returns the path of tc: $GABZETU_TC, else that of this installation, else /usr/lib/gabzetu/tc, else the built one.
+    """Returns the path of tc: $GABZETU_TC, that of this installation, /usr/lib/gabzetu/tc, or the built one.
 
     Raises Stop where there is none."""
     named = os.environ.get('GABZETU_TC')

@@ -69,7 +69,9 @@ class Layout:
 
 
 def lay_front_end(layout, commit):
-    """Lays out `gabzetu` as a clone has it, under share/gabzetu, and a link to it in bin. It reads the page on the policy."""
+    """Lays out `gabzetu` as a clone has it, under share/gabzetu, and a link to it in bin.
+
+    It reads the page on the policy, which is laid out with it."""
     for name in ('gabzetu', 'VERSION', 'tools/gabzetu', 'tools/hub', 'tools/hub-log', 'docs/POLICY.md'):
         layout.copy(name, f'share/gabzetu/{name}')
     layout.write('share/gabzetu/COMMIT', f'{commit.name[:12]}\n')

@@ -12,7 +12,9 @@ def add_arguments(parser):
         '-o', '--output', metavar='OUT', help='write to this file, all or nothing, and not to standard output'
     )
     parser.add_argument(
-        '--folder', metavar='FOLDER', help='write gabzetu.1 and a page gabzetu-COMMAND.1 for each command to this folder'
+        '--folder',
+        metavar='FOLDER',
+        help='write gabzetu.1 and a page gabzetu-COMMAND.1 for each command to this folder',
     )
 
 

@@ -25,9 +25,9 @@ SUMMARY = "open a sniffer's capture with the keys that you know and those found 
 DESCRIPTION = '''Opens a sniffer's capture with the keys that you know, the well-known key, and the keys that are
 found on the way.
 
-CAPTURE is a pcap or pcapng file, also one packed by gzip, or - for a pipe: tcpdump -w - | gabzetu open --follow - Its
-packets may have any link type with IEEE 802.15.4: 195, 230, 283 (TAP), 215, 147, or ZEP in UDP on Ethernet, Linux
-cooked, loopback or raw IP.
+CAPTURE is a pcap, pcapng or Daintree file, also one packed by gzip, or - for a pipe: tcpdump -w - | gabzetu open
+--follow - Its packets may have any link type with IEEE 802.15.4: 195, 230, 283 (TAP), 215, 147, or ZEP in UDP on
+Ethernet, Linux cooked, loopback or raw IP.
 
 A line for each frame: the number of its packet in the file, PAN, source and destination, what opened each layer, and
 what it carries. The end says which keys there are, and why the rest stayed closed. Whether a frame opens is what `tc
@@ -87,7 +87,7 @@ def add_keys(parser):
         metavar='FILE',
         action='append',
         default=[],
-        help='a coordinator backup, configuration.yaml, zigbee_pc_keys, a report or a transcript',
+        help='a coordinator backup, zigbee.db, configuration.yaml, zigbee_pc_keys, a report or a transcript',
     )
 
 

@@ -3,7 +3,8 @@ by tc."""
 import functools
 
 from .. import program
-from . import captures, grammar, schedules, scripts
+from . import captures, daintree, grammar, schedules, scripts
+from .packets import MODIFIED, PCAP, PCAPNG
 
 READERS = {'schedule': schedules, 'capture': captures, 'script': scripts}
 ENDINGS = {'.sched': 'schedule', '.capture': 'capture', '.script': 'script'}
@@ -17,11 +18,9 @@ MOST_CODES = 512
 TRANSCRIPT, OF_TRANSCRIPT = 'transcript', b'0 node '
 # Inputs of other kinds, by how they begin, and what reads them.
 OTHERS = [
-    (b'\xd4\xc3\xb2\xa1', 'a pcap file: `gabzetu open` reads it'),
-    (b'\xa1\xb2\xc3\xd4', 'a pcap file: `gabzetu open` reads it'),
-    (b'\x4d\x3c\xb2\xa1', 'a pcap file: `gabzetu open` reads it'),
-    (b'\xa1\xb2\x3c\x4d', 'a pcap file: `gabzetu open` reads it'),
-    (b'\x0a\x0d\x0d\x0a', 'a pcapng file: `gabzetu open` reads it'),
+    *((magic, 'a pcap file: `gabzetu open` reads it') for magic in (*PCAP, *MODIFIED)),
+    (PCAPNG, 'a pcapng file: `gabzetu open` reads it'),
+    (daintree.MAGIC, 'a capture of Daintree: `gabzetu open` reads it'),
     (OF_TRANSCRIPT, 'a transcript: `gabzetu audit` judges it'),
     (b'1 nwk ', "an inspector's report"),
     (b'start\n> ', 'a log of tc_centre: `gabzetu hub-log` makes its transcript'),

@@ -4,7 +4,9 @@ import contextlib
 import json
 import os
 import re
+import shutil
 import sqlite3
+import tempfile
 from typing import Iterator, Optional, Tuple
 from urllib.parse import quote
 
@@ -189,9 +191,23 @@ def keys_of_opened(text):
         yield fields.get('key'), f'key {fields.get("k")}, {fields.get("origin")}'
 
 
+@contextlib.contextmanager
+def open_database(path: str) -> Iterator[sqlite3.Connection]:
+    """Yields a copy of a database, with what a running program wrote to its log but not yet to the file itself.
+
+    SQLite would write beside the file to read that log, so the copy is in a folder of its own."""
+    with tempfile.TemporaryDirectory(prefix='gabzetu-') as folder:
+        copy = os.path.join(folder, 'copy.db')
+        for ending in ('', '-wal'):
+            if os.path.exists(path + ending):
+                shutil.copyfile(path + ending, copy + ending)
+        with contextlib.closing(sqlite3.connect(f'file:{quote(copy)}', uri=True)) as database:
+            yield database
+
+
 def keys_of_database(path: str) -> Iterator[tuple]:
     """Yields the keys of the latest backup in zigbee.db, the database of zigpy."""
-    with contextlib.closing(sqlite3.connect(f'file:{quote(path)}?mode=ro&immutable=1', uri=True)) as database:
+    with open_database(path) as database:
         names = database.execute("select name from sqlite_master where name glob 'network_backups_v[0-9]*'").fetchall()
         for name in sorted((it[0] for it in names), key=lambda it: (len(it), it), reverse=True)[:1]:
             row = database.execute(f'select backup_json from "{name}" order by id desc limit 1').fetchone()

@@ -3,7 +3,7 @@ import collections
 import re
 import struct
 
-from . import frames, headers, names
+from . import daintree, frames, headers, names
 from .checks import check_of
 from .fields import read_report_line
 from .links import LeftOut
@@ -130,6 +130,8 @@ def read_heard(path):
         and struct.unpack_from(MAGICS[data[:4]] + 'I', data, 20)[0] & 0xFFFF in (195, 230)
     ):
         return read_pcap(data, path)
+    if data.startswith(daintree.MAGIC):
+        return read_any_capture(path)
     try:
         return read_text_capture(data.decode('ascii'))
     except ValueError:

@@ -1,4 +1,4 @@
-"""Tests of examples/hub.py: it goes on at a refusal and at a frame without content, and only its owner reads its log."""
+"""Tests of examples/hub.py: it continues at a refusal and at a frame without content; only its owner reads its log."""
 import contextlib
 import importlib.util
 import io
