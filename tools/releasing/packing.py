@@ -125,8 +125,8 @@ def sign(path: str, key: Optional[str]) -> None:
         return
     words = ['ssh-keygen', '-q', '-Y', 'sign', '-f', key, '-n', 'file', path]
     try:
-        pipes = {'stdin': subprocess.DEVNULL, 'stdout': subprocess.PIPE, 'stderr': subprocess.STDOUT}
-        ran = subprocess.run(words, check=False, **pipes)
+        none, pipe = subprocess.DEVNULL, subprocess.PIPE
+        ran = subprocess.run(words, check=False, stdin=none, stdout=pipe, stderr=subprocess.STDOUT)
     except FileNotFoundError as error:
         raise Stop('ssh-keygen is missing: apt-get install openssh-client', MISSING) from error
     if ran.returncode or not os.path.exists(f'{path}.sig'):
