@@ -7,8 +7,11 @@ import shutil
 import subprocess
 import sys
 import tempfile
+import time
 
 from gabzetu.errors import WRONG_INPUT, Stop
+
+from .links import drop_dead_links
 
 LICENCES = ('LICENSE', 'LICENSE-MIT', 'LICENSE-APACHE')
 COMPLETIONS = {
@@ -17,9 +20,11 @@ COMPLETIONS = {
     'fish': 'share/fish/vendor_completions.d/gabzetu.fish',
 }
 DOCS = 'share/doc/gabzetu'
+# What the front end is in a clone, and under share/gabzetu: the names at the top.
+FRONT_END = ('VERSION', 'COMMIT', 'tools', 'docs')
 COPYRIGHT = '''Format: https://www.debian.org/doc/packaging-manuals/copyright-format/1.0/
 Upstream-Name: gabzetu
-Comment: the program tc has code of the Rattle kit in it, which has its own terms.
+Comment: the programs have code of libraries in them. The file NOTICES here has their licences.
 
 Files: *
 {copyright}
@@ -32,6 +37,13 @@ License: Apache-2.0
  The text is in /usr/share/common-licenses/Apache-2.0, and in LICENSE-APACHE here.
 '''
 SUMS = f'{DOCS}/SHA256SUMS'
+MAINTAINER = 'Gabzetu maintainers <maintainers@users.noreply.gabzetu.example>'
+CHANGES = '''gabzetu ({version}) stable; urgency=medium
+
+  * The changes are in the file CHANGELOG.md in this folder.
+
+ -- {maintainer}  {date}
+'''
 
 
 class Layout:
@@ -85,16 +97,25 @@ def lay_programs(layout, programs, kit):
     layout.write('lib/gabzetu/KIT', f'{kit}\n')
 
 
-def lay_documents(layout, gate):
-    """Lays out pages, examples, licences and the gate's last lines. Links between the pages stay right."""
+def lay_documents(layout, gate, notices):
+    """Lays out pages, examples, licences and the gate's last lines. Links to what isn't installed become words."""
     for path in sorted(glob.glob(os.path.join(layout.sources, '*.md'))):
         layout.copy(os.path.basename(path), f'{DOCS}/{os.path.basename(path)}')
-    with open(layout.source('CHANGELOG.md'), 'rb') as file:
-        layout.write(f'{DOCS}/changelog.gz', gzip.compress(file.read(), 9, mtime=0))
     for name in ('docs', 'examples', *LICENCES):
         layout.copy(name, f'{DOCS}/{name}')
     os.remove(layout.path(f'{DOCS}/docs/gabzetu.1'))
+    drop_dead_links(layout.path(DOCS))
     layout.write(f'{DOCS}/gate.txt', '\n'.join(gate) + '\n')
+    layout.write(f'{DOCS}/NOTICES', notices)
+
+
+def lay_changelog(layout, commit):
+    """Lays out Debian's changelog, which names the page that has the changes."""
+    with open(layout.source('VERSION'), encoding='ascii') as file:
+        version = file.read().strip()
+    date = time.strftime('%a, %d %b %Y %H:%M:%S +0000', time.gmtime(commit.date))
+    text = CHANGES.format(version=version, maintainer=MAINTAINER, date=date)
+    layout.write(f'{DOCS}/changelog.gz', gzip.compress(text.encode(), 9, mtime=0))
 
 
 def lay_copyright(layout):
@@ -152,12 +173,13 @@ def settle(folder, date):
         os.utime(at, (date, date))
 
 
-def lay_out(sources, prefix, commit, programs, kit, gate):
+def lay_out(sources, prefix, commit, programs, kit, gate, notices):
     """Lays out all that is installed, with the check sums of its files."""
     layout = Layout(sources, prefix)
     lay_front_end(layout, commit)
     lay_programs(layout, programs, kit)
-    lay_documents(layout, gate)
+    lay_documents(layout, gate, notices)
+    lay_changelog(layout, commit)
     lay_copyright(layout)
     lay_help(layout)
     layout.write(SUMS, sums_of(prefix))

@@ -8,12 +8,11 @@ from typing import Optional
 
 from gabzetu.errors import MISSING, UNWRITABLE, Stop
 
-from .layout import files_of, settle, sums_of
+from .layout import MAINTAINER, files_of, settle, sums_of
 
-MAINTAINER = 'Gabzetu maintainers <maintainers@users.noreply.gabzetu.example>'
 CONTROL = '''Package: gabzetu
 Version: {version}
-Architecture: amd64
+Architecture: {machine}
 Maintainer: {maintainer}
 Installed-Size: {size}
 Depends: {needs}
@@ -30,7 +29,7 @@ Description: front end of a proved Zigbee trust centre
  gabzetu runs tc on files, explains mistakes, opens captures of any link
  type, and makes a page of a run or a capture. Every verdict is that of tc.
 '''
-INSTALL = '''gabzetu {version}, for Linux on x86-64 with Python 3.8 or later
+INSTALL = '''gabzetu {version}, for Linux on {machine} with Python 3.8 or later
 
 Run bin/gabzetu where this folder is, or install it:
 
@@ -42,8 +41,8 @@ To check the files: sha256sum -c share/doc/gabzetu/SHA256SUMS
 '''
 LEVEL = '-19'
 
-# version: the text of VERSION; commit: a Commit; needs: the Debian packages that the program needs
-About = collections.namedtuple('About', 'version commit needs')
+# version: the text of VERSION; commit: a Commit; needs: the Debian packages that the program needs; machine: a Machine
+About = collections.namedtuple('About', 'version commit needs machine')
 
 
 def run_tool(words, about):
@@ -70,10 +69,10 @@ def members_of(folder):
 
 
 def pack_archive(prefix, out, about):
-    """Packs a laid out prefix as gabzetu-VERSION-x86_64-linux.tar.zst, and returns its path."""
-    name = f'gabzetu-{about.version}-x86_64-linux'
+    """Packs a laid out prefix as gabzetu-VERSION-MACHINE-linux.tar.zst, and returns its path."""
+    name = f'gabzetu-{about.version}-{about.machine.name}-linux'
     with open(os.path.join(prefix, 'INSTALL'), 'w', encoding='utf-8') as file:
-        file.write(INSTALL.format(version=about.version))
+        file.write(INSTALL.format(version=about.version, machine=about.machine.title))
     settle(prefix, about.commit.date)
     plain = os.path.join(out, f'{name}.tar')
     with tarfile.open(plain, 'w', format=tarfile.GNU_FORMAT) as files:
@@ -92,17 +91,18 @@ def size_of(folder):
 
 
 def pack_deb(root, out, about):
-    """Packs a root, whose /usr is laid out, as gabzetu_VERSION_amd64.deb, and returns its path."""
+    """Packs a root, whose /usr is laid out, as gabzetu_VERSION_MACHINE.deb, and returns its path."""
     control = os.path.join(root, 'DEBIAN')
     needs = ', '.join(['python3 (>= 3.8)', *about.needs])
-    text = CONTROL.format(version=about.version, maintainer=MAINTAINER, size=size_of(root), needs=needs)
+    about_it = {'version': about.version, 'machine': about.machine.debian, 'size': size_of(root), 'needs': needs}
+    text = CONTROL.format(maintainer=MAINTAINER, **about_it)
     sums = sums_of(root, 'md5')
     os.mkdir(control)
     for name, content in (('control', text), ('md5sums', sums)):
         with open(os.path.join(control, name), 'w', encoding='utf-8') as file:
             file.write(content)
     settle(root, about.commit.date)
-    path = os.path.join(out, f'gabzetu_{about.version}_amd64.deb')
+    path = os.path.join(out, f'gabzetu_{about.version}_{about.machine.debian}.deb')
     run_tool(['dpkg-deb', '--root-owner-group', '-Zxz', '--build', root, path], about)
     return path
 

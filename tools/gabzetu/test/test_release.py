@@ -1,9 +1,13 @@
 """Tests of tools/release, in a small repository of their own with a stand-in for tc."""
 import hashlib
+import hmac
+import io
 import os
 import re
 import shutil
 import subprocess
+import sys
+import tarfile
 import tempfile
 import unittest
 
@@ -11,10 +15,12 @@ from gabzetu import TOP
 from gabzetu.errors import Stop
 from gabzetu.test.support import Folder
 from releasing.gate import read_gate
+from releasing.links import dead_links, pages_of
 from releasing.program import needs_of
 
 GATE = 'zb_low ran\nrt: ok; handles allowed: none; every proof was done in this run\n12 passed, 0 failed\n'
 LICENCE = 'MIT License\n\nCopyright (c) 2026 Somebody\n\nPermission is granted.\n\nAs it is.\n'
+CRATES = '# programs\ntc_cli: zb_low io\nzb_low: serde_json\nzb_other: unused\n'
 AUTHOR = ['-c', 'user.name=a', '-c', 'user.email=a@example.org']
 TOOLS = ('git', 'dpkg-deb', 'zstd')
 missing = [it for it in TOOLS if not shutil.which(it)]
@@ -38,6 +44,7 @@ INSTALLED = '''
 ./usr/share/doc/gabzetu/LICENSE-MIT
 ./usr/share/doc/gabzetu/copyright
 ./usr/share/doc/gabzetu/gate.txt
+./usr/share/doc/gabzetu/NOTICES
 ./usr/share/doc/gabzetu/SHA256SUMS
 ./usr/share/doc/gabzetu/changelog.gz
 ./usr/share/man/man1/gabzetu.1.gz
@@ -64,13 +71,29 @@ def make_repository(folder):
     for name in ('LICENSE', 'LICENSE-MIT', 'LICENSE-APACHE'):
         with open(os.path.join(folder, name), 'w', encoding='utf-8') as file:
             file.write(LICENCE)
+    rows = os.path.join(folder, 'tools', 'data', 'rows')
+    os.makedirs(rows)
+    for name, text in (('nothing.sched', ''), ('nothing.out', ''), ('../../../crates.txt', CRATES)):
+        with open(os.path.join(rows, name), 'w', encoding='ascii') as file:
+            file.write(text)
     git(folder, 'init', '-q')
     git(folder, 'add', '-A')
     git(folder, 'commit', '-q', '-m', 'all')
 
 
+def sealed(top, text):
+    """Returns a log with the seal of a clone, whose key is made if there is none."""
+    path = os.path.join(top, 'out', 'gate', 'key')
+    if not os.path.exists(path):
+        os.makedirs(os.path.dirname(path))
+        with open(path, 'wb') as file:
+            file.write(os.urandom(32))
+    with open(path, 'rb') as file:
+        return f'{text}release: seal {hmac.new(file.read(), text.encode(), hashlib.sha256).hexdigest()}\n'
+
+
 def gate_of(top, program):
-    """Returns the log of a gate over what is committed in a repository, and over programs."""
+    """Returns the log of a gate over what is committed in a repository, and over programs, without its seal."""
     commit = subprocess.run(['git', 'rev-parse', 'HEAD'], cwd=top, stdout=subprocess.PIPE, encoding='ascii', check=True)
     rows = [f'release: gate of commit {commit.stdout.strip()}']
     for name, path in (('tc', program), ('tc_centre', STAND_IN)):
@@ -83,10 +106,11 @@ def release(top, *words, program=STAND_IN, version=None, gate=None):
     """Runs tools/release of a repository. Returns its status and what it said."""
     log = os.path.join(os.path.dirname(top), 'gate.log')
     with open(log, 'w', encoding='ascii') as file:
-        file.write(gate_of(top, program) if gate is None else gate)
+        file.write(sealed(top, gate_of(top, program)) if gate is None else gate)
     with open(os.path.join(top, 'VERSION'), encoding='ascii') as file:
         version = version or file.read().strip()
-    words = [version, '--gate', log, '--kit', 'kit 1', '--program', program, '--centre', STAND_IN, '--no-root', *words]
+    kit = os.path.join(os.path.dirname(top), 'kit')
+    words = [version, '--gate', log, '--kit', 'kit 1', '--kit-folder', kit, '--program', program, '--centre', STAND_IN, '--no-root', *words]
     ran = subprocess.run(
         [os.path.join(top, 'tools', 'release'), *words],
         stdout=subprocess.PIPE,
@@ -97,8 +121,23 @@ def release(top, *words, program=STAND_IN, version=None, gate=None):
     return ran.returncode, ran.stdout
 
 
-def output_of(*words):
-    return subprocess.run(words, stdout=subprocess.PIPE, encoding='utf-8', check=True).stdout
+def output_of(*words, encoding='utf-8'):
+    return subprocess.run(words, stdout=subprocess.PIPE, encoding=encoding, check=True).stdout
+
+
+def make_kit(folder):
+    """Writes the licences of some libraries, as a kit has them."""
+    files = {
+        'rattle/serde_json/LICENSE-MIT': 'MIT of serde_json\n',
+        'rattle/ryu/LICENSE': 'Apache of ryu\n',
+        'rattle/unused/LICENSE': 'of nothing\n',
+        'rlibs/serde_json.rlib/format': 'format 1\ndep ryu\n',
+    }
+    for name, text in files.items():
+        path = os.path.join(folder, name)
+        os.makedirs(os.path.dirname(path))
+        with open(path, 'w', encoding='ascii') as file:
+            file.write(text)
 
 
 @unittest.skipIf(missing, f'{" ".join(missing)} is missing')
@@ -109,6 +148,7 @@ class Release(unittest.TestCase):
         cls.top, cls.out = (os.path.join(cls.holder.name, it) for it in ('top', 'out'))
         os.mkdir(cls.top)
         make_repository(cls.top)
+        make_kit(os.path.join(cls.holder.name, 'kit'))
         cls.status, cls.said = release(cls.top, '-o', cls.out)
 
     @classmethod
@@ -189,9 +229,65 @@ class Release(unittest.TestCase):
             (log.replace('gate of commit ', 'gate of commit 0'), 'this gate is of 0'),
             (log.replace('sha256 of tc: ', 'sha256 of tc: 0'), 'not of the program tc that is to be released'),
         ):
-            status, said = release(self.top, gate=text)
+            status, said = release(self.top, gate=sealed(self.top, text))
             self.assertEqual(status, 65)
             self.assertIn(why, said)
+
+    def test_refuses_a_log_that_no_gate_wrote(self):
+        log = gate_of(self.top, STAND_IN)
+        edited = sealed(self.top, log).replace('12 passed', '13 passed')
+        for text in (log, edited, f'{log}release: seal {"0" * 64}\n', ''):
+            status, said = release(self.top, gate=text)
+            self.assertEqual(status, 65)
+            self.assertIn('has no seal of this clone', said)
+
+    def test_refuses_a_program_that_plays_differently(self):
+        path = os.path.join(self.top, 'tools', 'data', 'rows', 'nothing.out')
+        with open(path, 'w', encoding='ascii') as file:
+            file.write('end 0 0 0 0 yes yes\n')
+        git(self.top, 'commit', '-q', '-a', '-m', 'another row')
+        try:
+            status, said = release(self.top)
+        finally:
+            git(self.top, 'reset', '-q', '--hard', 'HEAD^')
+        self.assertEqual(status, 65)
+        self.assertIn('plays tools/data/rows/nothing.sched differently', said)
+
+    def test_the_package_has_notices_of_all_that_is_linked(self):
+        listing = output_of('dpkg-deb', '--fsys-tarfile', self.made('.deb'), encoding=None)
+        with tarfile.open(fileobj=io.BytesIO(listing)) as files:
+            text = files.extractfile('./usr/share/doc/gabzetu/NOTICES').read().decode()
+        self.assertIn('serde_json (LICENSE-MIT)\n', text)
+        self.assertIn('ryu (LICENSE)\n', text)
+        self.assertTrue(text.endswith('no file of a licence for these: io\n'))
+        self.assertNotIn('unused', text)
+
+    def test_no_link_of_a_page_leads_nowhere(self):
+        with tempfile.TemporaryDirectory() as room:
+            subprocess.run(['dpkg-deb', '-x', self.made('.deb'), room], check=True)
+            pages = os.path.join(room, 'usr/share/doc/gabzetu')
+            self.assertEqual(list(dead_links(pages)), [])
+            self.assertGreater(len(pages_of(pages)), 15)
+
+    def test_the_wheel_is_installed_without_a_network(self):
+        room = os.path.join(self.holder.name, 'venv')
+        made = subprocess.run([sys.executable, '-m', 'venv', room], capture_output=True, check=False)
+        if made.returncode:
+            self.skipTest('the module venv is missing')
+        pip = [os.path.join(room, 'bin', 'python'), '-m', 'pip', '-q', 'install', '--no-index', self.made('.whl')]
+        subprocess.run(pip, check=True)
+        own = {**os.environ, 'GABZETU_TC': STAND_IN}
+        words = [os.path.join(room, 'bin', 'gabzetu')]
+        said = subprocess.run([*words, '--version'], stdout=subprocess.PIPE, check=True, env=own).stdout.decode()
+        self.assertIn(f'tc: {STAND_IN}\n', said)
+        self.assertIn('commit: ', said)
+        for command in ('hub-log', 'explain', 'watch'):
+            subprocess.run([*words, command, '--help'], stdout=subprocess.DEVNULL, check=True, env=own)
+
+    @unittest.skipUnless(shutil.which('lintian'), 'lintian is missing')
+    def test_lintian_finds_nothing(self):
+        ran = subprocess.run(['lintian', '--allow-root', self.made('.deb')], capture_output=True, text=True, check=False)
+        self.assertEqual(ran.stdout, '')
 
     @unittest.skipUnless(shutil.which('ssh-keygen'), 'ssh-keygen is missing')
     def test_signs_the_sums(self):
@@ -213,12 +309,12 @@ class Release(unittest.TestCase):
     def test_refuses_what_is_no_program(self):
         status, said = release(self.top, program=os.path.join(self.top, 'gabzetu'))
         self.assertEqual(status, 65)
-        self.assertIn('this is no x86-64 program', said)
+        self.assertIn('this is no program for Linux on x86-64 or aarch64', said)
 
 
 class Gate(Folder):
     def read(self, text):
-        return read_gate(self.write('gate.log', text))
+        return read_gate('gate.log', text.splitlines())
 
     def refuse(self, text, why):
         with self.assertRaisesRegex(Stop, why):
