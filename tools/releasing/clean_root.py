@@ -21,6 +21,9 @@ ENVIRONMENT = {
 ARCHIVES = 'var/cache/apt/archives'
 EXAMPLES = '/usr/share/doc/gabzetu/examples'
 HUB = ('/usr/lib/gabzetu/tc_centre', '/usr/lib/gabzetu/tc')
+WALK = os.path.join(TOP, 'tools', 'walk')
+# What the tutorial names, and the library that reads captures.
+OTHER_PROGRAMS = ('python3-scapy', 'mscgen', 'tshark', 'parallel')
 INSTALL = ('apt-get', 'install', '-y', '-q', '--no-install-recommends', '-o', 'APT::Keep-Downloaded-Packages=true')
 
 
@@ -197,13 +200,22 @@ def try_open(root, capture):
     return None
 
 
+def try_tutorial(root):
+    """Walks the pages with nothing but what is installed. Returns why that was left out, or none."""
+    if root.call(*INSTALL, *OTHER_PROGRAMS)[0]:
+        return f'{" ".join(OTHER_PROGRAMS)} cannot be installed'
+    shutil.copy(WALK, root.at('/root/walk'))
+    root.run('python3', '/root/walk', '--installed', '/usr', 'docs/TUTORIAL.md', 'README.md')
+    return None
+
+
 def try_hub(root):
     """Runs the example of a hub, and audits its log. Returns why that was left out, or none."""
     if not os.path.exists(root.at('/usr/lib/gabzetu/tc_centre')):
         return 'tc_centre is not in the package'
     said = root.run('python3', f'{EXAMPLES}/hub.py', *HUB, '/root/hub.store', '/root/hub.log')
     want('says 02' in said, f'the example of a hub says {said!r}')
-    root.run('/usr/share/gabzetu/tools/hub-log', '/root/hub.log', '-o', '/root/hub.transcript')
+    root.run('gabzetu', 'hub-log', '/root/hub.log', '-o', '/root/hub.transcript')
     root.run('gabzetu', 'audit', '/root/hub.transcript')
     return None
 
@@ -245,6 +257,7 @@ def try_release(archive, package, version, capture, mirror):
         'hub': try_hub,
         'man page and completions': try_help,
         'open': lambda root: try_open(root, capture),
+        'tutorial': try_tutorial,
         'remove the package': try_purge,
         'the archive': lambda root: try_archive(root, archive, version),
     }

@@ -38,6 +38,7 @@ License: Apache-2.0
 '''
 SUMS = f'{DOCS}/SHA256SUMS'
 MAINTAINER = 'Gabzetu maintainers <maintainers@users.noreply.gabzetu.example>'
+OVERRIDES = '# The programs are the very files that the gate ran: nothing is taken out of them.\n'
 CHANGES = '''gabzetu ({version}) stable; urgency=medium
 
   * The changes are in the file CHANGELOG.md in this folder.
@@ -118,6 +119,12 @@ def lay_changelog(layout, commit):
     layout.write(f'{DOCS}/changelog.gz', gzip.compress(text.encode(), 9, mtime=0))
 
 
+def lay_overrides(layout, programs):
+    """Lays out what lintian is told: the programs are the very files that the gate ran, so nothing is stripped."""
+    rows = [f'gabzetu: unstripped-binary-or-object [usr/lib/gabzetu/{name}]\n' for name in sorted(programs)]
+    layout.write('share/lintian/overrides/gabzetu', OVERRIDES + ''.join(rows))
+
+
 def lay_copyright(layout):
     """Lays out Debian's file `copyright`. LICENSE-MIT has a title, the line of the owners and the text."""
     with open(layout.source('LICENSE-MIT'), encoding='utf-8') as file:
@@ -180,6 +187,7 @@ def lay_out(sources, prefix, commit, programs, kit, gate, notices):
     lay_programs(layout, programs, kit)
     lay_documents(layout, gate, notices)
     lay_changelog(layout, commit)
+    lay_overrides(layout, programs)
     lay_copyright(layout)
     lay_help(layout)
     layout.write(SUMS, sums_of(prefix))
