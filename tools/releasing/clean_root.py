@@ -107,6 +107,14 @@ def make_base(mirror):
     return base
 
 
+def mount_systems(path):
+    """Mounts in a root what programs ask about processors and networks, as a Debian system has it."""
+    for kind, name in (('proc', 'proc'), ('sysfs', 'sys')):
+        status, said = called(['mount', '-t', kind, kind, os.path.join(path, name)])
+        if status:
+            raise Stop(f'/{name} cannot be mounted in the clean root, give --no-root: {last_lines(said, 1)}', MISSING)
+
+
 @contextlib.contextmanager
 def trial_root(base):
     """Yields a copy of the clean root, which is removed at the end. What apt fetched for it is kept."""
@@ -114,6 +122,7 @@ def trial_root(base):
     remove(path)
     try:
         subprocess.run(['cp', '-a', '--reflink=auto', base, path], check=True)
+        mount_systems(path)
         yield Root(path)
     finally:
         for package in glob.glob(os.path.join(path, ARCHIVES, '*.deb')):

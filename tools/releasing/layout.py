@@ -99,13 +99,12 @@ def lay_programs(layout, programs, kit):
 
 
 def lay_documents(layout, gate, notices):
-    """Lays out pages, examples, licences and the gate's last lines. Links to what isn't installed become words."""
+    """Lays out pages, examples, licences, notices and the gate's last lines."""
     for path in sorted(glob.glob(os.path.join(layout.sources, '*.md'))):
         layout.copy(os.path.basename(path), f'{DOCS}/{os.path.basename(path)}')
     for name in ('docs', 'examples', *LICENCES):
         layout.copy(name, f'{DOCS}/{name}')
     os.remove(layout.path(f'{DOCS}/docs/gabzetu.1'))
-    drop_dead_links(layout.path(DOCS))
     layout.write(f'{DOCS}/gate.txt', '\n'.join(gate) + '\n')
     layout.write(f'{DOCS}/NOTICES', notices)
 
@@ -181,7 +180,9 @@ def settle(folder, date):
 
 
 def lay_out(sources, prefix, commit, programs, kit, gate, notices):
-    """Lays out all that is installed, with the check sums of its files."""
+    """Lays out all that is installed, with the check sums of its files.
+
+    Links of pages to what isn't installed become words."""
     layout = Layout(sources, prefix)
     lay_front_end(layout, commit)
     lay_programs(layout, programs, kit)
@@ -190,5 +191,6 @@ def lay_out(sources, prefix, commit, programs, kit, gate, notices):
     lay_overrides(layout, programs)
     lay_copyright(layout)
     lay_help(layout)
+    drop_dead_links(prefix)
     layout.write(SUMS, sums_of(prefix))
     settle(prefix, commit.date)
