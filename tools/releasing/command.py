@@ -27,7 +27,8 @@ installs the package, plays an example, opens a capture and makes a page. That n
 --run runs the gate over the commit that is checked out, with nothing edited, and writes its log to out/gate/COMMIT.log.
 The log names the commit and the check sums of the programs that the gate built, and is sealed with the key of this
 clone, out/gate/key. A log without that seal, of another commit, or of other programs is refused. The program that is
-released also plays the worked schedules again. --sign FILE signs SHA256SUMS with a key of `ssh-keygen`, as SHA256SUMS.sig.
+released also plays the worked schedules again. --sign FILE signs SHA256SUMS with a key of `ssh-keygen`, as
+SHA256SUMS.sig.
 
   tools/release 0.9.0 --run
   tools/release 0.9.0 --gate out/gate/COMMIT.log --sign ~/.ssh/release'''
@@ -136,7 +137,7 @@ def run(words):
         made = os.path.join(room, 'made')
         os.mkdir(made)
         archive, package = make_release(arguments, room, made)
-        if arguments.no_root:
+        if arguments.no_root or not program.runs_here(package):
             say('release: the trial in a clean root is left out')
         else:
             clean_root.try_release(archive, package, arguments.version, CAPTURE, arguments.mirror)

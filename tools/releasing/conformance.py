@@ -34,5 +34,5 @@ def try_program(data: bytes, runner: List[str], sources: str) -> int:
             ran = subprocess.run([*runner, path, 'play'], input=given, stdout=subprocess.PIPE, check=False)
             if ran.stdout != wanted:
                 name = os.path.relpath(it, sources)
-                raise Stop(f'the program plays {name}.sched differently from {name}.out: it is not released', WRONG_INPUT)
+                raise Stop(f'the program plays {name}.sched differently from {name}.out, so it stays here', WRONG_INPUT)
     return len(worked)

@@ -96,6 +96,12 @@ def runner_of(machine: Machine) -> List[str]:
     return [emulator]
 
 
+def runs_here(package: str) -> bool:
+    """Returns whether a Debian package is for the processor of this system, by its name."""
+    here = [it.debian for it in MACHINES.values() if it.name == platform.machine()]
+    return any(package.endswith(f'_{it}.deb') for it in here)
+
+
 def needs_of(data: bytes) -> List[str]:
     """Returns the Debian packages that a program needs, by the names of libraries and versions in it."""
     versions = [int(it) for it in re.findall(rb'GLIBC_2\.([0-9]+)\0', data)]

@@ -10,13 +10,14 @@ import sys
 import tarfile
 import tempfile
 import unittest
+from unittest import mock
 
 from gabzetu import TOP
 from gabzetu.errors import Stop
 from gabzetu.test.support import Folder
 from releasing.gate import read_gate
 from releasing.links import dead_links, pages_of
-from releasing.program import needs_of
+from releasing.program import MACHINES, machine_of, needs_of, runner_of, runs_here
 
 GATE = 'zb_low ran\nrt: ok; handles allowed: none; every proof was done in this run\n12 passed, 0 failed\n'
 LICENCE = 'MIT License\n\nCopyright (c) 2026 Somebody\n\nPermission is granted.\n\nAs it is.\n'
@@ -110,7 +111,8 @@ def release(top, *words, program=STAND_IN, version=None, gate=None):
     with open(os.path.join(top, 'VERSION'), encoding='ascii') as file:
         version = version or file.read().strip()
     kit = os.path.join(os.path.dirname(top), 'kit')
-    words = [version, '--gate', log, '--kit', 'kit 1', '--kit-folder', kit, '--program', program, '--centre', STAND_IN, '--no-root', *words]
+    words = ['--kit', 'kit 1', '--kit-folder', kit, '--program', program, '--centre', STAND_IN, '--no-root', *words]
+    words = [version, '--gate', log, *words]
     ran = subprocess.run(
         [os.path.join(top, 'tools', 'release'), *words],
         stdout=subprocess.PIPE,
@@ -286,8 +288,8 @@ class Release(unittest.TestCase):
 
     @unittest.skipUnless(shutil.which('lintian'), 'lintian is missing')
     def test_lintian_finds_nothing(self):
-        ran = subprocess.run(['lintian', '--allow-root', self.made('.deb')], capture_output=True, text=True, check=False)
-        self.assertEqual(ran.stdout, '')
+        words = ['lintian', '--allow-root', self.made('.deb')]
+        self.assertEqual(subprocess.run(words, capture_output=True, text=True, check=False).stdout, '')
 
     @unittest.skipUnless(shutil.which('ssh-keygen'), 'ssh-keygen is missing')
     def test_signs_the_sums(self):
@@ -335,6 +337,22 @@ class Gate(Folder):
         self.refuse(GATE + '4 passed, 2 failed\n', 'not passed')
         self.refuse(GATE + 'tools/test: one: failed\ntools/test: two: ok\n', 'tools/test: one: failed')
         self.refuse(GATE + 'zb_low has 4 wrong edits, 3 at most\n', 'a step after `rt ci` failed')
+
+
+class Machines(unittest.TestCase):
+    def test_names_and_runners(self):
+        def elf(machine):
+            return b'\x7fELF\x02\x01' + bytes(12) + machine
+
+        self.assertEqual(machine_of({'tc': elf(b'\x3e\0')}).debian, 'amd64')
+        self.assertEqual(machine_of({'tc': elf(b'\xb7\0'), 'tc_centre': elf(b'\xb7\0')}).name, 'aarch64')
+        with self.assertRaisesRegex(Stop, 'for aarch64 and x86-64: a release is for one'):
+            machine_of({'tc': elf(b'\x3e\0'), 'tc_centre': elf(b'\xb7\0')})
+        with mock.patch('platform.machine', return_value='aarch64'), mock.patch('shutil.which', return_value=None):
+            self.assertEqual(runner_of(MACHINES[b'\xb7\0']), [])
+            self.assertRaisesRegex(Stop, 'qemu-x86_64-static is missing', runner_of, MACHINES[b'\x3e\0'])
+            self.assertTrue(runs_here('x_arm64.deb'))
+            self.assertFalse(runs_here('x_amd64.deb'))
 
 
 class Needs(unittest.TestCase):
