@@ -22,6 +22,15 @@ from releasing.program import MACHINES, machine_of, needs_of, runner_of, runs_he
 GATE = 'zb_low ran\nrt: ok; handles allowed: none; every proof was done in this run\n12 passed, 0 failed\n'
 LICENCE = 'MIT License\n\nCopyright (c) 2026 Somebody\n\nPermission is granted.\n\nAs it is.\n'
 CRATES = '# programs\ntc_cli: zb_low io\nzb_low: serde_json\nzb_other: unused\n'
+# A gate that builds stand-ins.
+RUN = '''#!/bin/sh
+for it in tc_cli tc_centre; do
+    mkdir -p crates/$it/src crates/$it/specs crates/$it/out
+    cp {program} crates/$it/out/$it
+done
+cat <<END
+{said}END
+'''
 AUTHOR = ['-c', 'user.name=a', '-c', 'user.email=a@example.org']
 TOOLS = ('git', 'dpkg-deb', 'zstd')
 missing = [it for it in TOOLS if not shutil.which(it)]
@@ -72,6 +81,10 @@ def make_repository(folder):
     for name in ('LICENSE', 'LICENSE-MIT', 'LICENSE-APACHE'):
         with open(os.path.join(folder, name), 'w', encoding='utf-8') as file:
             file.write(LICENCE)
+    os.mkdir(os.path.join(folder, '.ci'))
+    with open(os.path.join(folder, '.ci', 'run'), 'w', encoding='ascii') as file:
+        file.write(RUN.format(program=STAND_IN, said=GATE))
+        os.chmod(file.name, 0o755)
     rows = os.path.join(folder, 'tools', 'data', 'rows')
     os.makedirs(rows)
     for name, text in (('nothing.sched', ''), ('nothing.out', ''), ('../../../crates.txt', CRATES)):
@@ -103,8 +116,8 @@ def gate_of(top, program):
     return '\n'.join([*rows, GATE])
 
 
-def release(top, *words, program=STAND_IN, version=None, gate=None):
-    """Runs tools/release of a repository. Returns its status and what it said."""
+def release(top, *words, program=STAND_IN, version=None, gate=None, how=None):
+    """Runs tools/release of a repository. Returns its status and what it said. `how` has the words on the gate."""
     log = os.path.join(os.path.dirname(top), 'gate.log')
     with open(log, 'w', encoding='ascii') as file:
         file.write(sealed(top, gate_of(top, program)) if gate is None else gate)
@@ -112,7 +125,7 @@ def release(top, *words, program=STAND_IN, version=None, gate=None):
         version = version or file.read().strip()
     kit = os.path.join(os.path.dirname(top), 'kit')
     words = ['--kit', 'kit 1', '--kit-folder', kit, '--program', program, '--centre', STAND_IN, '--no-root', *words]
-    words = [version, '--gate', log, *words]
+    words = [version, *(how or ['--gate', log]), *words]
     ran = subprocess.run(
         [os.path.join(top, 'tools', 'release'), *words],
         stdout=subprocess.PIPE,
@@ -290,6 +303,19 @@ class Release(unittest.TestCase):
     def test_lintian_finds_nothing(self):
         words = ['lintian', '--allow-root', self.made('.deb')]
         self.assertEqual(subprocess.run(words, capture_output=True, text=True, check=False).stdout, '')
+
+    def test_runs_the_gate_and_takes_its_log_again(self):
+        """The log is of the programs that the gate built, and of no others that are named."""
+        out = os.path.join(self.holder.name, 'ran')
+        status, said = release(self.top, '-o', out, how=['--run'])
+        self.assertEqual(status, 0, said)
+        self.assertIn('12 passed, 0 failed', said)
+        gates = os.path.join(self.top, 'out', 'gate')
+        log = next(os.path.join(gates, it) for it in os.listdir(gates) if it.endswith('.log'))
+        self.assertEqual(release(self.top, '-o', out, how=['--gate', log])[0], 0)
+        status, said = release(self.top, '-o', out, how=['--gate', log], program=shutil.which('false'))
+        self.assertEqual(status, 65)
+        self.assertIn('not of the program tc', said)
 
     @unittest.skipUnless(shutil.which('ssh-keygen'), 'ssh-keygen is missing')
     def test_signs_the_sums(self):
