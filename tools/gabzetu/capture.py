@@ -110,13 +110,16 @@ class Capture:
 
     def packet_parts(self):
         """Yields the packets of the capture in parts. A packet that isn't whole ends them, and is counted."""
-        packets = read_packets(self.path, open_source(self.path, self.is_followed))
+        source = open_source(self.path, self.is_followed)
+        packets = read_packets(self.path, source)
         try:
             for part in (live_parts if self.is_followed else parts_of_file)(packets):
                 self.packets += len(part)
                 yield part
         except Ended as ended:
             self.left_out.add(ended.reason, self.packets + 1)
+        finally:
+            source.close()
 
     def parts(self):
         """Yields the frames of the capture in parts. After each part, left_out counts the packets so far."""

@@ -25,8 +25,13 @@ class Ended(Exception):
 class Source:
     """A file that is read in whole pieces. One that waits goes on at its end when the file has grown."""
 
-    def __init__(self, file, waits=False):
-        self.file, self.waits, self.position = file, waits, 0
+    def __init__(self, file, waits=False, opened=None):
+        self.file, self.waits, self.opened, self.position = file, waits, opened, 0
+
+    def close(self):
+        """Closes the file that was opened for it. Standard input stays open."""
+        if self.opened:
+            self.opened.close()
 
     def read(self, size):
         """Returns the next bytes: fewer than `size` at the end of the file only."""
@@ -81,11 +86,17 @@ class Peeked(io.RawIOBase):
 def open_source(path, is_followed=False):
     """Returns the source of a path, `-` for standard input. What gzip packed is unpacked. A file that is followed may
     grow."""
+    opened = None
     try:
-        file = sys.stdin.buffer if path == '-' else open(path, 'rb')
+        opened = None if path == '-' else open(path, 'rb')
+        file = opened or sys.stdin.buffer
         waits = is_followed and stat.S_ISREG(os.fstat(file.fileno()).st_mode)
         first = Source(file, waits).read(2)
     except OSError as error:
+        if opened:
+            opened.close()
         raise Stop(f'{path}: cannot be read: {reason_of(error)}', UNREADABLE) from error
     whole = io.BufferedReader(Peeked(first, file), BUFFER)
-    return Source(gzip.GzipFile(fileobj=whole), False) if first == GZIP else Source(whole, waits)
+    if first == GZIP:
+        return Source(gzip.GzipFile(fileobj=whole), False, opened)
+    return Source(whole, waits, opened)

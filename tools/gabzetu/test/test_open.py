@@ -131,7 +131,9 @@ class Links(Folder):
                 fields = '-e frame.number -e frame.time_epoch -e frame.len'.split()
                 words = ['tshark', '-r', path, '-T', 'fields', *fields]
                 theirs = subprocess.run(words, capture_output=True, text=True, check=True).stdout
-                mine = [f'{it.number}\t{it.time:.9f}\t{it.whole}' for it in read_packets(path, open_source(path))]
+                with contextlib.closing(open_source(path)) as source:
+                    packets_here = list(read_packets(path, source))
+                mine = [f'{it.number}\t{it.time:.9f}\t{it.whole}' for it in packets_here]
                 self.assertEqual(mine, theirs.splitlines())
 
     @unittest.skipUnless(shutil.which('editcap'), 'editcap is missing')
