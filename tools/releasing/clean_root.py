@@ -229,6 +229,19 @@ def try_hub(root):
     return None
 
 
+def try_library(root):
+    """Compiles and runs the example in C over the library. Returns why that was left out, or none."""
+    if not os.path.exists(root.at('/usr/lib/gabzetu/libtc_c.a')):
+        return 'the library for C is not in the package'
+    if root.call(*INSTALL, 'gcc', 'libc6-dev')[0]:
+        return 'gcc cannot be installed'
+    words = ['-I/usr/include/gabzetu', f'{EXAMPLES}/c/join.c', '/usr/lib/gabzetu/libtc_c.a', '-o', '/root/join']
+    root.run('gcc', '-std=c99', *words)
+    wanted = read_text(root.at(f'{EXAMPLES}/c/join.out'))
+    want(root.run('/root/join') == wanted, 'the example in C writes something else than join.out')
+    return None
+
+
 def try_help(root):
     """Wants the man page and the completions where the system looks for them."""
     root.run('gzip', '-t', '/usr/share/man/man1/gabzetu.1.gz')
@@ -264,6 +277,7 @@ def try_release(archive, package, version, capture, mirror):
         'play and audit': lambda root: play_and_compare(root, 'gabzetu', EXAMPLES),
         'explore': try_explore,
         'hub': try_hub,
+        'library for C': try_library,
         'man page and completions': try_help,
         'open': lambda root: try_open(root, capture),
         'tutorial': try_tutorial,

@@ -16,7 +16,7 @@ from .gate import GATES, check_bound, open_log, read_gate, run_gate, write_log
 DESCRIPTION = '''Makes the release of a passed gate in out/release: gabzetu-VERSION-x86_64-linux.tar.zst,
 gabzetu_VERSION_amd64.deb, gabzetu-VERSION-py3-none-any.whl and SHA256SUMS. Of programs for aarch64 the names say so.
 
-The first two install gabzetu, and the programs as lib/gabzetu/tc and tc_centre, with pages, examples, man pages,
+The first two install gabzetu, the programs as lib/gabzetu/tc and tc_centre, the library for C if it is built, pages, examples, man pages,
 completions, licences, notices of the libraries in the programs, check sums, the gate's last lines and the kit's
 version. The wheel has the front end alone. VERSION is that of the file VERSION. The files are those of the commit, so
 the same commit, programs and log make the same bytes.
@@ -48,6 +48,7 @@ def read_words(words):
     parser.add_argument('--sign', metavar='FILE', help='the private key that signs SHA256SUMS')
     parser.add_argument('--program', metavar='TC', help='the program (the one that ./build built, or $GABZETU_TC)')
     parser.add_argument('--centre', metavar='TC_CENTRE', help='the living centre (the built one, if there is one)')
+    parser.add_argument('--library', metavar='FOLDER', default=program.LIBRARY, help='the library for C (out/lib)')
     parser.add_argument('--kit', metavar='LINE', help='the version of the kit (what `rt version` prints)')
     parser.add_argument('--kit-folder', metavar='FOLDER', help='the folder of the kit (that of the command rt)')
     parser.add_argument('--edited', action='store_true', help='take what is committed although files were edited')
@@ -99,15 +100,15 @@ def make_release(arguments, room, out):
         write_log(log, at.name, program.read_built(), lines)
     lines = open_log(log)
     gate = read_gate(log, lines)
-    programs = read_programs(arguments)
-    check_bound(log, lines, at.name, programs)
+    programs, library = read_programs(arguments), program.read_library(arguments.library)
+    check_bound(log, lines, at.name, {**programs, **library})
     sources = commit.unpack_commit(at, os.path.join(room, 'sources'))
     machine = program.machine_of(programs)
     count = conformance.try_program(programs['tc'], program.runner_of(machine), sources)
     say(f'release: {count} worked schedules are played as they were worked out')
     texts = notices.write_notices(sources, notices.find_kit(arguments.kit_folder))
     root = os.path.join(room, 'root')
-    layout.lay_out(sources, os.path.join(root, 'usr'), at, programs, read_kit(arguments.kit), gate, texts)
+    layout.lay_out(sources, os.path.join(root, 'usr'), at, programs, library, read_kit(arguments.kit), gate, texts)
     about = packing.About(arguments.version, at, program.needs_of(b''.join(programs.values())), machine)
     return pack_all(root, out, about, arguments.sign)
 

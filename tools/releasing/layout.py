@@ -98,6 +98,16 @@ def lay_programs(layout, programs, kit):
     layout.write('lib/gabzetu/KIT', f'{kit}\n')
 
 
+def lay_library(layout, library):
+    """Lays out the library for C by the names of its files, its header and its page, if it was built."""
+    for name, data in library.items():
+        layout.write(f'lib/gabzetu/{name}', data)
+    for name in ('tc.h', 'tc_heap.c') if library else ():
+        layout.copy(f'include/{name}', f'include/gabzetu/{name}')
+    if library:
+        layout.copy('include/README.md', f'{DOCS}/include/README.md')
+
+
 def lay_documents(layout, gate, notices):
     """Lays out pages, examples, licences, notices and the gate's last lines."""
     for path in sorted(glob.glob(os.path.join(layout.sources, '*.md'))):
@@ -118,9 +128,14 @@ def lay_changelog(layout, commit):
     layout.write(f'{DOCS}/changelog.gz', gzip.compress(text.encode(), 9, mtime=0))
 
 
-def lay_overrides(layout, programs):
+def tag_of(name):
+    """Returns the tag of lintian for a file that isn't stripped, by its name."""
+    return 'unstripped-static-library' if name.endswith('.a') else 'unstripped-binary-or-object'
+
+
+def lay_overrides(layout, programs, library):
     """Lays out what lintian is told: the programs are the very files that the gate ran, so nothing is stripped."""
-    rows = [f'gabzetu: unstripped-binary-or-object [usr/lib/gabzetu/{name}]\n' for name in sorted(programs)]
+    rows = [f'gabzetu: {tag_of(name)} [usr/lib/gabzetu/{name}]\n' for name in sorted([*programs, *library])]
     layout.write('share/lintian/overrides/gabzetu', OVERRIDES + ''.join(rows))
 
 
@@ -179,16 +194,17 @@ def settle(folder, date):
         os.utime(at, (date, date))
 
 
-def lay_out(sources, prefix, commit, programs, kit, gate, notices):
+def lay_out(sources, prefix, commit, programs, library, kit, gate, notices):
     """Lays out all that is installed, with the check sums of its files.
 
     Links of pages to what isn't installed become words."""
     layout = Layout(sources, prefix)
     lay_front_end(layout, commit)
     lay_programs(layout, programs, kit)
+    lay_library(layout, library)
     lay_documents(layout, gate, notices)
     lay_changelog(layout, commit)
-    lay_overrides(layout, programs)
+    lay_overrides(layout, programs, library)
     lay_copyright(layout)
     lay_help(layout)
     drop_dead_links(prefix)

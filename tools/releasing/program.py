@@ -11,6 +11,8 @@ from gabzetu.output import read_input
 from gabzetu.program import BUILT, is_program
 
 CENTRE = os.path.join(TOP, 'crates', 'tc_centre', 'out', 'tc_centre')
+LIBRARY = os.path.join(TOP, 'out', 'lib')
+LIBRARY_FILES = ('libtc_c.a', 'libtc_c.so', 'libtc_c_centre.a', 'libtc_c_centre.so')
 ELF = b'\x7fELF\x02\x01'
 # The Debian package of each library that tc may need.
 PACKAGES = {b'libgcc_s.so.1': 'libgcc-s1'}
@@ -53,8 +55,15 @@ def find_centre(path: Optional[str]) -> Optional[str]:
 
 
 def read_built() -> Dict[str, bytes]:
-    """Returns the programs that a gate has just built, by their names."""
-    return {name: read_program(path) for name, path in (('tc', BUILT), ('tc_centre', CENTRE)) if is_program(path)}
+    """Returns the programs that a gate has just built, and the library for C, by their names."""
+    paths = (('tc', BUILT), ('tc_centre', CENTRE))
+    return {**{name: read_program(path) for name, path in paths if is_program(path)}, **read_library(LIBRARY)}
+
+
+def read_library(folder: str) -> Dict[str, bytes]:
+    """Returns the files of the library for C in a folder, by their names. There are none if it wasn't built."""
+    paths = {name: os.path.join(folder, name) for name in LIBRARY_FILES}
+    return {name: read_input(path) for name, path in paths.items() if os.path.exists(path)}
 
 
 def check_age(program: str) -> None:

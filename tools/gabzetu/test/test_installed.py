@@ -27,7 +27,7 @@ class Installed(unittest.TestCase):
         cls.prefix = os.path.join(holder.name, 'usr')
         with open(find_tc(), 'rb') as file:
             programs = {'tc': file.read()}
-        layout.lay_out(TOP, cls.prefix, Commit('0' * 40, 1700000000), programs, 'a kit', ['a gate'], 'notices')
+        layout.lay_out(TOP, cls.prefix, Commit('0' * 40, 1700000000), programs, {}, 'a kit', ['a gate'], 'notices')
 
     @unittest.skipIf(missing, f'{" ".join(missing)} is missing')
     def test_the_pages_are_walked_by_it_alone(self):

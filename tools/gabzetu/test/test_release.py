@@ -74,7 +74,7 @@ def make_repository(folder):
     for name in ('gabzetu', 'VERSION', 'README.md', 'CHANGELOG.md', 'tools/release', 'tools/hub-log'):
         os.makedirs(os.path.dirname(os.path.join(folder, name)), exist_ok=True)
         shutil.copy(os.path.join(TOP, name), os.path.join(folder, name))
-    for name in ('docs', 'examples', 'tools/gabzetu', 'tools/releasing', 'tools/hub'):
+    for name in ('docs', 'examples', 'include', 'tools/gabzetu', 'tools/releasing', 'tools/hub'):
         shutil.copytree(
             os.path.join(TOP, name), os.path.join(folder, name), ignore=shutil.ignore_patterns('__pycache__')
         )
@@ -267,6 +267,27 @@ class Release(unittest.TestCase):
             git(self.top, 'reset', '-q', '--hard', 'HEAD^')
         self.assertEqual(status, 65)
         self.assertIn('plays tools/data/rows/nothing.sched differently', said)
+
+    @unittest.skipUnless(shutil.which('cc'), 'a C compiler is missing')
+    def test_the_library_is_in_the_package(self):
+        folder, out = (os.path.join(self.holder.name, it) for it in ('lib', 'with-library'))
+        os.mkdir(folder)
+        source = os.path.join(folder, 'x.c')
+        with open(source, 'w', encoding='ascii') as file:
+            file.write('int tc_x(void) { return 1; }\n')
+        subprocess.run(['cc', '-shared', '-fPIC', source, '-o', os.path.join(folder, 'libtc_c.so')], check=True)
+        gate = gate_of(self.top, STAND_IN)
+        status, said = release(self.top, '-o', out, '--library', folder, gate=sealed(self.top, gate))
+        self.assertEqual(status, 65)
+        self.assertIn('not of the program libtc_c.so', said)
+        with open(os.path.join(folder, 'libtc_c.so'), 'rb') as file:
+            more = f'release: sha256 of libtc_c.so: {hashlib.sha256(file.read()).hexdigest()}\n'
+        status, said = release(self.top, '-o', out, '--library', folder, gate=sealed(self.top, more + gate))
+        self.assertEqual(status, 0, said)
+        package = next(os.path.join(out, it) for it in os.listdir(out) if it.endswith('.deb'))
+        listing = output_of('dpkg-deb', '-c', package)
+        for name in ('./usr/lib/gabzetu/libtc_c.so', './usr/include/gabzetu/tc.h', './usr/include/gabzetu/tc_heap.c'):
+            self.assertIn(f' {name}\n', listing)
 
     def test_the_package_has_notices_of_all_that_is_linked(self):
         listing = output_of('dpkg-deb', '--fsys-tarfile', self.made('.deb'), encoding=None)
