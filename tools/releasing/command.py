@@ -16,10 +16,10 @@ from .gate import GATES, check_bound, open_log, read_gate, run_gate, write_log
 DESCRIPTION = '''Makes the release of a passed gate in out/release: gabzetu-VERSION-x86_64-linux.tar.zst,
 gabzetu_VERSION_amd64.deb, gabzetu-VERSION-py3-none-any.whl and SHA256SUMS. Of programs for aarch64 the names say so.
 
-The first two install gabzetu, the programs as lib/gabzetu/tc and tc_centre, the library for C if it is built, pages, examples, man pages,
-completions, licences, notices of the libraries in the programs, check sums, the gate's last lines and the kit's
-version. The wheel has the front end alone. VERSION is that of the file VERSION. The files are those of the commit, so
-the same commit, programs and log make the same bytes.
+The first two install gabzetu, the programs as lib/gabzetu/tc and tc_centre, the library for C if it is built, pages,
+examples, man pages, completions, licences, notices of the libraries in the programs, check sums, the gate's last lines
+and the kit's version. The wheel has the front end alone. VERSION is that of the file VERSION. The files are those of
+the commit, so the same commit, programs and log make the same bytes.
 
 Then it tries them in a clean Debian root, which debootstrap makes in out/clean-root and which is kept there: it
 installs the package, plays an example, opens a capture and makes a page. That needs root.
