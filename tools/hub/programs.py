@@ -1,6 +1,7 @@
 """Finds the proved programs of a hub: tc, which makes a store, and tc_centre, which serves it."""
 import os
 import sys
+from typing import Optional
 
 TOP = os.path.dirname(os.path.dirname(os.path.dirname(os.path.abspath(__file__))))
 # Where this folder is PREFIX/share/gabzetu/tools/hub, the programs are in PREFIX/lib/gabzetu.
@@ -11,7 +12,7 @@ BUILT = {
 }
 
 
-def find(name):
+def find(name: str) -> Optional[str]:
     """Returns the path of a program, or none: the one that its variable names, else the installed or the built one."""
     variable, built, _ = BUILT[name]
     named = os.environ.get(variable)
@@ -21,7 +22,7 @@ def find(name):
     return None
 
 
-def find_or_stop(tool, name):
+def find_or_stop(tool: str, name: str) -> str:
     """Returns the path of a program. Where it is missing, says what to do and ends with status 70."""
     path = find(name)
     if path is None:

@@ -5,6 +5,7 @@ import os
 import re
 import shutil
 import subprocess
+from typing import Any, Dict, Iterator, List, Optional, Tuple
 
 from gabzetu import TOP
 from gabzetu.errors import MISSING, WRONG_INPUT, Stop
@@ -27,14 +28,14 @@ OTHER_PROGRAMS = ('python3-scapy', 'mscgen', 'tshark', 'parallel')
 INSTALL = ('apt-get', 'install', '-y', '-q', '--no-install-recommends', '-o', 'APT::Keep-Downloaded-Packages=true')
 
 
-def called(words, **how):
+def called(words: List[str], **how: Any) -> Tuple[int, str]:
     """Runs a command, and returns its status and what it wrote."""
-    pipes = {'stdin': subprocess.DEVNULL, 'stdout': subprocess.PIPE, 'stderr': subprocess.STDOUT}
+    pipes: Dict[str, Any] = {'stdin': subprocess.DEVNULL, 'stdout': subprocess.PIPE, 'stderr': subprocess.STDOUT}
     ran = subprocess.run(words, check=False, **pipes, **how)
     return ran.returncode, ran.stdout.decode('utf-8', 'replace')
 
 
-def last_lines(text, count=12):
+def last_lines(text: str, count: int = 12) -> str:
     """Returns the last lines of what a command wrote."""
     return '\n'.join(text.rstrip().splitlines()[-count:])
 
@@ -42,7 +43,7 @@ def last_lines(text, count=12):
 # ---- the root that is kept
 
 
-def read_mirror(given):
+def read_mirror(given: Optional[str]) -> Tuple[str, str]:
     """Returns the mirror and the suite: the given mirror, else the one that apt uses here for this system's suite."""
     code = re.search(r'^VERSION_CODENAME=(\w+)', read_text('/etc/os-release'), re.M)
     suite = code.group(1) if code else DEBIAN[1]
@@ -57,14 +58,14 @@ def read_mirror(given):
     return DEBIAN
 
 
-def read_text(path):
+def read_text(path: str) -> str:
     """Returns the text of a file, or none of it where it can't be read."""
     with contextlib.suppress(OSError), open(path, encoding='utf-8') as file:
         return file.read()
     return ''
 
 
-def proxies():
+def proxies() -> Dict[str, str]:
     """Returns the variables that make other programs use the proxy that apt uses."""
     if not shutil.which('apt-config'):
         return {}
@@ -73,21 +74,21 @@ def proxies():
     return {'http_proxy': found.group(1)} if found else {}
 
 
-def unmount_below(folder):
+def unmount_below(folder: str) -> None:
     """Unmounts what is mounted in a folder, so that removing it touches nothing else."""
     mounts = [it.split()[1] for it in read_text('/proc/mounts').splitlines()]
     for place in sorted((it for it in mounts if it.startswith(folder + '/')), reverse=True):
         subprocess.run(['umount', place], check=True)
 
 
-def remove(folder):
+def remove(folder: str) -> None:
     """Removes a root."""
     unmount_below(folder)
     if os.path.exists(folder):
         shutil.rmtree(folder)
 
 
-def make_base(mirror):
+def make_base(mirror: Optional[str]) -> str:
     """Returns the path of the clean root, which is made where none is kept."""
     base, part = os.path.join(KEPT, 'base'), os.path.join(KEPT, 'base.part')
     if os.path.isdir(base):
@@ -107,7 +108,7 @@ def make_base(mirror):
     return base
 
 
-def mount_systems(path):
+def mount_systems(path: str) -> None:
     """Mounts in a root what programs ask about processors and networks, as a Debian system has it."""
     for kind, name in (('proc', 'proc'), ('sysfs', 'sys')):
         status, said = called(['mount', '-t', kind, kind, os.path.join(path, name)])
@@ -116,7 +117,7 @@ def mount_systems(path):
 
 
 @contextlib.contextmanager
-def trial_root(base):
+def trial_root(base: str) -> Iterator['Root']:
     """Yields a copy of the clean root, which is removed at the end. What apt fetched for it is kept."""
     path = os.path.join(KEPT, 'trial')
     remove(path)
@@ -133,18 +134,18 @@ def trial_root(base):
 class Root:
     """A Debian system in a folder."""
 
-    def __init__(self, path):
+    def __init__(self, path: str) -> None:
         self.path = path
 
-    def at(self, name):
+    def at(self, name: str) -> str:
         """Returns the path, from outside, of a name in the root."""
         return os.path.join(self.path, name.lstrip('/'))
 
-    def call(self, *words):
+    def call(self, *words: str) -> Tuple[int, str]:
         """Runs a command in the root, and returns its status and what it wrote."""
         return called(['nice', 'chroot', self.path, *words], env={**ENVIRONMENT, **proxies()})
 
-    def run(self, *words, status=0):
+    def run(self, *words: str, status: int = 0) -> str:
         """Runs a command in the root, and returns what it wrote. Stops where it ends with another status."""
         found, said = self.call(*words)
         if found != status:
@@ -160,14 +161,14 @@ class Root:
 # ---- the trial
 
 
-def want(holds, what):
+def want(holds: object, what: str) -> str:
     """Stops where something isn't as it should be."""
     if not holds:
         raise Stop(f'in the clean root {what}', WRONG_INPUT)
     return what
 
 
-def play_and_compare(root, front, examples):
+def play_and_compare(root: Root, front: str, examples: str) -> None:
     """Plays the example of a join, and compares its transcript with the one beside it."""
     root.run(front, 'play', f'{examples}/join.sched', '-o', '/root/join.transcript')
     wanted = read_text(root.at(f'{examples}/join.transcript'))
@@ -175,7 +176,7 @@ def play_and_compare(root, front, examples):
     root.run(front, 'audit', '/root/join.transcript')
 
 
-def try_install(root, package):
+def try_install(root: Root, package: str) -> None:
     """Installs the package with what it depends on, and compares its files with their check sums."""
     shutil.copy(package, root.at('/root'))
     root.run(*INSTALL, f'/root/{os.path.basename(package)}')
@@ -184,7 +185,7 @@ def try_install(root, package):
     want(not any(it.endswith('bin/tc') for it in names), 'the package has a program tc on the PATH')
 
 
-def try_version(root, front, version, tc):
+def try_version(root: Root, front: str, version: str, tc: str) -> None:
     """Wants the front end to report the release, the program and the kit."""
     lines = root.run(front, '--version').splitlines()
     want(lines[0] == f'gabzetu {version}', f"`gabzetu --version` begins with '{lines[0]}'")
@@ -192,14 +193,14 @@ def try_version(root, front, version, tc):
     want(any(it.startswith('kit: ') for it in lines), '`gabzetu --version` does not name the kit')
 
 
-def try_explore(root):
+def try_explore(root: Root) -> None:
     """Makes a page of the transcript that was played."""
     root.run('gabzetu', 'explore', '/root/join.transcript', '/root/join.html')
     page = read_text(root.at('/root/join.html'))
     want('<html' in page and '</html>' in page, '`gabzetu explore` wrote no whole page')
 
 
-def try_open(root, capture):
+def try_open(root: Root, capture: str) -> Optional[str]:
     """Opens a capture, once python3-scapy is there. Returns why that was left out, or none."""
     shutil.copy(capture, root.at('/root/trial.pcap'))
     want(root.call('gabzetu', 'open', '/root/trial.pcap')[0] == MISSING, 'a capture is opened without python3-scapy')
@@ -209,7 +210,7 @@ def try_open(root, capture):
     return None
 
 
-def try_tutorial(root):
+def try_tutorial(root: Root) -> Optional[str]:
     """Walks the pages with nothing but what is installed. Returns why that was left out, or none."""
     if root.call(*INSTALL, *OTHER_PROGRAMS)[0]:
         return f'{" ".join(OTHER_PROGRAMS)} cannot be installed'
@@ -218,7 +219,7 @@ def try_tutorial(root):
     return None
 
 
-def try_hub(root):
+def try_hub(root: Root) -> Optional[str]:
     """Runs the example of a hub, and audits its log. Returns why that was left out, or none."""
     if not os.path.exists(root.at('/usr/lib/gabzetu/tc_centre')):
         return 'tc_centre is not in the package'
@@ -229,7 +230,7 @@ def try_hub(root):
     return None
 
 
-def try_library(root):
+def try_library(root: Root) -> Optional[str]:
     """Compiles and runs the example in C over the library. Returns why that was left out, or none."""
     if not os.path.exists(root.at('/usr/lib/gabzetu/libtc_c.a')):
         return 'the library for C is not in the package'
@@ -242,7 +243,7 @@ def try_library(root):
     return None
 
 
-def try_help(root):
+def try_help(root: Root) -> None:
     """Wants the man page and the completions where the system looks for them."""
     root.run('gzip', '-t', '/usr/share/man/man1/gabzetu.1.gz')
     root.run('bash', '-n', '/usr/share/bash-completion/completions/gabzetu')
@@ -250,7 +251,7 @@ def try_help(root):
         want(read_text(root.at(f'/usr/share/{name}')), f'/usr/share/{name} is missing')
 
 
-def try_purge(root):
+def try_purge(root: Root) -> None:
     """Removes the package, and wants nothing of it left."""
     root.run('apt-get', 'purge', '-y', '-q', 'gabzetu')
     for name in ('bin', 'lib', 'share', 'share/doc'):
@@ -258,7 +259,7 @@ def try_purge(root):
         want(not os.path.lexists(root.at(place)), f'{place} stays after the package was removed')
 
 
-def try_archive(root, archive, version):
+def try_archive(root: Root, archive: str, version: str) -> None:
     """Unpacks the archive elsewhere, checks its sums, and plays by it."""
     name = os.path.basename(archive)[: -len('.tar.zst')]
     subprocess.run(['tar', '--zstd', '-xf', archive, '-C', root.at('/opt')], check=True)
@@ -267,7 +268,7 @@ def try_archive(root, archive, version):
     play_and_compare(root, f'/opt/{name}/bin/gabzetu', f'/opt/{name}/share/doc/gabzetu/examples')
 
 
-def try_release(archive, package, version, capture, mirror):
+def try_release(archive: str, package: str, version: str, capture: str, mirror: Optional[str]) -> None:
     """Tries both archives in a clean root, and reports each step. Stops at the first that fails."""
     if os.geteuid():
         raise Stop('a clean root needs root: run tools/release by sudo, or give --no-root', MISSING)

@@ -4,6 +4,7 @@ import os
 import shutil
 import subprocess
 import tempfile
+from typing import Dict, List, Optional, Tuple
 
 from gabzetu import TOP
 from gabzetu.cli import Parser
@@ -36,7 +37,7 @@ RELEASES = os.path.join(TOP, 'out', 'release')
 CAPTURE = os.path.join(TOP, 'tools', 'data', 'mixed.pcap')
 
 
-def read_words(words):
+def read_words(words: List[str]) -> argparse.Namespace:
     """Returns the arguments."""
     parser = Parser(
         prog='tools/release', description=DESCRIPTION, formatter_class=argparse.RawDescriptionHelpFormatter
@@ -58,7 +59,7 @@ def read_words(words):
     return parser.parse_args(words)
 
 
-def read_kit(given):
+def read_kit(given: Optional[str]) -> str:
     """Returns the version of the kit."""
     if given:
         return given
@@ -67,7 +68,7 @@ def read_kit(given):
     return subprocess.run(['rt', 'version'], stdout=subprocess.PIPE, check=True).stdout.decode().strip()
 
 
-def check_edits(is_taken):
+def check_edits(is_taken: bool) -> None:
     """Stops where files were edited after the commit, unless that is wanted."""
     edited = commit.edited_files()
     if edited and not is_taken:
@@ -77,7 +78,7 @@ def check_edits(is_taken):
         say(f'release: {len(edited)} edited files are taken as they were committed')
 
 
-def read_programs(arguments):
+def read_programs(arguments: argparse.Namespace) -> Dict[str, bytes]:
     """Returns the bytes of the programs by their names: tc, and the living centre where it is there."""
     programs = {'tc': program.read_program(program.find_program(arguments.program))}
     centre = program.find_centre(arguments.centre)
@@ -88,7 +89,7 @@ def read_programs(arguments):
     return programs
 
 
-def make_release(arguments, room, out):
+def make_release(arguments: argparse.Namespace, room: str, out: str) -> Tuple[str, str]:
     """Makes the two archives and their check sums in `out`. `room` is a folder for what is between."""
     check_edits(arguments.edited and not arguments.run)
     at = commit.read_commit()
@@ -113,7 +114,7 @@ def make_release(arguments, room, out):
     return pack_all(root, out, about, arguments.sign)
 
 
-def pack_all(root, out, about, key):
+def pack_all(root: str, out: str, about: packing.About, key: Optional[str]) -> Tuple[str, str]:
     """Packs what was laid out in each form, with signed check sums. Returns the paths of archive and package."""
     usr = os.path.join(root, 'usr')
     archive = packing.pack_archive(usr, out, about)
@@ -123,7 +124,7 @@ def pack_all(root, out, about, key):
     return archive, package
 
 
-def deliver(made, out):
+def deliver(made: str, out: str) -> None:
     """Moves the files of a folder to the folder of the release."""
     os.makedirs(out, exist_ok=True)
     for name in sorted(os.listdir(made)):
@@ -131,7 +132,7 @@ def deliver(made, out):
         say(f'release: {os.path.relpath(os.path.join(out, name))}')
 
 
-def run(words):
+def run(words: List[str]) -> None:
     """Makes a release, tries it, and puts it in its place. A release that fails its trial isn't put there."""
     arguments = read_words(words)
     with tempfile.TemporaryDirectory(prefix='release-') as room:
@@ -145,7 +146,7 @@ def run(words):
         deliver(made, arguments.output)
 
 
-def main(words):
+def main(words: List[str]) -> int:
     """Runs tools/release with these words, and returns its exit status."""
     try:
         run(words)

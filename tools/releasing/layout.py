@@ -8,9 +8,11 @@ import subprocess
 import sys
 import tempfile
 import time
+from typing import Any, Dict, List, Union
 
 from gabzetu.errors import WRONG_INPUT, Stop
 
+from .commit import Commit
 from .links import drop_dead_links
 
 LICENCES = ('LICENSE', 'LICENSE-MIT', 'LICENSE-APACHE')
@@ -50,29 +52,29 @@ CHANGES = '''gabzetu ({version}) stable; urgency=medium
 class Layout:
     """A folder that becomes /usr, or the top of the unpacked archive."""
 
-    def __init__(self, sources, prefix):
+    def __init__(self, sources: str, prefix: str) -> None:
         self.sources, self.prefix = sources, prefix
 
-    def path(self, name):
+    def path(self, name: str) -> str:
         """Returns the path of a name under the prefix, whose folder exists then."""
         path = os.path.join(self.prefix, name)
         os.makedirs(os.path.dirname(path), exist_ok=True)
         return path
 
-    def source(self, name):
+    def source(self, name: str) -> str:
         """Returns the path of a committed file. Stops where there is none."""
         path = os.path.join(self.sources, name)
         if not os.path.exists(path):
             raise Stop(f'{name} is not committed, and a release has it', WRONG_INPUT)
         return path
 
-    def write(self, name, data, mode=0o644):
+    def write(self, name: str, data: Union[bytes, str], mode: int = 0o644) -> None:
         """Writes bytes or text to a file under the prefix."""
         with open(self.path(name), 'wb') as file:
             file.write(data.encode() if isinstance(data, str) else data)
         os.chmod(self.path(name), mode)
 
-    def copy(self, name, to):
+    def copy(self, name: str, to: str) -> None:
         """Copies a committed file or folder to a name under the prefix, the tests of the front end left out."""
         source = self.source(name)
         if os.path.isdir(source):
@@ -81,7 +83,7 @@ class Layout:
             shutil.copy(source, self.path(to))
 
 
-def lay_front_end(layout, commit):
+def lay_front_end(layout: Layout, commit: Any) -> None:
     """Lays out `gabzetu` as a clone has it, under share/gabzetu, and a link to it in bin.
 
     It reads the page on the policy, which is laid out with it."""
@@ -91,14 +93,14 @@ def lay_front_end(layout, commit):
     os.symlink('../share/gabzetu/gabzetu', layout.path('bin/gabzetu'))
 
 
-def lay_programs(layout, programs, kit):
+def lay_programs(layout: Layout, programs: Dict[str, bytes], kit: str) -> None:
     """Lays out the programs by their names, and the version of the kit beside them."""
     for name, data in programs.items():
         layout.write(f'lib/gabzetu/{name}', data, 0o755)
     layout.write('lib/gabzetu/KIT', f'{kit}\n')
 
 
-def lay_library(layout, library):
+def lay_library(layout: Layout, library: Dict[str, bytes]) -> None:
     """Lays out the library for C by the names of its files, its header and its page, if it was built."""
     for name, data in library.items():
         layout.write(f'lib/gabzetu/{name}', data)
@@ -108,7 +110,7 @@ def lay_library(layout, library):
         layout.copy('include/README.md', f'{DOCS}/include/README.md')
 
 
-def lay_documents(layout, gate, notices):
+def lay_documents(layout: Layout, gate: List[str], notices: str) -> None:
     """Lays out pages, examples, licences, notices and the gate's last lines."""
     for path in sorted(glob.glob(os.path.join(layout.sources, '*.md'))):
         layout.copy(os.path.basename(path), f'{DOCS}/{os.path.basename(path)}')
@@ -119,7 +121,7 @@ def lay_documents(layout, gate, notices):
     layout.write(f'{DOCS}/NOTICES', notices)
 
 
-def lay_changelog(layout, commit):
+def lay_changelog(layout: Layout, commit: Any) -> None:
     """Lays out Debian's changelog, which names the page that has the changes."""
     with open(layout.source('VERSION'), encoding='ascii') as file:
         version = file.read().strip()
@@ -128,18 +130,18 @@ def lay_changelog(layout, commit):
     layout.write(f'{DOCS}/changelog.gz', gzip.compress(text.encode(), 9, mtime=0))
 
 
-def tag_of(name):
+def tag_of(name: str) -> str:
     """Returns the tag of lintian for a file that isn't stripped, by its name."""
     return 'unstripped-static-library' if name.endswith('.a') else 'unstripped-binary-or-object'
 
 
-def lay_overrides(layout, programs, library):
+def lay_overrides(layout: Layout, programs: Dict[str, bytes], library: Dict[str, bytes]) -> None:
     """Lays out what lintian is told: the programs are the very files that the gate ran, so nothing is stripped."""
     rows = [f'gabzetu: {tag_of(name)} [usr/lib/gabzetu/{name}]\n' for name in sorted([*programs, *library])]
     layout.write('share/lintian/overrides/gabzetu', OVERRIDES + ''.join(rows))
 
 
-def lay_copyright(layout):
+def lay_copyright(layout: Layout) -> None:
     """Lays out Debian's file `copyright`. LICENSE-MIT has a title, the line of the owners and the text."""
     with open(layout.source('LICENSE-MIT'), encoding='utf-8') as file:
         _, owner, *paragraphs = file.read().strip().split('\n\n')
@@ -148,7 +150,7 @@ def lay_copyright(layout):
     layout.write(f'{DOCS}/copyright', COPYRIGHT.format(copyright=owner, mit=mit))
 
 
-def lay_help(layout):
+def lay_help(layout: Layout) -> None:
     """Lays out the man pages and the completions."""
     with tempfile.TemporaryDirectory() as folder:
         written_by(layout, 'man', '--folder', folder)
@@ -159,7 +161,7 @@ def lay_help(layout):
         layout.write(name, written_by(layout, 'completions', shell))
 
 
-def written_by(layout, *words):
+def written_by(layout: Layout, *words: str) -> bytes:
     """Returns what the laid out front end writes for some words."""
     front = layout.path('share/gabzetu/gabzetu')
     ran = subprocess.run([sys.executable, front, *words], stdout=subprocess.PIPE, check=False)
@@ -168,13 +170,13 @@ def written_by(layout, *words):
     return ran.stdout
 
 
-def files_of(folder):
+def files_of(folder: str) -> List[str]:
     """Returns the regular files of a folder, by their names below it, in order."""
     found = [os.path.join(at, it) for at, _, names in os.walk(folder) for it in names]
     return sorted(os.path.relpath(it, folder) for it in found if not os.path.islink(it))
 
 
-def sums_of(folder, kind='sha256'):
+def sums_of(folder: str, kind: str = 'sha256') -> str:
     """Returns the check sums of the files of a folder, a line each, as sha256sum or md5sum writes them."""
     rows = []
     for name in files_of(folder):
@@ -183,7 +185,7 @@ def sums_of(folder, kind='sha256'):
     return ''.join(rows)
 
 
-def settle(folder, date):
+def settle(folder: str, date: int) -> None:
     """Gives all files and folders their modes and one time, so that the same release comes out again."""
     for at, _, names in os.walk(folder, topdown=False):
         for path in (os.path.join(at, it) for it in names):
@@ -194,7 +196,16 @@ def settle(folder, date):
         os.utime(at, (date, date))
 
 
-def lay_out(sources, prefix, commit, programs, library, kit, gate, notices):
+def lay_out(
+    sources: str,
+    prefix: str,
+    commit: Commit,
+    programs: Dict[str, bytes],
+    library: Dict[str, bytes],
+    kit: str,
+    gate: List[str],
+    notices: str,
+) -> None:
     """Lays out all that is installed, with the check sums of its files.
 
     Links of pages to what isn't installed become words."""

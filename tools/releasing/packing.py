@@ -4,7 +4,7 @@ import os
 import shutil
 import subprocess
 import tarfile
-from typing import Optional
+from typing import List, Optional
 
 from gabzetu.errors import MISSING, UNWRITABLE, Stop
 
@@ -45,7 +45,7 @@ LEVEL = '-19'
 About = collections.namedtuple('About', 'version commit needs machine')
 
 
-def run_tool(words, about):
+def run_tool(words: List[str], about: About) -> None:
     """Runs a packing tool, with the commit's date in place of the present one."""
     if not shutil.which(words[0]):
         raise Stop(f'{words[0]} is missing: apt-get install {words[0].replace("dpkg-deb", "dpkg")}', MISSING)
@@ -55,20 +55,20 @@ def run_tool(words, about):
         raise Stop(f'{words[0]} failed: {ran.stdout.decode("utf-8", "replace").strip()}', UNWRITABLE)
 
 
-def owned_by_root(member):
+def owned_by_root(member: tarfile.TarInfo) -> tarfile.TarInfo:
     """Returns a member of an archive as one of root's."""
     member.uid = member.gid = 0
     member.uname = member.gname = 'root'
     return member
 
 
-def members_of(folder):
+def members_of(folder: str) -> List[str]:
     """Returns all names below a folder, in order."""
     found = [os.path.join(at, it) for at, folders, names in os.walk(folder) for it in folders + names]
     return sorted(os.path.relpath(it, folder) for it in found)
 
 
-def pack_archive(prefix, out, about):
+def pack_archive(prefix: str, out: str, about: About) -> str:
     """Packs a laid out prefix as gabzetu-VERSION-MACHINE-linux.tar.zst, and returns its path."""
     name = f'gabzetu-{about.version}-{about.machine.name}-linux'
     with open(os.path.join(prefix, 'INSTALL'), 'w', encoding='utf-8') as file:
@@ -84,13 +84,13 @@ def pack_archive(prefix, out, about):
     return f'{plain}.zst'
 
 
-def size_of(folder):
+def size_of(folder: str) -> int:
     """Returns how many KiB the files of a folder take, each file and folder at least one."""
     sizes = [os.lstat(os.path.join(folder, it)).st_size for it in members_of(folder)]
     return sum(max(1, (it + 1023) // 1024) for it in sizes)
 
 
-def pack_deb(root, out, about):
+def pack_deb(root: str, out: str, about: About) -> str:
     """Packs a root, whose /usr is laid out, as gabzetu_VERSION_MACHINE.deb, and returns its path."""
     control = os.path.join(root, 'DEBIAN')
     needs = ', '.join(['python3 (>= 3.8)', *about.needs])
@@ -107,7 +107,7 @@ def pack_deb(root, out, about):
     return path
 
 
-def write_sums(out):
+def write_sums(out: str) -> str:
     """Writes SHA256SUMS over the files of a folder, and returns its path."""
     assert 'SHA256SUMS' not in files_of(out)
     text = sums_of(out)

@@ -7,6 +7,7 @@ import zipfile
 from typing import Dict
 
 from .layout import FRONT_END, files_of
+from .packing import About
 
 PACKAGE = 'gabzetu_front_end'
 STARTER = '''"""The front end of tc: the modules are below this folder, in the places that a clone has."""
@@ -43,7 +44,7 @@ def row_of(name: str, data: bytes) -> str:
     return f'{name},sha256={digest},{len(data)}\n'
 
 
-def files_of_wheel(front_end: str, about) -> Dict[str, bytes]:
+def files_of_wheel(front_end: str, about: About) -> Dict[str, bytes]:
     """Returns the files of the wheel by their names. `front_end` is the folder share/gabzetu that was laid out."""
     found = {f'{PACKAGE}/__init__.py': STARTER.encode()}
     for name in files_of(front_end):
@@ -57,7 +58,7 @@ def files_of_wheel(front_end: str, about) -> Dict[str, bytes]:
     return {**found, f'{info}/RECORD': record.encode()}
 
 
-def pack_wheel(front_end: str, out: str, about) -> str:
+def pack_wheel(front_end: str, out: str, about: About) -> str:
     """Packs gabzetu-VERSION-py3-none-any.whl, and returns its path. All files have the commit's date."""
     path = os.path.join(out, f'gabzetu-{about.version}-py3-none-any.whl')
     date = time.gmtime(about.commit.date)[:6]

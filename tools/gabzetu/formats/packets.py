@@ -5,11 +5,11 @@ import logging
 import struct
 import sys
 import zlib
-from typing import NamedTuple
+from typing import Any, Iterator, NamedTuple
 
 from ..errors import MISSING, UNREADABLE, Stop, reason_of
 from . import daintree
-from .sources import LONGEST, Ended
+from .sources import LONGEST, Ended, Source
 
 DEBIAN = '/usr/lib/python3/dist-packages'
 MOST_KEPT = 0xFFFF
@@ -39,7 +39,7 @@ class NoPacket(NamedTuple):
 NO_PACKET = NoPacket()
 
 
-def import_scapy():
+def import_scapy() -> Any:
     """Imports scapy and returns it. Another Python than Debian's finds Debian's package too, which is plain Python."""
     logging.getLogger('scapy').setLevel(logging.CRITICAL)
     if DEBIAN not in sys.path:
@@ -55,15 +55,15 @@ def import_scapy():
     return scapy
 
 
-def pcap_of(scapy):
+def pcap_of(scapy: Any) -> Any:
     """Returns the reader of scapy for pcap, which notes where the record begins that it reads."""
 
     class Pcap(scapy.utils.RawPcapReader):
-        def __init__(self, path, source, magic):
+        def __init__(self, path: str, source: Source, magic: bytes) -> None:
             super().__init__(path, source, MODIFIED.get(magic, magic))
             self.more = MORE_OF_MODIFIED if magic in MODIFIED else 0
 
-        def _read_packet(self, *size):
+        def _read_packet(self, *size: int) -> tuple:
             self.begin = self.f.position
             head = self.f.read(16 + self.more)
             if len(head) < 16 + self.more:
@@ -75,26 +75,26 @@ def pcap_of(scapy):
     return Pcap
 
 
-def pcapng_of(scapy):
+def pcapng_of(scapy: Any) -> Any:
     """Returns the same for pcapng, with the rules of Wireshark for what scapy passes over."""
 
     class Pcapng(scapy.utils.RawPcapNgReader):
-        def _read_block(self, *size):
+        def _read_block(self, *size: int) -> Any:
             self.begin = self.f.position
             self.blocktypes.update(dict.fromkeys(CUSTOM_BLOCKS, lambda block, size: (b'', NO_PACKET)))
             return super()._read_block(*size)
 
-        def _read_block_shb(self):
+        def _read_block_shb(self) -> None:
             self.interfaces, self.offsets = [], []
             super()._read_block_shb()
 
-        def _read_block_idb(self, block, size):
+        def _read_block_idb(self, block: bytes, size: int) -> None:
             super()._read_block_idb(block, size)
             link, snap, *more = self.interfaces[-1]
             self.interfaces[-1] = (link, snap or LONGEST, *more)  # 0 is no limit, and scapy takes it as one
             self.offsets.append(offset_in(block[8:], self.endian))
 
-        def _check_interface_id(self, number):
+        def _check_interface_id(self, number: int) -> None:
             if number >= len(self.interfaces):
                 raise Ended(f'it is of interface {number}, and the file describes {len(self.interfaces)}')
             self.offset = self.offsets[number]
@@ -102,7 +102,7 @@ def pcapng_of(scapy):
     return Pcapng
 
 
-def offset_in(options, order):
+def offset_in(options: bytes, order: str) -> int:
     """Returns the seconds that an interface adds to the times of its packets: the option if_tsoffset, or 0."""
     while len(options) >= 4:
         code, size = struct.unpack_from(order + 'HH', options)
@@ -112,7 +112,7 @@ def offset_in(options, order):
     return 0
 
 
-def time_of(reader, meta):
+def time_of(reader: Any, meta: Any) -> float:
     """Returns the seconds at which a packet was caught."""
     if meta is NO_PACKET:
         return 0
@@ -121,7 +121,7 @@ def time_of(reader, meta):
     return reader.offset + ((meta.tshigh or 0) << 32 | (meta.tslow or 0)) / meta.tsresol
 
 
-def open_reader(path, source, magic):
+def open_reader(path: str, source: Any, magic: bytes) -> Any:
     """Returns scapy's reader of a capture, whose magic number tells the format."""
     scapy = import_scapy()
     kind = pcapng_of(scapy) if magic == PCAPNG else pcap_of(scapy)
@@ -135,7 +135,7 @@ def open_reader(path, source, magic):
     return reader
 
 
-def read_records(reader):
+def read_records(reader: Any) -> Iterator[Packet]:
     """Yields the packets of a reader. Raises Ended where the last one isn't whole."""
     number = 0
     for number, (kept, meta) in enumerate(reader, 1):
@@ -147,7 +147,7 @@ def read_records(reader):
         raise Ended()
 
 
-def read_any(path, source):
+def read_any(path: str, source: Any) -> Iterator[Any]:
     """Returns an iterator of the packets of a capture of any form."""
     magic = source.read(4)
     if not magic:
@@ -160,7 +160,7 @@ def read_any(path, source):
     return read_records(open_reader(path, source, magic))
 
 
-def read_packets(path, source):
+def read_packets(path: str, source: Any) -> Iterator[Packet]:
     """Yields the packets of a capture in their order.
 
     Raises Ended where the file ends within a packet, and Stop where it is no capture or can't be read."""

@@ -5,6 +5,7 @@ import os
 import stat
 import sys
 import time
+from typing import Any
 
 from ..errors import UNREADABLE, Stop, reason_of
 
@@ -17,7 +18,7 @@ GZIP = b'\x1f\x8b'
 class Ended(Exception):
     """A capture that can't be read on: its last packet isn't whole, or is of an interface that isn't described."""
 
-    def __init__(self, reason: str = 'the file ends within it'):
+    def __init__(self, reason: str = 'the file ends within it') -> None:
         super().__init__(reason)
         self.reason = reason
 
@@ -25,15 +26,15 @@ class Ended(Exception):
 class Source:
     """A file that is read in whole pieces. One that waits goes on at its end when the file has grown."""
 
-    def __init__(self, file, waits=False, opened=None):
+    def __init__(self, file: Any, waits: bool = False, opened: Any = None) -> None:
         self.file, self.waits, self.opened, self.position = file, waits, opened, 0
 
-    def close(self):
+    def close(self) -> None:
         """Closes the file that was opened for it. Standard input stays open."""
         if self.opened:
             self.opened.close()
 
-    def read(self, size):
+    def read(self, size: int) -> bytes:
         """Returns the next bytes: fewer than `size` at the end of the file only."""
         if size > LONGEST:
             raise ValueError(f'a piece of {size} bytes is in it')
@@ -48,7 +49,7 @@ class Source:
         self.position += len(data)
         return data
 
-    def line(self, most):
+    def line(self, most: int) -> bytes:
         """Returns the next line of at most so many bytes. It has no line feed at the end of the file only."""
         data = b''
         while not data.endswith(b'\n') and len(data) <= most:
@@ -67,15 +68,15 @@ class Source:
 class Peeked(io.RawIOBase):
     """A stream whose first bytes were read already, as that of a pipe, which can't go back."""
 
-    def __init__(self, first, file):
+    def __init__(self, first: bytes, file: Any) -> None:
         super().__init__()
         self.first, self.file = first, file
 
-    def readable(self):
+    def readable(self) -> bool:
         """Returns true: it can be read."""
         return True
 
-    def readinto(self, buffer):
+    def readinto(self, buffer: Any) -> int:
         """Fills a buffer, first with the bytes that were looked at, and returns their number."""
         data = self.first[: len(buffer)] or self.file.read1(len(buffer))
         self.first = self.first[len(data) :]
@@ -83,7 +84,7 @@ class Peeked(io.RawIOBase):
         return len(data)
 
 
-def open_source(path, is_followed=False):
+def open_source(path: str, is_followed: bool = False) -> Source:
     """Returns the source of a path, `-` for standard input. What gzip packed is unpacked. A file that is followed may
     grow."""
     opened = None
