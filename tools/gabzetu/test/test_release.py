@@ -215,10 +215,19 @@ class Release(unittest.TestCase):
             with open(os.path.join(folder, path), 'rb') as file:
                 self.assertEqual(hashlib.sha256(file.read()).hexdigest(), found, path)
 
-    def test_comes_out_the_same_again(self):
+    def test_comes_out_the_same_of_another_clone(self):
+        """Also by a user whose new files only he may read, in another place and time zone."""
         self.check_sums(os.path.dirname(self.made('SHA256SUMS')), 'SHA256SUMS')
-        again = os.path.join(self.holder.name, 'again')
-        self.assertEqual(release(self.top, '-o', again)[0], 0)
+        again, clone = (os.path.join(self.holder.name, it) for it in ('again', 'clone'))
+        mask = os.umask(0o077)
+        try:
+            subprocess.run(['git', 'clone', '-q', self.top, clone], check=True)
+            with mock.patch.dict(os.environ, {'TZ': 'Asia/Tokyo', 'LC_ALL': 'C'}):
+                status, said = release(clone, '-o', again)
+        finally:
+            os.umask(mask)
+        self.assertEqual(status, 0, said)
+        self.assertEqual(sorted(os.listdir(again)), sorted(os.listdir(self.out)))
         for name in os.listdir(self.out):
             with open(os.path.join(self.out, name), 'rb') as one, open(os.path.join(again, name), 'rb') as other:
                 self.assertEqual(one.read(), other.read(), name)
