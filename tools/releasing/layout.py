@@ -130,14 +130,10 @@ def lay_changelog(layout: Layout, commit: Any) -> None:
     layout.write(f'{DOCS}/changelog.gz', gzip.compress(text.encode(), 9, mtime=0))
 
 
-def tag_of(name: str) -> str:
-    """Returns the tag of lintian for a file that isn't stripped, by its name."""
-    return 'unstripped-static-library' if name.endswith('.a') else 'unstripped-binary-or-object'
-
-
 def lay_overrides(layout: Layout, programs: Dict[str, bytes], library: Dict[str, bytes]) -> None:
     """Lays out what lintian is told: the programs are the very files that the gate ran, so nothing is stripped."""
-    rows = [f'gabzetu: {tag_of(name)} [usr/lib/gabzetu/{name}]\n' for name in sorted([*programs, *library])]
+    names = sorted(it for it in [*programs, *library] if not it.endswith('.a'))
+    rows = [f'gabzetu: unstripped-binary-or-object [usr/lib/gabzetu/{name}]\n' for name in names]
     layout.write('share/lintian/overrides/gabzetu', OVERRIDES + ''.join(rows))
 
 
