@@ -7,6 +7,7 @@ import subprocess
 import unittest
 
 from gabzetu.formats import names
+from gabzetu.test import captures
 from gabzetu.test.captures import CODE, block, data, packets_of
 from gabzetu.test.support import Folder, needs_tc, run
 from gabzetu.test.test_open import needs_scapy, needs_tshark
@@ -50,6 +51,14 @@ class Page(Folder):
         words = {row[0]: page['texts'][row[4]] for row in page['frames']}
         wanted = '^data, cluster 0500 Intruder Alarm System Zone, command 00 of the cluster, 5 bytes'
         self.assertRegex(words[13], wanted)
+
+    def test_is_made_of_a_capture_of_daintree(self):
+        with open(self.path('x.dcf'), 'wb') as file:
+            file.write(captures.daintree(packets_of('mixed.pcap')))
+        self.assertEqual(run('explore', self.path('x.dcf'), self.path('page.html'), '--code', CODE).status, 0)
+        run('explore', data('mixed.pcap'), self.path('other.html'), '--code', CODE)
+        page, other = data_of(self.path('page.html')), data_of(self.path('other.html'))
+        self.assertEqual((page['frames'], page['keys']), (other['frames'], other['keys']))
 
     def test_says_what_keys_are_for(self):
         ran = run('explore', data('join.report'), self.path('page.html'), '--code', CODE)
