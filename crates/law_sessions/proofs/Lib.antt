@@ -23,3 +23,4 @@ mod LeftsOfRuns
 mod FirstFound
 mod Done
 mod DoneSince
+mod Heard
