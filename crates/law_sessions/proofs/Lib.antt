@@ -24,3 +24,4 @@ mod FirstFound
 mod Done
 mod DoneSince
 mod Heard
+mod HeardDeeds
