@@ -7,7 +7,7 @@ use Rattle.law_sessions.specs.Runs.{KeepsTables, Run, after_run, commands_of}
 use Rattle.law_sessions.specs.Sessions.{found_after, left_by}
 use Rattle.law_sessions.proofs.FoundAgain.{found_again}
 use Rattle.law_sessions.proofs.Heard.{AreHeard, boot_heard, event_heard, quiet_heard}
-use Rattle.law_sessions.proofs.LogRuns.{opens_real, real_opens}
+use Rattle.law_sessions.proofs.LogRuns.{opens_real}
 use Rattle.law_sessions.proofs.OnDisk.{left_found}
 use Rattle.law_sessions.proofs.RuledSessions.{IsOpen, IsRuledIn, IsWell, found_ruled, line_ruled, no_header, session_kept}
 use Rattle.law_sessions.proofs.SoundTables.{sound_by_rules}
@@ -90,7 +90,7 @@ happened_heard : (number : ℕ) (v : Living) (found : Found) (s : NodeState) (te
     (r : Result Task Cause) → v.tables ≡ Some s → IsWell s → IsOpen v.network → AreHeard terms s
     → IsHeardIn (terms ++ event_accepts v.network s r) found (happened number v s r).after.tables
 happened_heard number v found s terms (Ok task) some well head is =
-    event_heard real real_opens (setting_of v.network) task s terms (sound_by_rules s well.ruled.rules)
+    event_heard real opens_real (setting_of v.network) task s terms (sound_by_rules s well.ruled.rules)
     (omega (arith, head.0.in_block)) is
 happened_heard number v found s terms (Err why) some well head is = open_kept terms found v.tables s some is
 
