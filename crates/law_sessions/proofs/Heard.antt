@@ -14,9 +14,9 @@ use Rattle.law_run.specs.Opening.{Opens}
 use Rattle.law_sessions.proofs.Used.{all_map}
 use Rattle.law_sessions.proofs.Stamps.{all_append}
 use Rattle.law_sessions.specs.Accepts.{AllRise, Rises}
-use Rattle.zb_model.specs.Answer.{Answer, Plan, accepted_all, answer, answer_by, answered, counting_of, plan_of, sealed_all}
+use Rattle.zb_model.specs.Answer.{Answer, accepted_all, answer, answer_by, answered, counting_of, plan_of, sealed_all}
 use Rattle.zb_model.specs.Data.{Bytes, Layer, Nwk, Aps, Task, Term, Edit, Reserve, Floor, Start, Moved}
-use Rattle.zb_model.specs.Rules.{Setting}
+use Rattle.zb_model.specs.Rules.{Plan, Setting}
 use Rattle.zb_model.specs.State.{LinkKey, NetKey, NodeState, SenderFloor, after_accepting, after_boot, after_hearing, after_sealing, applied, applied_all, booted_link, booted_net, is_link, link_kept, live_nets, net_floor, net_kept, next_at, reserved, sealed_at, shown, shown_net, started_at}
 use Rattle.zb_model.specs.Tools.{Tools}
 
@@ -147,17 +147,17 @@ heard_shown Aps c base source s h = h
 
 -- ---- a counter that is taken is above all that were
 
+live_in : (b : Bool) (x r : NetKey) (kept : List NetKey) → x.live ≡ b → (In r kept → r.live ≡ true)
+    → In r (if b then x ∷ kept else kept) → r.live ≡ true
+unfolding In
+live_in true x r kept e more (inl same) = ap (λ (y : NetKey). y.live) (sym same) ∙ e
+live_in true x r kept e more (inr i) = more i
+live_in false x r kept e more i = more i
+
 live_is : (rows : List NetKey) (r : NetKey) → In r (filter (λ (x : NetKey). x.live) rows) → r.live ≡ true
 unfolding In
 live_is [] r i = absurd i
-live_is (x ∷ rows) r i = by_live x.live refl i
-  where
-    by_live : (b : Bool) → x.live ≡ b
-        → In r (if b then x ∷ filter (λ (y : NetKey). y.live) rows else filter (λ (y : NetKey). y.live) rows)
-        → r.live ≡ true
-    by_live true e (inl same) = ap (λ (y : NetKey). y.live) (sym same) ∙ e
-    by_live true e (inr more) = live_is rows r more
-    by_live false e more = live_is rows r more
+live_is (x ∷ rows) r i = live_in x.live x r (filter (λ (y : NetKey). y.live) rows) refl (live_is rows r) i
 
 floor_above : (c d : ℕ) (o : Option SenderFloor) → HoldsOf (Over c) o → IfOf (NotStale d) o → c < d
 unfolding HoldsOf IfOf
@@ -209,9 +209,9 @@ pub record AreHeard (terms : List Term) (s : NodeState) : Type 0 where
   pub rise : AllRise terms
 
 rise_more : (us : List Term) (t : Term) → AllRise us → AllByRecursion (λ u. Rises u t) us → AllRise (us ++ t ∷ [])
-rise_more [] t rise above = (tt, tt)
-rise_more (u ∷ us) t rise above =
-    (all_append (Rises u) us (t ∷ []) rise.0 (above.0, tt), rise_more us t rise.1 above.1)
+rise_more [] t rise over = (tt, tt)
+rise_more (u ∷ us) t rise over =
+    (all_append (Rises u) us (t ∷ []) rise.0 (over.0, tt), rise_more us t rise.1 over.1)
 
 hear_one : (layer : Layer) (t u : Term) (s : NodeState) → t.layer ≡ layer → Takes_ layer t s → IsHeard s u
     → IsHeard (after_accepting t s) u
