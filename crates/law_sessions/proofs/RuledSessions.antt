@@ -78,7 +78,7 @@ answered_role a s =
     ∙ all_accepted_role a.accepts (applied_all a.edits s) ∙ all_applied_role a.edits s
 
 -- a centre with a block of incoming counters, whose nodes have addresses of 64 bits
-record IsHead (c : Setting) : Type 0 where
+pub record IsHead (c : Setting) : Type 0 where
   pub role : c.me.role ≡ Centre
   pub in_block : 1 ≤ c.me.in_block
   pub small : DeclaresSmall c
@@ -354,10 +354,10 @@ IsFoundRuled (Ok None) = ⊤
 IsFoundRuled (Err fault) = ⊤
 
 -- the tables of the session keep both, or what is found does, before it is open
-abbrev IsOpen : Script → Type 0
+abbrev pub IsOpen : Script → Type 0
 IsOpen network = IsHead (setting_of network) × IsHeader network
 
-abbrev IsRuledIn : Found → Option NodeState → Script → Type 0
+abbrev pub IsRuledIn : Found → Option NodeState → Script → Type 0
 IsRuledIn found None network = IsFoundRuled found × HasHead network
 IsRuledIn found (Some s) network = IsWell s × IsOpen network
 
@@ -441,7 +441,7 @@ stage_ruled number found (Some s) (Some said) v some fits is =
     (on_stage number found o said v).after.network) (sym some)
     (open_ruled number found s said v some fits is.0 is.1)
 
-line_ruled : (found : Found) (line : Bytes) (v : Living) → IsRuledIn found v.tables v.network
+pub line_ruled : (found : Found) (line : Bytes) (v : Living) → IsRuledIn found v.tables v.network
     → IsRuledIn found (done found line v).after.tables (done found line v).after.network
 unfolding done
 line_ruled found line v is =
@@ -486,7 +486,7 @@ store_ruled None = tt
 store_ruled (Some z) = tables_ruled (state_given Centre z.content (concat z.payloads))
     (given_ruled z.content (concat z.payloads))
 
-found_ruled : (image : List ℕ) → IsFoundRuled (found_on image)
+pub found_ruled : (image : List ℕ) → IsFoundRuled (found_on image)
 unfolding found_on
 found_ruled [] = tt
 found_ruled (byte ∷ bytes) = store_ruled (stands (byte ∷ bytes))
@@ -496,7 +496,7 @@ are_kept found None network is = tt
 are_kept found (Some s) network is =
     record { rules = is.0.ruled.rules; forgets = is.0.ruled.forgets; widths = is.0.fits }
 
-no_header : has_centre start ≡ true → IsHeader start
+pub no_header : has_centre start ≡ true → IsHeader start
 no_header some = absurd (false≢true some)
 
 after_ruled : (image : List ℕ) (lines : List Bytes)
