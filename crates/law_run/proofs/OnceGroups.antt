@@ -266,7 +266,8 @@ heard-nwk-links : (t u : Term) (s : NodeState) → Takes_ Aps u s
 unfolding TakesAt after_hearing
 heard-nwk-links t u s h = h
 
-pub accept-keeps-aps : (t u : Term) → t.layer ≡ Nwk → (s : NodeState) → Takes_ Aps u s → Takes_ Aps u (after_accepting t s)
+pub accept-keeps-aps : (t u : Term) → t.layer ≡ Nwk → (s : NodeState) → Takes_ Aps u s → Takes_ Aps u
+    (after_accepting t s)
 unfolding after_accepting
 accept-keeps-aps t u e s h = subst (λ l. Takes_ Aps u (after_hearing l t.base t.source t.counter s)) (sym e)
     (heard-nwk-links t u s h)

@@ -116,7 +116,8 @@ heard_sealed : (layer of : Layer) (c : ℕ) (base : Bytes) (source : ℕ) (t : T
 unfolding HeardAt
 heard_sealed Nwk Nwk c base source t s h =
     on-at (RowHeard c source) (next_at (t.counter + 1))
-    (heard_row c source (next_at (t.counter + 1)) (record { key = λ r. refl; kept = λ r h. h }) (λ r. refl)) t.base base
+    (heard_row c source (next_at (t.counter + 1)) (record { key = λ r. refl; kept = λ r h. h }) (λ r. refl)) t.base
+    base
     s.nets h
 heard_sealed Nwk Aps c base source t s h = h
 heard_sealed Aps Nwk c base source t s h = h
@@ -133,7 +134,8 @@ heard_boot : (layer : Layer) (c : ℕ) (base : Bytes) (source : ℕ) (s : NodeSt
     → HeardAt layer c base source (after_boot s)
 unfolding HeardAt after_boot
 heard_boot Nwk c base source s h =
-    on-map (RowHeard c source) booted_net (heard_row c source booted_net (over-booted c source) (λ r. refl)) base s.nets
+    on-map (RowHeard c source) booted_net (heard_row c source booted_net (over-booted c source) (λ r. refl)) base
+    s.nets
     h
 heard_boot Aps c base source s h = finds-map (LinkOver c) (LinkOver c) (is_link source base) booted_link (λ r. refl)
     (λ r p. (p.1, p.1)) s.links h
@@ -278,7 +280,8 @@ accepts_heard c s p (t ∷ u ∷ []) used sound block is (i, j) h =
     (rise_more used t h.rise (all_above s used t Nwk sound i h.heard))
     (all_append (λ v. Rises v u) used (t ∷ []) (all_above s used u Aps sound j h.heard)
     (differ_rise t u i.at j.at, tt)) in (
-      subst (AllByRecursion (IsHeard (after_accepting u (after_accepting t here)))) (append_assoc used (t ∷ []) (u ∷ []))
+      subst (AllByRecursion (IsHeard (after_accepting u (after_accepting t here)))) (append_assoc used (t ∷ []) (u ∷
+      []))
           second,
       subst AllRise (append_assoc used (t ∷ []) (u ∷ [])) rise,
     )

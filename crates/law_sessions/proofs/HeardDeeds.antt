@@ -228,7 +228,8 @@ deed_heard image (Lived x) terms is heard =
     (session_kept image x.lines) is))
     (session_heard image x.lines terms heard)
 deed_heard image (Ran r) terms (script, is) heard =
-    subst (λ ts. IsFoundHeard ts (found_on r.left)) (sym (append-nil terms)) (run_heard r (found_on image) terms is heard)
+    subst (λ ts. IsFoundHeard ts (found_on r.left)) (sym (append-nil terms)) (run_heard r (found_on image) terms is
+    heard)
 
 deeds_heard : (image : List ℕ) (deeds : List Deed) (terms : List Term) → AreDeeds image deeds
     → IsFoundHeard terms (found_on image)

@@ -36,6 +36,7 @@ keys_one keys = record { each = first_only }
 pub keys_more : (n : ℕ) (keys : List (List ℕ)) (next : List ℕ) → n < 10 → length keys ≡ 11 → AreRoundKeys (n + 1) keys
     → map byte_of next ≡ next_key (byte_of (get_or CONSTANTS n 0)) (key_at keys n)
     → AreRoundKeys (n + 1 + 1) (set keys (n + 1) next) × (key_at (set keys (n + 1) next) 0 ≡ key_at keys 0)
+    × (next ≡ get_or (set keys (n + 1) next) (n + 1) [])
 keys_more n keys next few long before e =
     let other : 0 ≢ n + 1 = omega arith in
     let first : key_at (set keys (n + 1) next) 0 ≡ key_at keys 0 =
@@ -54,6 +55,7 @@ keys_more n keys next few long before e =
             (n + 1) below here;
       },
       first,
+      sym (get_or-set_same keys (n + 1) next _ (omega arith)),
     )
 
 state_after-zero : (key block : List ℕ) → state_after key block 0 ≡ xored block key

@@ -49,14 +49,14 @@ pub fn last_round(state: u8x16, key: &[u8; 16]) -> u8x16
 }
 
 /// Returns the round key after this one, with the constant of its round as a pair.
-pub fn next_key(constant: u8, key: &[u8; 16]) -> [u8; 16]
-    ensures { map byte_of result ≡ next_key (byte_of constant) (map byte_of key.now) }
+#[inline(always)]
+pub fn next_key(constant: u8, key: u8x16) -> u8x16
+    ensures { map byte_of result ≡ next_key (byte_of constant) (map byte_of key) }
 {
     let zeros = u8x16::splat(0);
-    let one = u8x16::from_array(*key);
-    let two = one
+    let two = key
         ^ zeros.shuffle(
-            one,
+            key,
             [0, 0, 0, 0, 16, 17, 18, 19, 20, 21, 22, 23, 24, 25, 26, 27],
         );
     let four = two
@@ -64,10 +64,10 @@ pub fn next_key(constant: u8, key: &[u8; 16]) -> [u8; 16]
             two,
             [0, 0, 0, 0, 0, 0, 0, 0, 16, 17, 18, 19, 20, 21, 22, 23],
         );
-    let turned = substituted(one).swizzle([
+    let turned = substituted(key).swizzle([
         13, 14, 15, 12, 13, 14, 15, 12, 13, 14, 15, 12, 13, 14, 15, 12,
     ]);
     let c = constant;
     let constants = u8x16::from_array([c, 0, 0, 0, c, 0, 0, 0, c, 0, 0, 0, c, 0, 0, 0]);
-    (four ^ (turned ^ constants)).to_array()
+    four ^ (turned ^ constants)
 }

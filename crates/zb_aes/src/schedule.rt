@@ -37,9 +37,11 @@ impl Cipher {
     pub fn new(key: &[u8; 16]) -> Cipher
         ensures { result ≡ key.now }
     {
-        let mut keys = [pairs(u8x16::from_array(*key)).to_array(); 11];
+        let mut last = pairs(u8x16::from_array(*key));
+        let mut keys = [last.to_array(); 11];
         for i in 0..10 {
-            keys[i + 1] = next_key(CONSTANTS[i], &keys[i]);
+            last = next_key(CONSTANTS[i], last);
+            keys[i + 1] = last.to_array();
         }
         Cipher { keys }
     }
