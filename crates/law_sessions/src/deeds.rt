@@ -35,9 +35,10 @@ pub fn no_counter_comes_twice_in_a_life()
         → AreRestored (store_on image deeds ∷ []) more → AreApart real (life_seals image deeds more) }
 {}
 
-/// States that the centre accepts no counter of a sender twice, in any sessions and runs of `admin` on one store.
+/// States that the centre accepts no counter of a sender twice on one store.
 ///
-/// Of two terms that it accepts of one layer, base key and source, the later one has the greater counter. Headers may
+/// That is in any sessions and runs of `admin`. Of two terms that it accepts of one layer, base key and source, the later
+/// one has the greater counter. Headers may
 /// grow and change, and each deed begins on the image that the one before left.
 pub fn no_counter_is_accepted_twice_on_one_store()
     ensures { (image : List ℕ) (deeds : List Deed) → AreDeeds image deeds → AllRise (all_accepts image deeds) }
