@@ -307,7 +307,8 @@ class Live(Folder):
         command = [sys.executable, os.path.join(TOP, 'gabzetu'), 'open', *words, '--code', CODE, '--follow', '--json']
         # a shell lets what it runs in the background ignore interrupts
         heed = functools.partial(signal.signal, signal.SIGINT, signal.SIG_DFL)
-        how = {'stdout': subprocess.PIPE, 'stderr': subprocess.PIPE, 'preexec_fn': heed, **how}
+        # no buffer: what one reader takes into it another one misses
+        how = {'stdout': subprocess.PIPE, 'stderr': subprocess.PIPE, 'preexec_fn': heed, 'bufsize': 0, **how}
         process = subprocess.Popen(command, **how)
         self.addCleanup(process.wait)
         self.addCleanup(process.kill)
