@@ -37,8 +37,8 @@ pub fn no_counter_comes_twice_in_a_life()
 
 /// States that the centre accepts no counter of a sender twice on one store.
 ///
-/// That is in any sessions and runs of `admin`. Of two terms that it accepts of one layer, base key and source, the later
-/// one has the greater counter. Headers may
+/// That is in any sessions and runs of `admin`. Of two terms that it accepts of one layer, base key and source, the
+/// later one has the greater counter. Headers may
 /// grow and change, and each deed begins on the image that the one before left.
 pub fn no_counter_is_accepted_twice_on_one_store()
     ensures { (image : List ℕ) (deeds : List Deed) → AreDeeds image deeds → AllRise (all_accepts image deeds) }
