@@ -205,15 +205,6 @@ disk_not_worn tells host store content payload old new f is disk commit worn =
     (sym (ap (λ (g : StoreFault). Err g) disk) ∙ commit.worn worn.0
     (ap (λ (p : Place). p.generation) (some_is store worn.1.0 host.store is worn.1.1) ∙ worn.1.2)) tt
 
--- a commit has two faults alone
-pub of_commit : (whole : Bool) (store : Place) (old new : View) (f : StoreFault) → IsCommitFault whole store old new f
-    → (g : RecordFault) × IsOfCommit f g
-of_commit whole store old new Disk fault = (host.Disk, refl)
-of_commit whole store old new NoRecord fault = absurd fault
-of_commit whole store old new (TooLarge len) fault = absurd fault
-of_commit whole store old new NoMemory fault = absurd fault
-of_commit whole store old new Worn fault = (host.Worn, refl)
-
 -- why changes weren't stored, by the fault of the store
 abbrev IsDisks : RecordFault → Type 0
 IsDisks host.Disk = Unit {0}
