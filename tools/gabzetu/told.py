@@ -21,12 +21,12 @@ STATUSES = {
     3: 'the input could not be read to its end',
     4: 'the output could not be written to its end',
     6: 'tc is out of memory',
-    7: 'the store could not be read or written, or another process has it open. What came out as `ok` is stored; '
-    'run the rest of the script again',
+    7: 'the store could not be read or written. What came out as `ok` is stored; run the rest of the script again',
     8: 'there is no store in this file: no slot of it is open. The file is as it was',
     9: 'the input is longer than 16,777,216 bytes, and tc reads no more than that',
     11: 'the store holds no record of a centre; the number is the place of the fault. The file is as it was',
     12: 'the store is worn: its generation is at its end, and nothing more can be stored in it',
+    13: 'another process has the store open. The file is as it was; run it again when that process has ended',
 }
 
 

@@ -18,7 +18,7 @@ DESCRIPTION = """Carries out the commands of a script on the store in the file S
 
 Each line comes out when what its command changed is stored. So OUT is written line by line, and keeps what came out
 also where a later command fails. A new STORE and OUT hold keys: only their owner may read them. tc locks STORE while
-it runs. A second run at the same time ends with `store fault` and changes nothing."""
+it runs. A second run at the same time ends with `busy` and changes nothing."""
 
 KINDS = (b'net ', b'link ', b'send ', b'ok ', b'refuse ', b'{')
 WARNING = b'tc: others may read or write '
