@@ -10,7 +10,7 @@ use Rattle.zb_live.specs.Events.{task_for}
 use Rattle.zb_live.specs.Living.{Found, Living, counted, declared, done, fresh, happened, next, on_header, on_meaning, on_open, on_stage, opened, refused, served, setting_of}
 use Rattle.zb_live.specs.Shown.{event_lines}
 use Rattle.zb_live.specs.Grammar.{meaning_of}
-use Rattle.zb_live.specs.Said.{Sentence, Quiet, Founds, Introduces, Logs, Opens, Happens, Lists, BacksUp}
+use Rattle.zb_live.specs.Said.{Sentence, Quiet, Founds, Introduces, Logs, Opens, Happens, Asks}
 use Rattle.zb_live.specs.declared.cause.Cause.{Cause}
 use Rattle.zb_live.specs.declared.cause.Cause.TheVariants as cause
 use Rattle.zb_model.specs.Answer.{Answer, answer}
@@ -77,8 +77,7 @@ open_goes number v c s (Logs log) some same = record { lines = refl; tables = so
 open_goes number v c s Opens some same = record { lines = refl; tables = some; network = refl }
 open_goes number v c s (Happens event) some same =
     happened_goes number v c s (task_for v.network.stations event) some same
-open_goes number v c s Lists some same = record { lines = refl; tables = some; network = refl }
-open_goes number v c s BacksUp some same = record { lines = refl; tables = some; network = refl }
+open_goes number v c s (Asks question) some same = record { lines = refl; tables = some; network = refl }
 
 meaning_goes : (number : ℕ) (found : Found) (v : Living) (c : Setting) (s : NodeState) (m : Option Sentence)
     → v.tables ≡ Some s → setting_of v.network ≡ c
@@ -158,8 +157,7 @@ header_begun number v t Opens none = by_centre (has_centre v.network)
     by_centre true = inr refl
     by_centre false = inl none
 header_begun number v t (Happens event) none = inl none
-header_begun number v t Lists none = inl none
-header_begun number v t BacksUp none = inl none
+header_begun number v t (Asks question) none = inl none
 
 meaning_begun : (number : ℕ) (v : Living) (t : NodeState) (m : Option Sentence) → v.tables ≡ None
     → IsBegun t (on_meaning number (holding t) m v).after.tables

@@ -21,7 +21,7 @@ use Rattle.zb_centre_store.specs.declared.fault.AdminFault.TheVariants.{BadStore
 use Rattle.zb_live.specs.Events.{provided, task_for, with_node}
 use Rattle.zb_live.specs.Living.{Found, Living, counted, declared, done, first_station, fresh, happened, next, on_header, on_meaning, on_open, on_stage, opened, refused, served, setting_of, station}
 use Rattle.zb_live.specs.Grammar.{meaning_of}
-use Rattle.zb_live.specs.Said.{Event, Delivers, Adopts, Ticks, Says, Provisions, Removes, Rolls, Switches, Repeats, Shares, Sentence, Quiet, Founds, Introduces, Logs, Opens, Happens, Lists, BacksUp}
+use Rattle.zb_live.specs.Said.{Event, Delivers, Adopts, Ticks, Says, Provisions, Removes, Rolls, Switches, Repeats, Shares, Sentence, Quiet, Founds, Introduces, Logs, Opens, Happens, Asks}
 use Rattle.zb_live.specs.declared.cause.Cause.{Cause}
 use Rattle.zb_live.specs.declared.cause.Cause.TheVariants as cause
 use Rattle.zb_model.specs.Answer.{Answer, accepted_all, answer, answered, sealed_all}
@@ -381,8 +381,7 @@ header_ruled number found Opens v none fits is first = by_centre (has_centre v.n
     by_centre true some = opened_ruled number v found none is first some
     by_centre false some = closed_ruled found v.tables v.network none is first
 header_ruled number found (Happens event) v none fits is first = closed_ruled found v.tables v.network none is first
-header_ruled number found Lists v none fits is first = closed_ruled found v.tables v.network none is first
-header_ruled number found BacksUp v none fits is first = closed_ruled found v.tables v.network none is first
+header_ruled number found (Asks question) v none fits is first = closed_ruled found v.tables v.network none is first
 
 open_still : (found : Found) (o : Option NodeState) (s : NodeState) (network : Script) → o ≡ Some s → IsWell s
     → IsOpen network → IsRuledIn found o network
@@ -409,8 +408,7 @@ open_ruled number found s Opens v some fits is head = open_still found v.tables 
 open_ruled number found s (Happens event) v some fits is head =
     happened_ruled number found v s (task_for v.network.stations event) some
     (task_fits v.network.stations event head.1.euis fits) is head
-open_ruled number found s Lists v some fits is head = open_still found v.tables s v.network some is head
-open_ruled number found s BacksUp v some fits is head = open_still found v.tables s v.network some is head
+open_ruled number found s (Asks question) v some fits is head = open_still found v.tables s v.network some is head
 
 -- the same of a line whose session has these tables, or isn't open
 stage_ruled : (number : ℕ) (found : Found) (o : Option NodeState) (m : Option Sentence) (v : Living) → v.tables ≡ o

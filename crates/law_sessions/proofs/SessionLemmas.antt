@@ -14,7 +14,7 @@ use Rattle.zb_centre_store.specs.declared.fault.AdminFault.TheVariants.{BadStore
 use Rattle.zb_live.specs.Events.{task_for}
 use Rattle.zb_live.specs.Living.{Found, Living, counted, declared, done, first_station, fresh, happened, next, on_header, on_meaning, on_open, on_stage, opened, refused, served, setting_of}
 use Rattle.zb_live.specs.Grammar.{meaning_of}
-use Rattle.zb_live.specs.Said.{Sentence, Quiet, Founds, Introduces, Logs, Opens, Happens, Lists, BacksUp}
+use Rattle.zb_live.specs.Said.{Sentence, Quiet, Founds, Introduces, Logs, Opens, Happens, Asks}
 use Rattle.zb_live.specs.declared.cause.Cause.{Cause}
 use Rattle.zb_live.specs.declared.cause.Cause.TheVariants as cause
 use Rattle.zb_model.specs.Data.{Bytes, Centre, Task, Term}
@@ -171,8 +171,7 @@ header_used number found sentence v used none is block = by sentence
     by (Logs log) = same
     by Opens = by_centre (has_centre v.network) refl
     by (Happens event) = same
-    by Lists = same
-    by BacksUp = same
+    by (Asks question) = same
 
 -- ---- once it is open
 
@@ -204,8 +203,7 @@ open_used number found s sentence v used some is block = by sentence
     by (Logs log) = same
     by Opens = same
     by (Happens event) = happened_used number v found s used (task_for v.network.stations event) some is block
-    by Lists = same
-    by BacksUp = same
+    by (Asks question) = same
 
 -- ---- a line
 

@@ -11,7 +11,7 @@ use Rattle.zb_centre_store.specs.Standing.{found_on}
 use Rattle.zb_live.specs.Events.{task_for}
 use Rattle.zb_live.specs.Living.{Found, Living, done, fresh, setting_of}
 use Rattle.zb_live.specs.Grammar.{meaning_of}
-use Rattle.zb_live.specs.Said.{Sentence, Quiet, Founds, Introduces, Logs, Opens, Happens, Lists, BacksUp}
+use Rattle.zb_live.specs.Said.{Sentence, Quiet, Founds, Introduces, Logs, Opens, Happens, Asks}
 use Rattle.zb_live.specs.declared.cause.Cause.{Cause}
 use Rattle.zb_model.specs.Answer.{Counting, answer, answer_by, counting_of, framed, may_seal, nothing_out, out_of, part_of, plan_of, sending_of, sent}
 use Rattle.zb_model.specs.Claims.{AreApart, nonce, stamp}
@@ -125,8 +125,7 @@ meaning_form network (Some s) (Some (Introduces name role eui short)) = tt
 meaning_form network (Some s) (Some (Logs log)) = tt
 meaning_form network (Some s) (Some Opens) = tt
 meaning_form network (Some s) (Some (Happens event)) = event_form network s (task_for network.stations event)
-meaning_form network (Some s) (Some Lists) = tt
-meaning_form network (Some s) (Some BacksUp) = tt
+meaning_form network (Some s) (Some (Asks question)) = tt
 
 line_form : (line : Bytes) (v : Living) → AllByRecursion HasForm (line_seals line v)
 unfolding line_seals

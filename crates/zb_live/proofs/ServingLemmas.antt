@@ -31,7 +31,7 @@ use Rattle.zb_live.specs.WholeLines.{whole_lines}
 use Rattle.zb_live.specs.declared.fault.LiveFault.{LiveFault}
 use Rattle.zb_live.specs.declared.fault.LiveFault.TheVariants.{Read, TooLong, Write, Disk, NoStore, BadStore, Worn, NoMemory}
 use Rattle.zb_live.specs.Grammar.{meaning_of}
-use Rattle.zb_live.specs.Said.{Sentence, Quiet, Founds, Introduces, Logs, Opens, Happens, Lists, BacksUp}
+use Rattle.zb_live.specs.Said.{Sentence, Quiet, Founds, Introduces, Logs, Opens, Happens, Asks}
 use Rattle.zb_live.specs.declared.cause.Cause.{Cause}
 use Rattle.zb_model.specs.Data.{Bytes, Task}
 use Rattle.zb_model.specs.State.{NodeState}
@@ -74,8 +74,7 @@ open_stays number s (Introduces name role eui short) v some = some
 open_stays number s (Logs log) v some = some
 open_stays number s Opens v some = some
 open_stays number s (Happens event) v some = happened_stays number v s (task_for v.network.stations event) some
-open_stays number s Lists v some = some
-open_stays number s BacksUp v some = some
+open_stays number s (Asks question) v some = some
 
 stage_stays : (number : ℕ) (found : Found) (o : Option NodeState) (sentence : Sentence) (v : Living) → is_some o
     ≡ true → is_some v.tables ≡ true → is_some (on_stage number found o sentence v).after.tables ≡ true

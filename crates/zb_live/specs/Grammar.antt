@@ -9,7 +9,8 @@ use Rattle.zb_sched_line.specs.Grammar.{◌>>=◌, is_quiet, name_alone, or_else
 use Rattle.zb_script.specs.Grammar as script
 use Rattle.zb_script.specs.Said as said
 use Rattle.zb_live.specs.declared.line.Log.TheVariants.{All, NoKeys}
-use Rattle.zb_live.specs.Said.{Bytes, Event, Delivers, Adopts, Ticks, Says, Provisions, Removes, Rolls, Switches, Repeats, Shares, Sentence, Quiet, Founds, Introduces, Logs, Opens, Happens, Lists, BacksUp}
+use Rattle.zb_live.specs.declared.question.Question.TheVariants as question
+use Rattle.zb_live.specs.Said.{Bytes, Event, Delivers, Adopts, Ticks, Says, Provisions, Removes, Rolls, Switches, Repeats, Shares, Sentence, Quiet, Founds, Introduces, Logs, Opens, Happens, Asks}
 use Rattle.zb_base.specs.Limits.{longest_frame, longest_content}
 
 -- ---- events, after their first word
@@ -103,8 +104,8 @@ scripted (said.Introduces name role eui short) = Some (Introduces name role eui 
 scripted (said.Begins key) = None
 scripted (said.Provisions name code) = Some (Happens (Provisions name code))
 scripted (said.Removes name parent) = Some (Happens (Removes name parent))
-scripted said.Lists = Some Lists
-scripted said.BacksUp = Some BacksUp
+scripted said.Lists = Some (Asks question.List)
+scripted said.BacksUp = Some (Asks question.Backup)
 scripted (said.Restores skip json) = None
 
 abbrev pub scripted_in : Option said.Sentence → Option Sentence

@@ -5,6 +5,7 @@ pub mod Living
 pub mod Alive
 pub mod Happening
 pub mod Said
+pub mod Questions
 pub mod Grammar
 pub mod Views
 pub mod Answers

@@ -1,14 +1,13 @@
 -- A session: what stands of it between two lines, and what a line does to it and writes.
 use Rattle.std.specs.Prelude.{ℕ, ◌≡◌, ◌≢◌, ◌+◌, ◌++◌, min, if◌then◌else◌, is_some, map, List, [], ◌∷◌, Option, Some, None, Result, Ok, Err}
-use Rattle.zb_backup.specs.Format.{backup_text}
 use Rattle.zb_centre_store.specs.Calls.{tables_after}
-use Rattle.zb_centre_store.specs.Rows.{listed}
 use Rattle.zb_centre_store.specs.declared.fault.AdminFault.{AdminFault}
 use Rattle.zb_live.specs.Events.{task_for}
 use Rattle.zb_live.specs.Shown.{event_lines, shown_text}
 use Rattle.zb_live.specs.Answers.{ok_text, refused_text}
 use Rattle.zb_live.specs.Grammar.{meaning_of}
-use Rattle.zb_live.specs.Said.{Event, Sentence, Quiet, Founds, Introduces, Logs, Opens, Happens, Lists, BacksUp}
+use Rattle.zb_live.specs.Questions.{question_text}
+use Rattle.zb_live.specs.Said.{Event, Sentence, Quiet, Founds, Introduces, Logs, Opens, Happens, Asks}
 use Rattle.zb_live.specs.declared.cause.Cause.{Cause}
 use Rattle.zb_live.specs.declared.cause.Cause.TheVariants as cause
 use Rattle.zb_live.specs.declared.line.Log.{Log}
@@ -26,7 +25,6 @@ use Rattle.zb_script.specs.Scripts as script
 use Rattle.zb_script.specs.Scripts.{Script}
 use Rattle.zb_script.specs.declared.error.ScriptCause.{ScriptCause}
 use Rattle.zb_script.specs.declared.error.ScriptCause.TheVariants.{Syntax, DuplicateNode, Block, UnknownNode, BadCode, Backup, TooMany, NoCentre}
-use Rattle.zb_text.specs.Pages.{ended, page}
 use Rattle.zb_base.specs.Limits.{greatest_count}
 
 -- ---- the header
@@ -124,8 +122,7 @@ on_header number found (Logs log) v = confirmed number (record v { log = log })
 on_header number found Opens v = if has_centre v.network then opened number found v
     else refused number cause.NoCentre v
 on_header number found (Happens event) v = refused number cause.Closed v
-on_header number found Lists v = refused number cause.Closed v
-on_header number found BacksUp v = refused number cause.Closed v
+on_header number found (Asks question) v = refused number cause.Closed v
 
 -- ---- once it is open
 
@@ -161,8 +158,7 @@ on_open number s (Introduces name role eui short) v = refused number cause.Opene
 on_open number s (Logs log) v = refused number cause.Opened v
 on_open number s Opens v = refused number cause.Opened v
 on_open number s (Happens event) v = happened number v s (task_for v.network.stations event)
-on_open number s Lists v = record { text = page (listed s) ++ ok_text number; after = v }
-on_open number s BacksUp v = record { text = ended (backup_text s) ++ ok_text number; after = v }
+on_open number s (Asks question) v = record { text = question_text question s ++ ok_text number; after = v }
 
 -- ---- a line
 

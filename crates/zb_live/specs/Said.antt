@@ -4,6 +4,7 @@ use Rattle.std.specs.Prelude.{◌≡◌, ℕ, List, Bool, true, Option, ⊤}
 use Rattle.zb_base.specs.declared.node.Role.{Role}
 use Rattle.zb_script.specs.Grammar.{is_joiner}
 use Rattle.zb_live.specs.declared.line.Log.{Log}
+use Rattle.zb_live.specs.declared.question.Question.{Question}
 
 abbrev pub Bytes : Type 0
 Bytes = List ℕ
@@ -38,10 +39,9 @@ pub data Sentence : Type 0 where
   Introduces : (name : Bytes) (role : Role) (eui short : ℕ) → Sentence
   Logs : (log : Log) → Sentence
   Opens : Sentence
-  -- an event of the centre, what is kept, and its backup
+  -- an event of the centre, and a question, which changes nothing
   Happens : (event : Event) → Sentence
-  Lists : Sentence
-  BacksUp : Sentence
+  Asks : (question : Question) → Sentence
 
 -- A peer is a router or a device.
 abbrev pub Joins : Sentence → Type 0
@@ -51,5 +51,4 @@ Joins (Introduces name role eui short) = is_joiner role ≡ true
 Joins (Logs log) = ⊤
 Joins Opens = ⊤
 Joins (Happens event) = ⊤
-Joins Lists = ⊤
-Joins BacksUp = ⊤
+Joins (Asks question) = ⊤

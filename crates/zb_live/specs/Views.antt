@@ -2,7 +2,7 @@
 use Rattle.std.specs.Prelude.{Option}
 use Rattle.std.specs.Option.{option_map}
 use Rattle.zb_base.specs.declared.key.Key.{Key}
-use Rattle.zb_live.specs.Said.{Bytes, Event, Delivers, Adopts, Ticks, Says, Provisions, Removes, Rolls, Switches, Repeats, Shares, Sentence, Quiet, Founds, Introduces, Logs, Opens, Happens, Lists, BacksUp}
+use Rattle.zb_live.specs.Said.{Bytes, Event, Delivers, Adopts, Ticks, Says, Provisions, Removes, Rolls, Switches, Repeats, Shares, Sentence, Quiet, Founds, Introduces, Logs, Opens, Happens, Asks}
 use Rattle.zb_live.specs.declared.line_event.Event.{Event as CodeEvent}
 use Rattle.zb_live.specs.declared.line_event.Event.TheVariants as event
 use Rattle.zb_live.specs.declared.line.Line.{Line}
@@ -31,5 +31,4 @@ sentence_of (line.Peer peer) = Introduces peer.name.bytes peer.role peer.eui.0 p
 sentence_of (line.Log log) = Logs log
 sentence_of line.Open = Opens
 sentence_of (line.Event event) = Happens (event_of event)
-sentence_of line.List = Lists
-sentence_of line.Backup = BacksUp
+sentence_of (line.Show question) = Asks question

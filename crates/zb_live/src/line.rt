@@ -11,6 +11,7 @@ ghost use Rattle.zb_script.specs.Views.{sentence_of as script_sentence};
 ghost use Rattle.zb_sched_line.specs.Grammar.{is_quiet};
 
 use crate::line_event::{Event, read_event};
+use crate::question::Question;
 use zb_base::{Eui, Name, Peer};
 use zb_script::{Line as ScriptLine, read_line as read_script_line};
 use zb_text::words::Words;
@@ -48,10 +49,11 @@ pub enum Line {
         /// The event.
         event: Event,
     },
-    /// `list`: what is kept is shown.
-    List,
-    /// `backup`: the backup is shown.
-    Backup,
+    /// A question: something of the tables is shown.
+    Show {
+        /// What is shown.
+        question: Question,
+    },
 }
 
 /// Which lines of an event are answered.
@@ -163,8 +165,12 @@ fn shared_line(line: ScriptLine) -> Option<Line>
         ScriptLine::Remove { name, parent } => Some(Line::Event {
             event: Event::Remove { name, parent },
         }),
-        ScriptLine::List => Some(Line::List),
-        ScriptLine::Backup => Some(Line::Backup),
+        ScriptLine::List => Some(Line::Show {
+            question: Question::List,
+        }),
+        ScriptLine::Backup => Some(Line::Show {
+            question: Question::Backup,
+        }),
         ScriptLine::Blank | ScriptLine::Init { .. } | ScriptLine::Restore { .. } => None,
     }
 }

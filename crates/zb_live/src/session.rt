@@ -1,10 +1,8 @@
 //! A session: what each line does to it.
 ghost use Rattle.std.specs.Prelude.{◌≡◌, ◌≢◌, ◌≤◌, ◌++◌, [], ℕ, List, None, Some, Ok, Err, is_some, true, IsTrue, OnOk, IfErr, IfOk};
-ghost use Rattle.zb_backup.specs.Format.{backup_text};
 ghost use Rattle.zb_base.specs.Outside.{Unrisen};
 ghost use Rattle.zb_centre_store.specs.Tasks.{task_of};
 ghost use Rattle.zb_centre_store.specs.Calls.{IsShort};
-ghost use Rattle.zb_centre_store.specs.Rows.{listed};
 ghost use Rattle.zb_centre_store.specs.Standing.{IsUp};
 ghost use Rattle.zb_disk.specs.View.{IsStill};
 ghost use Rattle.zb_live.specs.Alive.{CanGoOn, HasFollowed, HasSaid, HasTaken, IsAlive, IsDeclared, IsLineFault, answer_text, done_by, living_of};
@@ -13,7 +11,8 @@ ghost use Rattle.zb_live.specs.Living.{Found, cause_of, done, fresh, next as nex
 ghost use Rattle.zb_live.specs.Shown.{Prints, event_lines};
 ghost use Rattle.zb_live.specs.Answers.{ok_text, refused_text};
 ghost use Rattle.zb_live.specs.Grammar.{meaning_of};
-ghost use Rattle.zb_live.specs.Said.{Founds, Introduces, Logs, Opens, Happens, Lists, BacksUp, Joins};
+ghost use Rattle.zb_live.specs.Questions.{question_text};
+ghost use Rattle.zb_live.specs.Said.{Founds, Introduces, Logs, Opens, Happens, Asks, Joins};
 ghost use Rattle.zb_live.specs.Views.{event_of, sentence_of};
 ghost use Rattle.zb_model.specs.Answer.{Answer, answer};
 ghost use Rattle.zb_model.specs.Data.{Station};
@@ -23,18 +22,16 @@ ghost use Rattle.zb_model_real.specs.Real.{real};
 ghost use Rattle.zb_plan.specs.Answers.{IsAnswer};
 ghost use Rattle.zb_script.specs.Grammar.{is_joiner};
 ghost use Rattle.zb_script.specs.Judge.{has_centre};
-ghost use Rattle.zb_text.specs.Pages.{ended, page as page_of};
 ghost use Rattle.zb_trace.specs.Views.{the_centre};
 ghost use Rattle.zb_trace_model.specs.Naming.{IsCalled};
 
 use crate::event::event_for;
+use crate::question::{Question, put_asked};
 use crate::telling::{Place, put_event};
 use crate::{Cause, Event, Line, Log, put_ok, put_refused, read_line};
 use std::alloc::Global;
 use zb_base::{Eui, Name, OrMemory, Peer};
-use zb_centre_store::{
-    AdminFault, Centre, CentreEvent, centre_tables, handle, judge, put_backup, put_tables,
-};
+use zb_centre_store::{AdminFault, Centre, CentreEvent, centre_tables, handle, judge};
 use zb_disk::Disk;
 use zb_host::{Host, Outcome, Plan};
 use zb_keys::Tables;
@@ -94,30 +91,20 @@ fn refuse(page: &mut Vec<u8>, number: u32, cause: Cause) -> Result<(), AdminFaul
     Ok(())
 }
 
-// Prints what tables hold.
+// Prints what a question shows of tables.
 #[tactic(auto, using(std::proofs::Common::append_assoc))]
-fn show(page: &mut Vec<u8>, number: u32, tables: &Tables) -> Result<(), AdminFault>
-    ensures text { OnOk result (page.new.items ≡ page.old.items ++ (page_of (listed tables.now) ++ ok_text number)) }
-    ensures short { IsShort result }
-{
-    put_tables(page, tables)?;
-    confirm(page, number)?;
-    Ok(())
-}
-
-// Prints the backup of tables.
-#[tactic(auto, using(std::proofs::Common::append_assoc))]
-fn show_backup(
+fn show(
     alloc: Global,
     page: &mut Vec<u8>,
     number: u32,
+    question: Question,
     tables: &Tables,
 ) -> Result<(), AdminFault>
     ensures text { OnOk result
-        (page.new.items ≡ page.old.items ++ (ended (backup_text tables.now) ++ ok_text number)) }
+        (page.new.items ≡ page.old.items ++ (question_text question tables.now ++ ok_text number)) }
     ensures short { IsShort result }
 {
-    put_backup(alloc, page, tables)?;
+    put_asked(alloc, page, question, tables)?;
     confirm(page, number)?;
     Ok(())
 }
@@ -354,26 +341,20 @@ impl Session {
         }
     }
 
-    // Shows what the tables of the centre hold.
-    fn list(&self, number: u32, page: &mut Vec<u8>) -> Result<(), AdminFault>
+    // Takes a question about the tables of the centre.
+    fn take_question(
+        &self,
+        alloc: Global,
+        number: u32,
+        question: Question,
+        page: &mut Vec<u8>,
+    ) -> Result<(), AdminFault>
         requires { CanGoOn self.now }
-        ensures said { OnOk result (HasSaid number Lists self.now page.old.items self.now page.new.items) }
+        ensures said { OnOk result (HasSaid number (Asks question) self.now page.old.items self.now page.new.items) }
         ensures short { IsShort result }
     {
         match &self.centre {
-            Some(host) => show(page, number, centre_tables(host)),
-            None => refuse(page, number, Cause::Closed),
-        }
-    }
-
-    // Shows the backup.
-    fn back_up(&self, alloc: Global, number: u32, page: &mut Vec<u8>) -> Result<(), AdminFault>
-        requires { CanGoOn self.now }
-        ensures said { OnOk result (HasSaid number BacksUp self.now page.old.items self.now page.new.items) }
-        ensures short { IsShort result }
-    {
-        match &self.centre {
-            Some(host) => show_backup(alloc, page, number, centre_tables(host)),
+            Some(host) => show(alloc, page, number, question, centre_tables(host)),
             None => refuse(page, number, Cause::Closed),
         }
     }
@@ -416,8 +397,7 @@ impl Session {
             Line::Log { log } => self.choose_log(number, log, page),
             Line::Open => self.open(alloc, disk, number, page),
             Line::Event { event } => self.take_event(disk, number, event, page),
-            Line::List => self.list(number, page),
-            Line::Backup => self.back_up(alloc, number, page),
+            Line::Show { question } => self.take_question(alloc, number, question, page),
         }
     }
 

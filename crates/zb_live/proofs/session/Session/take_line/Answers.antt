@@ -77,47 +77,26 @@ pub returns-in-Log-clause-faults : goal.returns-in-Log-clause-faults
 returns-in-Log-clause-faults g c = short_fault g.D.Disk.tells _ c.args.self.now (g.D.Disk.state c.args.disk.now)
     c.choose_log.result c.choose_log.ensures.short
 
-pub returns-in-List-clause-taken : goal.returns-in-List-clause-taken
-returns-in-List-clause-taken g c = λ told found alive.
+pub returns-in-Show-clause-taken : goal.returns-in-Show-clause-taken
+returns-in-Show-clause-taken g c = λ told found alive.
     let v = g.D.Disk.state c.args.disk.now in
     let old = c.args.self.now in
     subst (λ (l : Line). HasTaken found old (done_by c.args.number found (sentence_of l) old) v c.args.page.now.items
-    c.list.result c.args.self.now v c.list.new.page.items) (sym c.in-List.is)
-    (said c.args.number _ found old c.args.self.now v c.args.page.now.items _ c.list.result c.list.ensures.said alive
+    c.take_question.result c.args.self.now v c.take_question.new.page.items) (sym c.in-Show.is)
+    (said c.args.number _ found old c.args.self.now v c.args.page.now.items _ c.take_question.result c.take_question.ensures.said alive
     (g.met.D.Disk.only_now c.args.disk.now))
 
-pub returns-in-List-clause-store : goal.returns-in-List-clause-store
-returns-in-List-clause-store g c = said_can c.args.number _ c.args.self.now c.args.self.now c.args.page.now.items _
-    c.list.result c.list.ensures.said c.requires.store
+pub returns-in-Show-clause-store : goal.returns-in-Show-clause-store
+returns-in-Show-clause-store g c = said_can c.args.number _ c.args.self.now c.args.self.now c.args.page.now.items _
+    c.take_question.result c.take_question.ensures.said c.requires.store
 
-pub returns-in-List-clause-waits : goal.returns-in-List-clause-waits
-returns-in-List-clause-waits g c = said_waits c.args.number _ c.args.self.now c.args.self.now c.args.page.now.items _
-    (g.D.Disk.state c.args.disk.now) c.list.result c.list.ensures.said
+pub returns-in-Show-clause-waits : goal.returns-in-Show-clause-waits
+returns-in-Show-clause-waits g c = said_waits c.args.number _ c.args.self.now c.args.self.now c.args.page.now.items _
+    (g.D.Disk.state c.args.disk.now) c.take_question.result c.take_question.ensures.said
 
-pub returns-in-List-clause-faults : goal.returns-in-List-clause-faults
-returns-in-List-clause-faults g c = short_fault g.D.Disk.tells _ c.args.self.now (g.D.Disk.state c.args.disk.now)
-    c.list.result c.list.ensures.short
-
-pub returns-in-Backup-clause-taken : goal.returns-in-Backup-clause-taken
-returns-in-Backup-clause-taken g c = λ told found alive.
-    let v = g.D.Disk.state c.args.disk.now in
-    let old = c.args.self.now in
-    subst (λ (l : Line). HasTaken found old (done_by c.args.number found (sentence_of l) old) v c.args.page.now.items
-    c.back_up.result c.args.self.now v c.back_up.new.page.items) (sym c.in-Backup.is)
-    (said c.args.number _ found old c.args.self.now v c.args.page.now.items _ c.back_up.result c.back_up.ensures.said
-    alive (g.met.D.Disk.only_now c.args.disk.now))
-
-pub returns-in-Backup-clause-store : goal.returns-in-Backup-clause-store
-returns-in-Backup-clause-store g c = said_can c.args.number _ c.args.self.now c.args.self.now c.args.page.now.items _
-    c.back_up.result c.back_up.ensures.said c.requires.store
-
-pub returns-in-Backup-clause-waits : goal.returns-in-Backup-clause-waits
-returns-in-Backup-clause-waits g c = said_waits c.args.number _ c.args.self.now c.args.self.now c.args.page.now.items
-    _ (g.D.Disk.state c.args.disk.now) c.back_up.result c.back_up.ensures.said
-
-pub returns-in-Backup-clause-faults : goal.returns-in-Backup-clause-faults
-returns-in-Backup-clause-faults g c = short_fault g.D.Disk.tells _ c.args.self.now (g.D.Disk.state c.args.disk.now)
-    c.back_up.result c.back_up.ensures.short
+pub returns-in-Show-clause-faults : goal.returns-in-Show-clause-faults
+returns-in-Show-clause-faults g c = short_fault g.D.Disk.tells _ c.args.self.now (g.D.Disk.state c.args.disk.now)
+    c.take_question.result c.take_question.ensures.short
 
 pub returns-in-Open-clause-taken : goal.returns-in-Open-clause-taken
 returns-in-Open-clause-taken g c = λ told found alive.
@@ -177,21 +156,13 @@ returns-in-Log-clause-follows g c =
     (ap sentence_of (sym c.in-Log.is))
     (said_follows c.args.number _ old c.choose_log.new.self front _ c.choose_log.result c.choose_log.ensures.said)
 
-pub returns-in-List-clause-follows : goal.returns-in-List-clause-follows
-returns-in-List-clause-follows g c =
+pub returns-in-Show-clause-follows : goal.returns-in-Show-clause-follows
+returns-in-Show-clause-follows g c =
     let old = c.args.self.now in
     let front = c.args.page.now.items in
-    follows_of c.args.number old old front _ c.list.result _ _
-    (ap sentence_of (sym c.in-List.is))
-    (said_follows c.args.number _ old old front _ c.list.result c.list.ensures.said)
-
-pub returns-in-Backup-clause-follows : goal.returns-in-Backup-clause-follows
-returns-in-Backup-clause-follows g c =
-    let old = c.args.self.now in
-    let front = c.args.page.now.items in
-    follows_of c.args.number old old front _ c.back_up.result _ _
-    (ap sentence_of (sym c.in-Backup.is))
-    (said_follows c.args.number _ old old front _ c.back_up.result c.back_up.ensures.said)
+    follows_of c.args.number old old front _ c.take_question.result _ _
+    (ap sentence_of (sym c.in-Show.is))
+    (said_follows c.args.number _ old old front _ c.take_question.result c.take_question.ensures.said)
 
 pub returns-in-Open-clause-follows : goal.returns-in-Open-clause-follows
 returns-in-Open-clause-follows g c =
