@@ -134,7 +134,8 @@ fn put_answer(
     entry: &Entry,
     plan: Plan<Outcome<Term, Refusal>>,
 ) -> Result<bool, AdminFault>
-    ensures prints { OnOk result ((known : List Station) (n : ℕ) (a : Answer) → IsCalled known n entry.now.group.node.bytes
+    ensures prints { OnOk result ((known : List Station) (n : ℕ) (a : Answer) → IsCalled known n
+        entry.now.group.node.bytes
         → the_centre known ≡ n → IsAnswer plan a
         → Prints entry.now.log known (event_lines entry.now.group.event n entry.now.group.frame a) page.old.items
         page.new.items) }
@@ -158,11 +159,13 @@ fn happen<D: Disk>(
     requires { IsTrue (is_some host.old.store) }
     ensures happened { IsTrue D.tells.content → (c : Setting) (s : NodeState) → IsUp c s host.old (D.state disk.old)
         → IsCalled c.stations c.me.eui entry.now.group.node.bytes → the_centre c.stations ≡ c.me.eui
-        → HasHappened c s (task_of event.now) entry.now.log entry.now.group.event entry.now.group.frame (D.state disk.old)
+        → HasHappened c s (task_of event.now) entry.now.log entry.now.group.event entry.now.group.frame (D.state
+            disk.old)
         page.old.items result host.new (D.state disk.new) page.new.items }
     ensures answered { (c : Setting) (s : NodeState) → host.old.core ≡ record { setting = c; tables = s }
         → IsCalled c.stations c.me.eui entry.now.group.node.bytes → the_centre c.stations ≡ c.me.eui
-        → HasAnswered c s (task_of event.now) entry.now.log entry.now.group.event entry.now.group.frame page.old.items result
+        → HasAnswered c s (task_of event.now) entry.now.log entry.now.group.event entry.now.group.frame
+            page.old.items result
         host.new page.new.items }
     ensures store { OnOk result (is_some host.new.store ≡ true) }
     ensures configured { OnOk result (host.new.core.setting ≡ host.old.core.setting) }

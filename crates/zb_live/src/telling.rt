@@ -41,7 +41,8 @@ impl Teller for ShownPage {
 
     ghost reads = { false };
 
-    ghost Tells = { λ known lines old new. (new.log ≡ old.log) × Prints old.log known lines old.text.items new.text.items };
+    ghost Tells = { λ known lines old new. (new.log ≡ old.log) × Prints old.log known lines old.text.items
+        new.text.items };
 
     ghost told = { λ page. 0 };
 

@@ -174,7 +174,8 @@ one_given p gifts h xs latest events i d now new other dnow dnew before middle a
     let so_far = next.so_far in
     let goes = next.passes in
     let later : latest + i + 1 ≡ latest + (i + 1) = omega arith in
-    let out : Appends middle after (text_in p g.lines) = handed now.ledger.transcript.page new.ledger.transcript.page (text_in p g.lines)
+    let out : Appends middle after (text_in p g.lines) = handed now.ledger.transcript.page new.ledger.transcript.page
+    (text_in p g.lines)
     middle after goes.page clear so_far.page took in
     record {
       stands = paged_in p (h ++ swapped_in p gifts h xs (take (i + 1) events))
@@ -190,7 +191,8 @@ one_given p gifts h xs latest events i d now new other dnow dnew before middle a
           (sym (text_append (stations (schedule_of p)) done g.lines)
           ∙ ap (text_in p) (sym (lines_more p gifts h xs events i d next.bound)))
           (Appends-trans before middle after (text_in p done) (text_in p g.lines) so_far.taken out);
-      page = still_for now.ledger.transcript.page new.ledger.transcript.page other.ledger.transcript.page (text_in p g.lines) middle after goes.page
+      page = still_for now.ledger.transcript.page new.ledger.transcript.page other.ledger.transcript.page (text_in p
+          g.lines) middle after goes.page
           empty so_far.page took;
     }
 
@@ -218,7 +220,8 @@ given_cut p gifts h xs latest events i d now new dnow dnew before middle after n
     let done = swapped_in p gifts h xs (take i events) in
     let g = next_in p gifts h xs events i d in
     let page = text_in p g.lines in
-    let out : AppendsFront middle after page = handed_front now.ledger.transcript.page new.ledger.transcript.page page middle after
+    let out : AppendsFront middle after page = handed_front now.ledger.transcript.page new.ledger.transcript.page
+    page middle after
     next.passes.page clear took in
     let r = swapped_rest (schedule_of p) gifts (event_for (stations_for p)) h xs 1 events (i + 1) in
     let whole : text_in p (swapped_in p gifts h xs events) ≡ text_in p done ++ (page ++ text_in p r.0) =
@@ -305,7 +308,8 @@ pub more_given : (events : List CodeEvent) (i : ℕ) (e : CodeEvent) (gives : �
     → AnswersGiven old disks (map event_of events) a i now dnow before middle
     → GaveFor now.seats (i + 1) (event_of e) gives a b
     → EventPasses (i + 1) (event_of e) gives now dnow new dnew
-    → Takes new.ledger.transcript.page middle after → IsSameRun new other → other.ledger.transcript.page ≡ cleared new.ledger.transcript.page
+    → Takes new.ledger.transcript.page middle after → IsSameRun new other → other.ledger.transcript.page ≡ cleared
+    new.ledger.transcript.page
     → AnswersGiven old disks (map event_of events) b (i + 1) other dnew before after
 more_given events i e gives a b old now new other disks dnow dnew before middle after bound is seats clear so_far gave
     goes took same empty = λ p gifts given h xs latest it agrees.

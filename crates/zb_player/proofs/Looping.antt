@@ -61,7 +61,8 @@ pub more_answers : (events : List CodeEvent) (i : ℕ) (e : CodeEvent) (old now 
     → i < length events → e ≡ get_or events i e → IsClear now.ledger.transcript.page
     → Answers old disks (map event_of events) i now dnow before middle
     → EventGoes (i + 1) (event_of e) now dnow new dnew
-    → Takes new.ledger.transcript.page middle after → IsSameRun new other → other.ledger.transcript.page ≡ cleared new.ledger.transcript.page
+    → Takes new.ledger.transcript.page middle after → IsSameRun new other → other.ledger.transcript.page ≡ cleared
+    new.ledger.transcript.page
     → Answers old disks (map event_of events) (i + 1) other dnew before after
 more_answers events i e old now new other disks dnow dnew before middle after bound is clear so_far goes took same
     empty = λ p h ds played stands.

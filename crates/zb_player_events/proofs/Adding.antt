@@ -29,7 +29,8 @@ drawn draws used = sym (slice_get-map (λ (k : Key). k.0) draws used)
 
 -- what the scribe told
 pub told_adds : (w : Schedule) (h lines : List Line) (old new : Ledger)
-    → Tells (stations w) lines old.transcript.scribe old.transcript.page new.transcript.scribe new.transcript.page → IsTold w h old → Adds w h lines old new
+    → Tells (stations w) lines old.transcript.scribe old.transcript.page new.transcript.scribe new.transcript.page →
+    IsTold w h old → Adds w h lines old new
 told_adds w h lines old new tells before = record {
   page = tells.page;
   told = record { known = tells.nodes h before.known; kept = tells.kept h before.known before.kept };
@@ -39,7 +40,8 @@ told_adds w h lines old new tells before = record {
 pub adds_then : (w : Schedule) (h some more : List Line) (old between new : Ledger) → Adds w h some old between
     → Adds w (h ++ some) more between new → Adds w h (some ++ more) old new
 adds_then w h some more old between new first second = record {
-  page = second.page ∙ ap (λ p. append_known p (text_of (stations w) more)) first.page ∙ append_twice old.transcript.page
+  page = second.page ∙ ap (λ p. append_known p (text_of (stations w) more)) first.page ∙ append_twice
+      old.transcript.page
       (text_of (stations w) some) (text_of (stations w) more)
       ∙ ap (append_known old.transcript.page) (sym (text_append (stations w) some more));
   told = subst (λ (lines : List Line). IsTold w lines new) (append_assoc h some more) second.told;

@@ -40,5 +40,6 @@ impl Teller for Transcript {
 
     ghost nothing = { λ known s. none_told known s.scribe s.page };
 
-    ghost joined = { λ known some more a b c. told_in_turn known some more a.scribe b.scribe c.scribe a.page b.page c.page };
+    ghost joined = { λ known some more a b c. told_in_turn known some more a.scribe b.scribe c.scribe a.page b.page
+        c.page };
 }

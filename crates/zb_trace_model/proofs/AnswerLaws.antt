@@ -102,11 +102,6 @@ change_more event n changes i d within =
     ∙ ap (map (log.Changed event n)) (map-append edit (take i changes) (get_or changes i d ∷ []))
     ∙ map-append (log.Changed event n) (map edit (take i changes)) (edit (get_or changes i d) ∷ [])
 
-pub one_commit : (event n : ℕ) (changes : List Change) → false ≡ (length changes == 0)
-    → commit_lines event n (edits changes) ≡ log.Commit event n ∷ []
-one_commit event n [] some = absurd (false≢true some)
-one_commit event n (c ∷ changes) some = refl
-
 -- ---- what goes out
 
 terms_apart : (f : model.Term → log.Line) (first second : Option Term)

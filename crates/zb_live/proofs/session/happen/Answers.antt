@@ -9,10 +9,12 @@ use Rattle.zb_live.proofs.session.happen.Goals as goal
 pub returns-in-Ok-clause-happened : goal.returns-in-Ok-clause-happened
 returns-in-Ok-clause-happened g c = λ told setting s up called centre.
     let entry = c.args.entry.now in
-    event_lines_stand g.D.Disk.tells told setting s (task_of c.args.event.now) entry.log entry.group.event entry.group.frame
+    event_lines_stand g.D.Disk.tells told setting s (task_of c.args.event.now) entry.log entry.group.event
+    entry.group.frame
     entry.group.node.bytes c.args.host.now c.handle.new.host (g.D.Disk.state c.args.disk.now)
     (g.D.Disk.state c.handle.new.disk) up
-    c.in-Ok.plan c.put_answer.result c.args.page.now.items c.put_answer.new.page.items (c.in-Ok.ensures.handled setting)
+    c.in-Ok.plan c.put_answer.result c.args.page.now.items c.put_answer.new.page.items (c.in-Ok.ensures.handled
+    setting)
     c.put_answer.ensures.prints c.put_answer.ensures.sends called centre
 
 pub returns-in-Ok-clause-store : goal.returns-in-Ok-clause-store
@@ -29,7 +31,8 @@ returns-in-Ok-clause-faults g c = told_short g.D.Disk.tells (g.D.Disk.state c.ar
 pub returns-in-Err-clause-happened : goal.returns-in-Err-clause-happened
 returns-in-Err-clause-happened g c = λ told setting s up called centre.
     let entry = c.args.entry.now in
-    event_lines_lack g.D.Disk.tells told setting s (task_of c.args.event.now) entry.log entry.group.event entry.group.frame
+    event_lines_lack g.D.Disk.tells told setting s (task_of c.args.event.now) entry.log entry.group.event
+    entry.group.frame
     entry.group.node.bytes c.args.host.now c.handle.new.host (g.D.Disk.state c.args.disk.now)
     (g.D.Disk.state c.handle.new.disk) up
     _ c.args.page.now.items _ c.in-Err.fault (c.in-Err.ensures.handled setting)
@@ -53,7 +56,8 @@ returns-in-Ok-clause-answered g c = λ setting s core called centre.
     let entry = c.args.entry.now in
     lines_answered g.D.Disk.tells setting s (task_of c.args.event.now) entry.log entry.group.event entry.group.frame
     entry.group.node.bytes c.args.host.now c.handle.new.host (g.D.Disk.state c.args.disk.now)
-    (g.D.Disk.state c.handle.new.disk) c.in-Ok.plan c.put_answer.result c.args.page.now.items c.put_answer.new.page.items core
+    (g.D.Disk.state c.handle.new.disk) c.in-Ok.plan c.put_answer.result c.args.page.now.items
+    c.put_answer.new.page.items core
     (c.in-Ok.ensures.handled setting) c.put_answer.ensures.prints c.put_answer.ensures.sends called centre
 
 pub returns-in-Ok-clause-worn : goal.returns-in-Ok-clause-worn

@@ -15,5 +15,6 @@ returns c =
     (ap (λ v. v.items) c.replace.ensures.value)
     (subst (λ (lines : List Line). Prints entry.log known lines c.replace.result.items after)
     (answer_is group.event n group.frame c.args.plan.now a is)
-    (tells known n called (λ no. absurd (false≢true no)) (all_of_centre known n c.args.plan.now.changes.items centre)).1))
+    (tells known n called (λ no. absurd (false≢true no)) (all_of_centre known n c.args.plan.now.changes.items
+    centre)).1))
     c.tell_answer-told.ensures.tells

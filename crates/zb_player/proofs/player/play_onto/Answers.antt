@@ -24,7 +24,8 @@ use Rattle.zb_sched_line.specs.Said.{Event}
 use Rattle.zb_sched_line.specs.Views.{event_of}
 
 pub answer_all-requires-clause-clear : goal.answer_all-requires-clause-clear
-answer_all-requires-clause-clear g c = clear_of c.in_ok-run.run'.ledger.transcript.page _ c.in_ok-hand_out.ensures.whole.1
+answer_all-requires-clause-clear g c = clear_of c.in_ok-run.run'.ledger.transcript.page _
+    c.in_ok-hand_out.ensures.whole.1
 
 pub answer_all-requires-clause-fit : goal.answer_all-requires-clause-fit
 answer_all-requires-clause-fit g c =
@@ -37,7 +38,8 @@ pub returns-in_err-hand_out-clause-front : goal.returns-in_err-hand_out-clause-f
 returns-in_err-hand_out-clause-front g c = λ s.
     let p = sched.schedule_of c.args.schedule.now in
     on_err _ _ (front_start p (g.W.Sink.taken c.args.out.now) (g.W.Sink.taken c.hand_out.new.out)
-    (handed_front c.args.page c.in_ok-run.run'.ledger.transcript.page (text_in p (begin p)) (g.W.Sink.taken c.args.out.now)
+    (handed_front c.args.page c.in_ok-run.run'.ledger.transcript.page (text_in p (begin p)) (g.W.Sink.taken
+    c.args.out.now)
     (g.W.Sink.taken c.hand_out.new.out) c.in_ok-run.ensures.page c.requires.clear
     c.in_err-hand_out.ensures.front.0))
 
@@ -67,7 +69,8 @@ returns-in_err-answer_all-clause-front g c = λ s.
     (paged p (begin p) [] 1 c.in_ok-run.run' run1 c.start.new.disks.items
     (record { nodes = refl; seats = refl; draws = refl; scribe = refl }) c.in_ok-run.ensures.stands) in
     let out : Appends before (g.W.Sink.taken c.hand_out.new.out) (text_in p (begin p)) =
-    handed c.args.page c.in_ok-run.run'.ledger.transcript.page (text_in p (begin p)) before (g.W.Sink.taken c.hand_out.new.out)
+    handed c.args.page c.in_ok-run.run'.ledger.transcript.page (text_in p (begin p)) before (g.W.Sink.taken
+    c.hand_out.new.out)
     c.in_ok-run.ensures.page c.requires.clear c.requires.fit
     c.in_ok-hand_out.ensures.whole.0 in
     on_err _ _
@@ -101,7 +104,8 @@ returns-in_err-print-clause-front g c = λ s.
     (paged p (begin p) [] 1 c.in_ok-run.run' run1 c.start.new.disks.items
     (record { nodes = refl; seats = refl; draws = refl; scribe = refl }) c.in_ok-run.ensures.stands) in
     let out : Appends before (g.W.Sink.taken c.hand_out.new.out) (text_in p (begin p)) =
-    handed c.args.page c.in_ok-run.run'.ledger.transcript.page (text_in p (begin p)) before (g.W.Sink.taken c.hand_out.new.out)
+    handed c.args.page c.in_ok-run.run'.ledger.transcript.page (text_in p (begin p)) before (g.W.Sink.taken
+    c.hand_out.new.out)
     c.in_ok-run.ensures.page c.requires.clear c.requires.fit
     c.in_ok-hand_out.ensures.whole.0 in
     let ended : Ended p c.answer_all.new.run c.answer_all.new.disks before (g.W.Sink.taken c.answer_all.new.out) =
@@ -138,7 +142,8 @@ returns-in_err-hand_out-2-clause-front g c = λ s.
     (paged p (begin p) [] 1 c.in_ok-run.run' run1 c.start.new.disks.items
     (record { nodes = refl; seats = refl; draws = refl; scribe = refl }) c.in_ok-run.ensures.stands) in
     let out : Appends before (g.W.Sink.taken c.hand_out.new.out) (text_in p (begin p)) =
-    handed c.args.page c.in_ok-run.run'.ledger.transcript.page (text_in p (begin p)) before (g.W.Sink.taken c.hand_out.new.out)
+    handed c.args.page c.in_ok-run.run'.ledger.transcript.page (text_in p (begin p)) before (g.W.Sink.taken
+    c.hand_out.new.out)
     c.in_ok-run.ensures.page c.requires.clear c.requires.fit
     c.in_ok-hand_out.ensures.whole.0 in
     let ended : Ended p c.answer_all.new.run c.answer_all.new.disks before (g.W.Sink.taken c.answer_all.new.out) =
@@ -187,7 +192,8 @@ returns-clause-whole g c = λ s.
     (paged p (begin p) [] 1 c.in_ok-run.run' run1 c.start.new.disks.items
     (record { nodes = refl; seats = refl; draws = refl; scribe = refl }) c.in_ok-run.ensures.stands) in
     let out : Appends before (g.W.Sink.taken c.hand_out.new.out) (text_in p (begin p)) =
-    handed c.args.page c.in_ok-run.run'.ledger.transcript.page (text_in p (begin p)) before (g.W.Sink.taken c.hand_out.new.out)
+    handed c.args.page c.in_ok-run.run'.ledger.transcript.page (text_in p (begin p)) before (g.W.Sink.taken
+    c.hand_out.new.out)
     c.in_ok-run.ensures.page c.requires.clear c.requires.fit
     c.in_ok-hand_out.ensures.whole.0 in
     let ended : Ended p c.answer_all.new.run c.answer_all.new.disks before (g.W.Sink.taken c.answer_all.new.out) =
@@ -235,7 +241,8 @@ returns-clause-summary g c = λ s.
     (paged p (begin p) [] 1 c.in_ok-run.run' run1 c.start.new.disks.items
     (record { nodes = refl; seats = refl; draws = refl; scribe = refl }) c.in_ok-run.ensures.stands) in
     let out : Appends before (g.W.Sink.taken c.hand_out.new.out) (text_in p (begin p)) =
-    handed c.args.page c.in_ok-run.run'.ledger.transcript.page (text_in p (begin p)) before (g.W.Sink.taken c.hand_out.new.out)
+    handed c.args.page c.in_ok-run.run'.ledger.transcript.page (text_in p (begin p)) before (g.W.Sink.taken
+    c.hand_out.new.out)
     c.in_ok-run.ensures.page c.requires.clear c.requires.fit
     c.in_ok-hand_out.ensures.whole.0 in
     let ended : Ended p c.answer_all.new.run c.answer_all.new.disks before (g.W.Sink.taken c.answer_all.new.out) =
@@ -275,7 +282,8 @@ returns-clause-disks g c = λ s.
     (paged p (begin p) [] 1 c.in_ok-run.run' run1 c.start.new.disks.items
     (record { nodes = refl; seats = refl; draws = refl; scribe = refl }) c.in_ok-run.ensures.stands) in
     let out : Appends before (g.W.Sink.taken c.hand_out.new.out) (text_in p (begin p)) =
-    handed c.args.page c.in_ok-run.run'.ledger.transcript.page (text_in p (begin p)) before (g.W.Sink.taken c.hand_out.new.out)
+    handed c.args.page c.in_ok-run.run'.ledger.transcript.page (text_in p (begin p)) before (g.W.Sink.taken
+    c.hand_out.new.out)
     c.in_ok-run.ensures.page c.requires.clear c.requires.fit
     c.in_ok-hand_out.ensures.whole.0 in
     let ended : Ended p c.answer_all.new.run c.answer_all.new.disks before (g.W.Sink.taken c.answer_all.new.out) =
@@ -315,7 +323,8 @@ returns-in_err-hand_out-clause-swapped_front g c =
     let p = sched.schedule_of c.args.schedule.now in
     on_err _ _ (for_gifts p (g.B.Bench.gave c.args.bench.now) _ (λ gifts given told fits.
     given_start p gifts (g.W.Sink.taken c.args.out.now) (g.W.Sink.taken c.hand_out.new.out)
-    (handed_front c.args.page c.in_ok-run.run'.ledger.transcript.page (text_in p (begin p)) (g.W.Sink.taken c.args.out.now)
+    (handed_front c.args.page c.in_ok-run.run'.ledger.transcript.page (text_in p (begin p)) (g.W.Sink.taken
+    c.args.out.now)
     (g.W.Sink.taken c.hand_out.new.out) c.in_ok-run.ensures.page c.requires.clear
     c.in_err-hand_out.ensures.front.0)))
 
@@ -345,7 +354,8 @@ returns-in_err-answer_all-clause-swapped_front g c =
     (paged p (begin p) [] 1 c.in_ok-run.run' run1 c.start.new.disks.items
     (record { nodes = refl; seats = refl; draws = refl; scribe = refl }) c.in_ok-run.ensures.stands) in
     let out : Appends before (g.W.Sink.taken c.hand_out.new.out) (text_in p (begin p)) =
-    handed c.args.page c.in_ok-run.run'.ledger.transcript.page (text_in p (begin p)) before (g.W.Sink.taken c.hand_out.new.out)
+    handed c.args.page c.in_ok-run.run'.ledger.transcript.page (text_in p (begin p)) before (g.W.Sink.taken
+    c.hand_out.new.out)
     c.in_ok-run.ensures.page c.requires.clear c.requires.fit
     c.in_ok-hand_out.ensures.whole.0 in
     let gave = g.B.Bench.gave c.answer_all.new.bench in
@@ -380,7 +390,8 @@ returns-in_err-print-clause-swapped_front g c =
     (paged p (begin p) [] 1 c.in_ok-run.run' run1 c.start.new.disks.items
     (record { nodes = refl; seats = refl; draws = refl; scribe = refl }) c.in_ok-run.ensures.stands) in
     let out : Appends before (g.W.Sink.taken c.hand_out.new.out) (text_in p (begin p)) =
-    handed c.args.page c.in_ok-run.run'.ledger.transcript.page (text_in p (begin p)) before (g.W.Sink.taken c.hand_out.new.out)
+    handed c.args.page c.in_ok-run.run'.ledger.transcript.page (text_in p (begin p)) before (g.W.Sink.taken
+    c.hand_out.new.out)
     c.in_ok-run.ensures.page c.requires.clear c.requires.fit
     c.in_ok-hand_out.ensures.whole.0 in
     let gave = g.B.Bench.gave c.answer_all.new.bench in
@@ -420,7 +431,8 @@ returns-in_err-hand_out-2-clause-swapped_front g c =
     (paged p (begin p) [] 1 c.in_ok-run.run' run1 c.start.new.disks.items
     (record { nodes = refl; seats = refl; draws = refl; scribe = refl }) c.in_ok-run.ensures.stands) in
     let out : Appends before (g.W.Sink.taken c.hand_out.new.out) (text_in p (begin p)) =
-    handed c.args.page c.in_ok-run.run'.ledger.transcript.page (text_in p (begin p)) before (g.W.Sink.taken c.hand_out.new.out)
+    handed c.args.page c.in_ok-run.run'.ledger.transcript.page (text_in p (begin p)) before (g.W.Sink.taken
+    c.hand_out.new.out)
     c.in_ok-run.ensures.page c.requires.clear c.requires.fit
     c.in_ok-hand_out.ensures.whole.0 in
     let gave = g.B.Bench.gave c.answer_all.new.bench in
@@ -437,7 +449,8 @@ returns-in_err-hand_out-2-clause-swapped_front g c =
     (sym (length-map events event_of) ∙ ap (λ (es : List Event). length es) played.events_are) c.of-summary.ensures in
     let known = stations (schedule_of p) in
     let shown : (gifts : ℕ → Option Stood) (given : ℕ → Option Medium) → gave ≡ Some given → AreGifts p gifts given
-    → c.print.new.self ≡ append_known c.answer_all.new.run.ledger.transcript.page (text_in p (given_last p gifts ∷ [])) =
+    → c.print.new.self ≡ append_known c.answer_all.new.run.ledger.transcript.page (text_in p (given_last p gifts ∷
+    [])) =
     λ gifts given told fits.
     c.in_ok-print.ensures ∙ ap (append_known c.answer_all.new.run.ledger.transcript.page)
     (last_text known c.line.result (last_line c.of-summary.result) (given_last p gifts) (c.line.ensures known)
@@ -475,7 +488,8 @@ returns-clause-swapped g c =
     (paged p (begin p) [] 1 c.in_ok-run.run' run1 c.start.new.disks.items
     (record { nodes = refl; seats = refl; draws = refl; scribe = refl }) c.in_ok-run.ensures.stands) in
     let out : Appends before (g.W.Sink.taken c.hand_out.new.out) (text_in p (begin p)) =
-    handed c.args.page c.in_ok-run.run'.ledger.transcript.page (text_in p (begin p)) before (g.W.Sink.taken c.hand_out.new.out)
+    handed c.args.page c.in_ok-run.run'.ledger.transcript.page (text_in p (begin p)) before (g.W.Sink.taken
+    c.hand_out.new.out)
     c.in_ok-run.ensures.page c.requires.clear c.requires.fit
     c.in_ok-hand_out.ensures.whole.0 in
     let gave = g.B.Bench.gave c.answer_all.new.bench in
@@ -492,7 +506,8 @@ returns-clause-swapped g c =
     (sym (length-map events event_of) ∙ ap (λ (es : List Event). length es) played.events_are) c.of-summary.ensures in
     let known = stations (schedule_of p) in
     let shown : (gifts : ℕ → Option Stood) (given : ℕ → Option Medium) → gave ≡ Some given → AreGifts p gifts given
-    → c.print.new.self ≡ append_known c.answer_all.new.run.ledger.transcript.page (text_in p (given_last p gifts ∷ [])) =
+    → c.print.new.self ≡ append_known c.answer_all.new.run.ledger.transcript.page (text_in p (given_last p gifts ∷
+    [])) =
     λ gifts given told fits.
     c.in_ok-print.ensures ∙ ap (append_known c.answer_all.new.run.ledger.transcript.page)
     (last_text known c.line.result (last_line c.of-summary.result) (given_last p gifts) (c.line.ensures known)
@@ -530,7 +545,8 @@ returns-clause-swapped_summary g c =
     (paged p (begin p) [] 1 c.in_ok-run.run' run1 c.start.new.disks.items
     (record { nodes = refl; seats = refl; draws = refl; scribe = refl }) c.in_ok-run.ensures.stands) in
     let out : Appends before (g.W.Sink.taken c.hand_out.new.out) (text_in p (begin p)) =
-    handed c.args.page c.in_ok-run.run'.ledger.transcript.page (text_in p (begin p)) before (g.W.Sink.taken c.hand_out.new.out)
+    handed c.args.page c.in_ok-run.run'.ledger.transcript.page (text_in p (begin p)) before (g.W.Sink.taken
+    c.hand_out.new.out)
     c.in_ok-run.ensures.page c.requires.clear c.requires.fit
     c.in_ok-hand_out.ensures.whole.0 in
     let gave = g.B.Bench.gave c.answer_all.new.bench in

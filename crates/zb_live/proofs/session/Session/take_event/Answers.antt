@@ -49,7 +49,8 @@ returns-after-sends-clause-taken g c = λ told found alive.
     c.centre_name.ensures.called c.centre_name.ensures.centre in
     event_done c.args.number found old (event_of c.args.event) (task_of c.in-Ok.event) host host2 c.in-Some.is
     c.in-Ok.ensures before after alive
-    c.next_number-next_event.result c.next_number-next_frame.result c.if-sends.self c.args.page.now.items c.happen.new.page.items _
+    c.next_number-next_event.result c.next_number-next_frame.result c.if-sends.self c.args.page.now.items
+    c.happen.new.page.items _
     c.in_ok-sends-in-Ok.sends c.confirm.result c.next_number-next_event.ensures c.next_number-next_frame.ensures h
     (elim c.if-sends.branch [
       | then-sends w ↦ w.self-is ∙ ap next (sym w.if-sends.true)
@@ -100,7 +101,8 @@ returns-after-sends-clause-follows g c =
     (ap (λ (x : Setting). let core : CoreValue = record { setting = x; tables = host.core.tables } in core) can.2)
     c.centre_name.ensures.called c.centre_name.ensures.centre in
     event_follows c.args.number old (event_of c.args.event) (task_of c.in-Ok.event) host host2 c.in-Some.is
-    c.in-Ok.ensures c.next_number-next_event.result c.next_number-next_frame.result c.if-sends.self c.args.page.now.items
+    c.in-Ok.ensures c.next_number-next_event.result c.next_number-next_frame.result c.if-sends.self
+    c.args.page.now.items
     c.happen.new.page.items _ c.in_ok-sends-in-Ok.sends c.confirm.result c.next_number-next_event.ensures
     c.next_number-next_frame.ensures h
     (elim c.if-sends.branch [

@@ -83,7 +83,8 @@ returns-in-Show-clause-taken g c = λ told found alive.
     let old = c.args.self.now in
     subst (λ (l : Line). HasTaken found old (done_by c.args.number found (sentence_of l) old) v c.args.page.now.items
     c.take_question.result c.args.self.now v c.take_question.new.page.items) (sym c.in-Show.is)
-    (said c.args.number _ found old c.args.self.now v c.args.page.now.items _ c.take_question.result c.take_question.ensures.said alive
+    (said c.args.number _ found old c.args.self.now v c.args.page.now.items _ c.take_question.result
+    c.take_question.ensures.said alive
     (g.met.D.Disk.only_now c.args.disk.now))
 
 pub returns-in-Show-clause-store : goal.returns-in-Show-clause-store
