@@ -215,7 +215,8 @@ is_step p h ds number event old new disks passes =
     let moved : RunIn p (h ++ g.lines) one.nodes (number + 1) new disks =
     subst (λ (ls : List Line). RunIn p (h ++ ls) one.nodes (number + 1) new disks) same.lines_are passes.stands in
     record {
-      page = passes.page ∙ ap (λ (ls : List Line). append_known old.ledger.page (text_of known ls)) same.lines_are;
+      page = passes.page ∙ ap (λ (ls : List Line). append_known old.ledger.transcript.page (text_of known ls))
+          same.lines_are;
       stands = run_as p (h ++ g.lines) one.nodes (condition_of w (h ++ g.lines) g.disks) (number + 1) (number + 1) new
           disks (omega arith) (λ q. sym (same.nodes_are q)) moved;
     }

@@ -44,7 +44,8 @@ RunStands p h ds number run disks = RunIn p h (condition_of (schedule_of p) h ds
 -- The run went on by a step.
 pub record RunGoes (p : sched.Schedule) (g : Step) (h : List Line) (number : ℕ) (old new : Run)
     (disks : List Medium) : Type 0 where
-  pub page : new.ledger.page ≡ append_known old.ledger.page (text_of (stations (schedule_of p)) g.lines)
+  pub page : new.ledger.transcript.page ≡ append_known old.ledger.transcript.page (text_of (stations (schedule_of p))
+      g.lines)
   pub stands : RunStands p (h ++ g.lines) g.disks (number + 1) new disks
 
 -- what comes of an event whose node is in one of these conditions
@@ -54,7 +55,8 @@ passed_by p h xs number event = passed real (schedule_of p) h xs number event (n
 -- The run went on by what passed.
 pub record RunPasses (p : sched.Schedule) (g : Passed) (h : List Line) (latest : ℕ) (old new : Run)
     (disks : List Medium) : Type 0 where
-  pub page : new.ledger.page ≡ append_known old.ledger.page (text_of (stations (schedule_of p)) g.lines)
+  pub page : new.ledger.transcript.page ≡ append_known old.ledger.transcript.page (text_of (stations (schedule_of p))
+      g.lines)
   pub stands : RunIn p (h ++ g.lines) g.nodes (latest + 1) new disks
 
 -- Each disk made the number of device calls that is said for the EUI of its node.

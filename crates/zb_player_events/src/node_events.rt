@@ -22,7 +22,9 @@ use zb_disk::MemDisk;
 use zb_node_types::Refusal;
 use zb_player_node::{Handled, Node, NodeEvent};
 use zb_trace::Line;
-use zb_trace_model::{boot_line, disk_line, dump_line, reset_line, stopped_line};
+use zb_trace_model::{
+    Group, boot_line, disk_line, dump_line, reset_line, stopped_line, tell_answer, tell_stored,
+};
 
 // Makes the line of a node on whose call a stop or a failure fell.
 fn fallen_line(event: u32, node: Name, fall: Fall) -> Line
@@ -61,16 +63,15 @@ impl Ledger {
         if !node.is_up() {
             return self.refuse(event, name, down());
         }
+        let group = Group {
+            event,
+            frame: self.transcript.scribe.next_frame(),
+            node: name,
+        };
         match node.handle(disk, what, &mut self.plan) {
-            Some(Handled::Whole) => {
-                self.scribe.stored(self.alloc, &mut self.page, event, name, &self.plan.changes)?;
-                self.scribe
-                    .answered(self.alloc, &mut self.page, event, name, &self.plan.out)
-            }
+            Some(Handled::Whole) => tell_answer(&mut self.transcript, &group, &self.plan),
             Some(Handled::Cut { fall }) => {
-                let stored = &self.plan.changes;
-                self.scribe
-                    .stored(self.alloc, &mut self.page, event, name, stored)?;
+                tell_stored(&mut self.transcript, &group, &self.plan.changes)?;
                 self.fallen(event, name, fall)
             }
             None => self.refuse(event, name, down()),
@@ -110,7 +111,7 @@ impl Ledger {
             → Calls (frame_calls real x (supply w h) (frame_at h frame)) disk.old disk.new) }
         ensures seat { node.new.peer ≡ node.old.peer }
     {
-        match self.scribe.frame(frame) {
+        match self.transcript.scribe.frame(frame) {
             Some(bytes) => self.receive(node, disk, draws, event, bytes),
             None => self.miss(node, event),
         }
@@ -194,7 +195,7 @@ impl Ledger {
         if node.is_up() {
             return self.refuse(event, name, wrong_state());
         }
-        match node.boot(self.alloc, disk)? {
+        match node.boot(self.transcript.alloc, disk)? {
             None => self.tell(&boot_line(event, name)),
             Some(fall) => self.tell(&fallen_line(event, name, fall)),
         }
@@ -212,7 +213,7 @@ impl Ledger {
             → Goes w (event_turn real w h x event (model.ShowRecord n)) h latest self.old self.new node.now disk.new) }
         ensures calls { OnOk result (Calls 0 disk.old disk.new) }
     {
-        let record = node.dump(self.alloc, disk)?;
+        let record = node.dump(self.transcript.alloc, disk)?;
         self.tell(&dump_line(event, node.name(), List::from_vec(record)))
     }
 }

@@ -40,8 +40,8 @@ returns-after-sends-clause-taken g c = λ told found alive.
       log = old.log;
       network = old.network;
       centre = Some host2;
-      events = c.next_number.result;
-      frames = if b then c.next_number-in-Ok.result else old.frames;
+      events = c.next_number-next_event.result;
+      frames = if b then c.next_number-next_frame.result else old.frames;
     } in
     let up = up_here c.args.number found old (said_of c.args.event) (task_of c.in-Ok.event) host host2 c.in-Some.is
     c.in-Ok.ensures before after alive in
@@ -49,8 +49,9 @@ returns-after-sends-clause-taken g c = λ told found alive.
     c.centre_name.ensures.called c.centre_name.ensures.centre in
     event_done c.args.number found old (said_of c.args.event) (task_of c.in-Ok.event) host host2 c.in-Some.is
     c.in-Ok.ensures before after alive
-    c.next_number.result c.next_number-in-Ok.result c.if-sends.self c.args.page.now.items c.happen.new.page.items _
-    c.in_ok-sends-in-Ok.sends c.confirm.result c.next_number.ensures c.next_number-in-Ok.ensures h
+    c.next_number-next_event.result c.next_number-next_frame.result c.if-sends.self c.args.page.now.items
+    c.happen.new.page.items _
+    c.in_ok-sends-in-Ok.sends c.confirm.result c.next_number-next_event.ensures c.next_number-next_frame.ensures h
     (elim c.if-sends.branch [
       | then-sends w ↦ w.self-is ∙ ap next (sym w.if-sends.true)
       | else-sends w ↦ w.self-is ∙ ap next
@@ -93,16 +94,17 @@ returns-after-sends-clause-follows g c =
       log = old.log;
       network = old.network;
       centre = Some host2;
-      events = c.next_number.result;
-      frames = if b then c.next_number-in-Ok.result else old.frames;
+      events = c.next_number-next_event.result;
+      frames = if b then c.next_number-next_frame.result else old.frames;
     } in
     let h = c.in_ok-sends-in-Ok.ensures.answered (setting_of old.network) host.core.tables
     (ap (λ (x : Setting). let core : CoreValue = record { setting = x; tables = host.core.tables } in core) can.2)
     c.centre_name.ensures.called c.centre_name.ensures.centre in
     event_follows c.args.number old (said_of c.args.event) (task_of c.in-Ok.event) host host2 c.in-Some.is
-    c.in-Ok.ensures c.next_number.result c.next_number-in-Ok.result c.if-sends.self c.args.page.now.items
-    c.happen.new.page.items _ c.in_ok-sends-in-Ok.sends c.confirm.result c.next_number.ensures
-    c.next_number-in-Ok.ensures h
+    c.in-Ok.ensures c.next_number-next_event.result c.next_number-next_frame.result c.if-sends.self
+    c.args.page.now.items
+    c.happen.new.page.items _ c.in_ok-sends-in-Ok.sends c.confirm.result c.next_number-next_event.ensures
+    c.next_number-next_frame.ensures h
     (elim c.if-sends.branch [
       | then-sends w ↦ w.self-is ∙ ap next (sym w.if-sends.true)
       | else-sends w ↦ w.self-is ∙ ap next
