@@ -161,12 +161,12 @@ fn happen<D: Disk>(
     ensures happened { IsTrue D.tells.content → (c : Setting) (s : NodeState) → IsUp c s host.old (D.state disk.old)
         → IsCalled c.stations c.me.eui entry.now.group.node.bytes → the_centre c.stations ≡ c.me.eui
         → HasHappened c s (task_of event.now) entry.now.log entry.now.group.event entry.now.group.frame (D.state
-            disk.old)
+        disk.old)
         page.old.items result host.new (D.state disk.new) page.new.items }
     ensures answered { (c : Setting) (s : NodeState) → host.old.core ≡ record { setting = c; tables = s }
         → IsCalled c.stations c.me.eui entry.now.group.node.bytes → the_centre c.stations ≡ c.me.eui
         → HasAnswered c s (task_of event.now) entry.now.log entry.now.group.event entry.now.group.frame
-            page.old.items result
+        page.old.items result
         host.new page.new.items }
     ensures store { OnOk result (is_some host.new.store ≡ true) }
     ensures configured { OnOk result (host.new.core.setting ≡ host.old.core.setting) }
