@@ -26,9 +26,7 @@ pub fn is_rejoining(state: State) -> bool
 ///
 /// # Errors
 /// - No key, if there is no usable active network key.
-///
 /// - Wrong state, if the node is rejoining.
-///
 /// - Counter spent, if the NWK counter is spent.
 #[tactic(auto, unfolding(zb_model::specs::OwnEvents::say, crate::specs::Chains::steps))]
 pub fn may_say(tables: &Tables) -> Result<(), Refusal>
