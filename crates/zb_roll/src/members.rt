@@ -8,7 +8,7 @@ use zb_keys::{LinkRow, Tables};
 
 /// Returns the device that is sent the new network key next.
 ///
-/// It is that of the smallest address among the live ones that weren't sent it.
+/// It is the one with the smallest EUI among the live devices that weren't sent it.
 pub fn next_member(tables: &Tables) -> Option<Eui>
     ensures { option_map (λ e. e.0) result ≡ next_member tables.now }
 {
