@@ -6,9 +6,10 @@ ghost use Rattle.zb_cursor.specs.declared.reader.Reader.{Reader};
 
 use crate::reader::Reader;
 
-/// Reads a value that must take all of the bytes: `read` reads it from their start, and then no byte may be left.
+/// Reads a value that must take all of the bytes.
 ///
-/// Requires fewer than 2^32 bytes. `read` must leave no more bytes than there were.
+/// `read` reads it from their start, and then no byte may be left. Requires fewer than 2^32
+/// bytes. `read` must leave no more bytes than there were.
 ///
 /// # Errors
 /// The fault of `read`. If `read` succeeds and bytes are left, the fault that `left` returns for their number.

@@ -14,7 +14,9 @@ use zb_node_types::{Change, Changes, KeyError};
 use zb_row_changes::{add, add_active};
 use zb_rows::{add_drop_old, nets_full};
 
-/// Adds the changes of the start of a rollover: of two network keys in use, the one that isn't active is dropped.
+/// Adds the changes of the start of a rollover.
+///
+/// Of two network keys in use, the one that isn't active is dropped.
 ///
 /// `net`: the active row. The new key gets the sequence number after the row's. Requires room for three more.
 pub fn add_start(changes: &mut Changes, tables: &Tables, net: &NetRow, key: &Key)

@@ -161,7 +161,9 @@ fn has_told_row(rows: &[LinkRow], partner: Eui) -> bool
     has_told(rows, partner)
 }
 
-/// Returns whether a partner's key is in use and already has an attribute, so that a row of it would change nothing.
+/// Returns whether a partner's key is in use and already has an attribute.
+///
+/// A row with that key and attribute would then change nothing.
 pub fn has_row_as(tables: &Tables, partner: Eui, key: &Key, attribute: Attribute) -> bool
     ensures { not result ≡ changes tables.now (Row partner.0 key.now.0 (model_attribute attribute)) }
 {

@@ -70,7 +70,7 @@ pub fn printed_bytes_read()
     ensures word { (bytes : List ℕ) → IsBytes bytes → IsWord (bytes_text bytes) }
 {}
 
-/// States that the word for each of a few things reads back as that thing, and that no other word does.
+/// States that the word for each of a few things, and no other word, reads back as that thing.
 pub fn printed_choices_read()
     ensures role { IsBothWays role_text role_of }
     ensures layer { IsBothWays layer_text layer_of }
