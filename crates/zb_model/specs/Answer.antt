@@ -169,8 +169,8 @@ abbrev pub plain_out : Setting → ℕ → Part → Outgoing
 plain_out c to part =
     record { seals = part.seals; frame = Some (nwk_header plain_frame to c.me.short 0 ++ part.bytes) }
 
--- A secured frame without an active row is `None`. This case has no effect: `may_seal` has already checked that there
--- is one.
+-- A secured frame without an active row isn't sent. This case has no effect: `may_seal` has already checked that
+-- there is a row.
 abbrev pub framed : Tools → Setting → ℕ → ℕ → Bool → Option NetKey → Part → Outgoing
 framed tools c to nwk false row part = plain_out c to part
 framed tools c to nwk true None part = nothing_out

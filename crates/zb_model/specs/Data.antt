@@ -97,7 +97,7 @@ pub data Place : Type 0 where
   AtAps : Place
   AtEvent : Place
 
--- Why an event was refused, in the order in which the reasons are tried (but NoFrame, which follows Down). Stale
+-- Why an event was refused, in the order in which the reasons are tried (except NoFrame, which follows Down). Stale
 -- shows the floor, KeyOld the place of the dropped row, KeyInUse whose key it is.
 pub data Reason : Type 0 where
   Down : Reason

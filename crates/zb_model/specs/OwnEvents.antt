@@ -208,8 +208,8 @@ share c s device partner =
     refuse_if (both_spent s) CounterSpent (
     Does [] (sends (short_of c device) true (Secret ForLoad row.key (TransportApp pair.key partner 0))))))))
 
--- The rule of each event of a node's own; an event that isn't for a node of its role is refused. That decides nothing
--- in a run: a schedule has none.
+-- The rule of each event of a node's own; an event that isn't for a node of its role is refused. This decides nothing
+-- in a run: no schedule has one.
 
 abbrev pub own_at_centre : Setting → NodeState → Task → Outcome
 own_at_centre c s (SayTo to bytes) = say s to bytes

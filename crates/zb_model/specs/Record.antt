@@ -93,7 +93,7 @@ record_of s =
     ++ (two_bytes (length s.links) ++ (flat_map link_bytes s.links
     ++ (two_bytes (length s.pairs) ++ flat_map pair_bytes s.pairs))))))))))
 
--- The payload of a journal entry: the number of changes 1, then each change but a draw, as its kind and its fields.
+-- The payload of a journal entry: the number of changes 1, then each change except draws, as its kind and fields.
 abbrev pub move_bytes : Move → Bytes
 move_bytes (Draw key) = []
 move_bytes (DropNet key) = 0x03 ∷ key

@@ -62,7 +62,7 @@ terms_in _ = []
 unfoldable pub terms_of : List Line → List Term
 terms_of h = flat_map terms_in h
 
--- The keys that come out for somebody who holds the keys at the start: each round adds the keys that a term carries
+-- The keys that come out for somebody who holds the keys `from`: each round adds the keys that a term carries
 -- whose base key is among them. There are as many rounds as lines.
 
 abbrev pub opened_by : Tools → List Bytes → Term → List Bytes

@@ -39,7 +39,7 @@ pub record LinkKey : Type 0 where
   pub kept : ℕ
   pub stored : ℕ
 
--- At the centre: the key that it gave two devices for one another, `first` the smaller EUI.
+-- At the centre: the key that it gave two devices for use with each other. `first` is the smaller EUI.
 pub record PairKey : Type 0 where
   pub first : ℕ
   pub second : ℕ

@@ -191,7 +191,7 @@ links_at d = do
 abbrev pub is_pair : ℕ → ℕ → PairKey → Bool
 is_pair first second p = nat_eq p.first first && nat_eq p.second second
 
--- the first device is the one of the smaller address, and no two pairs have the same devices
+-- the first device is the one with the smaller EUI, and no two pairs have the same devices
 abbrev pub is_new_pair : List PairKey → Eui → Eui → Bool
 is_new_pair done first second = nat_lt first.0 second.0 && not (list_any (is_pair first.0 second.0) done)
 

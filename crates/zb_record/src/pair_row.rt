@@ -10,7 +10,7 @@ use zb_base::{Eui, Key};
 /// A key of two devices.
 #[derive(Clone, Copy, Debug, PartialEq, Eq)]
 pub struct Pair {
-    /// The device with the smaller address.
+    /// The device with the smaller EUI.
     pub first: Eui,
     /// The other device.
     pub second: Eui,

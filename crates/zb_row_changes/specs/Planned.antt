@@ -110,7 +110,7 @@ verify_rule tools s partner hash =
 
 -- Pairs
 
--- two devices get a key for use with each other, the smaller address first
+-- two devices get a key for use with each other, the smaller EUI first
 unfoldable pub pair_rule : NodeState → ℕ → ℕ → Bytes → Outcome
 pair_rule s a b key =
     refuse_if (pairs_full s) RowsFull (

@@ -70,7 +70,7 @@ pub fn has_link(tables: &Tables, partner: Eui, key: &Key) -> bool
     has_row(tables.links(), partner, key)
 }
 
-/// Returns whether one of these rows is that of a partner and a key.
+/// Returns whether one of these rows has that partner and key.
 #[tactic(auto, using(zb_keys::proofs::Mapping::any_map))]
 fn has_row(rows: &[LinkRow], partner: Eui, key: &Key) -> bool
     ensures { result ≡ has_link partner.0 key.now.0 (map link_key rows.now) }
