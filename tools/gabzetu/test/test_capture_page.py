@@ -121,7 +121,7 @@ class Pcapng(Folder):
         self.assertEqual(found[0]['time'], 1700000002.5)
 
     def test_counts_blocks_as_wireshark_does(self):
-        """Custom blocks, a journal and events have numbers; names, statistics, secrets and what is unknown have none."""
+        """Custom blocks, journals and events have numbers; names, statistics, secrets and unknown ones have none."""
         body = packets_of('mixed.pcap')[6]
         counted = [(0x0BAD, bytes(8)), (0x40000BAD, bytes(8)), (9, b'__REALTIME_TIMESTAMP=1\n\n')]
         counted += [(kind, bytes(44)) for kind in (0x204, 0x216, 0x221)]
