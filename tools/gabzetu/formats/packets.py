@@ -19,9 +19,9 @@ MORE_OF_MODIFIED = 8
 PCAPNG = b'\n\r\r\n'
 PCAP = (b'\xd4\xc3\xb2\xa1', b'\xa1\xb2\xc3\xd4', b'\x4d\x3c\xb2\xa1', b'\xa1\xb2\x3c\x4d')
 MAGICS = (*PCAP, *MODIFIED, PCAPNG, daintree.MAGIC)
-# Of pcapng: the option with the seconds that an interface adds, and the custom blocks. Wireshark counts these as
-# packets, so they have numbers here too.
-TIME_OFFSET, CUSTOM_BLOCKS = 14, (0x0BAD, 0x40000BAD)
+# Of pcapng: the option with the seconds that an interface adds, and the blocks without a packet that Wireshark counts
+# as packets, so that they have numbers here too: custom blocks, a journal of systemd, and events of Sysdig.
+TIME_OFFSET, COUNTED_BLOCKS = 14, (0x0BAD, 0x40000BAD, 9, 0x204, 0x216, 0x221)
 
 # number: from 1, as other tools count; time: in seconds; link: the link type; kept: the bytes that are there; whole:
 # how many bytes the packet had
@@ -81,7 +81,7 @@ def pcapng_of(scapy: Any) -> Any:
     class Pcapng(scapy.utils.RawPcapNgReader):
         def _read_block(self, *size: int) -> Any:
             self.begin = self.f.position
-            self.blocktypes.update(dict.fromkeys(CUSTOM_BLOCKS, lambda block, size: (b'', NO_PACKET)))
+            self.blocktypes.update(dict.fromkeys(COUNTED_BLOCKS, lambda block, size: (b'', NO_PACKET)))
             return super()._read_block(*size)
 
         def _read_block_shb(self) -> None:
