@@ -1,5 +1,5 @@
-//! The lockout of removed devices, in plain words: whatever a device seals after its removal is refused, however late
-//! it seals it. The function states a law and does nothing.
+//! The lockout of removed devices, in plain words: it doesn't matter when a device seals something after its removal.
+//! The function states a law and does nothing.
 #![tactic(auto)]
 
 ghost use Rattle.std.specs.Prelude.{◌≡◌, List, true};
