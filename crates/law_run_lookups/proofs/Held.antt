@@ -70,7 +70,7 @@ row-there : (q : ℕ) (k : Bytes) (t : Attribute) (s : NodeState)
 unfolding applied
 row-there q k t s = row-by q k t (is_told s q) s.links (has_link q k s.links) refl
 
--- a row that is there without being added
+-- a row whose addition changes nothing is there already
 kind-same : (x a : Attribute) → nat_eq (attribute_byte x) (attribute_byte a) ≡ true → is_unverified x ≡ is_unverified a
 kind-same Provisional Provisional e = refl
 kind-same Provisional Unverified e = absurd (false≢true e)
