@@ -1,4 +1,4 @@
--- Nothing is accepted that is sealed only later, so the two ways to say the lockout are one.
+-- Nothing is accepted that is sealed only later, so the two ways to state the lockout are one.
 use Rattle.std.proofs.Common.{◌≡◌, ◌⊎◌, inl, inr, ℕ, Bool, true, false, cond, List, [], ◌∷◌, ◌++◌, flat_map, refl, sym, ◌∙◌, ap, subst, append_assoc}
 use Rattle.std.proofs.lemmas.Bool.{and_parts}
 use Rattle.std.proofs.lemmas.List.{append-nil}
@@ -115,7 +115,7 @@ pub locked_out : (tools : Tools) (lines : List Line) → Fresh tools lines → i
     → Locked tools lines → LockedOut tools lines
 locked_out tools lines apart all locked = out_from tools lines [] lines refl apart all locked
 
--- ---- and back: what was sealed before an acceptance is sealed after the removal
+-- the reverse: what was sealed before an acceptance is sealed after the removal
 
 back_line : (tools : Tools) (d : ℕ) (h after since : List Line) (l : Line) (later : List Line) → after ≡ since ++ l
     ∷ later → TakesNoneOf tools d h after since l → RefusesLine tools d h since l

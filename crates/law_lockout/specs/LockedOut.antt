@@ -1,4 +1,4 @@
--- The lockout of a removed device in plain words: what counts of its seals is that they come after the removal.
+-- The lockout of a removed device in plain words. It covers every seal that comes after the removal.
 use Rattle.std.specs.Prelude.{ℕ, ◌≡◌, ◌⊎◌, List, [], ◌∷◌, ◌++◌, flat_map, ⊤}
 use Rattle.zb_model.specs.Claims.{Each, HasTerm, HoldsNoneKnown, KeepsOut, before_group, seals_of, until_live}
 use Rattle.zb_model.specs.Data.{Moved, Nwk, Removed}

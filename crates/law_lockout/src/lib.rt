@@ -1,5 +1,5 @@
-//! The lockout of removed devices, in plain words: of what a device seals after its removal it doesn't matter when.
-//! The function says a law and does nothing.
+//! The lockout of removed devices, in plain words: it doesn't matter when a device seals something after its removal.
+//! The function states a law and does nothing.
 #![tactic(auto)]
 
 ghost use Rattle.std.specs.Prelude.{◌≡◌, List, true};
@@ -11,9 +11,10 @@ ghost use Rattle.law_lockout.specs.LockedOut.{LockedOut};
 
 /// States that lockout of what is sealed before an acceptance is lockout of all that is sealed.
 ///
-/// `Locked` is of what a removed device sealed before an acceptance, and `LockedOut` of all that it seals after its
-/// removal. `LockedOut` gives `Locked`, of any lines. The reverse follows where no two seals have one sealing key and
-/// nonce, and what is accepted was sealed or forged before. Then nothing is accepted that is sealed only later.
+/// `Locked` is about what a removed device sealed before an acceptance, and `LockedOut` about all that it seals after
+/// its removal. `LockedOut` implies `Locked`, for any lines. The reverse follows if no two seals have one sealing key
+/// and nonce, and if what is accepted was sealed or forged before. Then nothing is accepted that is sealed only
+/// later.
 #[tactic(auto, using(crate::proofs::Words::locked_out, crate::proofs::Words::locked))]
 pub fn the_lockout_is_of_all_later_seals()
     ensures all { (tools : Tools) (lines : List Line) → Fresh tools lines → ideal tools lines ≡ true

@@ -137,7 +137,7 @@ acted_on tools w x n task event up down = by_power (is_up x.lines n) refl
         let to = refused w x.lines x.disks x.number n Down g (down p) in
         as_it_was (ap (λ (z : Condition). z.state) to.condition) (ap (λ b. stored_by b (falls_on a k) stand) p)
 
--- ---- an event that leaves a node as far as it was
+-- ---- an event that leaves a node at its stage
 
 pub record Kept (w : Schedule) (x y : Front) (n : ℕ) : Type 0 where
   pub same : bare (state_of y.lines n) ≡ bare (state_of x.lines n)

@@ -1,5 +1,5 @@
--- A request and a proof that come again, since the answer to the first was lost: the centre offers its key again, and
--- confirms the key again that it has verified.
+-- A request and a proof that are repeated, because the answer to the first was lost: the centre offers its key again,
+-- and confirms the verified key again.
 use Rattle.std.proofs.Common.{◌≡◌, ℕ, nat_lt, Bool, true, false, [], ◌∷◌, Option, Some, None, refl, sym, ap, ◌∙◌, eq-eqb, subst, arith}
 use Rattle.zb_model.specs.Data.{Bytes, Nwk, Aps, ForData, ForLoad, AtAps, CounterSpent, RequestLink, TransportLink, VerifyKey, ConfirmKey, Received}
 use Rattle.zb_model.specs.Fits.{keeps_rules}
@@ -22,7 +22,7 @@ use Rattle.law_recovery.proofs.Laws.{found_net, found_link, no_confirmation, thr
 use Rattle.law_recovery.proofs.Requesting.{four, net_range, heard_up}
 use Rattle.law_recovery.proofs.Sending.{sealed_out}
 
--- ---- a request that comes again
+-- ---- a repeated request
 
 abbrev pub offers_again : Setting → ℕ → LinkKey → Bytes → Bool → Outcome
 offers_again c device row key true = Stop CounterSpent
@@ -83,7 +83,7 @@ no_offer_again s device k key h l =
     three _ (why_not_heard h.found device k.nwk) _ (why_not_opened l.row k.aps) (why_not_sealed s)
     (found_net s k device h.found h.is_found) (found_link (current s device) l.row k.aps l.is_current)
 
--- where nothing is in the way, the counters aren't at their end
+-- if nothing prevents the event, the counters aren't at their end
 pub again_free : (s : NodeState) (device : ℕ) (k : Seals) → why_no_offer_again s device k ≡ None → why_not_sealed s
     ≡ None
 unfolding why_no_offer_again
@@ -110,7 +110,7 @@ again_refused tools delivers c m s k key draw d st rn ra rules h l closed =
     (again_reason c m.me.eui l.row l.offer.key (both_spent s))
     ∙ sym (no_offer_again s m.me.eui k key h l)
 
--- its plan, where nothing is in the way
+-- its plan, if nothing prevents the event
 pub again_freely : (tools : Tools) → DeliversCommands tools
     → (c m : Setting) (s : NodeState) (k : Seals) (key : Bytes) (draw : Option Bytes) → AreDeclared c m
     → StationsInRange c m → NwkInRange k → ApsInRange k → keeps_rules s ≡ true → HasNetwork s k.key k.sequence
@@ -179,7 +179,7 @@ again_offered tools delivers c m s k key draw d st rn ra rules h l closed none =
       keys = both_left s u device k.link key l rows;
     })
 
--- ---- a proof that comes again
+-- ---- a repeated proof
 
 abbrev pub confirms_again : Setting → ℕ → Bytes → Bool → Outcome
 confirms_again c device key true = Stop CounterSpent
@@ -237,7 +237,7 @@ confirm_again_refused tools delivers c m s k draw d st rn h l =
     ∙ ap (or_else (why_not_heard h.found m.me.eui k.nwk)) (confirms_reason c m.me.eui l.row.key (both_spent s))
     ∙ sym (no_confirmation s m.me.eui k h)
 
--- its plan, where nothing is in the way
+-- its plan, if nothing prevents the event
 pub proof_freely : (tools : Tools) → DeliversCommands tools
     → (c m : Setting) (s : NodeState) (k : Seals) (draw : Option Bytes) → AreDeclared c m → StationsInRange c m
     → NwkInRange k → HasNetwork s k.key k.sequence → (l : HasProved s m.me.eui k.link)

@@ -15,7 +15,7 @@ none_left q (x ∷ xs) e =
     let parts = neither (q x) (list_any q xs) e in
     rw parts.0 (none_left q xs parts.1)
 
--- where any two that pass are alike and no two items are, one passes at most, and is found
+-- if any two that pass are alike and no two items are alike, at most one passes, and it is found
 pub one_left : {X : Type 0} (alike : X → X → Bool) (q : X → Bool)
     → ((x y : X) → q x ≡ true → q y ≡ true → alike x y ≡ true)
     → (xs : List X) → all_apart alike xs ≡ true → filter q xs ≡ option_to_list (find q xs)
@@ -34,7 +34,7 @@ one_left {X} alike q each (x ∷ xs) apart =
         ap (λ l. x ∷ l) (none_left q xs (none_where (alike x) q (λ y other. turned y e other (q y) refl) xs alone))
     by_test false e alone later = later
 
--- a list that is turned round, and then filtered
+-- a list that is reversed, and then filtered
 pub filter_turned : {X : Type 0} (q : X → Bool) (xs ys : List X) → filter q (reverse_aux xs ys)
     ≡ reverse_aux (filter q xs) (filter q ys)
 filter_turned q [] ys = refl
@@ -45,7 +45,7 @@ filter_turned {X} q (x ∷ xs) ys = filter_turned q xs (x ∷ ys) ∙ by_test (q
     by_test true = refl
     by_test false = refl
 
--- a second test that holds of none that pass the first
+-- a second test that no item passes if it passes the first
 without : {X : Type 0} (a b : X → Bool) (xs : List X) → list_any (λ x. a x && b x) xs ≡ false → filter a xs
     ≡ filter (λ x. a x && not (b x)) xs
 without a b [] e = refl

@@ -1,5 +1,5 @@
--- Each obstacle on a small state, computed: it is there, and it gives its refusal. The exact laws say that the answers
--- are refused so, and that nothing else stands in the way.
+-- Each obstacle on a small state, computed: it is there, and it gives its refusal. The exact laws say that the
+-- answers are refused so, and that nothing else prevents the event.
 use Rattle.std.specs.Prelude.{◌≡◌, ℕ, true, false, [], ◌∷◌, ◌++◌, replicate, Some, None, refl}
 use Rattle.zb_model.specs.Commands.{Heard, take_net_key}
 use Rattle.zb_model.specs.Data.{Bytes, Role, Centre, Device, Confirmed, Verified, ForTransport, Station, DropNet, Install, Moved, NoKey, NotMember, CounterSpent, Stale, KeyOld, KeysFull}
@@ -41,7 +41,7 @@ member =
           ∷ [];
     }
 
--- nothing stands in the way
+-- nothing prevents it
 free_centre : why_not_sent centre 2 ≡ None
 unfolding why_not_sent active_row current spent next_counter
 free_centre = refl
@@ -63,7 +63,7 @@ no_counter : why_not_sent (record centre { aps_next = greatest_counter }) 2 ≡ 
 unfolding why_not_sent active_row current spent next_counter
 no_counter = refl
 
--- at the member: a floor above the counter, as a boot leaves it; and full rows
+-- at the member: a floor above the counter, for example after a boot; and full rows
 after_a_boot : why_not_taken member (record (link 1) { kept = 8 }) 4 (key 1) ≡ Some (Stale 8)
 unfolding why_not_taken
 after_a_boot = refl
@@ -73,8 +73,8 @@ full_rows : why_not_taken (record member { nets = member.nets ++ replicate 254 (
 unfolding why_not_taken
 full_rows = refl
 
--- A member that missed a switch from the key 1 to the key 2 is told of the key 3, and drops the key 2, which is active
--- at the centre until it switches. The key 2 is refused, and the key 3 is taken.
+-- A member that missed a switch from the key 1 to the key 2 is told of the key 3, and drops the key 2, which is
+-- active at the centre until it switches. The key 2 is refused, and the key 3 is installed.
 abbrev station : Role → ℕ → Station
 station role eui = record { name = []; eui = eui; short = eui; role = role; out_block = 4; in_block = 4 }
 
@@ -100,7 +100,7 @@ third_is_taken : why_not_taken missed (link 1) 4 (key 3) ≡ None
 unfolding why_not_taken applied_all applied
 third_is_taken = refl
 
--- a device with two rows is told once
+-- a device with two rows is told only once
 two_devices : untold centre ≡ 4 ∷ 2 ∷ []
 unfolding untold each_once
 two_devices = refl

@@ -1,5 +1,5 @@
--- A node that offers a partner a key has two candidates for the partner's frames. Where only one of them opens a
--- frame, that one is chosen, wherever it stands.
+-- A node that offers a partner a key has two candidates for the partner's frames. If only one of them opens a frame,
+-- that one is chosen, wherever it is in the list.
 use Rattle.std.proofs.Common.{◌≡◌, Bool, true, false, not, ◌&&◌, if◌then◌else◌, List, [], ◌∷◌, filter, find, reverse, Option, Some, None, is_some, refl, sym, ap, ◌∙◌, subst}
 use Rattle.std.specs.List.{AllByRecursion}
 use Rattle.zb_model.specs.Data.{Bytes}
@@ -17,7 +17,7 @@ use Rattle.law_recovery.proofs.Rows.{found_test, is_current, is_offer, one_curre
 
 -- ---- lists
 
--- what holds of all that pass two tests, and of all that pass the first alone
+-- what is true of all that pass two tests, and of all that pass the first alone
 all_of : {X : Type 0} (P : X → Type 0) (a b : X → Bool) (xs : List X) → AllByRecursion P (filter (λ x. a x && b x) xs)
     → AllByRecursion P (filter (λ x. a x && not (b x)) xs) → AllByRecursion P (filter a xs)
 all_of P a b [] p q = tt

@@ -196,7 +196,7 @@ renewed_no_offer device key told rows e =
         mine false = refl
     by_test r gone false = dead_row device r gone (is_unverified r.attribute)
 
--- the row that is current once a code is entered, before its device is marked as one that wasn't told
+-- the row that is current after a code is entered, before its device is marked as untold
 record Coded (device : ℕ) (key : Bytes) (rows : List LinkKey) : Type 0 where
   row : LinkKey
   is : find (is_current device) rows ≡ Some row

@@ -106,7 +106,7 @@ centre_acts tools opens w x c d task event met other is =
       on_air = a.on_air;
     }
 
--- so many frames are on the air, and the last of them is this one
+-- that many frames are on the air, and the last of them is this one
 pub record OnAir (x : Front) (frames : ℕ) (bytes : Bytes) : Type 0 where
   pub count : length (air x.lines) ≡ frames
   pub last : frame_at x.lines frames ≡ Some bytes

@@ -105,7 +105,7 @@ confirm_refused tools delivers c m t k draw d st rn ra j =
     or_nothing None = refl
     or_nothing (Some r) = refl
 
--- ---- where nothing is in the way
+-- ---- if nothing prevents it
 
 abbrev new_moves : ℕ → LinkKey → LinkKey → List Move
 new_moves centre row offer = DropLink centre row.key ∷ Row centre offer.key Verified ∷ Became Confirmed ∷ []

@@ -1,4 +1,4 @@
--- Link rows of which some are dropped, one after the other: which are live then, and what is found among them.
+-- Link rows of which some are dropped, one after the other: which are live then, and which are found.
 use Rattle.std.proofs.Common.{◌≡◌, ℕ, suc, Bool, true, false, not, ◌&&◌, ◌||◌, if◌then◌else◌, List, [], ◌∷◌, map, filter, find, fold, length, Some, nat_eq, refl, sym, ap, ◌∙◌, eq-eqb}
 use Rattle.std.specs.List.{AllByRecursion, list_any}
 use Rattle.std.proofs.lemmas.Bool.{false≢true}
@@ -114,7 +114,7 @@ all_named f (x ∷ xs) = by_test (f x) refl (all_named f xs)
     by_test true e all = (λ g. rw (names_self x) refl, weaker f f x (filter f xs) xs all)
     by_test false e all = (λ g. never (f x) g e, all)
 
--- of rows none is live of a partner where none of them is, each changed
+-- if no row of a partner is live, none is live after each row is changed
 pub none_of : {X : Type 0} (test : X → Bool) (f : X → X) (xs : List X)
     → AllByRecursion (λ x. test (f x) ≡ false) xs → list_any test (map f xs) ≡ false
 none_of test f [] all = refl
@@ -150,7 +150,7 @@ dropped_not p rows r among = by_test (is_live_of p r) refl
     by_test true e = not_live p (dropped_by rows r) (dead_by rows r (among e))
     by_test false e = still_not p r (dropped_by rows r) (kept_by rows r) e
 
--- once all live rows of a partner are dropped, none is live
+-- when all live rows of a partner are dropped, none is live
 pub none_live : (p : ℕ) (links : List LinkKey)
     → list_any (is_live_of p) (dropped_links (filter (is_live_of p) links) links) ≡ false
 none_live p links =
@@ -182,7 +182,8 @@ same_length rows links = ap (length {A = LinkKey}) (row_by_row rows links) ∙ m
 
 -- ---- the one row with a key
 
--- Where any two that pass a test are alike, and no two items are: all that pass are the one that another test finds.
+-- If any two that pass a test are alike, and no two items are alike, all that pass are the one that another test
+-- finds.
 none_passes : {X : Type 0} (alike : X → X → Bool) (q : X → Bool)
     → ((x y : X) → q x ≡ true → q y ≡ true → alike x y ≡ true) → (row x : X) (xs : List X) → q x ≡ true
     → list_any (alike x) xs ≡ false → AllByRecursion (λ y. q y ≡ true → y ≡ row) xs

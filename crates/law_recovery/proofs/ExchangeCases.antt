@@ -1,5 +1,5 @@
 -- Each obstacle of the exchange on a small state, computed: it is there, and it gives its refusal. The exact laws say
--- that the event is refused so, and that nothing else stands in its way.
+-- that the event is refused so, and that nothing else prevents it.
 use Rattle.std.specs.Prelude.{◌≡◌, ℕ, true, false, List, [], ◌∷◌, map, replicate, Option, Some, None, refl}
 use Rattle.std.specs.List.{range_with_len}
 use Rattle.zb_model.specs.Data.{Bytes, Centre, Device, Attribute, Provisional, Unverified, Joined, Offered, NoKey, CounterSpent, NoDraw, RowsFull, KeyInUse, Stale}
@@ -101,7 +101,7 @@ other_sequence : why_no_offer centre 2 (record (seals 2 4 3) { sequence = 2 }) d
 unfolding why_no_offer usable_of usable_nets
 other_sequence = refl
 
--- the supply is empty, or its key is held already; a counter stands at its end
+-- the supply is empty, or its key is held already; a counter is at its end
 no_draw : why_no_offer centre 2 (seals 2 4 3) None ≡ Some NoDraw
 unfolding why_no_offer why_not_heard why_not_opened usable_of usable_nets current sender_floor
 no_draw = refl
@@ -115,7 +115,7 @@ unfolding why_no_offer why_not_heard why_not_opened usable_of usable_nets curren
     next_counter active_row
 spent_centre = refl
 
--- an offer that is repeated draws nothing, so an empty supply isn't in its way
+-- an offer that is repeated draws nothing, so an empty supply doesn't prevent it
 free_again : why_no_offer_again centre 2 (seals 2 4 3) ≡ None
 unfolding why_no_offer_again why_not_heard why_not_opened usable_of usable_nets current sender_floor both_spent spent
     next_counter active_row

@@ -24,7 +24,7 @@ use Rattle.law_recovery.proofs.Airs.{air-after, last-frame}
 
 -- ---- one event of a node that is ready
 
--- its answer is whole: its state goes on by the answer, it stays ready, and the answer's frame is on the air
+-- its answer is whole: its state is the one after the answer, it stays ready, and the answer's frame is on the air
 pub record Answered (x y : Front) (n : ℕ) (a : Answer) : Type 0 where
   pub state : state_of y.lines n ≡ answered a (state_of x.lines n)
   pub ready : IsReady y n

@@ -1,4 +1,4 @@
--- Where what a node accepted under a link key is below a number, the key's floor is at most a block above it.
+-- If what a node accepted under a link key is below a number, the key's floor is at most a block above that number.
 use Rattle.std.proofs.Common.{◌≡◌, ℕ, ◌+◌, ◌-◌, ◌<◌, ◌≤◌, max, Bool, true, false, cond, not, List, [], ◌∷◌, fold, find, map, reverse, Some, is_some, nat_eq, refl, sym, ap, ◌∙◌, arith, eqb-true, subst}
 use Rattle.std.proofs.lemmas.Bool.{false≢true}
 use Rattle.std.specs.List.{AllByRecursion}
@@ -202,7 +202,7 @@ tried_within s c most own e all =
     own_within c most own (all-in (Within c own.key most) s.links all own (in-reverse own s.links found.0))
     (both own.live (nat_eq own.partner c) found.1).1
 
--- what is accepted of a under a key leaves the floors of all rows of b with that key at most a block above
+-- what is accepted from a under a key leaves the floors of all rows of b with that key at most a block above
 pub links_within : (w : Schedule) (x : Front) (a b : ℕ) (key : Bytes) → CameFrom Aps w x a b key
     → AllWithin (setting_of w a).me.eui key
     (next_counter Aps (state_of x.lines a) + ((setting_of w b).me.in_block - 1)) (state_of x.lines b).links

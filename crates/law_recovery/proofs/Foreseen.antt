@@ -1,5 +1,5 @@
--- The obstacles of the exchange's later events are seen at the first front: what the first events leave of counters
--- and floors is known.
+-- The obstacles of the exchange's later events are known at the first front, because the counters and floors after
+-- the first events are known.
 use Rattle.std.proofs.Common.{◌≡◌, ℕ, ◌+◌, ◌<◌, ◌≤◌, Bool, true, false, not, ◌&&◌, if◌then◌else◌, List, [], ◌∷◌, filter, find, length, reverse, Option, Some, None, is_some, nat_eq, nat_lt, nat_le, refl, sym, ap, ◌∙◌, subst, arith}
 use Rattle.std.specs.List.{list_all}
 use Rattle.std.proofs.lemmas.Bool.{false≢true, le-ltb, leb-true, lt-leb}
@@ -57,7 +57,7 @@ sealed_free s e f = rw (e, f) refl
 proof_free : (s : NodeState) → spent Nwk s ≡ false → why_no_proof s ≡ None
 proof_free s e = ap (λ b. obstacle_if b CounterSpent) e
 
--- ---- a sender that was heard has room, and its next frame isn't stale
+-- ---- an accepted sender has room, and its next frame isn't stale
 
 fewer_others : (source : ℕ) (fs : List SenderFloor) → is_some (find (λ (f : SenderFloor). nat_eq f.sender source) fs)
     ≡ true → length (filter (λ (f : SenderFloor). not (nat_eq f.sender source)) fs) + 1 ≤ length fs
@@ -236,7 +236,7 @@ begun tools delivers opens w x c d k fit h f =
       asked = asked;
     }
 
--- ---- a frame of each was heard
+-- ---- a frame of each was accepted
 
 request_heard : (tools : Tools) → DeliversCommands tools → OpensAsJudged tools → (w : Schedule) (x : Front) (c d : ℕ)
     (k : Keys) → Begun tools w x c d k

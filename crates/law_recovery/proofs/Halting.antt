@@ -1,4 +1,4 @@
--- What happens in an exchange in which nodes are stopped, event by event, and all of it.
+-- What happens in an exchange in which nodes are stopped, event by event, and as a whole.
 use Rattle.std.proofs.Common.{◌≡◌, ℕ, ◌⊎◌, inl, inr, Bool, true, false, if◌then◌else◌, List, [], ◌∷◌, Some, refl, sym, subst}
 use Rattle.zb_model.specs.Answer.{answer}
 use Rattle.zb_model.specs.Data.{Bytes, Task, DoTimer, Received}
@@ -29,7 +29,7 @@ use Rattle.law_recovery.proofs.Staying.{centre_left, device_left}
 use Rattle.law_recovery.proofs.LostTaking.{answers_by, centre_range, device_stays, device_takes, kept_so}
 use Rattle.law_recovery.proofs.Turning.{all_turns}
 
--- ---- bare rows show how far the two are
+-- ---- bare rows show the stage of the two
 
 comes_to : (w : Schedule) (x y : Front) (c d : ℕ) (k : Keys) (far next : Far) (s t : NodeState)
     → HaveKept w x c d k far → IsSteady (setting_of w c) (state_of y.lines c)
@@ -114,9 +114,9 @@ timer_comes tools opens w x c d k far h under =
     (other_kept tools w x c (Own d DoTimer) h.apart) h.centre
     (still tools w c d (state_of x.lines d) k far h.declared h.device under))
 
--- ---- the device's frame comes to the centre, and the centre's to the device
+-- ---- the device's frame is delivered to the centre, and the centre's to the device
 
--- a frame with these bytes comes to a node
+-- a frame with these bytes is delivered to a node
 frame_acts : (tools : Tools) (w : Schedule) (x : Front) (frame n : ℕ) (bytes : Bytes)
     → frame_at x.lines frame ≡ Some bytes
     → Acted tools w x (after_event tools w x (Deliver frame n)) n (Received bytes (supply w x.lines))
@@ -212,7 +212,7 @@ repelled tools opens w x c d k far frame node h r = by_node r.one
     by_node (inl e) = subst (λ n. HaveKept w (after_event tools w x (Deliver frame n)) c d k far) (sym e) (by_centre e)
     by_node (inr e) = subst (λ n. HaveKept w (after_event tools w x (Deliver frame n)) c d k far) (sym e) (by_device e)
 
--- ---- an event of neither, or that no node answers
+-- ---- an event of another node, or one that no node answers
 
 idles : (tools : Tools) (w : Schedule) (x : Front) (c d : ℕ) (k : Keys) (far : Far) (event : Event)
     → HaveKept w x c d k far → ((is_of c event ≡ false) × (is_of d event ≡ false)) ⊎ IsUnanswered x event

@@ -1,4 +1,4 @@
--- A network key that a member has in a live row isn't refused as old, nor for full rows.
+-- A network key that a member has in a live row is refused neither as old nor because of full rows.
 use Rattle.std.proofs.Common.{◌≡◌, ℕ, ◌+◌, ◌≤◌, Bool, true, false, not, ◌&&◌, ◌||◌, if◌then◌else◌, List, [], ◌∷◌, find, Some, None, refl, sym, ap, ◌∙◌}
 use Rattle.std.specs.List.{list_any}
 use Rattle.std.proofs.lemmas.Bool.{false≢true, not-true, le-ltb}
@@ -20,7 +20,7 @@ none_old key place (r ∷ rs) e =
     let parts = neither (is_key key r) (list_any (is_key key) rs) e in
     rw parts.0 (none_old key (place + 1) rs parts.1)
 
--- of a row with the key no other has it
+-- if a row has a key and no other row is like it, no other row has that key
 no_other : (key : Bytes) (r : NetKey) (rs : List NetKey) → is_key key r ≡ true → list_any (nets_alike r) rs ≡ false
     → list_any (is_key key) rs ≡ false
 no_other key r rs is apart =

@@ -1,4 +1,4 @@
--- For each law that has premises: a worked network in which they are met, and what the law says of it, computed.
+-- For each law that has premises: a worked network that meets them, and what the law says of it, computed.
 pub mod Worked
 pub mod Joins
 mod Exchanges

@@ -1,4 +1,4 @@
--- A device that knocked takes a network key that is new to it: it has joined as the exchange of link keys asks.
+-- A device that knocked installs a network key that is new to it: it has joined, ready for the exchange of link keys.
 use Rattle.std.proofs.Common.{◌≡◌, ℕ, Bool, true, false, not, if◌then◌else◌, List, [], ◌∷◌, ◌++◌, map, filter, length, Option, Some, None, is_some, nat_lt, nat_le, refl, sym, ap, ◌∙◌, subst}
 use Rattle.std.specs.List.{AllByRecursion}
 use Rattle.std.proofs.lemmas.Bool.{false≢true}
@@ -24,7 +24,7 @@ use Rattle.law_recovery.proofs.Baring.{bare, bare_net, bare_link, bare_after, mo
 use Rattle.law_recovery.proofs.Rows.{new_network}
 use Rattle.law_recovery.proofs.Keeping.{nets_of, links_of, active_of, state_of, link_kept}
 
--- ---- the plan, where nothing is in the way and the key is new
+-- ---- the plan, if nothing prevents it and the key is new
 
 abbrev taken : Tools → NodeState → KeyFrame → Plan
 taken tools t f = comes_to (key_term tools f ∷ []) AtAps (Does (new_moves Joined t f) None)

@@ -1,4 +1,4 @@
--- A frame of the exchange is delivered to the node for which it is: what is in the way, and what it comes to.
+-- A frame of the exchange is delivered to the node that it is for: the obstacles, and the results.
 use Rattle.std.proofs.Common.{◌≡◌, ℕ, ◌<◌, Bool, true, false, not, ◌&&◌, List, [], ◌∷◌, find, Option, Some, None, is_some, nat_eq, nat_lt, nat_le, refl, sym, ap, ◌∙◌, eq-eqb}
 use Rattle.std.proofs.lemmas.Bool.{false≢true, lt-leb}
 use Rattle.zb_model.specs.Data.{Bytes, AtNwk, AtAps, Reason, Stale, RowsFull, Term, Command, Received}
@@ -200,7 +200,7 @@ delivered_clear tools b y f command net draw a u h =
     u.part) u.clear
     ∙ in_clear tools b y f command draw (shown_of f a.body) u)
 
--- ---- what is refused, and where nothing is
+-- ---- what is refused, and when nothing is
 
 refused_heard : (floor : ℕ) (rest : Plan) (stale full : Bool) → refusal_of (plan_heard stale full floor rest)
     ≡ or_else (or_else (obstacle_if stale (Stale floor)) (obstacle_if full RowsFull)) (refusal_of rest)

@@ -32,9 +32,9 @@ may_bare s = refl
 pub may_of : (s x : NodeState) → bare s ≡ x → may_use s ≡ may_use x
 may_of s x e = sym (may_bare s) ∙ ap (λ (y : NodeState). may_use y) e
 
--- ---- where nothing of its rows changes
+-- ---- if none of its rows changes
 
--- the network key is kept where the network rows and the active key are, and the node may use them
+-- the network key is kept if the network rows and the active key are, and the node may use them
 pub keeps_network : (s u x : NodeState) (key : Bytes) (sequence : ℕ) → HasNetwork s key sequence → bare u ≡ x → x.nets
     ≡ map bare_net s.nets → x.active ≡ s.active → may_use x ≡ true → HasNetwork u key sequence
 keeps_network s u x key sequence h e nets active may = same_network s u key sequence h (nets_of u x e ∙ nets)
@@ -92,7 +92,7 @@ both_left s u p link key h e =
       offer_key = ap (λ (r : LinkKey). r.key) b.seen ∙ h.offer_key;
     }
 
--- what is offered beside a key is offered
+-- a key that is offered next to another key is offered
 pub one_of : (s : NodeState) (p : ℕ) (link key : Bytes) → HasBoth s p link key → HasOffer s p key
 one_of s p link key h = record {
   row = h.row;
@@ -192,7 +192,7 @@ offer_tried s u p key told e =
     (last_first (map bare_link s.links) (offer_row p key told)) ∙ rw (self p) refl) in
     record { tried = a.item; tried_first = a.is; tried_key = ap (λ (r : LinkKey). r.key) a.seen }
 
--- no row of a partner has a key that no row of its has
+-- if no row of a partner has a key, the offer of that key adds a row at the end
 pub no_row : (p : ℕ) (key : Bytes) (told : Bool) (rows : List LinkKey) → has_link p key rows ≡ false
     → with_link p key Unverified told (map bare_link rows) ≡ map bare_link rows ++ offer_row p key told ∷ []
 no_row p key told rows none = rw (any_map (is_link p key) bare_link rows ∙ none) refl

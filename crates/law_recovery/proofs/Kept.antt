@@ -1,4 +1,4 @@
--- What an answer leaves of the floors in memory of link rows, and of the state where the frame is stale at NWK.
+-- What an answer leaves of the floors in memory of link rows, and of the state if the frame is stale at NWK.
 use Rattle.std.proofs.Common.{◌≡◌, ℕ, ◌+◌, ◌<◌, ◌≤◌, Bool, true, false, not, List, [], ◌∷◌, find, reverse, Option, Some, None, nat_eq, refl, sym, ap, ◌∙◌, subst, arith}
 use Rattle.std.specs.List.{AllByRecursion}
 use Rattle.zb_model.specs.Answer.{Counting, accepted_all, sealed_all, aps_part, stopped_at, answer_by, counting_of, plan_of, answer, answered}
@@ -119,7 +119,7 @@ links_after tools b s n p c k most low all =
     seals_in c k most a.seals (accepted_all a.accepts (applied_all a.edits s))
     (accepts_in c k most a.accepts (applied_all a.edits s) low (edits_in c k most a.edits s all))
 
--- ---- a frame that is heard
+-- ---- a frame that is accepted
 
 low_rest : (n most : ℕ) (ts : List Term) → n < most → AllAps n ts → AllByRecursion (IsLow most) ts
 low_rest n most [] lt all = tt

@@ -1,4 +1,4 @@
--- A device knocks, and takes the network key that its centre sends.
+-- A device knocks, and installs the network key that its centre sends.
 use Rattle.std.proofs.Common.{◌≡◌, ℕ, Bool, true, false, not, ◌&&◌, if◌then◌else◌, List, [], ◌∷◌, ◌++◌, map, filter, fold, flat_map, Option, Some, None, is_some, nat_eq, refl, sym, ap, ◌∙◌, subst}
 use Rattle.std.specs.Prelude.{is_none}
 use Rattle.std.proofs.lemmas.Bool.{false≢true}

@@ -168,7 +168,7 @@ turned row there told rows r = renewed_if row.partner row.key there told (droppe
 abbrev IsOwn : LinkKey → LinkKey → Type 0
 IsOwn row r = (r.key ≡ row.key) × ((r.kept ≡ row.kept) × (is_verified r.attribute ≡ false))
 
--- what holds of a row of the code, and of every other
+-- what is true of a row of the code, and of every other
 record Turns (row r q : LinkKey) : Type 0 where
   own : is_link row.partner row.key r ≡ true → IsOwn row q × (is_current row.partner q ≡ true)
   other : is_link row.partner row.key r ≡ false → is_live_of row.partner q ≡ false

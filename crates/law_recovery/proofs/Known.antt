@@ -1,5 +1,5 @@
--- A device that knocked takes a network key that it knows from before: it has joined as the exchange of link keys
--- asks.
+-- A device that knocked installs a network key that it knows from before: it has joined, ready for the exchange of
+-- link keys.
 use Rattle.std.proofs.Common.{◌≡◌, ℕ, inl, inr, Bool, true, false, not, if◌then◌else◌, List, [], ◌∷◌, map, filter, Option, Some, None, is_some, nat_lt, refl, sym, ap, ◌∙◌, subst}
 use Rattle.std.specs.List.{AllByRecursion}
 use Rattle.std.proofs.lemmas.Bool.{false≢true}
@@ -24,7 +24,7 @@ use Rattle.law_recovery.proofs.Keeping.{nets_of, links_of, active_of, state_of, 
 use Rattle.law_recovery.proofs.Rows.{any_found, found_test, same_network}
 use Rattle.law_recovery.specs.Knowing.{KnowsNetwork, MeetsKey}
 
--- ---- the plan, where nothing is in the way and the key is there
+-- ---- the plan, if nothing prevents it and the key is there
 
 abbrev taken : Tools → KeyFrame → Plan
 taken tools f = comes_to (key_term tools f ∷ []) AtAps (Does (same_moves Joined f) None)

@@ -1,4 +1,4 @@
--- However many turns lose a frame, two that lose none end an exchange.
+-- However many turns lose a frame, two turns that lose none end an exchange.
 use Rattle.std.proofs.Common.{◌≡◌, List, [], ◌∷◌, ◌++◌, refl}
 use Rattle.std.specs.List.{AllByRecursion}
 use Rattle.law_recovery.specs.Turns.{Asking, Offering, Proving, Proved, Done, Turn, Unheard, Unanswered, Answered, Refused, Elsewhere, Loses, far_after_all}

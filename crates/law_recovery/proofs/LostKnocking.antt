@@ -1,4 +1,4 @@
--- The network key is lost: the centre may send it again, with its next counter.
+-- The network key is lost: the centre can send it again, with its next counter.
 use Rattle.std.proofs.Common.{◌≡◌, ℕ, ◌+◌, ◌^◌, ◌<◌, Bool, true, false, if◌then◌else◌, length, Option, Some, None, option_map, is_some, nat_lt, refl, sym, ap, ◌∙◌, subst, arith}
 use Rattle.std.proofs.lemmas.Bool.{false≢true, le-ltb, ltb-false}
 use Rattle.zb_model.specs.Commands.{dropped_at}
@@ -27,7 +27,7 @@ use Rattle.law_recovery.proofs.Exchanged.{turned}
 use Rattle.law_run_steps.proofs.Others.{own-up}
 use Rattle.law_recovery.specs.Waiting.{JoinsAgain}
 
--- the two nodes are introduced as before
+-- the two nodes are still introduced to each other, with the same rows and keys
 record Again (c m : Setting) (s u t v : NodeState) (l : AreIntroduced c m s t) : Type 0 where
   introduced : AreIntroduced c m u v
   same_own : introduced.own ≡ l.own

@@ -22,7 +22,7 @@ use Rattle.law_recovery.specs.Turns.{Far, Asking, Offering, Proving, Proved, Don
 use Rattle.law_recovery.specs.Stages.{Keys, DeviceIs, CentreHas, HaveCome, Sends, asked_bytes, device_seals, timed}
 use Rattle.law_recovery.specs.Stops.{IsUnderWay}
 
--- what was sent is in its range; a proof takes no counter at APS
+-- the counters of what was sent are in their range; a proof uses no counter at APS
 abbrev pub InRange : Far → Seals → Type 0
 InRange Asking f = NwkInRange f × ApsInRange f
 InRange Offering f = NwkInRange f × ApsInRange f

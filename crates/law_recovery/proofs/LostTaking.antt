@@ -27,7 +27,7 @@ use Rattle.law_recovery.proofs.LostSending.{InRange, KeysFit}
 
 -- ---- the centre
 
--- two that are ready and have come so far
+-- two nodes that are ready and at this stage
 pub kept_so : (w : Schedule) (x : Front) (c d : ℕ) (k : Keys) (far : Far) → HaveCome w x c d k far
     → HaveKept w x c d k far
 kept_so w x c d k far h = record {
@@ -118,7 +118,7 @@ answers_by tools delivers w y c d k Proved t h range takes =
     }
 answers_by tools delivers w y c d k Done t h range takes = absurd (cc)
 
--- the device is as far as it was
+-- the device is at the same stage
 pub device_stays : (t : NodeState) (centre : ℕ) (k : Keys) (far : Far) → DeviceIs far t centre k
     → DeviceIs (unanswered_from far) t centre k
 device_stays t centre k Asking j = j
@@ -205,7 +205,7 @@ device_takes tools delivers w z c d k Proved s draw fit h r takes =
     h.declared h.stations r.0 r.1 h.device_steady.rules h.device takes
 device_takes tools delivers w z c d k Done s draw fit h r takes = absurd (cc)
 
--- the centre has what it has where the turn ends
+-- the centre still has its keys when the turn ends
 pub centre_stays : (s : NodeState) (device : ℕ) (k : Keys) (far : Far) → CentreHas (unanswered_from far) s device k
     → CentreHas (answered_from far) s device k
 centre_stays s device k Asking h = one_of s device k.link k.drawn h

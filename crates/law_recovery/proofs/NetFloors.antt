@@ -1,5 +1,5 @@
--- Where what a node accepted of a sender under a network key is below a number, the sender's floor there is at most a
--- block above it.
+-- If what a node accepted from a sender under a network key is below a number, the sender's floor there is at most a
+-- block above that number.
 use Rattle.std.proofs.Common.{◌≡◌, ℕ, ◌+◌, ◌-◌, ◌<◌, ◌≤◌, max, Bool, true, false, cond, List, [], ◌∷◌, ◌++◌, fold, find, Option, Some, None, nat_eq, nat_lt, refl, sym, ◌∙◌, arith, eqb-true}
 use Rattle.std.specs.List.{AllByRecursion}
 use Rattle.zb_model.specs.Data.{Bytes, Layer, Nwk, Aps, Device, Term, Move, DropNet, Install, Edit, Reserve, Floor, Start, Moved}

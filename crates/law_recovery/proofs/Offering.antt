@@ -1,4 +1,4 @@
--- The key that the centre offers is delivered to the device, which keeps it beside the one that it has.
+-- The key that the centre offers is delivered to the device, which keeps it together with the one that it has.
 use Rattle.std.proofs.Common.{◌≡◌, ℕ, ◌<◌, nat_lt, Bool, true, false, List, [], ◌∷◌, ◌++◌, map, filter, length, Option, Some, None, is_some, nat_eq, refl, sym, ap, ◌∙◌, eq-eqb, subst}
 use Rattle.std.proofs.lemmas.Bool.{false≢true}
 use Rattle.zb_model.specs.Data.{Bytes, Joined, Offered, Unverified, AtAps, Reason, RowsFull, KeyInUse, Move, Row, Became, TransportLink, Received}
@@ -136,7 +136,7 @@ keep_refused tools delivers c m t k key draw d st rn ra long rules j fresh =
     ∙ ap (λ o. or_else (why_not_heard j.network.found c.me.eui k.nwk) (or_else (why_not_opened j.keys.row k.aps) o))
     (keep_reason c.me.eui key (links_full t) (other_user t c.me.eui key))
 
--- ---- where nothing is in the way
+-- ---- if nothing prevents it
 
 none_user : (o : Option LinkKey) → why_key_in_use o ≡ None → o ≡ None
 none_user None e = refl

@@ -1,4 +1,4 @@
--- The frames of an exchange are on the air once they are sent, and stay there.
+-- The frames of an exchange are on the air after they are sent, and stay there.
 use Rattle.std.proofs.Common.{◌≡◌, ℕ, zero, suc, ◌+◌, ◌-◌, Bool, true, false, if◌then◌else◌, List, [], ◌∷◌, ◌++◌, fold, length, None, Some, option_to_list, slice_get, nat_eq, is_some, refl, sym, ap, ◌∙◌, append_assoc}
 use Rattle.std.proofs.lemmas.Bool.{false≢true}
 use Rattle.std.proofs.lemmas.List.{append-nil}

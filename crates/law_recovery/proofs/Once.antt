@@ -25,7 +25,7 @@ swapped a b = by_bool (λ t. nat_eq a b ≡ t → nat_eq b a ≡ t → nat_eq a 
 abbrev Others : ℕ → List ℕ → List ℕ
 Others d ns = filter (λ n. not (nat_eq n d)) ns
 
--- a number that isn't left out is among the others where it is among all
+-- a number that isn't left out is among the others if it is among all
 among_others : (d n : ℕ) (ns : List ℕ) → nat_eq n d ≡ false → list_any (nat_eq n) (Others d ns)
     ≡ list_any (nat_eq n) ns
 among_others d n [] e = refl
@@ -40,7 +40,7 @@ among_others d n (m ∷ ns) e = by_test (nat_eq m d) refl (among_others d n ns e
         h ∙ rw apart refl
     by_test false f h = ap (λ b. nat_eq n m || b) h
 
--- leaving out a number, and then each once, is each once without that number
+-- leaving out a number, and then keeping each once, gives each once without that number
 pub others_once : (d : ℕ) (ns : List ℕ) → each_once (Others d ns) ≡ Others d (each_once ns)
 unfolding each_once
 others_once d [] = refl
@@ -65,7 +65,7 @@ others_once d (n ∷ ns) = by_test (nat_eq n d) refl (others_once d ns)
 abbrev worth : Bool → ℕ
 worth b = if b then 1 else 0
 
--- who is among them is counted once
+-- a number that is among them is counted once
 pub once_less : (d : ℕ) (ns : List ℕ) → length (each_once (Others d ns)) + worth (list_any (nat_eq d) ns)
     ≡ length (each_once ns)
 unfolding each_once

@@ -1,4 +1,4 @@
--- A router takes a Tunnel of the centre, and sends what is in it; the device takes the network key from it.
+-- A router accepts a Tunnel of the centre, and sends the frame in it; the device installs the network key from it.
 use Rattle.std.proofs.Common.{◌≡◌, ℕ, true, false, List, [], ◌∷◌, ◌++◌, Option, Some, None, nat_eq, refl, sym, ap, ◌∙◌, eq-eqb}
 use Rattle.zb_model.specs.Data.{Bytes, Aps, AtAps, Place, Term, Received}
 use Rattle.zb_model.specs.Fits.{keeps_rules}

@@ -1,4 +1,4 @@
--- The device proves the key that it was offered, and the centre takes the proof and confirms.
+-- The device proves the key that it was offered, and the centre accepts the proof and confirms.
 use Rattle.std.proofs.Common.{◌≡◌, ℕ, Bool, true, false, not, if◌then◌else◌, List, [], ◌∷◌, map, filter, Option, Some, None, nat_eq, refl, sym, ap, ◌∙◌, eq-eqb, eqb-true, subst, arith}
 use Rattle.zb_model.specs.Data.{Bytes, Nwk, Aps, Offered, Verified, ForData, AtAps, AtEvent, CounterSpent, Move, DropLink, Row, VerifyKey, ConfirmKey, DoTimer, Received}
 use Rattle.zb_model.specs.Fits.{keeps_rules}
@@ -251,7 +251,7 @@ unfolding bare
 proved_links s u p key o e = links_of u (moved_all (DropLink p o.row.key ∷ Row p o.offer.key Verified ∷ []) (bare s))
     e ∙ place_taken s p key o (is_told (dropped_first s p o.row) p)
 
--- the plan, where nothing is in the way
+-- the plan, if nothing prevents it
 pub proved_freely : (tools : Tools) → DeliversCommands tools
     → (c m : Setting) (s : NodeState) (k : Seals) (draw : Option Bytes) → AreDeclared c m → StationsInRange c m
     → NwkInRange k → (h : HasNetwork s k.key k.sequence) → (o : HasOffer s m.me.eui k.link)

@@ -118,7 +118,7 @@ unheard_quiet s source k =
     ap (λ o. in_row o (λ row. why_not_heard row source k.nwk)) (usable_still s k.sequence)
     ∙ heard_still (usable_of s k.sequence) source k.nwk
 
--- so a frame is heard as before
+-- so the node accepts a frame as before
 pub unheard_left : (s u : NodeState) (source : ℕ) (k : Seals) → quiet u ≡ quiet s → why_unheard u source k
     ≡ why_unheard s source k
 unheard_left s u source k e =

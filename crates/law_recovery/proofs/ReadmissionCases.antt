@@ -33,7 +33,7 @@ live_still : why_not_entered (centre (link 2 2 ∷ [])) 2 (key 3) ≡ Some Wrong
 unfolding why_not_entered is_live
 live_still = refl
 
--- the code of another device; and once more after 1,024 codes
+-- the code of another device; and the same again after 1,024 codes
 other_code : why_not_entered (centre (link 2 2 ∷ [])) 3 (key 2) ≡ Some (KeyInUse 2)
 unfolding why_not_entered why_no_row is_live other_user
 other_code = refl

@@ -1,4 +1,4 @@
--- A device is let in anew in a run, event by event: what each leaves of the two nodes.
+-- A device is admitted again in a run, event by event: what each leaves of the two nodes.
 use Rattle.std.proofs.Common.{◌≡◌, ℕ, ◌+◌, ◌<◌, ◌^◌, Bool, true, false, inl, inr, if◌then◌else◌, List, [], ◌∷◌, filter, find, reverse, length, Some, None, nat_eq, nat_le, refl, sym, ap, ◌∙◌, subst}
 use Rattle.std.proofs.lemmas.Bool.{leb-false}
 use Rattle.std.proofs.lemmas.List.Sums.{fold-append}
@@ -34,7 +34,7 @@ use Rattle.law_recovery.proofs.Removing.{removes, same_counter}
 
 -- ---- the device isn't live
 
--- what the centre has once the device isn't live; the device is as it was
+-- what the centre has when the device isn't live; the device is as it was
 record Gone (w : Schedule) (x y : Front) (c d : ℕ) (network : Bytes) (sequence : ℕ) (key : Bytes) : Type 0 where
   met : AreMet w y c d
   gone : is_live (state_of y.lines c) d ≡ false
@@ -191,7 +191,7 @@ introduced w x y c d network sequence key can g =
       knocked = g.device.knocked;
     }
 
--- what holds of two nodes of which the device knocked
+-- what is true of two nodes of which the device knocked
 record MayMeet (w : Schedule) (y : Front) (c d : ℕ) (key : Bytes) (sequence : ℕ) (link : Bytes) : Type 0 where
   met : AreMet w y c d
   intro : AreIntroduced (setting_of w c) (setting_of w d) (state_of y.lines c) (state_of y.lines d)

@@ -1,4 +1,4 @@
--- What a node refuses changes limits, counters and floors at most: how far it has come in an exchange stays.
+-- What a node refuses changes at most limits, counters and floors: its stage in an exchange stays.
 use Rattle.std.proofs.Common.{◌≡◌, ℕ, [], filter, Some, is_some, refl, ap, ◌∙◌}
 use Rattle.std.proofs.lemmas.Bool.{false≢true}
 use Rattle.zb_model.specs.Data.{Bytes, Reason, Task}
@@ -34,7 +34,7 @@ still_confirmed t u centre key sequence link j e = record {
   keys = proved_left t u centre link j.keys e;
 }
 
--- how far a node has come is read off its bare rows
+-- a node's bare rows show its stage
 pub spared_by : (s u : NodeState) → bare u ≡ bare s → IsSpared s u
 spared_by s u same = record {
   network = λ key sequence h. network_left s u key sequence h same;

@@ -1,4 +1,4 @@
--- The centre answers a child again and again; and a stale answer leaves the member as it was.
+-- The centre answers a child several times; and a stale answer leaves the member as it was.
 use Rattle.std.proofs.Common.{◌≡◌, ℕ, zero, suc, ◌+◌, ◌^◌, ◌<◌, ◌≤◌, Bool, true, false, not, ◌&&◌, if◌then◌else◌, [], map, find, length, Option, Some, None, option_map, is_some, nat_lt, refl, sym, ap, ◌∙◌, subst, arith}
 use Rattle.std.specs.Prelude.{is_none, unwrap_or}
 use Rattle.std.proofs.lemmas.Bool.{false≢true, lt-leb, le-ltb}
@@ -159,7 +159,7 @@ goes_on tools c device (suc n) s role e lt =
           (omega arith) (went_on s u (repeated tools c device n u) device 1 n w more.1),
     )
 
--- ---- and then the member takes the key
+-- ---- and then the member installs the key
 
 not_stale : (counter kept : ℕ) → kept ≤ counter → nat_lt counter kept ≡ false
 not_stale counter kept le = le-ltb counter kept le

@@ -196,7 +196,7 @@ report_plan tools delivers c r m s k net draw d sr sm rn ra rules active h l =
     (answers_by tools c r m s k l.row net draw d.router.network.centre_role d.router_acts active
     (current s m.me.eui) (both_spent s) refl refl)
 
--- the reason, with what is looked up put in its place
+-- the reason, with the values of what is looked up
 why_is : (s : NodeState) (router device : ℕ) (k : Seals) (h : HasNetwork s k.key k.sequence)
     (l : HasLink s router k.link)
     → why_no_tunnel s router device k
@@ -229,7 +229,7 @@ tunnel_refused tools delivers c r m s k net draw d sr sm rn ra rules active h l 
     (answer_reason c r.me.eui m.me.eui net (current s m.me.eui) (both_spent s))
     ∙ sym (why_is s r.me.eui m.me.eui k h l)
 
--- ---- where nothing is in the way
+-- ---- if nothing prevents it
 
 tunnelled_out : (tools : Tools) (c : Setting) (s : NodeState) (k : Counting) (accepts : List Term) (place : Place)
     (moves : List Move) (net : NetKey) (to device : ℕ) (link : Bytes) (command : _) → active_row s ≡ Some net

@@ -234,7 +234,7 @@ offer_refused tools delivers c m s k draw d st rn ra rules h l =
     ∙ ap (λ o. or_else (why_not_heard h.found m.me.eui k.nwk) (or_else (why_not_opened l.row k.aps) o))
     (offer_reason c m.me.eui l.row (links_full s) (unless_held s draw) (both_spent s))
 
--- ---- where nothing is in the way
+-- ---- if nothing prevents it
 
 -- the key that is drawn
 pub record Draws (s : NodeState) (draw : Option Bytes) : Type 0 where

@@ -1,4 +1,4 @@
--- A rollover ends: the timer tells one device more, and leaves what the next timer needs; the switch ends it.
+-- A rollover ends: the timer tells one more device, and leaves what the next timer needs; the switch ends it.
 use Rattle.std.proofs.Common.{◌≡◌, ℕ, zero, suc, ◌+◌, ◌<◌, ◌≤◌, Bool, true, false, cond, not, ◌&&◌, ◌||◌, if◌then◌else◌, List, [], ◌∷◌, ◌++◌, map, filter, fold, length, find, Option, Some, None, option_map, is_some, flat_map, nat_eq, nat_le, min, refl, sym, ap, ◌∙◌, subst, eq-eqb, eqb-true, arith, ◌⊎◌, inl, inr}
 use Rattle.std.specs.List.{list_any}
 use Rattle.std.specs.Prelude.{unwrap_or}
@@ -17,7 +17,7 @@ use Rattle.law_recovery.proofs.Once.{others_once, once_less, none_once, map_map,
 use Rattle.law_recovery.proofs.Fields.{Fields, fields, fields_by, fields_after, reserve_leaves}
 use Rattle.law_recovery.proofs.Changing.{IsMild, mild_then, mild_if, active_after, newest_after, there_after, reserves, Reserved, reserved_so, applied_then}
 
--- ---- who is next
+-- ---- the next device
 
 abbrev partners : List LinkKey → List ℕ
 partners rows = map (λ (r : LinkKey). r.partner) rows
@@ -62,7 +62,7 @@ next_among (r ∷ rows) o d e = by_rest (next_among rows (least o r.partner) d e
     by_rest (inl f) = by_first (least_is o r.partner d f)
     by_rest (inr f) = inr (later (nat_eq d r.partner) f)
 
--- where somebody is to be told, one is next; and where nobody is, none
+-- if a device is to be told, one is next; if none is to be told, none is next
 next_of_rows : (rows : List LinkKey) (n : ℕ) → length (each_once (partners rows)) ≡ suc n → (d : ℕ)
     × (fold lesser_partner None rows ≡ Some d)
 unfolding each_once
@@ -113,7 +113,7 @@ live_waiting d (r ∷ rows) e = by_test r.live r.told e (live_waiting d rows)
     by_test true false e more = first (nat_eq d r.partner) refl e more
     by_test false t e more = more e
 
--- ---- once a device is told
+-- ---- after a device is told
 
 abbrev now_told : ℕ → LinkKey → LinkKey
 now_told d r = if is_live_of d r then told_as true r else r
@@ -220,7 +220,7 @@ links_left d s t e has p live =
     (sym (any_map (is_live_of p) (now_told d) (told_live d p) s.links) ∙ sym (ap (list_any (is_live_of p)) e) ∙
     live)
 
--- the state after a timer: rows are changed mildly, both counters go on by one, and the device is told
+-- the state after a timer: rows are changed mildly, both counters rise by one, and the device is told
 record ToldState (s t : NodeState) (d : ℕ) : Type 0 where
   change : NetKey → NetKey
   mild : IsMild change
@@ -245,7 +245,7 @@ at_own : (key : Bytes) (n : ℕ) (f : NetKey → NetKey) → IsMild f → (r : N
     → (if same_key (f r).key key then next_at n (f r) else f r).next ≡ n
 at_own key n f m r e = rw (ap (λ k. same_key k key) (m.key r) ∙ e) refl
 
--- the state that is left once limits are reserved, the device is told, and two terms are sealed
+-- the state after limits are reserved, the device is told, and two terms are sealed
 told_then : (s : NodeState) (d : ℕ) (nwk aps : Option ℕ) → Reserved nwk aps s → (base : NetKey) → active_row s
     ≡ Some base
     → (front bytes : Bytes) (label : Label) (key : Bytes) (me control to from sequence : ℕ) (content : Bytes)

@@ -1,4 +1,4 @@
--- A round of rejoining whose answer is stale leaves the two as they were, one counter on.
+-- A round of rejoining whose answer is stale leaves the two as they were, except that one more counter is used.
 use Rattle.std.proofs.Common.{◌≡◌, ℕ, zero, suc, ◌+◌, ◌-◌, ◌<◌, ◌≤◌, true, [], ◌∷◌, ◌++◌, length, Some, None, option_to_list, nat_lt, refl, sym, ap, ◌∙◌, subst, arith}
 use Rattle.std.proofs.lemmas.Bool.{lt-ltb}
 use Rattle.std.proofs.lemmas.List.{append-nil}
@@ -81,7 +81,7 @@ stale_round tools delivers w x c d n can behind =
       member_ready = a3.ready;
     }
 
--- ---- one round on
+-- ---- after one round
 
 -- a member that waits has the keys that it had
 same_current : (t : NodeState) (p : ℕ) → current (rejoining t) p ≡ current t p
@@ -159,7 +159,7 @@ one_on tools delivers opens w x c d n can =
       counters = omega (arith, went.counter, can.counters);
     }
 
--- ---- and then the answer is taken
+-- ---- and then the answer is accepted
 
 can_rejoin : (w : Schedule) (x : Front) (c d : ℕ) → RejoinsLater w x c d 0 → CanRejoin w x c d
 can_rejoin w x c d can = record {

@@ -117,7 +117,7 @@ any_found {X} q f (z ∷ xs) x e t = by_test (q z) e (λ g. any_found q f xs x g
     by_test true e g = rw (here e) refl
     by_test false e g = later (f z) (g e)
 
--- where an item passes, and each that passes has a thing, one is found, and has it
+-- if an item passes, and each that passes has a property, one is found, and has it
 pub record Found {X : Type 0} (q : X → Bool) (P : X → Type 0) (xs : List X) : Type 0 where
   pub item : X
   pub is : find q xs ≡ Some item

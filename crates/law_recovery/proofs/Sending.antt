@@ -1,4 +1,4 @@
--- What goes out where a rule sends a command under the active network key, sealed under a link key or in clear.
+-- The frame when a rule sends a command under the active network key, sealed under a link key or in clear.
 use Rattle.std.proofs.Common.{◌≡◌, ℕ, true, false, List, ◌∷◌, Some, refl}
 use Rattle.zb_model.specs.Data.{Bytes, Nwk, Aps, Label, Command, Term, Place, Move}
 use Rattle.zb_model.specs.Frames.{secured_frame, nwk_term, aps_term, sealed_command, clear_command, low_byte}

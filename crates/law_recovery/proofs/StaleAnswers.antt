@@ -1,5 +1,5 @@
 -- Turns whose answers the device refuses as stale: each uses a counter of the centre at each layer, and leaves the
--- device's floors within a block of where the centre began. So they are fewer than the block.
+-- device's floors within a block of the centre's first counters. So they are fewer than the block.
 use Rattle.std.proofs.Common.{◌≡◌, ℕ, zero, suc, ◌+◌, ◌-◌, ◌<◌, ◌≤◌, inr, Bool, true, false, find, length, Option, Some, None, option_map, nat_eq, refl, sym, ap, ◌∙◌, subst, arith}
 use Rattle.zb_model.specs.Answer.{answer}
 use Rattle.zb_model.specs.Data.{Bytes, Nwk, Aps, Reason, Stale, RowsFull, DoTimer, Received}
@@ -187,7 +187,7 @@ confirmation_down tools delivers opens c m t g draw floor nwk aps turns block d 
 
 -- ---- between two turns
 
--- so many turns were stale, where the centre began with these counters
+-- this many turns were stale, if the centre began with these counters
 record Holds (w : Schedule) (x : Front) (c d : ℕ) (k : Keys) (far : Far) (nwk aps turns : ℕ) : Type 0 where
   come : HaveCome w x c d k far
   nwk_is : next_counter Nwk (state_of x.lines c) ≡ nwk + turns
@@ -373,7 +373,7 @@ stale_answers_are_fewer tools delivers opens w c d k far n x fit block h came al
     let less = all_less tools delivers opens w c d k far nwk aps n 0 x fit block begins block all in
     omega (arith, less)
 
--- where the centre answered before, the two stay as far as they are
+-- if the centre answered before, the two stay at their stage
 still_far : (far : Far) → IsAnswered far → unanswered_from far ≡ far
 still_far Asking answered = absurd answered
 still_far Offering answered = refl

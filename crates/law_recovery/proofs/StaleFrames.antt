@@ -130,7 +130,7 @@ low_aps : (counter first turns block : ℕ) → counter ≡ first + turns → tu
     → counter < first + (block - 1)
 low_aps counter first turns block is less = omega (arith, is, less)
 
--- a frame that is refused after so many turns, where the sender began with these counters
+-- a frame that is refused after this many turns, if the sender began with these counters
 pub record TurnedDown (u : NodeState) (sender : ℕ) (key : Bytes) (sequence : ℕ) (link : Bytes)
     (nwk aps turns block : ℕ) : Type 0 where
   pub less : turns + 1 < block

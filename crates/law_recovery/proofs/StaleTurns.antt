@@ -1,5 +1,5 @@
 -- Turns whose frames the centre refuses as stale: each uses a counter of the device, and leaves the centre's floors
--- within a block of where it began. So they are fewer than the block.
+-- within a block of the device's first counter. So they are fewer than the block.
 use Rattle.std.proofs.Common.{◌≡◌, ℕ, zero, suc, ◌+◌, ◌-◌, ◌<◌, inl, Bool, true, false, [], ◌∷◌, length, Option, Some, None, nat_lt, refl, sym, ap, ◌∙◌, subst, arith}
 use Rattle.std.specs.Prelude.{is_none}
 use Rattle.std.proofs.lemmas.Bool.{ltb-true}
@@ -185,7 +185,7 @@ LinksAre Asking s device link most = AllKept device link most s.links
 LinksAre Offering s device link most = AllKept device link most s.links
 LinksAre _ s device link most = Unit {0}
 
--- so many turns were stale, where the device began with these counters
+-- this many turns were stale, if the device began with these counters
 record Holds (w : Schedule) (x : Front) (c d : ℕ) (k : Keys) (far : Far) (nwk aps turns : ℕ) : Type 0 where
   come : HaveCome w x c d k far
   nwk_is : next_counter Nwk (state_of x.lines d) ≡ nwk + turns
@@ -333,7 +333,7 @@ asking_next tools delivers opens w x c d k nwk aps turns fit b st =
       };
     }
 
--- why a request that comes again is refused
+-- why a repeated request is refused
 no_offer_again : (s : NodeState) (device : ℕ) (g : Seals) (key : Bytes) → (h : HasNetwork s g.key g.sequence)
     → (l : HasBoth s device g.link key)
     → why_no_offer_again s device g

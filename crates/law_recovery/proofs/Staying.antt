@@ -1,4 +1,4 @@
--- How far two nodes have come is read off bare rows: what changes limits, counters and floors alone leaves it.
+-- Bare rows show the stage of two nodes: what changes only limits, counters and floors keeps it.
 use Rattle.std.proofs.Common.{◌≡◌, ℕ}
 use Rattle.zb_model.specs.State.{NodeState}
 use Rattle.law_recovery.specs.Meeting.{HasNetwork}

@@ -1,4 +1,5 @@
--- A member that rejoins is handed the frame of a network key: what it refuses, and what it is once it took the key.
+-- The frame of a network key is delivered to a member that rejoins: what the member refuses, and its state after it
+-- installs the key.
 use Rattle.std.proofs.Common.{◌≡◌, ℕ, ◌<◌, ◌≤◌, Bool, true, false, not, if◌then◌else◌, List, [], ◌∷◌, ◌++◌, filter, fold, flat_map, length, Option, Some, None, option_map, option_to_list, is_some, nat_eq, nat_lt, nat_le, refl, sym, ap, ◌∙◌, subst, eq-eqb}
 use Rattle.std.proofs.lemmas.Bool.{false≢true, lt-leb}
 use Rattle.std.proofs.lemmas.List.{append-nil}
@@ -28,7 +29,7 @@ use Rattle.zb_model.specs.Record.{state_byte}
 abbrev pub in_state : State → NodeState → NodeState
 in_state g t = record t { state = g }
 
--- ---- the frame is judged
+-- ---- the frame is verified
 
 abbrev shown_of : Tools → KeyFrame → NwkShown
 shown_of tools f =
@@ -46,7 +47,7 @@ seal_of f = record { label = ForTransport; counter = f.counter; source = Some f.
 self : (n : ℕ) → nat_eq n n ≡ true
 self n = eq-eqb n n refl
 
--- who waits for a network key lets the frame pass
+-- a node that waits for a network key lets the frame pass
 passes : (tools : Tools) (m : Setting) (g : State) (t : NodeState) (f : KeyFrame) → waits_for_key g ≡ true
     → Arrives tools f → is_centre m.me.role ≡ false → f.to ≡ m.me.short → nat_eq f.from m.me.short ≡ false
     → judge_nwk tools m (in_state g t) (key_bytes tools f) ≡ Good (record { frame = shown_of tools f; term = None })
@@ -78,7 +79,7 @@ opened tools m g t f own a lt same one =
     below : (n : ℕ) → n < greatest_counter → nat_le greatest_counter n ≡ false
     below n lt = lt-leb greatest_counter n lt
 
--- ---- the command is taken
+-- ---- the command is accepted
 
 abbrev heard : KeyFrame → Tools → LinkKey → Heard
 heard f tools own = heard_sealed None (seal_of f) (found tools f own)
@@ -119,7 +120,7 @@ abbrev pub plan_by : Tools → KeyFrame → LinkKey → Bool → Outcome → Pla
 plan_by tools f own true o = stopped_at [] AtAps (Stale own.kept)
 plan_by tools f own false o = comes_to (key_term tools f ∷ []) AtAps o
 
--- what holds of the frame and of the member
+-- what is true of the frame and of the member
 pub record Facts (tools : Tools) (m : Setting) (g e : State) (t : NodeState) (f : KeyFrame) (own : LinkKey) : Type 0
   where
     pub arrives : Arrives tools f
@@ -184,7 +185,7 @@ unfolding answer answer_by why_not_taken
 refuses_key tools m g e t f own draw x = ap refusal_of (delivered tools m g e t f own draw x) ∙ refused_by tools e t f
     own (nat_lt f.counter own.kept) (dropped_at 0 f.key t.nets) (has_net f.key t.nets) (nets_full t)
 
--- ---- what the member is then
+-- ---- the member's state then
 
 abbrev taken_with : State → Bytes → NodeState → Fields
 taken_with e key t = record { active = Some key; state = e; sending = t.sending }

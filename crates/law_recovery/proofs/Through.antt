@@ -188,7 +188,7 @@ reported tools opens w x c r d rlink may free =
           (frame_of tools (setting_of w r) t child) refl a.on_air sent;
     }
 
--- the router hears after its report what it heard before
+-- the router accepts after its report what it accepted before
 still_hears : (tools : Tools) → OpensAsJudged tools → (w : Schedule) (x : Front) (c r d : ℕ) (rlink : Bytes)
     → MayJoinThrough w x c r d rlink → (source : ℕ) (k : Seals)
     → why_unheard (state_of (after_event tools w x (Own r (HasChild d false))).lines r) source k
@@ -312,7 +312,7 @@ relays tools delivers opens w x c r d k s t u net row frames a routed rn range n
           (ap (λ z. frame_of tools (setting_of w r) z task) a.router ∙ sent);
     }
 
--- ---- the device takes it
+-- ---- the device installs it
 
 record Routed (w : Schedule) (z : Front) (c d : ℕ) (key : Bytes) (sequence : ℕ) (link : Bytes) : Type 0 where
   met : AreMet w z c d

@@ -191,7 +191,7 @@ floor_comes key source value s a =
     (λ r e h. stored_has source value r.floors)
     (λ e fs h. absurd (false≢true (sym e ∙ same_key_of key key refl))) a
 
--- ---- after the accepted term the floor stands over its counter
+-- ---- after the accepted term the floor is above its counter
 
 abbrev pub KeptAt : ℕ → ℕ → List SenderFloor → Type 0
 KeptAt source kept fs = (floor_of_sender source (find (of_sender source) fs)).kept ≡ kept
@@ -242,7 +242,7 @@ unfolding after_sealing
 seals_keep P key [] s a = a
 seals_keep P key (t ∷ ts) s a = seals_keep P key ts (after_sealing t s) (seal_keeps P key t s t.layer a)
 
--- ---- what is accepted begins with the NWK term, and goes on with an APS term at most
+-- ---- what is accepted begins with the NWK term, followed by at most one APS term
 
 -- each is of the counter that the frame shows
 abbrev pub AllAps : ℕ → List Term → Type 0
@@ -351,7 +351,7 @@ rest_leaves n (u ∷ rest) all v = rest_leaves n rest all.1 (after_accepting u v
 abbrev floor_list : Term → Option ℕ → List Edit
 floor_list t o = option_to_list (option_map (Floor t.layer t.base t.source) o)
 
--- a floor is stored, or stands already
+-- a floor is stored now, or was stored before
 own_floor : (c : Setting) (s u : NodeState) (t : Term) → t.layer ≡ Nwk → AtKey Any t.base u.nets
     → (AtKey (HasFloor t.source) t.base s.nets → AtKey (HasFloor t.source) t.base u.nets) → AtKey Any t.base s.nets
     → AtKey (HasFloor t.source) t.base (applied_all (floor_list t (floor_for c s t)) u).nets

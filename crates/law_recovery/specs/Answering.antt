@@ -1,4 +1,4 @@
--- How a node answers one event, and what it is afterwards.
+-- How a node answers one event, and its state afterwards.
 use Rattle.std.specs.Prelude.{◌≡◌, Option, None, Some}
 use Rattle.zb_model.specs.Answer.{answer, answered}
 use Rattle.zb_model.specs.Data.{Bytes, Reason, Task}
@@ -6,7 +6,7 @@ use Rattle.zb_model.specs.Rules.{Setting}
 use Rattle.zb_model.specs.State.{NodeState}
 use Rattle.zb_model.specs.Tools.{Tools}
 
--- the state after the answer to an event was stored and handed out
+-- the state after the answer to an event was stored and sent
 unfoldable pub after_task : Tools → Setting → NodeState → Task → NodeState
 after_task tools c s task = answered (answer tools c s task) s
 

@@ -1,5 +1,5 @@
 -- The frames of the exchange of link keys: an APS command in a NWK frame that is sealed under the network key. The
--- command is sealed under a link key, or stands in clear (05-3474-21, 4.4.10, 4.5.1 and 4.6.3).
+-- command is sealed under a link key, or is in clear (05-3474-21, 4.4.10, 4.5.1 and 4.6.3).
 use Rattle.std.specs.Prelude.{ℕ, ◌≡◌, ◌<◌, ◌^◌, ◌∷◌, true, false, length, Some, None}
 use Rattle.zb_model.specs.Data.{Bytes, Label, ForData, ForLoad, Term, Command, TransportLink, RequestLink, VerifyKey, ConfirmKey}
 use Rattle.zb_model.specs.Frames.{low_byte, secured_frame, nwk_term, aps_term, sealed_command, clear_command}
@@ -72,7 +72,7 @@ abbrev pub ClearInRange : Command → Type 0
 ClearInRange (VerifyKey kind source hash) = (kind < 2 ^ 8) × (source < 2 ^ 64) × (length hash ≡ 16)
 ClearInRange command = ◌≡◌ {A = ℕ} 0 1
 
--- ---- what is asked of the tools
+-- ---- what the laws ask of the tools
 
 -- The NWK frame is read and opened as it was sealed: its addresses, its auxiliary header, and the term.
 pub record IsCarried (tools : Tools) (f : NetFrame) (content : Bytes) : Type 0 where

@@ -1,5 +1,6 @@
--- How a device is let in anew: the centre removes it, its code is entered, and it knocks. What can stand in the way of
--- each event, with the refusal that it gives, in the order in which they are tried; and what each event leaves.
+-- How a device is admitted again: the centre removes it, its code is entered, and it knocks. For each event: the
+-- obstacles with the refusals that they give, in the order in which they are checked; and the state that the event
+-- leaves.
 use Rattle.std.specs.Prelude.{ℕ, ◌≡◌, false, not, ◌&&◌, Option, Some, None, is_none}
 use Rattle.zb_model.specs.Data.{Bytes, Aps, Knocked, Reason, NoKey, NotMember, WrongState, RowsFull}
 use Rattle.zb_model.specs.Rules.{links_full}
@@ -13,13 +14,13 @@ use Rattle.law_recovery.specs.Obstacles.{or_else, obstacle_if, why_key_in_use}
 unfoldable pub why_not_removed : NodeState → ℕ → Option Reason
 why_not_removed s device = obstacle_if (not (is_live s device)) NotMember
 
--- Why no row is there for a code: none has its key, and the rows are full; another device has that key.
+-- Why a code has no row: no row has its key, and the rows are full; or another device has that key.
 unfoldable pub why_no_row : NodeState → ℕ → Bytes → Option Reason
 why_no_row s device key =
     or_else (obstacle_if (not (has_link device key s.links) && links_full s) RowsFull)
     (why_key_in_use (other_user s device key))
 
--- why a code isn't entered: its device is live, or no row is there for it
+-- why a code isn't entered: its device is live, or it has no row
 unfoldable pub why_not_entered : NodeState → ℕ → Bytes → Option Reason
 why_not_entered s device key = or_else (obstacle_if (is_live s device) WrongState) (why_no_row s device key)
 
@@ -29,11 +30,11 @@ why_no_knock t centre = obstacle_if (is_none (code_row t centre)) NoKey
 
 -- ---- what the events leave
 
--- a network key that is active stays so
+-- an active network key stays active
 abbrev pub KeepsNetwork : NodeState → NodeState → Type 0
 KeepsNetwork s u = (key : Bytes) (sequence : ℕ) → HasNetwork s key sequence → HasNetwork u key sequence
 
--- The centre was in state s and removed a device: the device isn't live, and what a code finds is as it was.
+-- The centre was in state s and removed a device: the device isn't live, and the rule for a code finds the same rows.
 pub record IsRemoved (s u : NodeState) (device : ℕ) : Type 0 where
   pub gone : is_live u device ≡ false
   pub network : KeepsNetwork s u
@@ -45,8 +46,8 @@ pub record IsEntered (s u : NodeState) (device : ℕ) (key : Bytes) : Type 0 whe
   pub network : KeepsNetwork s u
   pub counter : next_counter Aps u ≡ next_counter Aps s
 
--- A device knocked: the row of its code is its current one of the centre, provisional, with the floor that it had, and
--- no other is offered. Its network keys are as they were.
+-- A device knocked: the row of its code is its current row of the centre, provisional, with the floor that it had. No
+-- other key is offered. Its network keys are as they were.
 pub record HasKnocked (t u : NodeState) (centre : ℕ) (code : LinkKey) : Type 0 where
   pub knocked : u.state ≡ Knocked
   pub row : LinkKey
@@ -57,9 +58,9 @@ pub record HasKnocked (t u : NodeState) (centre : ℕ) (code : LinkKey) : Type 0
   pub none_offered : offered u centre ≡ None
   pub nets : u.nets ≡ t.nets
 
--- ---- what is refused
+-- ---- after a refusal
 
--- A node has come as far as before: it has the network key, the link keys and the offers that it had.
+-- A node is as far as before: it has the network key, the link keys and the offers that it had.
 pub record IsSpared (s u : NodeState) : Type 0 where
   pub network : KeepsNetwork s u
   pub keys : (partner : ℕ) (link : Bytes) → HasLink s partner link → HasLink u partner link

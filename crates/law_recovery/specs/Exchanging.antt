@@ -7,7 +7,7 @@ use Rattle.zb_model.specs.Tools.{Tools, verify_hash}
 use Rattle.law_recovery.specs.CommandFrames.{NetFrame, LinkFrame, sealed_content, sealed_bytes, clear_bytes}
 use Rattle.law_recovery.specs.Meeting.{HasNetwork, HasBoth, HasProved}
 
--- What is sealed in a frame: the network key with its sequence, the link key, and the counters at NWK and at APS.
+-- How a frame is sealed: the network key with its sequence, the link key, and the counters at NWK and at APS.
 pub record Seals : Type 0 where
   pub key : Bytes
   pub sequence : ℕ
@@ -47,7 +47,7 @@ abbrev pub confirmation : Setting → Setting → Seals → LinkFrame
 confirmation c m k =
     record { label = ForData; link = k.link; source = c.me.eui; counter = k.aps; command = ConfirmKey 0 4 m.me.eui }
 
--- A request doesn't open under another key. It opens there by chance alone: by that of its MIC.
+-- A request doesn't open under another key. It could open there only by chance: if its MIC fits.
 abbrev pub StaysClosed : Tools → Setting → Seals → Bytes → Type 0
 StaysClosed tools m k other = tools.open_aps (sealed_content tools (request m k)) other m.me.eui ≡ None
 
@@ -64,14 +64,14 @@ proof_bytes tools c m k = clear_bytes tools (net_frame m c k) (VerifyKey 4 m.me.
 abbrev pub confirmation_bytes : Tools → Setting → Setting → Seals → Bytes
 confirmation_bytes tools c m k = sealed_bytes tools (net_frame c m k) (confirmation c m k)
 
--- what is sealed in a frame that a node sends now
+-- the seals of a frame that a node sends now
 abbrev pub seals_now : NodeState → Bytes → ℕ → Bytes → Seals
 seals_now s key sequence link =
     record { key = key; sequence = sequence; link = link; nwk = next_counter Nwk s; aps = next_counter Aps s }
 
 -- ---- what the centre does
 
--- It was in state s, and is in state u. It offers the key that it drew, and its frame is for the device.
+-- The centre goes from state s to state u. It offers the key that it drew, and its frame is for the device.
 pub record Offers (tools : Tools) (c m : Setting) (s u : NodeState) (k : Seals) (draw frame : Option Bytes) : Type 0
   where
     pub key : Bytes
@@ -80,14 +80,14 @@ pub record Offers (tools : Tools) (c m : Setting) (s u : NodeState) (k : Seals) 
     pub network : HasNetwork u k.key k.sequence
     pub keys : HasBoth u m.me.eui k.link key
 
--- It was in state s, and is in state u. It offers the key again that it offers, and its frame is for the device.
+-- The centre goes from state s to state u. It repeats the offer of its key, and its frame is for the device.
 pub record OffersAgain (tools : Tools) (c m : Setting) (s u : NodeState) (k : Seals) (key : Bytes)
     (frame : Option Bytes) : Type 0 where
   pub sent : frame ≡ Some (offer_bytes tools c m (seals_now s k.key k.sequence k.link) key)
   pub network : HasNetwork u k.key k.sequence
   pub keys : HasBoth u m.me.eui k.link key
 
--- It keeps the key that was proved, and its frame, which confirms it, is for the device.
+-- The centre keeps the proved key, and its frame, which confirms that key, is for the device.
 pub record Confirms (tools : Tools) (c m : Setting) (s u : NodeState) (k : Seals) (frame : Option Bytes) : Type 0 where
   pub sent : frame ≡ Some (confirmation_bytes tools c m (seals_now s k.key k.sequence k.link))
   pub network : HasNetwork u k.key k.sequence

@@ -1,4 +1,4 @@
--- The obstacles of the exchange of link keys, all asked of the first front.
+-- The obstacles of the exchange of link keys, all stated for the first front.
 use Rattle.std.specs.Prelude.{ℕ, ◌≡◌, ◌<◌, ◌+◌, false, Some, None}
 use Rattle.zb_model.specs.Data.{Bytes, Nwk, Aps}
 use Rattle.zb_model.specs.Play.{Schedule, supply}
@@ -9,8 +9,9 @@ use Rattle.law_recovery.specs.Obstacles.{why_no_offer, why_no_request, why_offer
 use Rattle.law_recovery.specs.Fronts.{Front}
 use Rattle.law_recovery.specs.KeyExchange.{eui_of}
 
--- Nothing is in the way of the first three events, with what the two would seal now. Each has a counter left for what
--- it seals after that: the device one at NWK for its proof, the centre one at each layer for its confirmation.
+-- Nothing prevents the first three events, with the seals that the two nodes would use now. Each node has a counter
+-- left for what it seals after that: the device one at NWK for its proof, the centre one at each layer for its
+-- confirmation.
 pub record IsForeseen (w : Schedule) (x : Front) (c d : ℕ) (key : Bytes) (sequence : ℕ) (link drawn : Bytes) : Type 0
   where
     pub request : why_no_request (state_of x.lines d) ≡ None

@@ -1,4 +1,4 @@
--- The front of a run: the lines and disks so far, and the number of the next event. More events go on from it.
+-- The front of a run: the lines and disks so far, and the number of the next event. More events can follow it.
 use Rattle.std.specs.Prelude.{ℕ, ◌≡◌, ◌+◌, true, false, List, [], ◌∷◌, ◌++◌, length, fold, Some, None, nat_eq}
 use Rattle.zb_model.specs.Data.{Aps, Bytes, DoRejoin, HasChild}
 use Rattle.zb_model.specs.Fits.{keeps_rules}
@@ -50,7 +50,7 @@ pub record CanRejoin (w : Schedule) (x : Front) (c d : ℕ) : Type 0 where
   pub not_refused : why_not_taken (state_of x.lines d) linked.own (next_counter Aps (state_of x.lines c))
       linked.net.key ≡ None
 
--- The member is confirmed with the centre's active network key, and both nodes are ready for what comes.
+-- The member is confirmed with the centre's active network key, and both nodes are ready.
 pub record EndsRejoined (x : Front) (c d : ℕ) : Type 0 where
   pub key : Bytes
   pub active_key : (state_of x.lines c).active ≡ Some key

@@ -1,5 +1,5 @@
--- How a device joins: it knocks, the centre answers its child, and the frame that the centre sends is delivered. It
--- has the network key then, under the link key of its install code; the exchange of link keys comes after.
+-- How a device joins: it knocks, the centre answers its child, and the frame that the centre sends is delivered. Then
+-- it has the network key, under the link key of its install code; the exchange of link keys comes later.
 use Rattle.std.specs.Prelude.{◌≡◌, true, false, Option, Some, None}
 use Rattle.zb_model.specs.Data.{Bytes, Knocked, Joined, HasChild, Received}
 use Rattle.zb_model.specs.Fits.{live_net}
@@ -9,7 +9,7 @@ use Rattle.zb_model.specs.Tools.{Tools}
 use Rattle.law_recovery.specs.Answering.{after_task, IsTaken, frame_of}
 
 -- The centre has an active network key and a current link key of the device. The device has knocked: it has the same
--- link key of the centre, which isn't verified, and is offered no other.
+-- link key of the centre, which isn't verified, and no other key is offered to it.
 pub record AreIntroduced (c m : Setting) (s t : NodeState) : Type 0 where
   pub net : NetKey
   pub active_key : active_row s ≡ Some net
@@ -28,7 +28,7 @@ pub record HasJoined (t : NodeState) (key : Bytes) : Type 0 where
   pub active_key : t.active ≡ Some key
   pub live_key : live_net key t ≡ true
 
--- The centre sends a device that knocked its active network key, and the device takes it.
+-- The centre sends its active network key to a device that knocked, and the device installs it.
 pub record Joins (tools : Tools) (c m : Setting) (s t : NodeState) (draw : Option Bytes) : Type 0 where
   pub frame : Bytes
   pub sent : frame_of tools c s (HasChild m.me.eui false) ≡ Some frame

@@ -11,8 +11,9 @@ use Rattle.law_recovery.specs.Obstacles.{why_no_confirmation, why_no_offer, why_
 use Rattle.law_recovery.specs.Fronts.{Front, IsReady, after_events}
 use Rattle.law_recovery.specs.RunsJoining.{CanJoin, join_events}
 
--- The six events: the device's timer, and its request is delivered; the centre's offer is delivered; the device's
--- timer, and its proof is delivered; the centre's confirmation is delivered. Each frame is the next on the air.
+-- The six events: the device's timer, and the delivery of its request; the delivery of the centre's offer; the
+-- device's timer, and the delivery of its proof; the delivery of the centre's confirmation. Each frame is the next on
+-- the air.
 abbrev pub exchange_events : Front → ℕ → ℕ → List Event
 exchange_events x c d =
     Own d DoTimer ∷ Deliver (length (air x.lines) + 1) c ∷ Deliver (length (air x.lines) + 2) d
@@ -35,7 +36,7 @@ pub record AreMet (w : Schedule) (x : Front) (c d : ℕ) : Type 0 where
   pub centre_steady : IsSteady (setting_of w c) (state_of x.lines c)
   pub device_steady : IsSteady (setting_of w d) (state_of x.lines d)
 
--- The device has joined. Both have this network key, with this sequence, and this link key, and none is offered.
+-- The device has joined. Both have this network key, with this sequence, and this link key, and no key is offered.
 pub record HaveJoined (w : Schedule) (x : Front) (c d : ℕ) (key : Bytes) (sequence : ℕ) (link : Bytes) : Type 0 where
   pub device : IsJoined (state_of x.lines d) (eui_of w c) key sequence link
   pub network : HasNetwork (state_of x.lines c) key sequence
@@ -46,7 +47,7 @@ pub record KeysInRange (key : Bytes) (sequence : ℕ) (link : Bytes) : Type 0 wh
   pub small : sequence < 2 ^ 8
   pub link_size : length link ≡ 16
 
--- Nothing is in the way of one of the six events, each in the states that are reached then. The centre draws the key.
+-- Nothing prevents any of the six events, each in the states that are reached then. The centre draws the key.
 pub record NothingStops (tools : Tools) (w : Schedule) (x : Front) (c d : ℕ) (key : Bytes) (sequence : ℕ)
     (link drawn : Bytes) : Type 0 where
   pub request : why_no_request (state_of x.lines d) ≡ None
@@ -62,8 +63,8 @@ pub record NothingStops (tools : Tools) (w : Schedule) (x : Front) (c d : ℕ) (
   pub confirmed : why_not_confirmed (state_of (front_after tools w x c d 5).lines d) (eui_of w c)
       (seals_now (state_of (front_after tools w x c d 4).lines c) key sequence drawn) ≡ None
 
--- The device is confirmed with this link key, which both have verified; both have the network key active, and are
--- ready for what comes.
+-- The device is confirmed with this link key, which both have verified. Both have the network key active, and are
+-- ready.
 pub record EndsConfirmed (w : Schedule) (x : Front) (c d : ℕ) (key : Bytes) (sequence : ℕ) (link : Bytes) : Type 0
   where
     pub device : IsConfirmed (state_of x.lines d) (eui_of w c) key sequence link
@@ -80,7 +81,7 @@ pub record IsNew (w : Schedule) (x : Front) (c d : ℕ) (can : CanJoin w x c d) 
   pub none_offered : offered (state_of x.lines c) (eui_of w d) ≡ None
   pub key_is_new : has_net can.introduced.net.key (state_of x.lines d).nets ≡ false
 
--- the front at which such a device has joined, and the eight events from the knock on
+-- the front at which such a device has joined, and the eight events that begin with the knock
 abbrev pub joined_front : Tools → Schedule → Front → ℕ → ℕ → Front
 joined_front tools w x c d = after_events tools w x (join_events x c d)
 

@@ -6,8 +6,8 @@ use Rattle.zb_model.specs.Frames.{plain_frame, nwk_header, aps_term, sealed_comm
 use Rattle.zb_model.specs.State.{greatest_counter}
 use Rattle.zb_model.specs.Tools.{Tools, ApsShown, Known}
 
--- The network key with its sequence, the EUIs of the node and of the centre, their short addresses, and the link key
--- and the counter of the seal.
+-- The network key with its sequence, the EUIs of the node and of the centre, their short addresses, the link key and
+-- the counter of the seal.
 pub record KeyFrame : Type 0 where
   pub key : Bytes
   pub sequence : ℕ
@@ -55,6 +55,6 @@ pub record Arrives (tools : Tools) (f : KeyFrame) : Type 0 where
   pub opens : (given : ℕ) → tools.open_aps (tools.wire (key_term tools f)) f.link given ≡ Some (key_term tools f)
   pub means : tools.read_command (tools.spelled (key_command f)) ≡ Known (key_command f)
 
--- what is asked of the tools
+-- what the laws ask of the tools
 abbrev pub DeliversKeys : Tools → Type 0
 DeliversKeys tools = (f : KeyFrame) → KeyFrameInRange f → Arrives tools f

@@ -1,9 +1,9 @@
--- A device that is let in anew may have the centre's network key from before.
+-- A device that is admitted again may have the centre's network key from before.
 use Rattle.std.specs.Prelude.{ℕ, ◌≡◌, ◌⊎◌, false, find, reverse, Some, nat_eq}
 use Rattle.zb_model.specs.Data.{Bytes}
 use Rattle.zb_model.specs.State.{NetKey, NodeState, has_net, live_nets, net_of}
 
--- A node has a network key with this sequence, and among its live keys it finds that key by the sequence.
+-- A node has a network key with this sequence, and the sequence finds that key among its live keys.
 pub record KnowsNetwork (t : NodeState) (key : Bytes) (sequence : ℕ) : Type 0 where
   pub row : NetKey
   pub is_row : net_of key t ≡ Some row

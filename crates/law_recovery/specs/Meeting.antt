@@ -1,4 +1,4 @@
--- What a centre and a device have of one another in an exchange of link keys, and how far they have come.
+-- What a centre and a device have of each other in an exchange of link keys, and their stage.
 use Rattle.std.specs.Prelude.{ℕ, ◌≡◌, ◌≤◌, true, find, reverse, Some, None}
 use Rattle.zb_model.specs.Data.{Bytes, Joined, Offered, Confirmed}
 use Rattle.zb_model.specs.Fits.{keeps_rules}
@@ -14,7 +14,7 @@ pub record AreDeclared (c m : Setting) : Type 0 where
   pub centre_declared : is_declared m c.me.eui ≡ true
   pub device_declared : is_declared c m.me.eui ≡ true
 
--- This network key is active at a node, with this sequence, and by the sequence the node finds that key.
+-- This network key is active at a node, with this sequence, and the sequence finds that key.
 pub record HasNetwork (s : NodeState) (key : Bytes) (sequence : ℕ) : Type 0 where
   pub active : NetKey
   pub is_active : active_row s ≡ Some active
@@ -31,7 +31,7 @@ pub record HasLink (s : NodeState) (partner : ℕ) (link : Bytes) : Type 0 where
   pub row_key : row.key ≡ link
   pub none_offered : offered s partner ≡ None
 
--- A node has a link key of a partner, and another one is offered, which is to be proved.
+-- A node has a link key of a partner, and is to prove another one that is offered.
 pub record HasOffer (s : NodeState) (partner : ℕ) (key : Bytes) : Type 0 where
   pub row : LinkKey
   pub is_current : current s partner ≡ Some row
@@ -56,7 +56,7 @@ pub record HasProved (s : NodeState) (partner : ℕ) (key : Bytes) : Type 0 wher
   pub verified : is_verified row.attribute ≡ true
   pub none_offered : offered s partner ≡ None
 
--- ---- how far a device has come
+-- ---- the stage of a device
 
 -- It has joined with its centre's network key, and has a link key of the centre.
 pub record IsJoined (t : NodeState) (centre : ℕ) (key : Bytes) (sequence : ℕ) (link : Bytes) : Type 0 where
@@ -64,7 +64,7 @@ pub record IsJoined (t : NodeState) (centre : ℕ) (key : Bytes) (sequence : ℕ
   pub joined : t.state ≡ Joined
   pub keys : HasLink t centre link
 
--- It was sent a link key of its own, which it tries first of those of the centre.
+-- It was sent a link key of its own, and tries this one first of the centre's keys.
 pub record IsOffered (t : NodeState) (centre : ℕ) (key : Bytes) (sequence : ℕ) (offer : Bytes) : Type 0 where
   pub network : HasNetwork t key sequence
   pub is_offered : t.state ≡ Offered

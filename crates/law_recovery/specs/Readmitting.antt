@@ -1,4 +1,4 @@
--- A device is let in anew, as events that follow the front of a run.
+-- A device is admitted again, as events that follow the front of a run.
 use Rattle.std.specs.Prelude.{ℕ, ◌≡◌, Bool, false, if◌then◌else◌, List, [], ◌∷◌, ◌++◌, Some, None}
 use Rattle.zb_model.specs.Data.{Bytes, Aps, DoKnock, DoProvision, DoRemove}
 use Rattle.zb_model.specs.Play.{Schedule, Event, Own}
@@ -13,7 +13,7 @@ use Rattle.law_recovery.specs.KeyExchange.{AreMet, KeysInRange, eui_of, joining_
 use Rattle.law_recovery.specs.Entering.{why_no_row}
 use Rattle.law_recovery.specs.Knowing.{MeetsKey}
 
--- The centre removes the device where it is live; its code is entered; it knocks.
+-- The centre removes the device if it is live; its code is entered; it knocks.
 abbrev pub entry_events : Bool → ℕ → ℕ → Bytes → List Event
 entry_events live c d key =
     (if live then Own c (DoRemove d c) ∷ [] else []) ++ (Own c (DoProvision d key) ∷ Own d DoKnock ∷ [])
@@ -25,14 +25,14 @@ entry_events_at x c d key = entry_events (is_live (state_of x.lines c) d) c d ke
 abbrev pub knocked_front : Tools → Schedule → Front → ℕ → ℕ → Bytes → Front
 knocked_front tools w x c d key = after_events tools w x (entry_events_at x c d key)
 
--- all of it, to the confirmation of a link key of its own
+-- all events, up to the confirmation of a link key of its own
 abbrev pub readmission_events : Tools → Schedule → Front → ℕ → ℕ → Bytes → List Event
 readmission_events tools w x c d key =
     entry_events_at x c d key ++ joining_events tools w (knocked_front tools w x c d key) c d
 
--- A centre c and a device d, both ready. The device has the key of its code, which is entered; the centre has a
--- network key, which is new to the device, or which the device knows. None of the obstacles holds, all of them asked
--- of this first front.
+-- A centre c and a device d, both ready. The device has the key of its code, which is entered. The centre has a
+-- network key that is new to the device, or that the device knows. None of the obstacles holds; all are stated for
+-- this first front.
 pub record CanReadmit (w : Schedule) (x : Front) (c d : ℕ) (network : Bytes) (sequence : ℕ) (key : Bytes) : Type 0
   where
     pub met : AreMet w x c d

@@ -1,5 +1,5 @@
 -- How a member rejoins: it asks (`rejoin`), the centre answers (`child`), and the frame that the centre sends is
--- delivered. What can stand in the way, each with the refusal that it gives, in the order in which they are tried.
+-- delivered. The obstacles, each with the refusal that it gives, in the order in which they are checked.
 use Rattle.std.specs.Prelude.{ℕ, ◌≡◌, ◌≤◌, Bool, true, false, ◌||◌, if◌then◌else◌, Option, Some, None, nat_eq, nat_lt, is_none}
 use Rattle.zb_model.specs.Data.{Bytes, Aps, Confirmed, Rejoining, Reason, NoKey, NotMember, CounterSpent, Stale, KeyOld, KeysFull, DoRejoin, HasChild, Received}
 use Rattle.zb_model.specs.Commands.{dropped_at}
@@ -12,7 +12,7 @@ use Rattle.law_recovery.specs.KeyFrames.{KeyFrame}
 
 -- ---- the three obstacles at the centre, and the three at the member
 
--- Why the centre sends a child no network key: it has no active one; the child isn't live; its APS counter stands at
+-- Why the centre sends a child no network key: it has no active one, the child isn't live, or its APS counter is at
 -- its end.
 unfoldable pub why_not_sent : NodeState → ℕ → Option Reason
 why_not_sent s device =
@@ -29,8 +29,8 @@ abbrev pub why_old : Option ℕ → Option Reason → Option Reason
 why_old None rest = rest
 why_old (Some place) rest = Some (KeyOld place)
 
--- Why a member doesn't take a network key that comes under a link key with a counter: its floor for that link key is
--- above the counter, or one of the two reasons above.
+-- Why a member doesn't install a network key that is sealed under a link key with a counter: its floor for that link
+-- key is above the counter, or one of the two reasons above applies.
 unfoldable pub why_not_taken : NodeState → LinkKey → ℕ → Bytes → Option Reason
 why_not_taken t row counter key =
     if nat_lt counter row.kept then Some (Stale row.kept)
@@ -47,8 +47,8 @@ pub record AreOfOneNetwork (c m : Setting) : Type 0 where
   pub shorts_differ : nat_eq c.me.short m.me.short ≡ false
   pub in_block : 1 ≤ m.me.in_block
 
--- The centre has an active network key and a current link key of the member; the member has the same one of the
--- centre, verified, and is offered no other. So nothing is under way between the two.
+-- The centre has an active network key and a current link key of the member. The member has the same link key of the
+-- centre, verified, and no other key is offered to it. So no exchange is under way between the two.
 pub record AreLinked (c m : Setting) (s t : NodeState) : Type 0 where
   pub net : NetKey
   pub active_key : active_row s ≡ Some net
@@ -60,7 +60,7 @@ pub record AreLinked (c m : Setting) (s t : NodeState) : Type 0 where
   pub verified : is_verified own.attribute ≡ true
   pub no_offer : offered t c.me.eui ≡ None
 
--- a router or device that has joined, or waits for a network key since it rejoins
+-- a router or device that has joined, or that rejoins and waits for a network key
 abbrev pub may_rejoin : NodeState → Bool
 may_rejoin t = has_joined t.state || in_rejoining t.state
 
@@ -80,7 +80,7 @@ answer_frame c m s net row = record {
   counter = next_counter Aps s;
 }
 
--- ---- the end
+-- ---- after the exchange
 
 -- The member is confirmed, and this network key is active, in a live row.
 pub record HasRejoined (t : NodeState) (key : Bytes) : Type 0 where
@@ -88,8 +88,8 @@ pub record HasRejoined (t : NodeState) (key : Bytes) : Type 0 where
   pub active_key : t.active ≡ Some key
   pub live_key : live_net key t ≡ true
 
--- The whole exchange: the member asks, and waits for a network key; the centre sends one; the member takes it, and is
--- confirmed with the network key that is active at the centre.
+-- The whole exchange: the member asks, and waits for a network key; the centre sends one; the member installs it, and
+-- is confirmed with the centre's active network key.
 pub record Rejoins (tools : Tools) (c m : Setting) (s t : NodeState) (draw : Option Bytes) : Type 0 where
   pub waits : after_task tools m t DoRejoin ≡ rejoining t
   pub frame : Bytes

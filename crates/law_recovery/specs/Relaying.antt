@@ -1,6 +1,6 @@
 -- How a device joins through a router: the router reports its child, the centre answers in a Tunnel, and the router
--- relays what is in it. What can stand in the way of each event, with the refusal that it gives, in the order in which
--- they are tried.
+-- relays the frame in it. The obstacles of each event, each with the refusal that it gives, in the order in which
+-- they are checked.
 use Rattle.std.specs.Prelude.{ℕ, ◌≡◌, true, false, nat_eq, Option, is_none}
 use Rattle.zb_model.specs.Data.{Bytes, Reason, NotMember}
 use Rattle.zb_model.specs.Rules.{Setting, acts_as_router, in_rejoining, is_declared, is_router, short_of}
@@ -29,18 +29,18 @@ pub record IsRouting (t : NodeState) (centre : ℕ) (key : Bytes) (sequence : �
 
 -- ---- the obstacles
 
--- why a router doesn't report its child: a counter at its end
+-- why a router doesn't report its child: a counter is at its end
 abbrev pub why_no_report : NodeState → Option Reason
 why_no_report t = why_not_sealed t
 
--- Why the centre doesn't answer it: the report isn't heard, or not opened; the child isn't live; a counter stands at
--- its end.
+-- Why the centre doesn't answer the report: it doesn't accept or can't open it, the child isn't live, or a counter is
+-- at its end.
 unfoldable pub why_no_tunnel : NodeState → ℕ → ℕ → Seals → Option Reason
 why_no_tunnel s router device k =
     or_else (why_unheard s router k)
     (or_else (in_row (current s router) (λ row. why_not_opened row k.aps))
     (or_else (obstacle_if (is_none (current s device)) NotMember) (why_not_sealed s)))
 
--- why the router doesn't relay a Tunnel: it isn't heard
+-- why the router doesn't relay a Tunnel: it doesn't accept it
 abbrev pub why_not_relayed : NodeState → ℕ → Seals → Option Reason
 why_not_relayed t centre k = why_unheard t centre k

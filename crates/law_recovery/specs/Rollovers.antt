@@ -1,4 +1,4 @@
--- How a rollover ends: the centre's timer comes once for each live device that wasn't sent the new network key, and
+-- How a rollover ends: the centre's timer runs once for each live device that wasn't sent the new network key, and
 -- then its switch.
 use Rattle.std.specs.Prelude.{ℕ, zero, suc, ◌≡◌, ◌<◌, ◌≤◌, ◌+◌, ◌⊎◌, true, false, not, if◌then◌else◌, List, [], ◌∷◌, map, filter, Some, None, option_map, nat_eq, is_some}
 use Rattle.std.specs.List.{list_any}
@@ -31,7 +31,7 @@ pub record HasCounters (s : NodeState) (frames : ℕ) : Type 0 where
   pub nwk : next_counter Nwk s + frames < greatest_counter
   pub aps : next_counter Aps s + frames ≤ greatest_counter
 
--- The timer tells the next device: a frame goes out, and all others that were to be told still are.
+-- The timer tells the next device: a frame is sent, and all other untold devices still are to be told.
 pub record TellsNext (tools : Tools) (c : Setting) (s : NodeState) : Type 0 where
   pub device : ℕ
   pub is_next : next_member s ≡ Some device
@@ -39,7 +39,7 @@ pub record TellsNext (tools : Tools) (c : Setting) (s : NodeState) : Type 0 wher
   pub sent : is_some (frame_of tools c s DoTimer) ≡ true
   pub others : untold (after_task tools c s DoTimer) ≡ filter (λ n. not (nat_eq n device)) (untold s)
 
--- Nobody is left to be told, and the switch ends the rollover: a frame goes out, and the newest key is active.
+-- No device is left to be told, and the switch ends the rollover: a frame is sent, and the newest key is active.
 pub record Switches (tools : Tools) (c : Setting) (s : NodeState) : Type 0 where
   pub all_told : next_member s ≡ None
   pub taken : IsTaken tools c s DoSwitch
@@ -47,7 +47,7 @@ pub record Switches (tools : Tools) (c : Setting) (s : NodeState) : Type 0 where
   pub over : (after_task tools c s DoSwitch).sending ≡ false
   pub switched : (after_task tools c s DoSwitch).active ≡ option_map (λ (r : NetKey). r.key) (newest s)
 
--- after that number of timers, each of which tells a device, the switch ends the rollover
+-- after that many timers, each of which tells a device, the switch ends the rollover
 abbrev pub EndsAfter : Tools → Setting → ℕ → NodeState → Type 0
 EndsAfter tools c zero s = Switches tools c s
 EndsAfter tools c (suc timers) s = TellsNext tools c s × EndsAfter tools c timers (after_task tools c s DoTimer)
@@ -57,7 +57,7 @@ abbrev pub LacksCounters : NodeState → ℕ → Type 0
 LacksCounters s frames = (greatest_counter ≤ next_counter Nwk s + frames)
     ⊎ ((next_counter Aps s ≤ greatest_counter) × (greatest_counter < next_counter Aps s + frames))
 
--- one of that number of timers, or the switch after them, is refused as counter-spent, and the timers before it tell
+-- one of that many timers, or the switch after them, is refused as counter-spent, and the timers before it tell
 -- devices
 abbrev pub SpentWithin : Tools → Setting → ℕ → NodeState → Type 0
 SpentWithin tools c zero s = IsRefused tools c s DoSwitch CounterSpent

@@ -15,7 +15,7 @@ use Rattle.law_recovery.specs.KeyExchange.{AreMet, KeysInRange, eui_of, exchange
 use Rattle.law_recovery.specs.Relaying.{AreRouted, IsRouting, why_no_report, why_no_tunnel, why_not_relayed}
 
 -- The four events: the router reports its child, and its report is delivered to the centre; the centre's Tunnel is
--- delivered to the router, and what the router sends to the device. Each frame is the next on the air.
+-- delivered to the router, and the router's frame to the device. Each frame is the next on the air.
 abbrev pub routed_events : Front → ℕ → ℕ → ℕ → List Event
 routed_events x c r d =
     Own r (HasChild d false) ∷ Deliver (length (air x.lines) + 1) c ∷ Deliver (length (air x.lines) + 2) r
@@ -29,8 +29,8 @@ abbrev pub routed_joining_events : Tools → Schedule → Front → ℕ → ℕ 
 routed_joining_events tools w x c r d =
     routed_events x c r d ++ exchange_events (routed_front tools w x c r d) c d
 
--- A centre c, a router r that is a member, and a device d that knocked, all three ready. The device has the key of its
--- code, the centre has entered it; the centre's network key is new to the device, or the device knows it.
+-- A centre c, a router r that is a member, and a device d that knocked, all three ready. The device has the key of
+-- its code, and the centre has entered it. The centre's network key is new to the device, or the device knows it.
 pub record MayJoinThrough (w : Schedule) (x : Front) (c r d : ℕ) (router_link : Bytes) : Type 0 where
   pub device_met : AreMet w x c d
   pub router_met : AreMet w x c r
@@ -46,8 +46,8 @@ pub record MayJoinThrough (w : Schedule) (x : Front) (c r d : ℕ) (router_link 
   pub router_size : length router_link ≡ 16
   pub meets : MeetsKey (state_of x.lines d) introduced.net.key introduced.net.sequence
 
--- Nothing is in the way of the four events, with this network key of the centre and this link key of the device. All
--- is asked of the first front.
+-- Nothing prevents the four events, with this network key of the centre and this link key of the device. All
+-- obstacles are stated for the first front.
 pub record RouteIsFree (w : Schedule) (x : Front) (c r d : ℕ) (router_link key : Bytes)
     (sequence : ℕ) (own : LinkKey) : Type 0 where
   pub report : why_no_report (state_of x.lines r) ≡ None

@@ -1,6 +1,6 @@
 -- The frames by which a network key reaches a device through a router (05-3474-21, 4.4.3, 4.4.11 and 4.6.3). They are
 -- the router's report of its child (Update-Device), the centre's answer in a Tunnel, and the frame that the router
--- takes out of it. The last one is that of the centre, but for the short address of its sender.
+-- takes out of it. The last one is that of the centre, except for the short address of its sender.
 use Rattle.std.specs.Prelude.{ℕ, ◌≡◌, ◌<◌, ◌^◌, length}
 use Rattle.zb_model.specs.Data.{ForData, Command, Tunnel, UpdateDevice}
 use Rattle.zb_model.specs.Rules.{Setting}
@@ -44,7 +44,7 @@ seen_through c r = record c { me = record c.me { short = r.me.short } }
 abbrev pub relayed_frame : Setting → Setting → Setting → NodeState → NetKey → LinkKey → KeyFrame
 relayed_frame c r m s net row = answer_frame (seen_through c r) m s net row
 
--- ---- what is asked of the tools
+-- ---- what the laws ask of the tools
 
 pub record ReportInRange (l : LinkFrame) (device short : ℕ) : Type 0 where
   pub link : length l.link ≡ 16

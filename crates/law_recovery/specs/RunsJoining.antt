@@ -30,7 +30,7 @@ pub record CanJoin (w : Schedule) (x : Front) (c d : ℕ) : Type 0 where
   pub not_refused : why_not_taken (state_of x.lines d) introduced.own (next_counter Aps (state_of x.lines c))
       introduced.net.key ≡ None
 
--- The device is joined with the centre's active network key, and both nodes are ready for what comes.
+-- The device is joined with the centre's active network key, and both nodes are ready.
 pub record EndsJoined (x : Front) (c d : ℕ) : Type 0 where
   pub key : Bytes
   pub active_key : (state_of x.lines c).active ≡ Some key

@@ -1,4 +1,4 @@
--- What the two nodes have at each stage of an exchange, and what can stand in the way of a turn.
+-- What the two nodes have at each stage of an exchange, and the obstacles of a turn.
 use Rattle.std.specs.Prelude.{ℕ, ◌≡◌, ◌+◌, ◌⊎◌, false, List, [], ◌∷◌, length, Some, None, ⊤}
 use Rattle.zb_model.specs.Answer.{answer}
 use Rattle.zb_model.specs.Data.{Bytes, Reason, DoTimer, Received}
@@ -14,7 +14,7 @@ use Rattle.law_recovery.specs.KeyExchange.{AreMet, eui_of}
 use Rattle.law_run_steps.specs.Steps.{is_of}
 use Rattle.law_recovery.specs.Turns.{Far, Asking, Offering, Proving, Proved, Done, Turn, Unheard, Unanswered, Answered, Refused, Elsewhere, after_turn, far_after}
 
--- The keys of an exchange: the network key with its sequence, the link key that both have, and the one that is drawn.
+-- The keys of an exchange: the network key with its sequence, the link key that both have, and the drawn key.
 pub record Keys : Type 0 where
   pub network : Bytes
   pub sequence : ℕ
@@ -37,7 +37,7 @@ CentreHas Proving s device k = HasOffer s device k.drawn
 CentreHas Proved s device k = HasProved s device k.drawn
 CentreHas Done s device k = HasProved s device k.drawn
 
--- A centre c and a device d, both ready, have come so far with these keys.
+-- A centre c and a device d, both ready, are at this stage with these keys.
 pub record HaveCome (w : Schedule) (x : Front) (c d : ℕ) (k : Keys) (far : Far) : Type 0 where
   pub met : AreMet w x c d
   pub network : HasNetwork (state_of x.lines c) k.network k.sequence
@@ -46,13 +46,13 @@ pub record HaveCome (w : Schedule) (x : Front) (c d : ℕ) (k : Keys) (far : Far
 
 -- ---- the obstacles
 
--- what the device seals now: a request under the link key, or a proof of the key that was drawn
+-- the device's seals now: of a request under the link key, or of a proof of the drawn key
 abbrev pub device_seals : Far → NodeState → Keys → Seals
 device_seals Asking t k = seals_now t k.network k.sequence k.link
 device_seals Offering t k = seals_now t k.network k.sequence k.link
 device_seals _ t k = seals_now t k.network k.sequence k.drawn
 
--- and the centre: an offer under the link key, or a confirmation under the drawn one
+-- and the centre's: of an offer under the link key, or of a confirmation under the drawn key
 abbrev pub centre_seals : Far → NodeState → Keys → Seals
 centre_seals far s k = device_seals far s k
 
@@ -79,7 +79,7 @@ Sends Proving t = why_no_proof t ≡ None
 Sends Proved t = why_no_proof t ≡ None
 Sends Done t = IsOver
 
--- The centre takes it, with the next key of the supply. A request that comes again doesn't open under the offered key.
+-- The centre accepts it, with the next key of the supply. A repeated request doesn't open under the offered key.
 abbrev pub CentreTakes : Far → Tools → Schedule → Front → ℕ → ℕ → Keys → Seals → Type 0
 CentreTakes Asking tools w y c d k f = (supply w y.lines ≡ Some k.drawn)
     × (why_no_offer (state_of y.lines c) (eui_of w d) f (Some k.drawn) ≡ None)
@@ -96,7 +96,7 @@ TakesOffer w z c d k f = (has_link (eui_of w c) k.drawn (state_of z.lines d).lin
 abbrev pub TakesConfirmation : Schedule → Front → ℕ → ℕ → Seals → Type 0
 TakesConfirmation w z c d f = why_not_confirmed (state_of z.lines d) (eui_of w c) f ≡ None
 
--- The device takes the centre's frame.
+-- The device accepts the centre's frame.
 abbrev pub DeviceTakes : Far → Schedule → Front → ℕ → ℕ → Keys → Seals → Type 0
 DeviceTakes Asking w z c d k f = TakesOffer w z c d k f
 DeviceTakes Offering w z c d k f = TakesOffer w z c d k f
@@ -124,7 +124,7 @@ pub record IsRefused (tools : Tools) (w : Schedule) (x : Front) (c d frame node 
   pub refused : (answer tools (setting_of w node) (state_of x.lines node) (Received bytes (supply w x.lines))).refusal
       ≡ Some reason
 
--- Nothing is in the way of a turn.
+-- Nothing prevents a turn.
 abbrev pub IsFree : Tools → Schedule → Front → ℕ → ℕ → Keys → Far → Turn → Type 0
 IsFree tools w x c d k far Unheard = Sends far (state_of x.lines d)
 IsFree tools w x c d k far Unanswered = FreeToCentre tools w x c d k far
@@ -133,7 +133,7 @@ IsFree tools w x c d k far Answered = FreeToCentre tools w x c d k far
 IsFree tools w x c d k far (Refused frame node) = IsRefused tools w x c d frame node
 IsFree tools w x c d k far (Elsewhere event) = (is_of c event ≡ false) × (is_of d event ≡ false)
 
--- nor of turns, each at the front that is reached then
+-- nor several turns, each at the front that is reached then
 abbrev pub AreFree : Tools → Schedule → ℕ → ℕ → Keys → Front → Far → List Turn → Type 0
 AreFree tools w c d k x far [] = ⊤
 AreFree tools w c d k x far (turn ∷ turns) = IsFree tools w x c d k far turn

@@ -1,5 +1,5 @@
--- An exchange of link keys event by event, in which nodes are reset, stopped at any device call, and booted. Where a
--- disk cuts an event, its node is as before it, or the changes of its answer are stored.
+-- An exchange of link keys event by event, in which nodes are reset, stopped at any device call, and booted. If a
+-- disk cuts an event, its node is as before the event, or the changes of its answer are stored.
 use Rattle.std.specs.Prelude.{ℕ, ◌≡◌, ◌⊎◌, Bool, false, not, ◌&&◌, ◌||◌, if◌then◌else◌, List, [], ◌∷◌, fold, Some, None, nat_eq, ⊤}
 use Rattle.zb_model.specs.Answer.{Answer, answer}
 use Rattle.zb_model.specs.Data.{DoTimer, Received}
@@ -17,7 +17,7 @@ use Rattle.law_run_steps.specs.Steps.{falls_on, is_of}
 use Rattle.law_recovery.specs.Stages.{Keys, DeviceIs, CentreHas, Sends, CentreTakes, DeviceTakes, IsRefused, asked_bytes, centre_seals, device_seals, told_bytes}
 use Rattle.law_recovery.specs.Turns.{Far, Offering, Proving, Proved, Done, unanswered_from}
 
--- A centre c and a device d have come this far with these keys, whether they have power or not, and whatever is armed.
+-- A centre c and a device d are at this stage with these keys, whether they have power or not, and whatever is armed.
 pub record HaveKept (w : Schedule) (x : Front) (c d : ℕ) (k : Keys) (far : Far) : Type 0 where
   pub apart : nat_eq d c ≡ false
   pub declared : AreDeclared (setting_of w c) (setting_of w d)
@@ -32,15 +32,15 @@ pub record HaveKept (w : Schedule) (x : Front) (c d : ℕ) (k : Keys) (far : Far
 
 -- What happens in such an exchange.
 pub data Happening : Type 0 where
-  -- the device's timer comes
+  -- the device's timer runs
   Timer : Happening
-  -- the frame of this number, which the device sealed in this state, comes to the centre
+  -- the frame of this number, which the device sealed in this state, is delivered to the centre
   Hearing : (frame : ℕ) (sealed : NodeState) → Happening
-  -- the frame of this number, which the centre sealed in this state, comes to the device
+  -- the frame of this number, which the centre sealed in this state, is delivered to the device
   Taking : (frame : ℕ) (sealed : NodeState) → Happening
-  -- a frame comes to one of the two, which refuses it
+  -- a frame is delivered to one of the two, which refuses it
   Repelling : (frame : ℕ) (node : ℕ) → Happening
-  -- an event of neither, or one that no node answers
+  -- an event of another node, or one that no node answers
   Idle : (event : Event) → Happening
 
 abbrev pub happening_event : ℕ → ℕ → Happening → Event
@@ -56,9 +56,9 @@ after_happening tools w c d x happening = after_event tools w x (happening_event
 abbrev pub after_happenings : Tools → Schedule → ℕ → ℕ → Front → List Happening → Front
 after_happenings tools w c d x happenings = fold (after_happening tools w c d) x happenings
 
--- ---- what it comes to
+-- ---- the results
 
--- The node has power. Nothing that is armed falls on the commit of the answer, or the commit stands where it falls.
+-- The node has power. No armed stop or failure hits the commit of the answer, or the commit is stored all the same.
 abbrev pub stored_by : Bool → Bool → Bool → Bool
 stored_by up falls stand = up && (not falls || stand)
 
@@ -68,7 +68,7 @@ is_stored w x n a =
     let y = condition_of w x.lines x.disks n in
     stored_by y.up (falls_on a y) (stands y.disk.armed (calls_by y.commits a.edits))
 
--- what the centre makes of the device's frame, and the device of the centre's
+-- the centre's answer to the device's frame, and the device's answer to the centre's
 abbrev pub heard_answer : Tools → Schedule → Front → ℕ → ℕ → Keys → Far → NodeState → Answer
 heard_answer tools w x c d k far sealed =
     answer tools (setting_of w c) (state_of x.lines c)
@@ -79,13 +79,13 @@ taken_answer tools w x c d k far sealed =
     answer tools (setting_of w d) (state_of x.lines d)
     (Received (told_bytes far tools w c d k (centre_seals far sealed k)) (supply w x.lines))
 
--- the device took what the centre sent it
+-- the device has accepted the centre's frame
 abbrev pub taken_from : Far → Far
 taken_from Offering = Proving
 taken_from Proved = Done
 taken_from far = far
 
--- How far the two are then. A frame leads on where the node that hears it stores the changes of its answer.
+-- The stage of the two then. A frame leads to the next stage if its receiver stores the changes of its answer.
 abbrev pub kept_far : Tools → Schedule → ℕ → ℕ → Keys → Front → Far → Happening → Far
 kept_far tools w c d k x far (Hearing frame sealed) = if is_stored w x c (heard_answer tools w x c d k far sealed)
     then unanswered_from far else far
@@ -98,7 +98,7 @@ kept_far_all tools w c d k x far [] = far
 kept_far_all tools w c d k x far (h ∷ hs) = kept_far_all tools w c d k (after_happening tools w c d x h)
     (kept_far tools w c d k x far h) hs
 
--- ---- what is asked
+-- ---- what the laws ask
 
 -- the exchange isn't over
 abbrev pub IsUnderWay : Far → Type 0
@@ -111,14 +111,15 @@ IsAnswered Offering = ⊤
 IsAnswered Proved = ⊤
 IsAnswered _ = ⊥
 
--- The frame of this number is the device's. It had a counter for it, and nothing is in the way at the centre.
+-- The frame of this number is the device's. The device had a counter for it, and nothing prevents the centre's
+-- answer.
 pub record ComesToCentre (tools : Tools) (w : Schedule) (x : Front) (c d : ℕ) (k : Keys) (far : Far) (frame : ℕ)
     (sealed : NodeState) : Type 0 where
   pub on_air : frame_at x.lines frame ≡ Some (asked_bytes far tools w c d (device_seals far sealed k))
   pub sent : Sends far sealed
   pub free : CentreTakes far tools w x c d k (device_seals far sealed k)
 
--- The frame of this number is the centre's. It had counters for it, and nothing is in the way at the device.
+-- The frame of this number is the centre's. The centre had counters for it, and nothing prevents the device's answer.
 pub record ComesToDevice (tools : Tools) (w : Schedule) (x : Front) (c d : ℕ) (k : Keys) (far : Far) (frame : ℕ)
     (sealed : NodeState) : Type 0 where
   pub answered : IsAnswered far
@@ -127,7 +128,7 @@ pub record ComesToDevice (tools : Tools) (w : Schedule) (x : Front) (c d : ℕ) 
   pub free : DeviceTakes far w x c d k (centre_seals far sealed k)
 
 -- No node answers: the node of the event has no power; or the event resets, boots or dumps a node, or arms its disk;
--- or it is one of the outside.
+-- or it is an event of the outside.
 abbrev pub IsUnanswered : Front → Event → Type 0
 IsUnanswered x (Own n task) = is_up x.lines n ≡ false
 IsUnanswered x (RollOver n) = is_up x.lines n ≡ false

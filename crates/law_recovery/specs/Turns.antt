@@ -1,6 +1,6 @@
--- An exchange of link keys with frames that are lost. It goes by turns: the device's timer comes, its frame is
--- delivered to the centre, and the centre's frame to the device. Where a frame is lost, the turn ends with it, and the
--- next one begins again with the timer.
+-- An exchange of link keys in which frames are lost. It has turns: the device's timer runs, its frame is delivered to
+-- the centre, and the centre's frame to the device. If a frame is lost, the turn ends with it, and the next turn
+-- begins with the timer again.
 use Rattle.std.specs.Prelude.{ℕ, ◌+◌, List, [], ◌∷◌, length, fold, ⊤}
 use Rattle.zb_model.specs.Data.{DoTimer}
 use Rattle.zb_model.specs.Play.{Schedule, Event, Own, Deliver}
@@ -9,8 +9,8 @@ use Rattle.zb_model.specs.Tools.{Tools}
 use Rattle.law_recovery.specs.Fronts.{Front, after_events}
 
 -- `Unheard`: the device's frame is lost. `Unanswered`: the centre's frame is lost. `Answered`: none is.
--- Between turns a frame may come to the centre or the device that it refuses, as one that comes twice, and any event
--- may come of neither of them.
+-- Between turns a frame that the centre or the device refuses may be delivered to it, for example a repeated one, and
+-- any event of another node may happen.
 pub data Turn : Type 0 where
   Unheard : Turn
   Unanswered : Turn
@@ -33,7 +33,7 @@ after_turn tools w c d x turn = after_events tools w x (turn_events x c d turn)
 abbrev pub after_turns : Tools → Schedule → ℕ → ℕ → Front → List Turn → Front
 after_turns tools w c d x turns = fold (after_turn tools w c d) x turns
 
--- How far the two have come: no key is offered; the centre offers one, and the device has none of it; the device keeps
+-- The stages of the two: no key is offered; the centre offers one, and the device doesn't have it; the device keeps
 -- it; the centre has verified it; the device is confirmed.
 pub data Far : Type 0 where
   Asking : Far

@@ -1,4 +1,4 @@
--- A frame that is secured at NWK comes to a node for which it is, and comes again.
+-- A frame that is secured at NWK is delivered to a node that it is for, and is repeated.
 use Rattle.std.specs.Prelude.{◌≡◌, ◌<◌, true, false, not, ◌&&◌, None, nat_eq}
 use Rattle.zb_model.specs.Data.{Bytes}
 use Rattle.zb_model.specs.Rules.{Setting, is_declared}
@@ -11,8 +11,8 @@ use Rattle.law_recovery.specs.Obstacles.{in_row, why_not_heard}
 abbrev pub frame_bytes : Tools → NetFrame → Bytes → Bytes
 frame_bytes tools f content = tools.wire (net_term f content)
 
--- The node hears the frame: it is for the node, its sender is declared and wasn't removed, the node finds its key, and
--- neither a floor nor a full row is in the way.
+-- The node accepts the frame: it is for the node, its sender is declared and wasn't removed, the node finds its key,
+-- and neither a floor nor a full row prevents it.
 pub record Hears (c : Setting) (s : NodeState) (f : NetFrame) : Type 0 where
   pub to : f.to ≡ c.me.short
   pub apart : nat_eq f.from c.me.short ≡ false

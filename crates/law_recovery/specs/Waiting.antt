@@ -1,4 +1,4 @@
--- A device that knocked waits for a network key. Where the frame that brings it is lost, the centre sends another one.
+-- A device that knocked waits for a network key. If the frame that brings it is lost, the centre sends another one.
 use Rattle.std.specs.Prelude.{ℕ, ◌≡◌, ◌+◌}
 use Rattle.zb_model.specs.Data.{Aps}
 use Rattle.zb_model.specs.Play.{Schedule}
@@ -8,7 +8,7 @@ use Rattle.law_recovery.specs.Fronts.{Front}
 use Rattle.law_recovery.specs.RunsJoining.{CanJoin}
 use Rattle.law_recovery.specs.KeyExchange.{IsNew}
 
--- At a later front the device may join as at the one before, with the same keys. One counter of the centre is used.
+-- At a later front the device may join as at the one before, with the same keys. The centre has used one counter.
 pub record JoinsAgain (w : Schedule) (x y : Front) (c d : ℕ) (can : CanJoin w x c d) : Type 0 where
   pub again : CanJoin w y c d
   pub is_new : IsNew w y c d again

@@ -22,9 +22,9 @@ ghost use Rattle.zb_model.specs.Rules.{Setting};
 ghost use Rattle.zb_model.specs.State.{NodeState, has_link, has_net, next_counter};
 ghost use Rattle.zb_model.specs.Tools.{Tools};
 
-/// States that a device that knocked joins as the exchange asks, by a network key new to it.
+/// States that a device that knocked joins, ready for the exchange, by a network key new to it.
 ///
-/// It finds the key by its sequence, has its centre's link key, and is offered no other.
+/// It finds the network key by its sequence, has its centre's link key, and is offered no other link key.
 pub fn a_device_joins_for_the_exchange()
     ensures { (tools : Tools) → DeliversKeys tools → (c m : Setting) (s t : NodeState) → AreOfOneNetwork c m
         → (l : AreIntroduced c m s t) → KeyFrameInRange (answer_frame c m s l.net l.row) → keeps_rules t ≡ true
@@ -34,9 +34,9 @@ pub fn a_device_joins_for_the_exchange()
         c.me.eui l.net.key l.net.sequence l.row.key }
 {}
 
-/// States that a joined device asks its centre for a link key, and is as joined afterwards as before.
+/// States that a joined device asks its centre for a link key, and stays joined.
 ///
-/// It is refused for a counter at its end, and for nothing else.
+/// The event is refused only if a counter has reached its end.
 pub fn a_joined_device_asks_for_a_link_key()
     ensures refused { (tools : Tools) (c m : Setting) (t : NodeState) (key : Bytes) (sequence : ℕ) (link : Bytes)
         → AreDeclared c m → IsJoined t c.me.eui key sequence link
@@ -65,9 +65,9 @@ pub fn the_centre_offers_a_link_key()
         (frame_of tools c s (Received (request_bytes tools c m k) draw)) }
 {}
 
-/// States that the centre offers its key again to a device whose request comes again, and when it doesn't.
+/// States that the centre offers its key again to a device that repeats its request, and when it doesn't.
 ///
-/// The offer was lost. The request opens under the current key, and not under the one that is offered.
+/// The offer was lost. The request opens under the current key, and not under the offered one.
 pub fn the_centre_offers_its_key_again()
     ensures refused { (tools : Tools) → DeliversCommands tools → (c m : Setting) (s : NodeState) (k : Seals)
         (key : Bytes) (draw : Option Bytes) → AreDeclared c m → StationsInRange c m → NwkInRange k → ApsInRange k
@@ -105,9 +105,9 @@ pub fn a_joined_device_keeps_an_offered_key()
         → frame_of tools m t (Received (offer_bytes tools c m k key) draw) ≡ None }
 {}
 
-/// States that a device proves the key that was offered to it, and is as offered afterwards as before.
+/// States that a device proves the key that was offered to it, and has the same offer afterwards.
 ///
-/// It is refused for a NWK counter at its end, and for nothing else.
+/// The event is refused only if a NWK counter has reached its end.
 pub fn a_device_proves_its_key()
     ensures refused { (tools : Tools) (c m : Setting) (t : NodeState) (key : Bytes) (sequence : ℕ) (link : Bytes)
         → AreDeclared c m → IsOffered t c.me.eui key sequence link
@@ -135,7 +135,7 @@ pub fn the_centre_confirms_a_proved_key()
         (frame_of tools c s (Received (proof_bytes tools c m k) draw)) }
 {}
 
-/// States that the centre confirms its key again to a device whose proof comes again, and when it doesn't.
+/// States that the centre confirms its key again to a device that repeats its proof, and when it doesn't.
 ///
 /// The confirmation was lost. The centre has verified the key, and offers no other.
 pub fn the_centre_confirms_its_key_again()

@@ -1,5 +1,5 @@
-//! Nothing wedges: what leads a node and its centre back from a state of a run. Each law is the contract of a function
-//! with an empty body; docs/THEOREMS.md says it in words.
+//! Nothing wedges: what leads a node and its centre back from any state of a run. Each law is the contract of a
+//! function with an empty body; docs/THEOREMS.md says it in words.
 #![tactic(auto)]
 
 mod key_exchange;
@@ -56,25 +56,25 @@ pub use runs::{
     a_rollover_ends_in_a_run,
 };
 
-/// States that a rollover ends after one timer for each device that isn't told, and one switch.
+/// States that a rollover ends after one timer for each untold device, and one switch.
 ///
-/// None of these events is refused, whatever the state. The one obstacle is a counter at its end.
+/// None of these events is refused, whatever the state. The only obstacle is a counter at its end.
 pub fn a_rollover_ends()
     ensures { (tools : Tools) (c : Setting) (s : NodeState) → is_centre c.me.role ≡ true → IsRolling s
         → HasCounters s (length (untold s)) → EndsAfter tools c (length (untold s)) s }
 {}
 
-/// States that where too few counters are left, a rollover stops at an event that is refused as counter-spent.
+/// States that a rollover stops at an event that is refused as counter-spent, if too few counters are left.
 ///
-/// So a counter at its end is the only obstacle, and it is always one.
+/// So a counter at its end is the only obstacle, and it always is one.
 pub fn a_rollover_stops_at_a_spent_counter()
     ensures { (tools : Tools) (c : Setting) (s : NodeState) → is_centre c.me.role ≡ true → IsRolling s
         → LacksCounters s (length (untold s)) → SpentWithin tools c (length (untold s)) s }
 {}
 
-/// States that a member that rejoins waits for a network key afterwards, and that nothing else of it changes.
+/// States that a member that rejoins waits for a network key afterwards, and that nothing else changes.
 ///
-/// A node that hasn't joined is refused as wrong-state. So is one that waits already, and it still waits.
+/// A node that hasn't joined is refused as wrong-state. So is one that already waits, and it still waits.
 pub fn a_member_asks_to_rejoin()
     ensures waits { (tools : Tools) (m : Setting) (t : NodeState) → is_centre m.me.role ≡ false
         → may_rejoin t ≡ true → after_task tools m t DoRejoin ≡ rejoining t }
@@ -92,9 +92,9 @@ pub fn the_centre_answers_a_child()
         → frame_of tools c s (HasChild m.me.eui rejoin) ≡ Some (key_bytes tools (answer_frame c m s l.net l.row)) }
 {}
 
-/// States that a member which waits takes the network key that the centre sent, and when it doesn't.
+/// States that a waiting member installs the network key that the centre sent, and when it doesn't.
 ///
-/// Where it takes the key, it is confirmed, and that key is active.
+/// If it installs the key, it is confirmed, and that key is active.
 pub fn a_waiting_member_takes_the_network_key()
     ensures refused { (tools : Tools) → DeliversKeys tools → (c m : Setting) (s t : NodeState)
         → AreOfOneNetwork c m → (l : AreLinked c m s t) → KeyFrameInRange (answer_frame c m s l.net l.row)
@@ -111,7 +111,8 @@ pub fn a_waiting_member_takes_the_network_key()
 
 /// States that a network key of which a member has a live row is refused only as stale.
 ///
-/// So a member that was told of the new key is neither refused as key-old nor as keys-full once the centre switched.
+/// So after the centre switched, a member that was told of the new key is refused neither as key-old nor as
+/// keys-full.
 pub fn a_live_key_is_taken()
     ensures { (t : NodeState) (row : LinkKey) (counter : ℕ) (key : Bytes) → keeps_rules t ≡ true
         → live_net key t ≡ true → row.kept ≤ counter → why_not_taken t row counter key ≡ None }
@@ -130,7 +131,7 @@ pub fn a_member_rejoins()
 
 /// States that a stale answer costs a repeat, until the centre's counter has reached the member's floor.
 ///
-/// A frame below the member's floor leaves the member as it was. Each answer takes the centre's counter on by one.
+/// A frame below the member's floor leaves the member as it was. Each answer raises the centre's counter by one.
 pub fn a_stale_answer_is_repeated()
     ensures kept { (tools : Tools) → DeliversKeys tools → (c m : Setting) (s t : NodeState)
         → AreOfOneNetwork c m → (l : AreLinked c m s t) → KeyFrameInRange (answer_frame c m s l.net l.row)
@@ -157,7 +158,7 @@ pub fn a_device_knocks()
 
 /// States that a device that knocked joins by two events, unless one of the named obstacles holds.
 ///
-/// Its centre answers, and the frame that the centre sent is delivered to it. The exchange of link keys comes after.
+/// Its centre answers, and the frame that the centre sent is delivered to it. The exchange of link keys comes later.
 pub fn a_device_joins()
     ensures refused { (tools : Tools) → DeliversKeys tools → (c m : Setting) (s t : NodeState)
         → AreOfOneNetwork c m → (l : AreIntroduced c m s t) → KeyFrameInRange (answer_frame c m s l.net l.row)

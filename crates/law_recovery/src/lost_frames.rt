@@ -1,5 +1,5 @@
-//! A lost frame costs a repeat alone: how an exchange of link keys goes on where frames are lost, come twice, or nodes
-//! are stopped. Each law is the contract of a function with an empty body; docs/THEOREMS.md says it in words.
+//! A lost frame only costs a repeat: how an exchange of link keys continues when frames are lost or repeated, or when
+//! nodes are stopped. Each law is the contract of a function with an empty body; docs/THEOREMS.md says it in words.
 ghost use Rattle.std.specs.Prelude.{◌≡◌, ◌<◌, ◌≤◌, ◌+◌, ◌-◌, ◌++◌, ℕ, suc, true, false, [], ◌∷◌, find, length};
 ghost use Rattle.std.specs.Prelude.{List, Option, Some, reverse};
 ghost use Rattle.std.specs.List.{AllByRecursion};
@@ -41,8 +41,8 @@ ghost use Rattle.zb_model.specs.Tools.{Tools};
 ///
 /// It costs nothing else.
 ///
-/// A turn in which a frame is lost leaves the two at a stage from which the next turn goes on. What is refused between
-/// turns changes no stage, nor does any event of another node.
+/// After a turn in which a frame is lost, the two nodes are at a stage from which the next turn continues. A refused
+/// event between turns changes no stage, and neither does any event of another node.
 pub fn a_lost_frame_costs_a_repeat()
     ensures turn { (tools : Tools) → DeliversCommands tools → OpensAsJudged tools → (w : Schedule) (x : Front)
         (c d : ℕ) (k : Keys) (far : Far) (turn : Turn) → KeysInRange k.network k.sequence k.link → length k.drawn ≡ 16
@@ -57,28 +57,28 @@ pub fn a_lost_frame_costs_a_repeat()
         → far_after_all Asking (before ++ Answered ∷ between ++ Answered ∷ []) ≡ Done }
 {}
 
-/// States that a device whose network key was lost may be sent it again.
+/// States that a device whose network key was lost can be sent it again.
 ///
-/// That is so as often as the centre's APS counter lasts.
+/// The centre can repeat this until its APS counter reaches its end.
 pub fn a_lost_network_key_is_sent_again()
     ensures { (tools : Tools) → OpensAsJudged tools → (w : Schedule) (x : Front) (c d : ℕ) (can : CanJoin w x c d)
         → IsNew w x c d can → next_counter Aps (state_of x.lines c) + 1 < greatest_counter
         → JoinsAgain w x (after_event tools w x (Own c (HasChild d false))) c d can }
 {}
 
-/// States that a stop and a boot take a node back in an exchange by one event at most.
+/// States that a stop and a boot set a node back in an exchange by at most one event.
 ///
-/// The stop may be at any device call. Then the node is as far as before its event, or as after it.
+/// The stop may be at any device call. Then the node is as far as before its event, or as far as after it.
 pub fn a_stop_leaves_an_exchange()
     ensures before { (s : NodeState) → IsSpared s (after_boot s) }
     ensures after { (tools : Tools) (c : Setting) (s : NodeState) (task : Task)
         → IsSpared (after_task tools c s task) (after_boot (applied_all (answer tools c s task).edits s)) }
 {}
 
-/// States that a stop of either node within the exchange of link keys costs repeats alone.
+/// States that a stop of either node during the exchange of link keys only costs repeats.
 ///
-/// A node may be reset, booted, or stopped at any device call, at any event and as often as may be. How far the two
-/// have come is kept. Once both have power and nothing is armed, turns go on from there.
+/// A node may be reset, booted, or stopped at any device call, at any event and any number of times. Both nodes stay
+/// at their stage. When both have power and nothing is armed, turns continue from there.
 pub fn a_stop_costs_a_repeat()
     ensures happening { (tools : Tools) → DeliversCommands tools → OpensAsJudged tools → (w : Schedule) (x : Front)
         (c d : ℕ) (k : Keys) (far : Far) (happening : Happening) → KeysInRange k.network k.sequence k.link
@@ -107,9 +107,9 @@ pub fn a_stop_costs_a_repeat()
         → EndsConfirmed w (after_turns tools w c d x turns) c d k.network k.sequence k.drawn }
 {}
 
-/// States that frames of the exchange are on the air where no disk falls, and stay there.
+/// States that, if no disk stops or fails, frames of the exchange are on the air and stay there.
 ///
-/// The device's timer sends its frame, and the centre that hears it sends its own. Each is the next on the air.
+/// The device's timer sends its frame, and the centre that receives it sends its own. Each is the next on the air.
 pub fn frames_of_the_exchange_are_on_the_air()
     ensures asked { (tools : Tools) (w : Schedule) (x : Front) (c d : ℕ) (k : Keys) (far : Far)
         → HaveKept w x c d k far → Sends far (state_of x.lines d) → is_up x.lines d ≡ true
@@ -130,10 +130,10 @@ pub fn frames_of_the_exchange_are_on_the_air()
         → frame_at (after_event tools w x event).lines frame ≡ Some bytes }
 {}
 
-/// States that a member whose floor is above its centre's counter rejoins after as many stale rounds.
+/// States how many stale rounds delay a member whose floor is above its centre's counter.
 ///
-/// One more round is the last. Where all that it accepted under its link key came from its centre, the stale ones are
-/// fewer than its incoming block.
+/// There are as many stale rounds as the floor is above the counter, and the next round succeeds. If all that the
+/// member accepted under its link key came from its centre, there are fewer stale rounds than its incoming block.
 pub fn stale_rounds_are_fewer_than_a_block()
     ensures rounds { (tools : Tools) → DeliversKeys tools → OpensAsJudged tools → (w : Schedule) (x : Front)
         (c d n : ℕ) → RejoinsLater w x c d n → EndsRejoined (after_rounds tools w c d (suc n) x) c d }
@@ -141,9 +141,9 @@ pub fn stale_rounds_are_fewer_than_a_block()
         → CameFromCentre w x c d later.linked.own → n < (setting_of w d).me.in_block }
 {}
 
-/// States that turns whose frames the centre refuses as stale are fewer than its incoming block.
+/// States that the turns whose frames the centre refuses as stale are fewer than its incoming block.
 ///
-/// All that it accepted of the device came from the device. The two have come as far then as before.
+/// All that it accepted from the device came from the device. Both nodes are at the same stage afterwards.
 pub fn stale_turns_are_fewer_than_a_block()
     ensures fewer { (tools : Tools) → DeliversCommands tools → OpensAsJudged tools → (w : Schedule) (x : Front)
         (c d : ℕ) (k : Keys) (far : Far) (n : ℕ) → KeysInRange k.network k.sequence k.link → length k.drawn ≡ 16
@@ -154,10 +154,10 @@ pub fn stale_turns_are_fewer_than_a_block()
         → AreStale tools w c d k far n x → HaveCome w (after_stale tools w c d n x) c d k far }
 {}
 
-/// States that turns whose answers the device refuses as stale are fewer than its incoming block.
+/// States that the turns whose answers the device refuses as stale are fewer than its incoming block.
 ///
-/// All that it accepted of the centre came from the centre. Where the centre answered before, the two have come as far
-/// then as before, so the next answer that isn't stale leads on.
+/// All that it accepted from the centre came from the centre. If the centre answered before, both nodes are at the
+/// same stage afterwards, so the next answer that isn't stale leads to the next stage.
 pub fn stale_answers_are_fewer_than_a_block()
     ensures fewer { (tools : Tools) → DeliversCommands tools → OpensAsJudged tools → (w : Schedule) (x : Front)
         (c d : ℕ) (k : Keys) (far : Far) (n : ℕ) → KeysInRange k.network k.sequence k.link → length k.drawn ≡ 16
@@ -169,10 +169,10 @@ pub fn stale_answers_are_fewer_than_a_block()
         → HaveCome w (after_stale_answers tools w c d n x) c d k far }
 {}
 
-/// States that a floor is less than a block above its sender's next counter, where nobody forged.
+/// States that a floor is less than a block above its sender's next counter, if nobody forged.
 ///
-/// All that the receiver accepted under that key came from the sender. The floor is of a network key, or of the link
-/// key that is current, or of the one that is tried first.
+/// All that the receiver accepted under that key came from the sender. The floor is that of a network key, of the
+/// current link key, or of the link key that is tried first.
 pub fn floors_are_less_than_a_block_above()
     ensures nwk { (w : Schedule) (x : Front) (a b : ℕ) (key : Bytes) (sequence : ℕ)
         → (h : HasNetwork (state_of x.lines b) key sequence) → CameFrom Nwk w x a b key
@@ -189,7 +189,7 @@ pub fn floors_are_less_than_a_block_above()
         → row.kept - next_counter Aps (state_of x.lines a) < (setting_of w b).me.in_block }
 {}
 
-/// States that a frame that a node heard and that comes again is stale, and changes nothing.
+/// States that a frame that a node has received is stale when it is repeated, and changes nothing.
 ///
 /// The node still finds the frame's network key. Its floor of the sender is one above the frame's counter.
 pub fn a_frame_that_comes_twice_is_stale()
@@ -208,9 +208,9 @@ pub fn a_frame_that_comes_twice_is_stale()
         ≡ after_task tools c s (Received (frame_bytes tools f content) draw) }
 {}
 
-/// States that the obstacles of the exchange of link keys are seen at the first front.
+/// States that the obstacles of the exchange of link keys are known at the first front.
 ///
-/// Nothing is in the way of its first three events there, and a counter is left for each frame that follows.
+/// Nothing prevents its first three events there, and a counter is left for each frame that follows.
 pub fn obstacles_are_seen_at_the_first_front()
     ensures { (tools : Tools) → DeliversCommands tools → OpensAsJudged tools → (w : Schedule) (x : Front) (c d : ℕ)
         (key : Bytes) (sequence : ℕ) (link drawn : Bytes) → AreMet w x c d → HaveJoined w x c d key sequence link

@@ -1,4 +1,4 @@
-//! A device is let in anew: its centre removes it, its code is entered, it knocks, and gets a link key of its own.
+//! A device is admitted again: its centre removes it, its code is entered, it knocks, and gets a link key of its own.
 //! Each law is the contract of a function with an empty body; docs/THEOREMS.md says it in words.
 ghost use Rattle.std.specs.Prelude.{◌≡◌, ℕ, false, length, true, Option, None, Some};
 ghost use Rattle.law_answer_storable.specs.Storing.{OpensAsJudged};
@@ -22,10 +22,10 @@ ghost use Rattle.zb_model.specs.Rules.{Setting, centre_of};
 ghost use Rattle.zb_model.specs.State.{LinkKey, NodeState, code_row, is_centre, is_live, next_counter};
 ghost use Rattle.zb_model.specs.Tools.{Tools};
 
-/// States that the centre removes a device that is live, and that none of its rows is live then.
+/// States that the centre removes a live device, and that none of the device's rows is live then.
 ///
-/// The active network key stays, and so does what a code finds among the rows. Under the centre itself nothing is
-/// sealed at APS.
+/// The active network key stays, and so does what the rule for a code looks up among the rows. If the centre itself
+/// is the device's parent, nothing is sealed at APS.
 pub fn the_centre_removes_a_device()
     ensures refused { (tools : Tools) (c : Setting) (s : NodeState) (device via : ℕ) → is_centre c.me.role ≡ true
         → (answer tools c s (DoRemove device via)).refusal ≡ why_not_removed s device }
@@ -38,7 +38,7 @@ pub fn the_centre_removes_a_device()
 
 /// States that the centre enters the code of a device that isn't live, and when it doesn't.
 ///
-/// The code's key is the device's current one then, and no other is offered.
+/// Then the code's key is the device's current one, and no other is offered.
 pub fn the_centre_enters_a_code()
     ensures refused { (tools : Tools) (c : Setting) (s : NodeState) (device : ℕ) (key : Bytes)
         → is_centre c.me.role ≡ true
@@ -48,9 +48,9 @@ pub fn the_centre_enters_a_code()
         → IsEntered s (after_task tools c s (DoProvision device key)) device key }
 {}
 
-/// States that a device with the key of an install code knocks, whatever it was before.
+/// States that a device with the key of an install code knocks, whatever its state was before.
 ///
-/// Then the row of its code is its current one of the centre, provisional, and no other is offered.
+/// Then the row of its code is its current row of the centre, provisional, and no other key is offered.
 pub fn a_device_knocks_for_its_code()
     ensures refused { (tools : Tools) (m : Setting) (t : NodeState) → is_centre m.me.role ≡ false
         → (answer tools m t DoKnock).refusal ≡ why_no_knock t (centre_of m.stations) }
@@ -59,7 +59,7 @@ pub fn a_device_knocks_for_its_code()
         → HasKnocked t (after_task tools m t DoKnock) (centre_of m.stations) code }
 {}
 
-/// States that a device that knocked joins as the exchange asks, also by a key that it had before.
+/// States that a device that knocked joins, ready for the exchange, also by a key that it had before.
 ///
 /// The network key is new to it, or it knows the key with the centre's sequence.
 pub fn a_device_joins_with_a_key_that_it_meets()
@@ -71,11 +71,11 @@ pub fn a_device_joins_with_a_key_that_it_meets()
         c.me.eui l.net.key l.net.sequence l.row.key }
 {}
 
-/// States that after any lines a device is let in anew by eleven events.
+/// States that after any lines a device is admitted again by eleven events.
 ///
-/// That is so unless one of the named obstacles holds. The centre removes it where it is live, its code is entered,
-/// and it knocks. Then it joins, and gets a link key of its own. Obstacles of the first five events are all asked of
-/// the first front.
+/// This is so unless one of the named obstacles holds. The centre removes the device if it is live, its code is
+/// entered, and it knocks. Then it joins, and gets a link key of its own. All obstacles of the first five events are
+/// stated for the first front.
 pub fn a_device_is_readmitted_in_a_run()
     ensures { (tools : Tools) → DeliversKeys tools → DeliversCommands tools → OpensAsJudged tools → (w : Schedule)
         (x : Front) (c d : ℕ) (network : Bytes) (sequence : ℕ) (key drawn : Bytes)
@@ -85,9 +85,9 @@ pub fn a_device_is_readmitted_in_a_run()
         → EndsConfirmed w (after_events tools w x (readmission_events tools w x c d key)) c d network sequence drawn }
 {}
 
-/// States that what a node refuses leaves it as far in an exchange as it was.
+/// States that an event that a node refuses leaves the node as far in an exchange as it was.
 ///
-/// So a frame that comes twice, or too late, or from elsewhere, and is refused, costs nothing but time.
+/// So a frame that is refused because it is repeated, late or from elsewhere costs nothing but time.
 pub fn what_is_refused_leaves_an_exchange()
     ensures { (tools : Tools) (c : Setting) (s : NodeState) (task : Task) (reason : Reason)
         → (answer tools c s task).refusal ≡ Some reason → IsSpared s (after_task tools c s task) }

@@ -1,6 +1,6 @@
 //! A device joins through a router, event by event: the router reports its child, the centre answers in a Tunnel, and
-//! the router relays what is in it. Each law is the contract of a function with an empty body; docs/THEOREMS.md says
-//! it in words.
+//! the router relays the frame in it. Each law is the contract of a function with an empty body; docs/THEOREMS.md
+//! says it in words.
 ghost use Rattle.std.specs.Prelude.{◌≡◌, ℕ, false, length, true, Option, None, Some};
 ghost use Rattle.law_answer_storable.specs.Storing.{OpensAsJudged};
 ghost use Rattle.law_recovery.specs.CommandFrames.{DeliversCommands};
@@ -26,7 +26,7 @@ ghost use Rattle.zb_model.specs.Tools.{Tools};
 
 /// States that a router that is a member reports a child that joins.
 ///
-/// It is refused for a counter at its end, and for nothing else.
+/// The event is refused only if a counter has reached its end.
 pub fn a_router_reports_its_child()
     ensures refused { (tools : Tools) (c r m : Setting) (t : NodeState) (key : Bytes) (sequence : ℕ) (link : Bytes)
         → AreRouted c r m → IsRouting t c.me.eui key sequence link
@@ -56,9 +56,9 @@ pub fn the_centre_answers_a_report()
         ≡ Some (tunnel_bytes tools c r (seals_now s net.key net.sequence k.link) (answer_frame c m s net row)) }
 {}
 
-/// States that a router sends on what the centre's Tunnel has for a device, and when it doesn't.
+/// States that a router relays the frame in the centre's Tunnel to a device, and when it doesn't.
 ///
-/// The frame is that of the centre, but for the short address of its sender.
+/// The frame is that of the centre, except for the short address of its sender.
 pub fn a_router_relays_a_network_key()
     ensures refused { (tools : Tools) → DeliversRelays tools → (c r m : Setting) (t : NodeState) (k : Seals)
         (f : KeyFrame) (draw : Option Bytes) → AreRouted c r m → StationsInRange c r → NwkInRange k
@@ -74,7 +74,7 @@ pub fn a_router_relays_a_network_key()
 
 /// States that a device that knocked takes the network key that a router relays, and when it doesn't.
 ///
-/// It has joined then as the exchange of link keys asks.
+/// Then it has joined, ready for the exchange of link keys.
 pub fn a_device_takes_a_relayed_key()
     ensures refused { (tools : Tools) → DeliversKeys tools → (c r m : Setting) (s t : NodeState) → AreRouted c r m
         → StationsInRange c r → (l : AreIntroduced c m s t) → KeyFrameInRange (answer_frame c m s l.net l.row)
@@ -91,8 +91,8 @@ pub fn a_device_takes_a_relayed_key()
 
 /// States that after any lines a device that knocked joins through a router and ends confirmed by ten events.
 ///
-/// The router is a member. One of the named obstacles may hold; those of the first four events are asked of the first
-/// front.
+/// The router is a member. This is so unless one of the named obstacles holds; those of the first four events are
+/// stated for the first front.
 pub fn a_device_joins_through_a_router_in_a_run()
     ensures { (tools : Tools) → DeliversKeys tools → DeliversRelays tools → DeliversCommands tools
         → OpensAsJudged tools → (w : Schedule) (x : Front) (c r d : ℕ) (router_link drawn : Bytes)

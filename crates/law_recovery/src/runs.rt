@@ -17,7 +17,7 @@ ghost use Rattle.zb_model.specs.Readings.{is_up, state_of};
 ghost use Rattle.zb_model.specs.State.{after_boot, is_centre};
 ghost use Rattle.zb_model.specs.Tools.{Tools};
 
-/// States that a node without power is ready after one boot, where nothing is armed on its disk.
+/// States that a node without power is ready after one boot, if nothing is armed on its disk.
 pub fn a_boot_makes_a_node_ready()
     ensures { (tools : Tools) (w : Schedule) (x : Front) (n : ℕ) → is_up x.lines n ≡ false
         → (disk_of x.disks n).armed ≡ NotArmed
@@ -27,7 +27,7 @@ pub fn a_boot_makes_a_node_ready()
 
 /// States that after any lines a member rejoins by three events, unless one of the named obstacles holds.
 ///
-/// The lines may have any deliveries, losses, forged and injected frames, resets, stops and failures before.
+/// The lines before may have any deliveries, losses, forged and injected frames, resets, stops and failures.
 pub fn a_member_rejoins_in_a_run()
     ensures { (tools : Tools) → DeliversKeys tools → OpensAsJudged tools → (w : Schedule) (x : Front) (c d : ℕ)
         → CanRejoin w x c d → EndsRejoined (after_events tools w x (rejoin_events x c d)) c d }
@@ -35,7 +35,7 @@ pub fn a_member_rejoins_in_a_run()
 
 /// States that after any lines a rollover ends by a timer for each untold device, and a switch.
 ///
-/// The centre has power with nothing armed. The one obstacle is a counter at its end.
+/// The centre has power with nothing armed. The only obstacle is a counter at its end.
 pub fn a_rollover_ends_in_a_run()
     ensures { (tools : Tools) (w : Schedule) (x : Front) (c : ℕ) → is_centre (setting_of w c).me.role ≡ true
         → IsReady x c → IsRolling (state_of x.lines c)
@@ -45,8 +45,8 @@ pub fn a_rollover_ends_in_a_run()
 
 /// States that after any lines a device that knocked joins by two events.
 ///
-/// That is so unless one of the named obstacles holds. It has the network key then. The exchange of link keys comes
-/// after.
+/// This is so unless one of the named obstacles holds. Then it has the network key. The exchange of link keys comes
+/// later.
 pub fn a_device_joins_in_a_run()
     ensures { (tools : Tools) → DeliversKeys tools → OpensAsJudged tools → (w : Schedule) (x : Front) (c d : ℕ)
         → CanJoin w x c d → EndsJoined (after_events tools w x (join_events x c d)) c d }
@@ -54,8 +54,8 @@ pub fn a_device_joins_in_a_run()
 
 /// States that after any lines a joined device is confirmed by six events.
 ///
-/// That is so unless one of the named obstacles holds. It asks for a link key, keeps the one that it is offered,
-/// proves it, and is told that it is confirmed.
+/// This is so unless one of the named obstacles holds. It asks for a link key, keeps the offered key, proves it, and
+/// gets its confirmation.
 pub fn a_device_is_confirmed_in_a_run()
     ensures { (tools : Tools) → DeliversCommands tools → OpensAsJudged tools → (w : Schedule) (x : Front) (c d : ℕ)
         (key : Bytes) (sequence : ℕ) (link drawn : Bytes) → AreMet w x c d → HaveJoined w x c d key sequence link
@@ -65,7 +65,7 @@ pub fn a_device_is_confirmed_in_a_run()
 
 /// States that a device that knocked ends confirmed by eight events, unless one of the named obstacles holds.
 ///
-/// The centre's network key is new to it. The key that both have verified then is the one that the centre drew.
+/// The centre's network key is new to it. At the end both have verified the key that the centre drew.
 pub fn a_device_joins_and_is_confirmed_in_a_run()
     ensures { (tools : Tools) → DeliversKeys tools → DeliversCommands tools → OpensAsJudged tools → (w : Schedule)
         (x : Front) (c d : ℕ) (drawn : Bytes) → (can : CanJoin w x c d) → IsNew w x c d can → length drawn ≡ 16

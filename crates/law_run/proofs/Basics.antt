@@ -39,7 +39,7 @@ flat_map-append f [] ys = refl
 flat_map-append f (x ∷ xs) ys = ap (λ l. f x ++ l) (flat_map-append f xs ys) ∙ sym
     (append_assoc (f x) (flat_map f xs) (flat_map f ys))
 
--- reading goes on
+-- Reading continues.
 pub state-append : (h g : List Line) (n : ℕ) → state_of (h ++ g) n ≡ fold (heard_line n) (state_of h n) g
 unfolding state_of
 state-append h g n = fold-append (heard_line n) (new_node Rattle.zb_model.specs.Data.Role.Device) h g

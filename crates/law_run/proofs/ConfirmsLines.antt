@@ -12,7 +12,7 @@ use Rattle.law_run.proofs.FreshLines.{all-append, heard-keeps}
 use Rattle.law_run.proofs.Judged.{In}
 use Rattle.law_run.proofs.LockoutDeeds.{any-of}
 
--- What was stored stays so while nothing unsettles it
+-- What was stored stays stored until something unsettles it
 
 abbrev pub Settled : ℕ → ℕ → Bytes → Line → Type 0
 Settled c d b l = Unsettles c d b l → ⊥
@@ -38,7 +38,7 @@ stored-lines h c d b [] s q = subst (λ x. StoredVerified x c d b) (sym (append-
 stored-lines h c d b (l ∷ ls) s q = subst (λ x. StoredVerified x c d b) (append_assoc h (l ∷ []) ls)
     (stored-lines (h ++ l ∷ []) c d b ls (stored-snoc h c d b l s q.0) q.1)
 
--- the row stands as verified, and the commit is to come
+-- the row is verified, and the commit comes later
 pub record Pending (h : List Line) (c d : ℕ) (b : Bytes) : Type 0 where
   pub before : List Line
   pub between : List Line

@@ -31,7 +31,7 @@ use Rattle.law_run.proofs.OutsiderRuns.{step-tagged, undeclared, Beginning, star
 use Rattle.law_run.proofs.LockoutDeeds.{OutcomeFits, SendFits, BodyFits, CommandFits, Stands, Proves, VerifiedRow, draw_of, plan-fits}
 use Rattle.law_run.proofs.ConfirmsLines.{Settled, stored-snoc, stored-lines, Firm, firm-backed, changes-backed, commit-firm, Calm, calm-settled, firm-lines}
 
--- Lines that are calm
+-- Calm lines
 
 pub commit-calm : (number n : ℕ) (es : List Edit) → AllByRecursion Calm (commit_lines number n es)
 unfolding Calm
@@ -253,7 +253,7 @@ proves-edits s o k p d b (row, found, key, moves) = (
     last = drop-then s k (current s d) (Row d b Verified)
         (subst (λ x. changes s (Row d x Verified) ≡ true) key (row-changes s o d row found))
 
--- and those of a plan without changes of its own unsettle nothing
+-- the edits of a plan without changes of its own unsettle nothing
 
 abbrev pub Mere : Edit → Type 0
 Mere (Moved m) = ⊥
@@ -324,7 +324,7 @@ IsNwk Aps = ⊥
 nwk-apart : Nwk ≡ Aps → ⊥
 nwk-apart e = subst IsNwk e tt
 
--- a group's own order of a Confirm-Key
+-- a Confirm-Key that a group's own event orders
 abbrev Confirmed : ℕ → ℕ → List Line → Bytes → Command → Type 0
 Confirmed c n h base model_command = (d : ℕ) → IsConfirmOf model_command d → (n ≡ c) × StoredVerified h c d base
 

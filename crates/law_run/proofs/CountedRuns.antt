@@ -1,4 +1,4 @@
--- Each seal takes the counter that comes next; a reserve and a floor are one block.
+-- Each seal uses the next counter; a reserve and a floor are one block.
 use Rattle.std.proofs.Common.{◌≡◌, ℕ, ◌≤◌, ◌+◌, min, Bool, true, false, cond, ◌&&◌, List, [], ◌∷◌, ◌++◌, length, Option, Some, None, option_map, find, nat_eq, nat_le, refl, sym, ap, subst, eqb-true, leb-true}
 use Rattle.std.proofs.lemmas.Bool.{and_parts}
 use Rattle.zb_model.specs.Data.{Layer, Nwk, Aps, Term}

@@ -8,7 +8,7 @@ use Rattle.zb_model.specs.Readings.{state_of, after, speaker}
 use Rattle.law_run.proofs.Basics.{same_key-eq, find-map}
 use Rattle.law_run.proofs.Nets.{Holds, On, at_key, Keeps, Mild, Covers, Gives, covers-closed, covers-heard, covers-started, covers-booted, on-map, on-add, on-applied, on-accepted, on-booted}
 
--- What a seal needs of the state before it: its counter comes next and is below the stored limit.
+-- What a seal needs of the state before it: its counter is the next one, and is below the stored limit.
 unfoldable pub SealFitsAt : Layer → Term → NodeState → Type 0
 SealFitsAt Nwk t s = (t.label ≡ ForNetwork) × (t.control ≡ nwk_control) × On (Gives t.counter) t.base s.nets
 SealFitsAt Aps t s = (t.control ≡ nwk_control → ⊥) × (t.counter ≡ s.aps_next) × (t.counter < s.aps_limit)
@@ -48,7 +48,7 @@ pub found-key : (key : Bytes) (nets : List NetKey) (r : NetKey) → find (at_key
 found-key key [] r e = absurd (none-some r e)
 found-key key (x ∷ nets) r e = found-test key x r (find (at_key key) nets) (at_key key x) refl (found-key key nets r) e
 
--- A row's next counter moves where a term is sealed under its key.
+-- A row's next counter moves when a term is sealed under its key.
 moved-row : (P Q : NetKey → Type 0) (f : NetKey → NetKey) (key base : Bytes) (nets : List NetKey)
     → ((r : NetKey) → P r → Q r → P (f r)) → (o : Option NetKey) → find (at_key key) nets ≡ o → Holds P o
     → On Q base nets → Holds P (option_map (λ r. cond (same_key r.key base) (f r) r) o)
@@ -82,7 +82,7 @@ on-sealed P Q f key base nets same k h q =
     (sym (find-map (at_key key) (λ r. cond (same_key r.key base) (f r) r) (at-key-kept f base key same) nets))
     (moved-row P Q f key base nets k (find (at_key key) nets) refl h q)
 
--- Under each line a used counter stays covered.
+-- A used counter stays covered after each line.
 
 mild-covers : (c : ℕ) (e : Edit) → Mild (Covers c) e
 mild-covers c (Start key value) = covers-started c value

@@ -1,5 +1,5 @@
--- What holds of every node's state before each event of a run: a claim on states that answers, accepted terms, seals
--- and boots keep.
+-- What is true of every node's state before each event of a run: a claim on states that answers, accepted terms,
+-- seals and boots keep.
 use Rattle.std.proofs.Common.{◌≡◌, ℕ, ◌+◌, ◌⊎◌, Bool, true, false, cond, List, [], ◌∷◌, ◌++◌, map, length, Option, Some, None, nat_eq, refl, sym, ap, ◌∙◌, subst, append_assoc, eqb-true, inl, inr}
 use Rattle.std.specs.List.{AllByRecursion}
 use Rattle.zb_model.specs.Data.{Bytes, Term, Edit, Place, Reason, Down, NoFrame, WrongState, Task, Received, DoRoll}
@@ -21,7 +21,7 @@ answer_to tools w h n task = answer_by tools (setting_of w n) (state_of h n)
     (counting_of (setting_of w n) (state_of h n) (plan_of tools (setting_of w n) (state_of h n) task))
     (plan_of tools (setting_of w n) (state_of h n) task)
 
--- the tasks that events give a node: its own, a rollover with the next key of the supply, a frame with it
+-- the tasks that events give a node: its own event, a rollover with the next key of the supply, a frame with that key
 abbrev pub TaskOf : (Event → Type 0) → Schedule → List Line → ℕ → Task → Type 0
 TaskOf E w h n task =
     E (Own n task)
@@ -293,7 +293,7 @@ step-kept tools w E P k h disks number
 step-kept tools w E P k h disks number (ForgeOpen to from source label base aps_counter command) e all =
     quiet P k.more h _ (λ s. refl, (λ s. refl, tt)) all
 
--- so it holds before each event
+-- so the claim is true before each event
 pub kept-before : (tools : Tools) (w : Schedule) (E : Event → Type 0) (P : List Line → ℕ → NodeState → Type 0)
     → IsKept tools w E P → (h : List Line) (disks : List Disk) (number : ℕ) (events : List Event)
     → AllByRecursion E events → AllKeep P h

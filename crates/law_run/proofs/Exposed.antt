@@ -1,4 +1,4 @@
--- Keys that come out: more lines, more terms and more keys to start from give no less.
+-- Keys that become known: more lines, more terms and more keys at the start expose no fewer keys.
 use Rattle.std.proofs.Common.{◌≡◌, ℕ, zero, suc, ◌≤◌, Bool, true, false, cond, ◌||◌, List, [], ◌∷◌, ◌++◌, length, Option, Some, None, option_to_list, fold, flat_map, refl, sym, ap, ◌∙◌, subst, append_assoc, le_of_suc-le-suc, not-suc-le-zero, length-append, le-add_right, ◌⊎◌, inl, inr, ⊎_elim}
 use Rattle.std.proofs.lemmas.Bool.{false≢true, or_cases}
 use Rattle.std.proofs.lemmas.List.Sums.{fold-append}

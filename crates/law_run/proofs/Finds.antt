@@ -1,4 +1,4 @@
--- Items that are found in lists: what is found, and that in a list of items apart each is found.
+-- Items that are found in lists: what is found, and that each item of a list of different items is found.
 use Rattle.std.proofs.Common.{◌≡◌, Bool, true, false, cond, List, [], ◌∷◌, ◌++◌, map, Option, Some, None, option_map, find, sym, subst}
 use Rattle.law_run.proofs.Basics.{find-map}
 

@@ -1,4 +1,4 @@
--- The floors of a sender in a row, and what moves them.
+-- The floors of a sender in a row, and what changes them.
 use Rattle.std.proofs.Common.{◌≡◌, ℕ, ◌<◌, ◌≤◌, ◌+◌, min, max, Bool, true, false, cond, List, [], ◌∷◌, ◌++◌, map, Option, Some, None, option_map, find, nat_eq, nat_lt, refl, sym, ap, ◌∙◌, subst, arith, eqb-true, ltb-true, ltb-false, lt_irrefl, lt_trans, le_refl, zero-le}
 use Rattle.std.proofs.lemmas.Bool.{false≢true, eqb-false}
 use Rattle.std.specs.List.{AllByRecursion}
@@ -25,7 +25,7 @@ new_floor sender value = record { sender = sender; kept = 0; stored = value }
 abbrev raised_floor : ℕ → SenderFloor → SenderFloor
 raised_floor value f = record f { stored = max f.stored value }
 
--- nothing is found where every sender is greater
+-- nothing is found if every sender is greater
 none-found : (P : SenderFloor → Type 0) (sender : ℕ) (fs : List SenderFloor)
     → AllByRecursion (λ (g : SenderFloor). sender < g.sender) fs → FloorAt P sender fs → ⊥
 unfolding HoldsOf
@@ -75,7 +75,7 @@ sorted-stored sender value (f ∷ fs) s = by-tests (nat_lt sender f.sender) refl
       r,
     )
 
--- a stored floor leaves what is said of any sender's, if it may rise
+-- a stored floor keeps a claim on any sender's floor, if that floor may rise
 pub stored-keeps : (P : SenderFloor → Type 0) → ((value : ℕ) (f : SenderFloor) → P f → P (raised_floor value f))
     → (sender value of : ℕ) (fs : List SenderFloor) → Sorted fs → FloorAt P of fs
     → FloorAt P of (floor_stored sender value fs)
@@ -118,7 +118,7 @@ stored-keeps P k sender value of (f ∷ fs) s h = by-tests (nat_lt sender f.send
     by-tests false e true r = here (nat_eq f.sender of) h
     by-tests false e false r = later (nat_eq f.sender of) r h
 
--- a counter that isn't stale is below its stored floor once that is stored above it
+-- a counter that isn't stale is below its stored floor after that floor is stored above it
 abbrev pub Takes : ℕ → SenderFloor → Type 0
 Takes c f = (f.kept ≤ c) × (c < f.stored)
 
@@ -174,7 +174,7 @@ found-takes c sender fs h lt = by-found (find (of_sender sender) fs) h lt
     by-found None h lt = Rattle.std.proofs.Common.not-suc-le-zero lt
     by-found (Some f) h lt = (h, lt)
 
--- what is kept of accepted counters
+-- what the floors record of accepted counters
 abbrev pub Over : ℕ → SenderFloor → Type 0
 Over c f = (c < f.kept) × (c < f.stored)
 

@@ -1,4 +1,4 @@
--- Lines whose seals fit have seals apart: no two under one key and nonce.
+-- If the seals of lines fit, no two of them have one key and nonce.
 use Rattle.std.proofs.Common.{◌≡◌, ℕ, ◌<◌, ◌+◌, ◌^◌, Bool, true, false, cond, List, [], ◌∷◌, ◌++◌, Option, Some, None, find, nat_eq, flat_map, take, drop, get_or, refl, sym, ap, ◌∙◌, subst, arith, eqb-true, append_assoc, lt_irrefl}
 use Rattle.std.specs.List.{AllByRecursion}
 use Rattle.std.specs.Int.{w32, w64, from_le_bytes}
@@ -68,7 +68,7 @@ marked-snoc h l fits t m = record {
       (λ f b. below-after t.layer t l (state_of h t.source) f b) m.below;
 }
 
--- a term that is sealed now is below at once
+-- a term that is sealed now is below it at once
 gives-then-covers : (c : ℕ) (r : NetKey) → Gives c r → Gives c r → Covers c (next_at (c + 1) r)
 gives-then-covers c r p q = (p.0, omega arith, p.2)
 
@@ -169,7 +169,7 @@ at-speaker : (h : List Line) (e n : ℕ) (t : Term) → LineFits h (Seal e n t) 
 unfolding speaker
 at-speaker h e n t f = f
 
--- the terms of a line that is no seal, and of one that is
+-- the terms of a line that is not a seal, and of one that is
 inv-terms : (tools : Tools) (h : List Line) (l : Line) → LineFits h l → Inv tools h
     → AllByRecursion (Marked (h ++ l ∷ [])) (sealed_terms h ++ sealed_in l)
     × AreApart tools (sealed_terms h ++ sealed_in l)

@@ -1,4 +1,4 @@
--- The lines of a group fit, one after the other.
+-- The lines of a group fit, in their order.
 use Rattle.std.proofs.Common.{◌≡◌, ℕ, ◌<◌, ◌≤◌, ◌+◌, ◌^◌, min, max, Bool, true, false, cond, not, ◌&&◌, ◌||◌, List, [], ◌∷◌, ◌++◌, map, filter, length, Option, Some, None, option_map, option_to_list, find, nat_eq, nat_le, fold, flat_map, refl, sym, ap, ◌∙◌, subst, arith, eqb-true, eq-eqb, le_refl, append_assoc, leb-false, zero-le}
 use Rattle.std.specs.List.{AllByRecursion}
 use Rattle.zb_model.specs.Data.{Bytes, Nwk, Aps, Label, ForData, ForNetwork, ForTransport, ForLoad, Term, Move, Draw, DropNet, DropLink, Install, Active, Row, Pair, Became, Live, Removed, Roll, Told, Untold, Edit, Floor, Place, Reason}
@@ -309,7 +309,7 @@ group-fits tools c h h0 number n p mine eui block o =
     ready3 m = lines-keep (λ x. Ready s sending x) n ((h ++ stored) ++ accepts) refusal
         (refuse-keeps (λ x. Ready s sending x) number n a.place a.refusal) (ready2 m)
 
--- what is left of a group that is cut has no seal
+-- the rest of a group that is cut has no seal
 pub fallen-plain : (armed : Armed) (number n : ℕ) → AllByRecursion NoSeal (fallen_line armed number n)
 unfolding NoSeal
 fallen-plain NotArmed number n = tt

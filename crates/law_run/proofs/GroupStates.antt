@@ -1,5 +1,5 @@
--- What the lines of a whole group say of a node's state: its changes, its accepted terms and its seals, one after the
--- other.
+-- What the lines of a whole group make of a node's state: its changes, its accepted terms and its seals, in this
+-- order.
 use Rattle.std.proofs.Common.{◌≡◌, ℕ, ◌+◌, cond, List, [], ◌∷◌, ◌++◌, map, length, Option, Some, None, refl, sym, ap, ◌∙◌, append_assoc}
 use Rattle.std.specs.List.{AllByRecursion}
 use Rattle.zb_model.specs.Data.{Bytes, Term, Place, Reason}

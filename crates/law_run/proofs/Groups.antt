@@ -1,4 +1,4 @@
--- The seals of a group fit: whatever a rule decides, the counters are those that come next, and they are stored
+-- The seals of a group fit: whatever a rule decides, the counters are the next ones, and limits above them are stored
 -- before.
 use Rattle.std.proofs.Common.{◌≡◌, ℕ, ◌<◌, ◌≤◌, ◌+◌, min, Bool, true, false, cond, not, ◌&&◌, ◌||◌, List, [], ◌∷◌, ◌++◌, map, Option, Some, None, option_map, option_to_list, find, is_some, nat_eq, nat_le, refl, sym, ap, ◌∙◌, subst, arith, append_assoc, leb-false}
 use Rattle.std.proofs.lemmas.Bool.{and_parts, not-true, false≢true, eqb-false}
@@ -91,7 +91,7 @@ changed-state number n h (e ∷ es) =
 abbrev pub ApsGives : ℕ → NodeState → Type 0
 ApsGives c s = (s.aps_next ≡ c) × (c < s.aps_limit)
 
--- in the state s, of a frame that is sealed as of the state s0
+-- in the state s, for a frame that is sealed as in the state s0
 pub record Ready (s0 : NodeState) (send : Option Sending) (s : NodeState) : Type 0 where
   pub net : seals_at Nwk send ≡ true → (r : NetKey) → active_row s0 ≡ Some r
       → On (Gives (next_counter Nwk s0)) r.key s.nets

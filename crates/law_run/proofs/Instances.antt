@@ -1,4 +1,4 @@
--- For the laws that have premises: a small schedule and its states meet them, and the laws say this of it.
+-- For the laws that have premises: a small schedule and its states meet them, and the laws apply to it.
 use Rattle.std.specs.Prelude.{ℕ, ◌≡◌, true, false, [], ◌∷◌, replicate, Some, None, nat_eq, refl}
 use Rattle.std.proofs.Common.{sym, ap, ◌∙◌}
 use Rattle.std.proofs.lemmas.Bool.{false≢true, ltb-true, leb-true}

@@ -1,4 +1,4 @@
--- What judging finds: an accepted term's counter isn't below its floor, in the row of its base key.
+-- What verification finds: an accepted term's counter isn't below its floor, in the row of its base key.
 use Rattle.std.proofs.Common.{◌≡◌, ℕ, ◌<◌, ◌≤◌, Bool, true, false, cond, List, [], ◌∷◌, ◌++◌, filter, reverse, Option, Some, None, option_to_list, find, nat_eq, nat_lt, nat_le, refl, sym, ◌∙◌, subst, eqb-true, ltb-false, leb-false, ◌⊎◌, inl, inr, ⊎_elim}
 use Rattle.std.proofs.lemmas.Bool.{and_parts}
 use Rattle.std.specs.List.{AllByRecursion}
@@ -196,7 +196,7 @@ net-good tools opens c s o bytes f aux read shown =
     net-term tools opens s o bytes f aux read shown row (usable-row s aux.sequence row found)
     (live-row s aux.sequence row found) a b t opened)))))))
 
--- a carrier: its term is judged
+-- a carrier: its term is verified
 abbrev pub IfTerm : NodeState → Option Term → Type 0
 IfTerm s None = Unit {0}
 IfTerm s (Some t) = Judged Nwk s t
@@ -342,7 +342,7 @@ aps-good tools opens c s o f bytes a aux read shown =
     P : Unsealed → Type 0
     P u = Judged Aps s u.term
 
--- What a plan accepts: nothing, a term, or a NWK term and then an APS term, each judged.
+-- What a plan accepts: nothing, a term, or a NWK term and then an APS term, each verified.
 
 abbrev pub AcceptsFit : NodeState → List Term → Type 0
 AcceptsFit s [] = Unit {0}
@@ -359,7 +359,7 @@ of-both : (s : NodeState) (o : Option Term) (u : Term) → IfTerm s o → Judged
 of-both s None u g h = inr h
 of-both s (Some t) u g h = (g, h)
 
--- the rules leave what was accepted
+-- the rules keep what was accepted
 command-accepts : (tools : Tools) (c : Setting) (s : NodeState) (draw : Option Bytes) (ts : List Term)
     (m : Rattle.zb_model.specs.Commands.Heard) (o : CommandShown) → AcceptsFit s ts
     → AcceptsFit s (aps_command tools c s draw ts m o).accepts

@@ -1,5 +1,5 @@
--- What the rules of the policy do with keys: what each changes and sends, one lemma a rule. All laws on keys stand on
--- these.
+-- What the rules of the policy do with keys: what each changes and sends, one lemma per rule. All laws on keys rest
+-- on these.
 use Rattle.std.proofs.Common.{◌≡◌, ℕ, Bool, true, false, cond, not, ◌&&◌, ◌||◌, List, [], ◌∷◌, ◌++◌, map, filter, Option, Some, None, option_map, option_to_list, find, is_some, nat_eq, refl, sym, ap, ◌∙◌, append_assoc, subst, eqb-true, ◌⊎◌, inl, inr, ⊎_elim}
 use Rattle.std.proofs.lemmas.Bool.{false≢true, and_parts}
 use Rattle.std.specs.List.{AllByRecursion, list_any}
@@ -125,7 +125,7 @@ OfMember (Told d) = ⊥
 OfMember (Untold d) = ⊥
 OfMember _ = Unit {0}
 
--- a change at the centre that brings no key: a link row that comes is there already, of a live device
+-- a change at the centre that brings no key: a link row that it adds is there already, of a live device
 abbrev pub Quiet : NodeState → Move → Type 0
 Quiet s (Draw k) = ⊥
 Quiet s (Install k q) = ⊥
@@ -135,7 +135,7 @@ Quiet s (Live d) = ⊥
 Quiet s (Removed d) = ⊥
 Quiet s _ = Unit {0}
 
--- a change that no claim on keys reads
+-- a change that affects no claim on keys
 abbrev pub IdleMove : Move → Type 0
 IdleMove (Draw k) = ⊥
 IdleMove (Install k q) = ⊥
@@ -145,14 +145,14 @@ IdleMove (Live d) = ⊥
 IdleMove (Removed d) = ⊥
 IdleMove _ = Unit {0}
 
--- a change that leaves link rows and the state as they are, but for whether rows are told
+-- a change that leaves link rows and the state as they are, except whether rows are told
 abbrev pub Still : Move → Type 0
 Still (DropLink p k) = ⊥
 Still (Row p k t) = ⊥
 Still (Became g) = ⊥
 Still _ = Unit {0}
 
--- a change that doesn't set the state; one of the rows of a partner alone
+-- a change that doesn't set the state; and one that affects the rows of one partner alone
 abbrev pub KeepsState : Move → Type 0
 KeepsState (Became g) = ⊥
 KeepsState _ = Unit {0}
@@ -163,8 +163,9 @@ OnlyOf q (Row p k t) = p ≡ q
 OnlyOf q (Became g) = ⊥
 OnlyOf q _ = Unit {0}
 
--- What a router or device does to its link rows and its state: nothing; a state at the end, of which Offered has an
--- offered row; another state than Offered, at the end; a key of the centre is taken in; rows of another partner.
+-- What a router or device does to its link rows and its state. Either nothing; or it ends in a new state, and if that
+-- is Offered, it has an offered row; or it ends in another state than Offered; or it installs a key of the centre; or
+-- it changes rows of another partner.
 pub data MemberDeed (centre : ℕ) (s : NodeState) (moves : List Move) : Type 0 where
   still : AllByRecursion Still moves → MemberDeed centre s moves
   goes_on : (g : State) (before : List Move) → AllByRecursion Still before
@@ -677,7 +678,7 @@ still-append : (xs ys : List Move) → AllByRecursion Still xs → AllByRecursio
 still-append [] ys a b = b
 still-append (x ∷ xs) ys a b = (a.0, still-append xs ys a.1 b)
 
--- in a node that waits for the key the state goes on from the link rows
+-- in a node that waits for the key, the next state depends on the link rows
 joined-has : (a b : Bool) → cond a Offered (cond b Rattle.zb_model.specs.Data.State.Confirmed Joined) ≡ Offered → a
     ≡ true
 joined-has true b e = refl
@@ -770,7 +771,7 @@ unfolding OfPartner
 drops-only p [] more a b = b
 drops-only p (r ∷ rs) more a b = (a.0, drops-only p rs more a.1 b)
 
--- a key of two devices is no key of the centre
+-- a key of two devices isn't a key of the centre
 not-the-centre : (c : Setting) (s : NodeState) (m : Heard) (partner : ℕ)
     → not (is_member c
     && (Rattle.zb_model.specs.Commands.nwk_secured m
@@ -1163,7 +1164,7 @@ received-fits : (tools : Tools) (c : Setting) (s : NodeState) (bytes : Bytes) (d
 received-fits tools c s bytes draw (Not model_place reason) g = tt
 received-fits tools c s bytes draw (Good k) g = net-fits tools c s bytes draw k.frame k.term g
 
--- judging tries whether the source is declared
+-- verification checks whether the source is declared
 
 net-declared : (tools : Tools) → Opens tools → (c : Setting) (s : NodeState) (bytes : Bytes) (f : NwkShown)
     (aux : NwkAuxiliary) → tools.read_nwk bytes ≡ Some f → f.auxiliary ≡ Some aux

@@ -456,7 +456,7 @@ codes-ever : (h : List Line) (d : ℕ) (k : Bytes) → In k (codes_of h d) → I
 unfolding codes_of ever
 codes-ever h d k i = from-ever code_in code-ever [] d h k i
 
--- what comes to a device is no safe key, where the run is ideal
+-- what comes to a device is not a safe key, if the run is ideal
 
 any-term : (test : Term → Bool) (ts : List Term) → list_any test ts ≡ true → (t : Term) × In t ts × (test t ≡ true)
 unfolding In
@@ -508,7 +508,7 @@ came x h k w e = ⊎_elim (λ a. code (holds-in (codes_of h x.device) k a))
         found : (holds (bases h x.device) o.0.base ≡ true) × (carried x.tools o.0 ≡ Some k)
         found = brings-key x.tools (bases h x.device) k o.0 (carried x.tools o.0) refl o.2
 
--- what a run has in common for the lines of a node that isn't the centre
+-- what the lemmas on a line of a node that isn't the centre ask of a run
 pub record Elsewhere (x : Case) (n : ℕ) : Type 0 where
   pub one : OneCentre x.schedule
   pub named : Names x.schedule n

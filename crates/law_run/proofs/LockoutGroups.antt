@@ -27,7 +27,7 @@ use Rattle.law_run.proofs.LockoutSteps.{Case, centre, InNet, Whole, IsIdle, idle
 use Rattle.law_run.proofs.LockoutMoves.{Honest, RemovesOther, GoesOn, goes-none, goes-append, goes-cons, goes-idle, map-append, mere-idle, moves_lines, same-self, same-lines, TaskFits, quiet-goes, offers-goes, pairs-goes, rolls-goes, no-key}
 use Rattle.law_run.proofs.LockoutDevices.{enters-goes, removes-goes, is-the-centre, Elsewhere, ideal-comes, OfMemberEdit}
 
--- What the first half of lockout stands on
+-- What the first half of lockout rests on
 
 pub record Grounds (x : Case) : Type 0 where
   pub opens : Opens x.tools
@@ -37,7 +37,7 @@ pub record Grounds (x : Case) : Type 0 where
   pub keys : KeysApart x.schedule
   pub apart : x.device ≡ centre x → ⊥
 
--- a declared node is the centre exactly where it has the centre's EUI
+-- a declared node is the centre exactly if it has the centre's EUI
 centre-by : (c n : ℕ) (o : Option Station) → is_some o ≡ true
     → FoundIs (λ (p : Station). (is_centre p.role ≡ true → p.eui ≡ c) × (nat_eq p.eui n ≡ true)) o
     → is_centre (station_or o).role ≡ true → n ≡ c

@@ -144,7 +144,7 @@ pub has-pair-back : (h : List Line) (l : Line) (c : ℕ) (k : Bytes) → HasPair
 has-pair-back h l c k r = ⊎_elim (λ i. inl (record { pair = r.pair; among = i; key = r.key }))
     (λ n. inr (n.0, pair-line l r.pair k n.1 r.key)) (pair-back h l c r.pair r.among)
 
--- Readings of one line more
+-- Readings of one more line
 
 pub terms-snoc : (h : List Line) (l : Line) → terms_of (h ++ l ∷ []) ≡ terms_of h ++ terms_in l
 unfolding terms_of
@@ -352,7 +352,7 @@ ledger-step c draws Net NetGiven h l g f = record {
         × (i < draws_used (h ++ l ∷ [])) × (slice_get draws i ≡ Some k)
     later k d = (d.0, subst (λ m. d.0 < m) (sym (used-snoc h l)) (less-used d.0 (draws_used h) l d.1), d.2)
 
--- While a device is away it has no live row.
+-- While a device is away, it has no live row.
 abbrev pub NoLive : NodeState → ℕ → Type 0
 NoLive s d = (r : LinkKey) → In r s.links → r.live ≡ true → r.partner ≡ d → ⊥
 
@@ -375,7 +375,7 @@ dead-step c d h l dead f gone r i live partner =
     old : NoLive (state_of h c) d
     old = ⊎_elim (λ g. dead g) (λ n. n) (f.went gone')
 
--- Nothing safe comes out
+-- No safe key becomes known
 
 pub holds-in : (xs : List Bytes) (k : Bytes) → holds xs k ≡ true → In k xs
 unfolding In

@@ -628,7 +628,7 @@ drawn-late d e n h after k i =
     (fold (late_line d) (record { gone = false; keys = [] }) (h ++ Changed e n (Moved (Removed d)) ∷ [])) after
     (removed-away d e n h) k (inr i))
 
--- What it took in is among what it ever held
+-- A key that the device installed is among those that it ever held
 
 taken-ever : (known : List Station) (d : ℕ) (l : Line) (k : Bytes) → In k (taken_in d l) → In k (ever_in known d l)
 taken-ever known d (Changed e m (Moved (Install key q))) k i = i
@@ -644,7 +644,7 @@ all-taken : (h : List Line) (d : ℕ) (k : Bytes) → In k (flat_map (taken_in d
 unfolding ever
 all-taken h d k i = from-ever taken_in taken-ever [] d h k i
 
--- Nothing safe is known
+-- No safe key is known
 
 well-safe : (x : Case) → KeysApart x.schedule → (h : List Line) → Standing x h → Safe (centre x) x.device h well_known
     → ⊥

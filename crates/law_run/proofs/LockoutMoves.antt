@@ -36,7 +36,7 @@ abbrev pub RemovesOther : Case → Line → Type 0
 RemovesOther x (Changed e n (Moved (Removed p))) = p ≡ centre x → ⊥
 RemovesOther x _ = Unit {0}
 
--- The lines keep the invariants: two stand before each of them, and all after them.
+-- The lines keep the invariants: two are true before each of them, and all are true after them.
 abbrev pub Standing : Case → List Line → Type 0
 Standing x g = IsKept x g × IsLedger x g
 
@@ -192,7 +192,7 @@ same-lines x h g [] i s = subst (Same x h) (sym (append-nil' g)) s
 same-lines x h g (l ∷ ls) i s = subst (Same x h) (append_assoc g (l ∷ []) ls)
     (same-lines x h (g ++ l ∷ []) ls i.1 (same-idle x h g l i.0 s))
 
--- a row that was there comes again
+-- a row that was there is added again
 same-row : (x : Case) (h g : List Line) (e n p : ℕ) (k : Bytes) (t : Attribute) → HasRow (state_of h (centre x)) p k
     → Same x h g → Same x h (g ++ Changed e n (Moved (Row p k t)) ∷ [])
 same-row x h g e n p k t r s = record {
@@ -240,7 +240,7 @@ live-not-centre x h w p e = not_it (live-some (state_of h (centre x)) p e)
         → ⊥
     not_it r = w.ledger.centre p r.0.key (record { row = r.0; among = r.1; partner = r.3; key = refl })
 
--- What a run of the laws on keys stands on, of the schedule
+-- What the laws on keys ask of the schedule of a run
 
 pub record Entered (x : Case) (p : ℕ) (k : Bytes) : Type 0 where
   pub at_centre : p ≡ centre x → ⊥

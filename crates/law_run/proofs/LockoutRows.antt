@@ -1,4 +1,4 @@
--- Where the rows of a state come from: each is an old one, or its line brings it; and none goes.
+-- Where the rows of a state come from: each is an old one, or its line adds it; and no row is lost.
 use Rattle.std.proofs.Common.{◌≡◌, ℕ, ◌+◌, max, Bool, true, false, cond, not, List, [], ◌∷◌, ◌++◌, map, Option, Some, None, nat_eq, refl, sym, ap, ◌∙◌, subst, eqb-true, ◌⊎◌, inl, inr, ⊎_elim}
 use Rattle.std.proofs.lemmas.Bool.{false≢true, and_parts}
 use Rattle.std.specs.List.{AllByRecursion, list_any}

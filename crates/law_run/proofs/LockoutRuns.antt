@@ -21,7 +21,7 @@ use Rattle.law_run.proofs.LockoutSteps.{Case, centre, InNet, Whole, IsIdle, pres
 use Rattle.law_run.proofs.LockoutMoves.{Honest, RemovesOther, Goes, GoesOn, goes-none, goes-append, goes-line, goes-cons, goes-idle, moves_lines, map-append, present, TaskFits, Entered, row-is-new, new-rows, new-by, drawn-lines, here-in, no-key}
 use Rattle.law_run.proofs.LockoutGroups.{Grounds, is-centre, stored-parts, stored-goes, seals-go, CarryAt, CommandCarries, BodyCarries, SendCarries, out-carries}
 
--- Readings over several lines more
+-- Readings over several more lines
 
 rows-lines : (h ls : List Line) (c p : ℕ) (k : Bytes) → HasRow (state_of h c) p k → HasRow (state_of (h ++ ls) c) p k
 rows-lines h [] c p k r = subst (λ y. HasRow (state_of y c) p k) (sym (append-nil' h)) r

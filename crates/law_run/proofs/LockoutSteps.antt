@@ -1,4 +1,4 @@
--- The invariants of lockout over single lines, one lemma a kind of line.
+-- The invariants of lockout over single lines, one lemma per kind of line.
 use Rattle.std.proofs.Common.{◌≡◌, ℕ, Bool, true, false, cond, ◌&&◌, ◌||◌, List, [], ◌∷◌, ◌++◌, slice_get, Some, flat_map, nat_eq, refl, sym, ◌∙◌, subst, eqb-true, ◌⊎◌, inl, inr, ⊎_elim}
 use Rattle.std.proofs.lemmas.Bool.{false≢true, and_parts, or_cases}
 use Rattle.zb_model.specs.Data.{Bytes, Attribute, Term, Draw, Install, Row, Pair, Live, Removed, Moved}
@@ -255,7 +255,7 @@ pub safe-net : (x : Case) (h : List Line) → Whole x h → (k : Bytes) → Safe
 safe-net x h w k (inl i) = w.ledger.drawn_net k (w.kept.late_drawn k i)
 safe-net x h w k (inr o) = w.ledger.row_net o.partner k o.row
 
--- so what carries no key of the network carries nothing that matters
+-- so what carries no key of the network carries no safe key
 pub forged-carries : (x : Case) (h : List Line) (t : Term) → Whole x h
     → ((k : Bytes) → carried x.tools t ≡ Some k → InNet x k → ⊥) → Carries x h t
 forged-carries x h t w f k e = (λ s. absurd (f k e (safe-net x h w k s)), λ n. absurd (f k e n))
@@ -322,7 +322,7 @@ draw-step x h e n k f net at w = whole-step x h (Changed e n (Moved (Draw k))) w
       went = λ g. inl (draw-gone (away x.device h) k (away x.device h).gone refl g);
     })
 
--- A row comes at the centre
+-- The centre gets a row
 
 cond-in : (b : Bool) (k j : Bytes) → In j (cond b (k ∷ []) []) → (b ≡ true) × (k ≡ j)
 cond-in true k j i = (refl, one-of j k i)

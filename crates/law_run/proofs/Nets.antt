@@ -11,7 +11,7 @@ Holds P (Some r) = P r
 abbrev pub at_key : Bytes → NetKey → Bool
 at_key key r = same_key r.key key
 
--- the row of the key is there, and P holds of it
+-- the row of the key is there, and P is true of it
 abbrev pub On : (NetKey → Type 0) → Bytes → List NetKey → Type 0
 On P key nets = Holds P (find (at_key key) nets)
 
@@ -78,7 +78,7 @@ pub record Closed (P : NetKey → Type 0) : Type 0 where
   pub drops : Keeps P dropped_net
   pub floors : (sender value : ℕ) → Keeps P (net_floor sender value)
 
--- changes but a start: P of a key's row goes on
+-- changes other than a start: P stays true of a key's row
 pub on-moved : (P : NetKey → Type 0) → Closed P → (key : Bytes) (m : Move) (s : NodeState) → On P key s.nets
     → On P key (moved m s).nets
 on-moved P c key (Draw k) s h = h
@@ -95,7 +95,7 @@ on-moved P c key (Roll b) s h = h
 on-moved P c key (Told d) s h = h
 on-moved P c key (Untold d) s h = h
 
--- a start keeps P where P is kept by that start
+-- a start keeps P, if P is kept by that start
 abbrev pub Mild : (NetKey → Type 0) → Edit → Type 0
 Mild P (Start key value) = Keeps P (started_at value)
 Mild P _ = Unit {0}
@@ -134,11 +134,11 @@ on-booted P k key s h = on-map P booted_net k key s.nets h
 
 -- The two properties that seals need of a row, for a counter c.
 
--- c was used: what comes next is above it, and the stored limit too
+-- c was used: the next counter is above it, and so is the stored limit
 abbrev pub Covers : ℕ → NetKey → Type 0
 Covers c r = (r.started ≡ true) × (c < r.next) × (c < r.limit)
 
--- c comes next, and is below the stored limit
+-- c is the next counter, and is below the stored limit
 abbrev pub Gives : ℕ → NetKey → Type 0
 Gives c r = (r.started ≡ true) × (r.next ≡ c) × (c < r.limit)
 

@@ -71,7 +71,7 @@ unfolding NoAccept
 send-plain number n frame None = tt
 send-plain number n frame (Some b) = (tt, tt)
 
--- A counter that is taken goes on being taken under every change
+-- A counter that was accepted stays accepted under every change
 
 takes-closed : (c source : ℕ) → Closed (RowTakes c source)
 takes-closed c source = record {

@@ -1,5 +1,5 @@
--- Lines whose accepted terms fit accept each counter of a sender once: what was accepted stays below the floor, in
--- memory and stored.
+-- If the accepted terms of lines fit, the lines accept each counter of a sender once: an accepted counter stays below
+-- the floor, in memory and stored.
 use Rattle.std.proofs.Common.{◌≡◌, ℕ, ◌<◌, ◌≤◌, ◌+◌, max, Bool, true, false, cond, List, [], ◌∷◌, ◌++◌, map, Option, Some, None, option_map, find, nat_eq, refl, sym, ap, ◌∙◌, subst, arith, eqb-true}
 use Rattle.std.proofs.lemmas.Bool.{and_parts}
 use Rattle.std.specs.List.{AllByRecursion}
@@ -306,7 +306,7 @@ over-after layer c base source (Seal e n t) s m h = over-sealed layer t.layer c 
 over-after layer c base source (Boot e n) s m h = over-boot layer c base source s h
 over-after layer c base source _ s m h = h
 
--- a counter that was taken is under the floors then
+-- a counter that was accepted is below the floors then
 pub link-own : (P R : LinkKey → Type 0) (f : LinkKey → LinkKey) → SameSlot f → ((r : LinkKey) → P r → R (f r))
     → (p : ℕ) (k : Bytes) (links : List LinkKey) → Finds P (is_link p k) links
     → Finds R (is_link p k) (at_link p k f links)
@@ -329,7 +329,7 @@ taken-over Nwk c base source s t = on-map-found (RowTakes c source) (RowOver c s
 taken-over Aps c base source s t = link-own (LinkTakes c) (LinkOver c) (link_kept (c + 1)) (λ p k r. refl)
     (λ r p. (omega arith, p.1)) source base s.links t
 
--- and no counter that is taken later is as small
+-- and no counter that is accepted later is as small
 finds-fact : {X : Type 0} (P Q : X → Type 0) (C : Type 0) → ((x : X) → P x → Q x → C) → (o : Option X) → HoldsOf P o
     → HoldsOf Q o → C
 unfolding HoldsOf

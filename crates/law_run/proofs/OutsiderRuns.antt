@@ -1,4 +1,4 @@
--- Whole runs: no node that holds no key known outside accepts what outsiders sealed or forged.
+-- Whole runs: a node that holds no key known outside doesn't accept what outsiders sealed or forged.
 use Rattle.std.proofs.Common.{◌≡◌, ℕ, ◌<◌, ◌≤◌, ◌+◌, Bool, true, false, cond, not, List, [], ◌∷◌, ◌++◌, map, filter, length, Option, Some, None, nat_eq, flat_map, refl, sym, ap, ◌∙◌, subst, arith, append_assoc, ◌⊎◌, inl, inr, ⊎_elim, ne_eqb, eq-eqb}
 use Rattle.std.proofs.lemmas.Bool.{and_parts}
 use Rattle.std.specs.List.{AllByRecursion}

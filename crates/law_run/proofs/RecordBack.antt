@@ -204,7 +204,7 @@ only-by wanted b x false q e = absurd (none-is (Unit {0}) x e)
 only-back : (wanted b : ℕ) (x : Unit {0}) → only wanted b ≡ Some x → b ≡ wanted
 only-back wanted b x e = only-by wanted b x (nat_eq b wanted) refl e
 
--- so many of them
+-- that many of them
 many-back : (A : Type 0) (read : Taking A) (spell : A → Bytes) (P : A → Type 0) → Back A read spell P
     → (n : ℕ) (bytes : Bytes) (xs : List A) (rest : Bytes) → Small bytes → so_many read n bytes ≡ Some (xs, rest)
     → (bytes ≡ flat_map spell xs ++ rest) × (length xs ≡ n) × AllByRecursion P xs
@@ -632,7 +632,7 @@ links-read before bytes s rest small e =
           ]
     ]
 
--- The network rows, with the place of the active one, and what stands after them
+-- The network rows, with the place of the active one, and what comes after them
 
 abbrev netted : NodeState → List NetKey → Option Bytes → NodeState
 netted s nets active = record s { nets = nets; active = active }
@@ -707,7 +707,7 @@ record Found (bytes : Bytes) (s : NodeState) (rest : Bytes) : Type 0 where
   nets : AllByRecursion (λ r. booted_row r ≡ r) s.nets
   links : AllByRecursion FixedLink s.links
 
--- the state of what stands before the network rows
+-- the state of what comes before the network rows
 abbrev headed : Role → State → ℕ → ℕ → Bool → NodeState
 headed role state declared aps sending =
     record {
@@ -740,7 +740,7 @@ regroup D A N P R F L K Q rest w =
     (append_assoc L (K ++ Q) rest ∙ ap (λ x. L ++ x) (append_assoc K Q rest)
     ∙ sym (append_assoc L K (Q ++ rest)))))))))
 
--- what stands behind the head is spelled after it
+-- what comes after the head is spelled after it
 whole-text : (bytes more : Bytes) (s : NodeState) (rest : Bytes) (role : Role) (state : State) (declared aps : ℕ)
     (sending : Bool) → bytes ≡ 3 ∷ role_byte role ∷ state_byte state
     ∷ (to_le_bytes w32 declared ++ (to_le_bytes w32 aps ++ (worth 1 sending ∷ more)))

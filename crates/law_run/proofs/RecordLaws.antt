@@ -397,7 +397,7 @@ pub read-back : (s : NodeState) → FitsRecord s → state_in (record_of s) ≡ 
 unfolding state_in
 read-back s f = ap (λ b. whole (record_at b)) (record-bytes s) ∙ ap whole (spelled-again s f) ∙ ap Some (booted-is s)
 
--- over lines: what a node is after a boot is what its record says
+-- over lines: a node's state after a boot is what its record says
 
 boot-line : (e n : ℕ) (s : NodeState) → heard_line n s (Boot e n) ≡ after_boot s
 unfolding heard_line speaker after

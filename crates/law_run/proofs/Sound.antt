@@ -1,4 +1,4 @@
--- What holds of a node's state after any lines: each row is found under its own key, and floors ascend.
+-- What is true of a node's state after any lines: each row is found under its own key, and floors ascend.
 use Rattle.std.proofs.Common.{◌≡◌, ℕ, ◌+◌, max, Bool, true, false, cond, ◌&&◌, ◌||◌, List, [], ◌∷◌, ◌++◌, map, Option, Some, None, option_map, find, nat_eq, fold, refl, sym, ap, ◌∙◌, subst}
 use Rattle.std.proofs.lemmas.Bool.{false≢true}
 use Rattle.std.specs.List.{AllByRecursion, list_any}
@@ -34,7 +34,7 @@ each-map t f same [] ys a = tt
 each-map t f same (x ∷ xs) ys a =
     (find-through t f same x ys ∙ map-some f (find (t x) ys) x a.0, each-map t f same xs ys a.1)
 
--- and so is a new one, where no item was found by its test
+-- and so is a new one, if no item was found by its test
 found-cons : {X : Type 0} (b : Bool) (y x : X) (o q : Option X) → (o ≡ Some x → q ≡ Some x) → cond b (Some y) o
     ≡ Some x → cond b (Some y) q ≡ Some x
 found-cons true y x o q k e = e
@@ -81,7 +81,7 @@ pub record Sound (s : NodeState) : Type 0 where
   pub links : EachFound link_test s.links s.links
   pub floors : AllByRecursion (λ (r : NetKey). Sorted r.floors) s.nets
 
--- changes of network rows: the key stays, and floors that ascend go on so
+-- changes of network rows: the key stays, and floors that ascend still do
 record RowMap (f : NetKey → NetKey) : Type 0 where
   key : (r : NetKey) → (f r).key ≡ r.key
   floors : (r : NetKey) → Sorted r.floors → Sorted (f r).floors

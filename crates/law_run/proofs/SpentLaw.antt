@@ -1,4 +1,4 @@
--- Whole runs: who answers counter-spent stands at the greatest counter.
+-- Whole runs: a node that answers counter-spent is at the greatest counter.
 use Rattle.std.proofs.Common.{ℕ, ◌≤◌, Bool, true, false, cond, List, [], ◌∷◌, ◌++◌, map, length, Option, Some, None, flat_map, nat_eq, arith, inl, inr}
 use Rattle.std.specs.List.{AllByRecursion}
 use Rattle.zb_model.specs.Data.{Bytes, Layer, Nwk, Aps, Station, CounterSpent}
@@ -19,7 +19,7 @@ use Rattle.law_run.proofs.Runs.{groups-fit, start-inv}
 use Rattle.law_run.proofs.SpentRuns.{ReachesEnd, GroupLine, groups-spent}
 use Rattle.law_run.proofs.Within.{Within, AreWithin, LineSmall, within-snoc, within-lines, no-lines-within, next-small}
 
--- who has reached the greatest counter, and isn't above it, stands there
+-- a counter that has reached the greatest counter, and isn't above it, is the greatest counter
 
 stands : (s : NodeState) → Within s → ReachesEnd s → StandsAtEnd s
 stands s w (inl e) = inl (omega (arith, e, next-small Nwk s w))

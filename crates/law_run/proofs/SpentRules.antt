@@ -1,4 +1,4 @@
--- A rule answers counter-spent only where a counter is.
+-- A rule answers counter-spent only if a counter is spent.
 use Rattle.std.proofs.Common.{◌≡◌, ℕ, Bool, true, false, cond, List, [], ◌∷◌, ◌++◌, Option, Some, None, option_to_list, find, refl, ◌⊎◌, inl, inr}
 use Rattle.std.proofs.lemmas.Bool.{or_cases}
 use Rattle.zb_model.specs.Data.{Bytes, Nwk, Aps, State, Joined, Offered, Reason, CounterSpent, Place, AtAps, Term, Command, TransportNet, TransportApp, TransportLink, UpdateDevice, RemoveDevice, RequestApp, RequestLink, SwitchKey, Tunnel, VerifyKey, ConfirmKey, Task, SayTo, TellTo, DoKnock, DoRejoin, DoTimer, AskFor, HasChild, DoProvision, DoRemove, DoRoll, DoSwitch, DoAgain, DoShare, Received}
@@ -307,7 +307,7 @@ leave-fits : (c : Setting) (s : NodeState) (term : Term) (options : ℕ) → Fit
 unfolding take_leave
 leave-fits c s term options = un s _ _ _ (λ e. tt) tt
 
--- judging
+-- verification
 
 abbrev VerdictFits : {A : Type 0} → NodeState → Verdict A → Type 0
 VerdictFits s (Not model_place reason) = ReasonFits s reason

@@ -1,4 +1,4 @@
--- The groups of events: who answers counter-spent has no counter left.
+-- The groups of events: a node that answers counter-spent has no counter left.
 use Rattle.std.proofs.Common.{◌≡◌, ℕ, ◌≤◌, ◌+◌, ◌⊎◌, Bool, true, false, cond, List, [], ◌∷◌, ◌++◌, map, filter, length, Option, Some, None, option_map, option_to_list, find, flat_map, refl, sym, ap, ◌∙◌, subst, leb-true, inl, inr}
 use Rattle.std.specs.List.{AllByRecursion}
 use Rattle.zb_model.specs.Data.{Bytes, Layer, Nwk, Aps, Term, Edit, Reserve, Floor, Start, Moved, Place, Reason, CounterSpent, Down, WrongState, Task, Received, DoRoll}

@@ -1,5 +1,4 @@
--- Counters are taken by seals alone: a boot, a first counter and a limit at the start set those of their own node and
--- row.
+-- Only seals use counters. A boot, a first counter and a limit at the start set those of their own node and row.
 use Rattle.std.proofs.Common.{◌≡◌, ℕ, ◌+◌, Bool, true, false, cond, ◌&&◌, List, [], ◌∷◌, ◌++◌, map, length, Option, Some, None, option_map, find, nat_eq, refl, sym, ap, ◌∙◌, subst, arith, min, max}
 use Rattle.std.proofs.lemmas.Bool.{false≢true}
 use Rattle.zb_model.specs.Data.{Bytes, Layer, Nwk, Aps, Term, Move, Draw, DropNet, DropLink, Install, Active, Row, Pair, Became, Live, Removed, Roll, Told, Untold, Edit, Reserve, Floor, Start, Moved}
@@ -148,7 +147,7 @@ line-keeps (Boot e n) k = absurd k
 line-keeps (Dump e n b) k = λ s. record { aps = refl; nets = same-nets s.nets }
 line-keeps (End a b c d e f) k = λ s. record { aps = refl; nets = same-nets s.nets }
 
--- so many counters taken
+-- that many counters used
 abbrev Takes : ℕ → (Bytes → ℕ) → NodeState → NodeState → Type 0
 Takes a b s t = (t.aps_next ≡ s.aps_next + a)
     × ((key : Bytes) (r : NetKey) → row_of key s.nets ≡ Some r → next_in key t.nets ≡ Some (r.next + b key))
@@ -242,7 +241,7 @@ quiet-takes : (h : List Line) (l : Line) → Keeps l → (m : ℕ) → StaysOf m
 quiet-takes h l k m = subst (λ s. StaysOf m (state_of h m) s) (sym (state-snoc h l m))
     (heard-stays-of m l (state_of h m) k)
 
--- a line that sets its own node's on
+-- a line that raises its own node's
 abbrev Set : ℕ → (NodeState → ℕ) → (Bytes → NetKey → ℕ) → NodeState → NodeState → Type 0
 Set m a b s t = (t.aps_next ≡ a s)
     × ((key : Bytes) (r : NetKey) → row_of key s.nets ≡ Some r → next_in key t.nets ≡ Some (b key r))

@@ -1,4 +1,4 @@
--- What a change makes of what is stored depends on what is stored alone.
+-- What a change makes of the stored state depends on the stored state alone.
 use Rattle.std.proofs.Common.{◌≡◌, ℕ, List, [], ◌∷◌, ◌++◌, map, Bool, true, false, if◌then◌else◌, ◌||◌, ◌&&◌, Option, Some, None, nat_lt, nat_eq, max, refl, sym, ap, ◌∙◌}
 use Rattle.std.specs.List.{list_any}
 use Rattle.std.proofs.lemmas.List.{map-append}

@@ -1,4 +1,4 @@
--- Whether a change fits depends on what is stored alone.
+-- Whether a change fits depends on the stored state alone.
 use Rattle.std.proofs.Common.{◌≡◌, ℕ, suc, List, [], ◌∷◌, map, length, Bool, true, false, not, if◌then◌else◌, ◌||◌, ◌&&◌, Option, Some, None, option_map, find, nat_eq, nat_lt, nat_le, is_some, refl, sym, ap, ◌∙◌}
 use Rattle.std.specs.Prelude.{filter}
 use Rattle.std.specs.List.{list_any, list_all}

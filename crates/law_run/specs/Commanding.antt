@@ -18,16 +18,16 @@ abbrev pub IsConfirmOf : Command → ℕ → Type 0
 IsConfirmOf (ConfirmKey status kind device) d = device < 2 ^ 64 → device ≡ d
 IsConfirmOf _ d = ⊥
 
--- Of the commands, only Confirm-Key is spelled so that it reads as a Confirm-Key of status 0, and with its own device.
+-- Of the commands, only Confirm-Key is spelled so that it reads as a Confirm-Key of status 0, with its own device.
 abbrev pub SpellsConfirm : Tools → Type 0
 SpellsConfirm tools = (command : Command) (kind d : ℕ) → tools.read_command (tools.spelled command)
     ≡ Known (ConfirmKey 0 kind d) → IsConfirmOf command d
 
--- the frame control of a command that stands unsealed in a frame: to one node, or to all
+-- the frame control of an unsealed command in a frame: to one node, or to all
 abbrev pub IsClearControl : ℕ → Type 0
 IsClearControl control = (control ≡ clear_command) ⊎ (control ≡ clear_broadcast)
 
--- What a frame of a node's own shows of keys.
+-- What a node's own frame shows of keys.
 pub record ShowsKeys (tools : Tools) : Type 0 where
   -- a spelled command reads as one with its own key, or with none
   pub spelled : (o : Command) (k : Bytes) → key_shown (tools.read_command (tools.spelled o)) ≡ Some k → key_in o

@@ -1,4 +1,4 @@
--- The counters of whole runs, in words of their own.
+-- The counters of whole runs, defined for the statements of the laws.
 use Rattle.std.specs.Prelude.{◌≡◌, ◌<◌, List, Some, option_map, ⊤}
 use Rattle.zb_model.specs.Data.{Layer, Nwk, Aps, Term}
 use Rattle.zb_model.specs.Lines.{Line, Seal}
@@ -10,7 +10,7 @@ abbrev pub NextIs : Layer → Term → NodeState → Type 0
 NextIs Nwk t s = option_map (λ (r : NetKey). r.next) (net_of t.base s) ≡ Some t.counter
 NextIs Aps t s = s.aps_next ≡ t.counter
 
--- A node seals with its own EUI, and with the counter that comes next; the greatest is never used.
+-- A node seals with its own EUI, and with the next counter; the greatest counter is never used.
 abbrev pub TakesNext : List Line → Line → Type 0
 TakesNext h (Seal e n t) = (t.source ≡ n) × (t.counter < greatest_counter) × NextIs t.layer t (state_of h n)
 TakesNext h _ = ⊤

@@ -30,8 +30,9 @@ IsNewKey w k = (k ≡ well_known → ⊥) × AllByRecursion (λ (m : Node). IsNo
 abbrev pub keys_of_others : ℕ → Node → List Bytes
 keys_of_others device m = (if nat_eq m.station.eui device then [] else option_to_list m.code) ++ network_key m.network
 
--- A code is entered for a device or router, and its key is no other's, no network key, none of the supply and not the
--- well-known one. What a node does itself brings no key of the supply: rolls and deliveries have events of their own.
+-- A code is entered for a device or router. Its key is not another node's, not a network key, not in the supply and
+-- not the well-known one. A node's own events bring no key of the supply: rolls and deliveries have events of their
+-- own.
 abbrev pub EntersOwn : Schedule → Event → Type 0
 EntersOwn w (Own n (DoProvision device key)) =
     (device ≡ centre_of (stations w) → ⊥) × (key ≡ well_known → ⊥) × IsNoneOf w.draws key
@@ -40,7 +41,7 @@ EntersOwn w (Own n (DoRoll draw)) = draw ≡ None
 EntersOwn w (Own n (Received bytes draw)) = draw ≡ None
 EntersOwn w _ = ⊤
 
--- Keys of the supply differ and are new; codes are entered as they may be; no other node has the centre's EUI, and the
+-- Keys of the supply differ and are new. Only allowed codes are entered. No other node has the centre's EUI, and the
 -- centre has no code.
 pub record KeysApart (w : Schedule) : Type 0 where
   pub draws_differ : AllDiffer w.draws

@@ -1,4 +1,4 @@
--- The two halves of lockout, each for itself.
+-- The two halves of lockout, each by itself.
 use Rattle.std.specs.Prelude.{List, [], ◌∷◌, ◌++◌, ⊤}
 use Rattle.zb_model.specs.Data.{Removed, Moved}
 use Rattle.zb_model.specs.Lines.{Line, Changed}
@@ -11,7 +11,8 @@ RefusesAfter tools h (Changed e n (Moved (Removed d))) after =
 RefusesAfter tools h _ after = ⊤
 
 -- Outsiders are refused after each removal, up to the device's next admission. A node none of whose live network keys
--- is known outside accepts at NWK neither a term that the device sealed since, nor one that was forged before.
+-- is known outside accepts at NWK neither a term that the device sealed since the removal, nor one that was forged
+-- before.
 abbrev pub RefusesOutsiders : Tools → List Line → List Line → Type 0
 RefusesOutsiders tools h [] = ⊤
 RefusesOutsiders tools h (l ∷ ls) = RefusesAfter tools h l ls × RefusesOutsiders tools (h ++ l ∷ []) ls
@@ -21,7 +22,8 @@ KeepsOutAfter tools h (Changed e n (Moved (Removed d))) after =
     KeepsOut tools (h ++ Changed e n (Moved (Removed d)) ∷ []) after d
 KeepsOutAfter tools h _ after = ⊤
 
--- After each removal, and up to the device's next admission: the device obtains no key that is drawn since.
+-- After each removal, and up to the device's next admission: the device obtains no key that is drawn after the
+-- removal.
 abbrev pub KeepsRemovedOut : Tools → List Line → List Line → Type 0
 KeepsRemovedOut tools h [] = ⊤
 KeepsRemovedOut tools h (l ∷ ls) = KeepsOutAfter tools h l ls × KeepsRemovedOut tools (h ++ l ∷ []) ls

@@ -1,4 +1,4 @@
--- What the laws over runs ask of a schedule, as one record. Every schedule that is read from a text keeps it.
+-- What the laws about runs ask of a schedule, as one record. Every schedule that is read from a text meets it.
 use Rattle.zb_model.specs.Play.{Schedule}
 use Rattle.zb_model.specs.Schedules.{IsSchedule}
 use Rattle.law_run.specs.Commanding.{OneCentre}

@@ -1,6 +1,6 @@
--- A record read back: field by field in the order in which it is spelled. What a record doesn't keep is as a boot
--- leaves it: the next counters are the limits, the floors in memory the stored ones; a dropped network key has no
--- floors.
+-- A record read back, field by field in the order in which it is spelled. What a record doesn't keep is as it is
+-- after a boot: the next counters are the limits, and the floors in memory are the stored ones. A dropped network key
+-- has no floors.
 use Rattle.std.specs.Prelude.{◌≡◌, ℕ, zero, suc, ◌<◌, ◌^◌, Bool, true, false, if◌then◌else◌, List, [], ◌∷◌, length, take, drop, slice_get, Option, Some, None, option_map, nat_eq, nat_lt, is_some}
 use Rattle.std.specs.Int.{Width, w16, w32, w64, byte_len, from_le_bytes}
 use Rattle.std.specs.List.{AllByRecursion}
@@ -8,7 +8,7 @@ use Rattle.zb_model.specs.Data.{Bytes, Role, Centre, Router, Device, State, Fres
 use Rattle.zb_model.specs.State.{SenderFloor, NetKey, LinkKey, PairKey, NodeState, net_of_active}
 use Rattle.zb_model.specs.Record.{no_place}
 
--- Readings: a value is taken off the start of bytes
+-- Readings: a value is taken from the start of bytes
 
 abbrev pub Taking : Type 0 → Type 0
 Taking A = Bytes → Option (A × Bytes)
@@ -24,7 +24,7 @@ abbrev pub ◌>>=◌ : {A B : Type 0} → Taking A → (A → Taking B) → Taki
 abbrev pub give : {A : Type 0} → A → Taking A
 give x bytes = Some (x, bytes)
 
--- a value, where there is one
+-- a value, if there is one
 unfoldable pub chosen : {A : Type 0} → Option A → Taking A
 chosen None bytes = None
 chosen (Some x) bytes = Some (x, bytes)
@@ -100,7 +100,7 @@ three_flags _ = None
 
 -- Rows
 
--- key, sequence, flags, limit; its floors stand after all rows
+-- key, sequence, flags, limit; its floors come after all rows
 unfoldable pub net_at : Taking NetKey
 net_at = do
   key ← some_bytes 16
@@ -168,7 +168,7 @@ pair_at = do
   live ← chosen (only 1 byte)
   give (record { first = first; second = second; key = key })
 
--- the key of the row at a place; FFFF is no place
+-- the key of the row at a place; FFFF means no place
 unfoldable pub active_at : ℕ → List NetKey → Option (Option Bytes)
 active_at place nets = if nat_eq place no_place then Some None
     else option_map (λ (r : NetKey). Some r.key) (slice_get nets place)

@@ -1,4 +1,4 @@
--- Which lines take counters, and who answers that a counter is spent.
+-- Which lines use counters, and which nodes answer that a counter is spent.
 use Rattle.std.specs.Prelude.{ℕ, ◌≡◌, ◌+◌, min, max, ◌⊎◌, if◌then◌else◌, ◌&&◌, List, [], ◌∷◌, ◌++◌, Some, option_map, nat_eq, ⊤}
 use Rattle.zb_model.specs.Data.{Bytes, Nwk, Aps, Start, CounterSpent}
 use Rattle.zb_model.specs.Lines.{Line, Counter, Changed, Refuse, Seal, Boot}
@@ -13,7 +13,7 @@ abbrev pub SpentLine : List Line → Line → Type 0
 SpentLine h (Refuse e n place CounterSpent) = StandsAtEnd (state_of h n)
 SpentLine h _ = ⊤
 
--- How many counters a line takes of a node: at APS, and at NWK under a network key. A seal takes one.
+-- How many counters of a node a line uses: at APS, and at NWK under a network key. A seal uses one.
 abbrev pub taken_aps : ℕ → Line → ℕ
 taken_aps m (Seal e n t) = if nat_eq n m && same_layer t.layer Aps then 1 else 0
 taken_aps m _ = 0
@@ -22,9 +22,9 @@ abbrev pub taken_nwk : ℕ → Bytes → Line → ℕ
 taken_nwk m key (Seal e n t) = if nat_eq n m && (same_layer t.layer Nwk && same_key t.base key) then 1 else 0
 taken_nwk m key _ = 0
 
--- Where a line leaves the next counters of a node: at APS, and of its network row with the key. A boot sets its own
--- node's to the limits; a key's first counter, that row's; a limit at the start, its node's at the layer, of the rows
--- that have started. No other line moves one but the seal that takes it.
+-- The next counters of a node after a line: at APS, and of its network row with the key. A boot sets those of its own
+-- node to the limits. A key's first counter sets that row's. A limit at the start sets its node's at the layer, in
+-- the rows that have started. Apart from these, only a seal moves a next counter: the one that it uses.
 abbrev pub aps_behind : ℕ → Line → NodeState → ℕ
 aps_behind m (Boot e n) s = if nat_eq n m then s.aps_limit else s.aps_next
 aps_behind m (Counter n Aps v) s = if nat_eq n m then max s.aps_next v else s.aps_next
@@ -39,7 +39,7 @@ nwk_behind m key (Counter n Nwk v) r = if nat_eq n m && r.started then max r.nex
 nwk_behind m key (Seal e n t) r = r.next + taken_nwk m key (Seal e n t)
 nwk_behind m key _ r = r.next
 
--- Of each node the next counters are those after the line.
+-- The next counters of each node are those after the line.
 abbrev pub TakesAll : List Line → Line → Type 0
 TakesAll h l = (m : ℕ) → ((state_of (h ++ l ∷ []) m).aps_next ≡ aps_behind m l (state_of h m))
     × ((key : Bytes) (r : NetKey) → net_of key (state_of h m) ≡ Some r

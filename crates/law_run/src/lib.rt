@@ -1,4 +1,4 @@
-//! What holds of every run of the network: laws about transcripts alone, for every schedule. Each stands as the
+//! What is true of every run of the network: laws about transcripts alone, for every schedule. Each law is the
 //! contract of a function with an empty body; docs/THEOREMS.md says it in words.
 #![tactic(auto)]
 
@@ -27,7 +27,7 @@ ghost use Rattle.zb_model.specs.State.{NodeState, after_boot, is_centre, applied
 ghost use Rattle.zb_model.specs.Tools.{Tools};
 ghost use Rattle.zb_model.specs.Transcript.{run_lines, transcript};
 
-/// States that later lines change what lines say of a node's state, one after the other.
+/// States that a node's state after more lines is its state before, changed by each of them in order.
 pub fn reading_goes_on()
     ensures { (h g : List Line) (n : ℕ) → state_of (h ++ g) n ≡ fold (heard_line n) (state_of h n) g }
 {}
@@ -42,7 +42,7 @@ pub fn stored_changes_are_read_back()
 
 /// States that the whole group of an answer changes the node's state by that answer.
 ///
-/// That is by its changes, its accepted terms and its seals.
+/// The answer's changes, accepted terms and seals are applied.
 pub fn a_group_is_read_back()
     ensures { (h : List Line) (number n : ℕ) (a : Answer)
         → state_of (h ++ group_of h number n a) n ≡ answered a (state_of h n) }
@@ -57,16 +57,16 @@ pub fn transcripts_are_lawful()
 
 /// States that no node seals twice under one key and nonce.
 ///
-/// That holds whatever frames it is handed, however often it loses power, and whatever its disk leaves of a commit
-/// that was cut.
+/// This is true whatever frames the node is handed, however often it loses power, and whatever its disk keeps of a
+/// commit that was cut.
 pub fn no_nonce_comes_again()
     ensures { (tools : Tools) (w : Schedule) → IsSchedule w → Fresh tools (transcript tools w) }
 {}
 
 /// States that no node accepts a sender's counter twice under one key.
 ///
-/// That holds whatever comes again on the air, resets and cut commits included. `Opens` says that a frame which opens
-/// shows its base key, counter and source.
+/// This is true whatever frames are repeated on the air, with resets and cut commits included. `Opens` says that a
+/// frame which opens shows its base key, counter and source.
 pub fn no_counter_is_taken_twice()
     ensures { (tools : Tools) → Opens tools → (w : Schedule) → IsSchedule w → Once (transcript tools w) }
 {}
@@ -77,32 +77,33 @@ pub fn no_counter_is_taken_twice()
 /// - It is sealed under a key that the centre stored before, by a commit, as the device's verified one.
 /// - Nothing has unsettled that key since.
 ///
-/// `OneCentre` is of the schedule: one declared centre. `SpellsConfirm` is of the spelling: no other command reads as
-/// a Confirm-Key.
+/// `OneCentre` is about the schedule: it declares one centre. `SpellsConfirm` is about the spelling: no other command
+/// reads as a Confirm-Key.
 pub fn only_stored_keys_are_confirmed()
     ensures { (tools : Tools) → Opens tools → SpellsConfirm tools → (w : Schedule) → IsSchedule w → OneCentre w
         → Confirms tools (transcript tools w) }
 {}
 
-/// States that outsiders are refused, where the end line says that forgery was private.
+/// States that outsiders are refused, if the end line says that forgery was private.
 ///
 /// After a device was removed, and until it is admitted again, a node accepts at NWK neither a term that the device
-/// sealed since nor one that was forged. That is so of each node none of whose live network keys is known outside.
+/// sealed since then nor one that was forged. This applies to each node none of whose live network keys is known
+/// outside.
 pub fn outsiders_are_refused()
     ensures { (tools : Tools) → Opens tools → (w : Schedule) → IsSchedule w → private tools (run_lines tools w) ≡ true
         → RefusesOutsiders tools [] (transcript tools w) }
 {}
 
-/// States that a removed device obtains no later key, where the end line says `yes yes`.
+/// States that a removed device obtains no later key, if the end line says `yes yes`.
 ///
-/// The two words say that the run was ideal and forgery private. Until the device is admitted again, it obtains no key
-/// that is drawn since its removal:
+/// The two words say that the run was ideal and forgery private. Until the device is admitted again, it obtains no
+/// key that is drawn after its removal:
 /// - No such key is installed at it.
-/// - None comes out of what was sealed or forged, for somebody who holds the well-known key and all keys that the
-///   device ever held.
+/// None can be opened in what was sealed or forged, by somebody who holds the well-known key and all keys that the
+/// device ever held.
 ///
-/// `KeysApart` is of the schedule: its keys are different keys. `ShowsKeys` is of the frames: what a node's own frame
-/// shows of a key is the key of the command that is in it.
+/// `KeysApart` is about the schedule: its keys are different keys. `ShowsKeys` is about the frames: if a node's own
+/// frame shows a key, it is the key of the command in that frame.
 pub fn a_removed_device_obtains_no_later_key()
     ensures { (tools : Tools) → Opens tools → ShowsKeys tools → (w : Schedule) → IsSchedule w → OneCentre w
         → KeysApart w
@@ -110,9 +111,9 @@ pub fn a_removed_device_obtains_no_later_key()
         → KeepsRemovedOut tools [] (transcript tools w) }
 {}
 
-/// States that removed devices are locked out, where the end line says `yes yes`.
+/// States that removed devices are locked out, if the end line says `yes yes`.
 ///
-/// Both halves of lockout hold, after each removal and up to the next admission.
+/// Both halves of lockout are true, after each removal and up to the next admission.
 pub fn removed_devices_are_locked_out()
     ensures { (tools : Tools) → Opens tools → ShowsKeys tools → (w : Schedule) → IsSchedule w → OneCentre w
         → KeysApart w
@@ -120,7 +121,7 @@ pub fn removed_devices_are_locked_out()
         → Locked tools (transcript tools w) }
 {}
 
-/// States that each seal of a run takes the counter that comes next.
+/// States that each seal of a run uses the next counter.
 ///
 /// Its source is its node's EUI. Under a network key the counter is that of the key's row, and at APS the node's. The
 /// greatest counter is never used.
@@ -130,8 +131,8 @@ pub fn each_seal_takes_the_next_counter()
 
 /// States that no counter is skipped without a boot.
 ///
-/// Of each node, at APS and under each network key, a line moves the next counter by just the seal that it is, but for
-/// three:
+/// A seal moves the next counter of its node, at APS or under its network key, by one. Only three other lines move a
+/// next counter:
 /// - a boot
 /// - the first counter of a key
 /// - a limit at the start
@@ -158,7 +159,7 @@ pub fn a_reserve_is_one_block()
 
 /// States that a stored floor is one incoming block above the accepted counter, or the greatest counter.
 ///
-/// It is stored only where the accepted counter isn't below the floor that was stored before.
+/// It is stored only if the accepted counter isn't below the floor that was stored before.
 pub fn a_floor_is_one_block()
     ensures { (c : Setting) (s : NodeState) (t : Term) (v : ℕ) → floor_for c s t ≡ Some v
         → (stored_floor t s ≤ t.counter) × (v ≡ min (t.counter + c.me.in_block) greatest_counter) }
@@ -166,8 +167,8 @@ pub fn a_floor_is_one_block()
 
 /// States that the centre alone makes the changes whose lines name no node.
 ///
-/// It alone draws keys, gives pairs, begins or ends a rollover, and notes that a device is live, removed, told or not.
-/// The answer of any other node has no such change, so lines of these are the centre's.
+/// It alone draws keys, makes pairs, begins or ends a rollover, and notes that a device is live, removed, told or
+/// untold. The answer of any other node has no such change, so lines of these kinds are the centre's.
 pub fn the_centre_alone_draws_and_admits()
     ensures { (tools : Tools) → Opens tools → (c : Setting) (s : NodeState) (task : Task)
         → is_centre c.me.role ≡ false
@@ -176,8 +177,8 @@ pub fn the_centre_alone_draws_and_admits()
 
 /// States that the record of a state is read back as that state after a boot.
 ///
-/// Counters go on from their limits, floors are the stored ones, and a dropped network key has none. The state's keys
-/// have 16 bytes, its numbers fit their fields, and its active key has a row.
+/// Counters continue from their limits, floors are the stored ones, and a dropped network key has none. The state's
+/// keys have 16 bytes, its numbers fit their fields, and its active key has a row.
 pub fn a_record_is_read_back()
     ensures { (s : NodeState) → FitsRecord s → state_in (record_of s) ≡ Some (shown (after_boot s)) }
 {}
@@ -190,9 +191,9 @@ pub fn a_boot_reads_the_record()
         → state_in (record_of (state_of h n)) ≡ Some (shown (state_of (h ++ Boot e n ∷ []) n)) }
 {}
 
-/// States that what changes make of the stored state depends on the stored state alone.
+/// States that the stored state after changes depends only on the stored state before and on the changes.
 ///
-/// Counters and floors in memory decide nothing of it, nor whether a change fits.
+/// Counters and floors in memory affect neither the result nor whether a change fits.
 pub fn changes_keep_to_what_is_stored()
     ensures made { (es : List Edit) (s : NodeState)
         → after_boot (applied_all es (after_boot s)) ≡ after_boot (applied_all es s) }
@@ -201,7 +202,7 @@ pub fn changes_keep_to_what_is_stored()
 
 /// States that bytes which are read as a state are the record of that state.
 ///
-/// That is so where the keys of the state differ. A boot leaves the state as it is.
+/// This is true if the keys of the state differ. A boot leaves the state as it is.
 pub fn what_is_read_has_these_bytes_as_its_record()
     ensures { (bytes : List ℕ) (s : NodeState) → AllByRecursion (λ b. b < 256) bytes → state_in bytes ≡ Some s
         → keys_differ s ≡ true

@@ -20,7 +20,7 @@ pub moves-fit : (s : NodeState) (o : Outcome) → Fits s o → MovesFit s.nets (
 moves-fit s (Stop reason) f = tt
 moves-fit s (Does moves send) f = filter-fits s s.nets moves f.0
 
--- a row that has started stays so
+-- a started row stays started
 abbrev Grows : NodeState → NodeState → Type 0
 Grows s t = (k : Bytes) → started k s.nets ≡ true → started k t.nets ≡ true
 

@@ -1,5 +1,5 @@
--- What the lines of an answer call for: of its seals the reserves, of its accepted terms the floors, of its moves the
--- starts.
+-- What the lines of an answer call for: its seals call for the reserves, its accepted terms for the floors, its moves
+-- for the starts.
 use Rattle.std.proofs.Common.{◌≡◌, ℕ, ◌+◌, min, Bool, true, false, cond, ◌&&◌, List, [], ◌∷◌, ◌++◌, map, filter, Option, Some, None, option_map, option_to_list, is_some, nat_eq, nat_le, flat_map, refl, sym, ap, ◌∙◌}
 use Rattle.std.proofs.lemmas.Bool.{false≢true}
 use Rattle.std.specs.List.{AllByRecursion}
@@ -20,7 +20,7 @@ use Rattle.law_run_counters.proofs.Sections.{map-append, flat-none, reserve_list
 
 -- Reserves
 
--- what a sealed term calls for at a layer, whatever its counter: `due`, where it is of the layer
+-- what a sealed term calls for at a layer, whatever its counter: `due`, if it is of the layer
 abbrev Calls : Layer → List Line → Term → List Line
 Calls layer due t = cond (same_layer t.layer layer) due []
 
@@ -102,7 +102,7 @@ listed number n layer v true true false = refl
 listed number n layer v true false e = refl
 listed number n layer v false b e = refl
 
--- the reserves that seals call for are those of `reserve_of`, with whatever counters they are sealed
+-- the reserves that seals call for are those of `reserve_of`, whatever the counters of the seals
 pub seals-call : (tools : Tools) (w : Schedule) (h : List Line) (number n : ℕ) (k : Counting) (send : Option Sending)
     (layer : Layer)
     → flat_map (λ t. reserve_called w h layer (Seal number n t))
@@ -121,7 +121,7 @@ seals-call tools w h number n k send layer =
 abbrev pub floor_list : Term → Option ℕ → List Edit
 floor_list t o = option_to_list (option_map (Floor t.layer t.base t.source) o)
 
--- the floors that accepted terms ask for, each its own
+-- the floors that accepted terms call for, each its own
 abbrev pub own_floors : Setting → NodeState → List Term → List Edit
 own_floors c s ts = flat_map (λ t. floor_list t (floor_for c s t)) ts
 
@@ -145,7 +145,7 @@ accepts-call w h number n (t ∷ ts) =
     own : List Edit
     own = floor_list t (floor_for (setting_of w n) (state_of h n) t)
 
--- of at most one term a layer, each floor is its own
+-- if there is at most one term per layer, each floor is its own
 layer-same : (l : Layer) → same_layer l l ≡ true
 layer-same Nwk = refl
 layer-same Aps = refl
@@ -235,7 +235,7 @@ start-called : (h : List Line) (number n : ℕ) (key : Bytes) (o : Option ℕ) (
 start-called h number n key None rest e = e
 start-called h number n key (Some v) rest e = e
 
--- of the active move: the lines there, and those called for
+-- the start lines of the active move, and those called for
 pub active-there : (number n : ℕ) (k : Counting) (key : Bytes) (ms : List Move) → AllByRecursion NoActive ms
     → flat_map (there number n) (edits_by k (Active key ∷ ms)) ≡ map (Changed number n) (start_edit key k.start)
 active-there number n k key ms a = start-there number n key k.start (edits_by k ms) (none-there number n k ms a)
@@ -281,7 +281,7 @@ starts-counted h number n k r nets (Roll b ∷ ms) f e = starts-counted h number
 starts-counted h number n k r nets (Told d ∷ ms) f e = starts-counted h number n k r nets ms f e
 starts-counted h number n k r nets (Untold d ∷ ms) f e = starts-counted h number n k r nets ms f e
 
--- with other counters, where each start that is there is called for, the edits are the same
+-- with other counters, if each start that is there is called for, the edits are the same
 none-same : (k j : Counting) (ms : List Move) → AllByRecursion NoActive ms → edits_by k ms ≡ edits_by j ms
 none-same k j [] a = refl
 none-same k j (Active key ∷ ms) a = absurd a.0

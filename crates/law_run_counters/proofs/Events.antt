@@ -1,4 +1,4 @@
--- Each event of a run: its group is counted, and a group that is counted is the run's.
+-- Each event of a run: its group is counted, and a counted group is the run's.
 use Rattle.std.proofs.Common.{◌≡◌, ℕ, ◌+◌, Bool, true, false, cond, ◌||◌, List, [], ◌∷◌, ◌++◌, map, find, length, Option, Some, None, nat_eq, flat_map, refl, sym, ap, ◌∙◌, subst, append_assoc}
 use Rattle.std.specs.List.{AllByRecursion}
 use Rattle.zb_model.specs.Data.{Bytes, Layer, Nwk, Aps, Term, Edit, Place, Reason, Down, NoFrame, WrongState, Task, Received, DoRoll}
@@ -22,13 +22,13 @@ use Rattle.law_run_counters.proofs.Same.{group-counted, answer-same}
 use Rattle.law_run_counters.proofs.Started.{started, declared-row, StartFits, LineStarts, Bridged, bridged-lines, Quiet, quiet-lines, edit-lines, edits-start, ActiveStarted, grown-new, has-map}
 use Rattle.law_run_counters.proofs.ActiveRows.{AllActive, moves-fit, active-step, one-active}
 
--- What the rules keep, of an outcome
+-- What the rules keep of an outcome
 
 shown-fits : (s : NodeState) (o : Outcome) → Fits s o → Shown (sending_of o)
 shown-fits s (Stop reason) f = tt
 shown-fits s (Does moves send) f = f.1
 
--- Lines of no seal, no accepted term and no change are counted
+-- Lines without a seal, an accepted term or a change are counted
 
 either-counted : (w : Schedule) (h : List Line) (b : Bool) (x y : Step) → IsCounted w h x.lines
     → IsCounted w h y.lines → IsCounted w h (cond b x y).lines
@@ -158,7 +158,7 @@ step-is tools w h disks number (ForgeNet to from source key sequence counter con
 step-is tools w h disks number (ForgeNetAps to from source key sequence counter label base aps_counter command) = refl
 step-is tools w h disks number (ForgeOpen to from source label base aps_counter command) = refl
 
--- With any counters that are counted it is the same
+-- With any counters for which the group is counted, it is the same
 
 by-up : (w : Schedule) (h : List Line) (disks : List Disk) (number n : ℕ) (a b : Answer) (r q : Step) (up : Bool)
     → (IsCounted w h (group_of h number n a) → a ≡ b) → IsCounted w h (cond up (answer_step h [] number n a) q).lines
@@ -214,7 +214,7 @@ event-same tools opens w h disks number
     (ForgeNetAps to from source key sequence counter label base aps_counter command) k bridged i = refl
 event-same tools opens w h disks number (ForgeOpen to from source label base aps_counter command) k bridged i = refl
 
--- What lines say of started keys goes on through an event
+-- What lines say of started keys stays true through an event
 
 commit-quiet : (number n : ℕ) (es : List Edit) → AllByRecursion Quiet (commit_lines number n es)
 unfolding Quiet

@@ -1,5 +1,5 @@
--- After each floor line of a run stands the accept line for which it is stored, or the stop or failure that cut its
--- event.
+-- Each floor line of a run is followed by the accept line for which it is stored, or by the stop or failure that cut
+-- its event.
 use Rattle.std.proofs.Common.{◌≡◌, ℕ, suc, zero-lt-suc, suc-le-suc, ◌+◌, min, Bool, true, false, cond, List, [], ◌∷◌, ◌++◌, map, filter, length, Option, Some, None, option_map, option_to_list, nat_le, flat_map, refl, sym, subst, arith, append_assoc}
 use Rattle.std.proofs.lemmas.Bool.{false≢true}
 use Rattle.std.specs.List.{AllByRecursion, Any}
@@ -42,7 +42,7 @@ before : (w : Schedule) (xs rest : List Line) → AllByRecursion (λ l. FloorLin
 before w [] rest a b = b
 before w (x ∷ xs) rest a b = (behind w x xs rest a.0, before w xs rest a.1 b)
 
--- Lines that are no floor
+-- Lines that aren't floors
 
 unfoldable NoFloor : Line → Type 0
 NoFloor (Changed e n (Floor layer base source value)) = ⊥

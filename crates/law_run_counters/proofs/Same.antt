@@ -1,4 +1,4 @@
--- The answer to an event with counters that are counted is the answer of the transcript.
+-- The answer to an event with counters for which it is counted is the answer of the transcript.
 use Rattle.std.proofs.Common.{◌≡◌, ℕ, ◌+◌, Bool, true, false, cond, List, [], ◌∷◌, ◌++◌, map, length, Option, Some, None, flat_map, refl, sym, ap, ◌∙◌, subst}
 use Rattle.std.proofs.lemmas.Bool.{false≢true}
 use Rattle.std.specs.List.{AllByRecursion}
@@ -155,7 +155,7 @@ starts-called tools w h number n k p =
     changes-only (start_called h) (quiet-start-called h) h number n (answer_of tools w h n k p) (λ t. refl) (λ t. refl)
     ∙ start-edits (called h number n) (reserve-no-call h number n) (floor-no-call h number n) (state_of h n) k p
 
--- The seals of a transcript take the next counters
+-- The seals of a transcript use the next counters
 
 abbrev Taken : List Line → ℕ → ℕ → List Term → Type 0
 Taken h number n ts = AllByRecursion (TakesCounter h) (map (Seal number n) ts)
@@ -211,7 +211,7 @@ unfolding out_of
 out-takes h number n tools c k send e f = either-taken h number n (may_seal (state_of h n) send)
     (sent tools c (state_of h n) k send) (sent-takes h number n tools c k send e f)
 
--- other lines take none
+-- other lines use none
 changes-take : (h : List Line) (number n : ℕ) (es : List Edit)
     → AllByRecursion (TakesCounter h) (map (Changed number n) es)
 changes-take h number n [] = tt
@@ -278,7 +278,7 @@ group-counted tools w h number n p bridged accepts moves = record {
     k : Counting
     k = counting_of (setting_of w n) (state_of h n) p
 
--- With counters that are counted the answer is the same
+-- With counters for which it is counted, the answer is the same
 
 all-left : {X : Type 0} (P : X → Type 0) (xs ys : List X) → AllByRecursion P (xs ++ ys) → AllByRecursion P xs
 all-left P [] ys a = tt

@@ -34,7 +34,7 @@ map-append f (x ∷ xs) ys = ap (λ l. f x ∷ l) (map-append f xs ys)
 
 -- A group
 
--- nothing comes of commits, refusals and frames
+-- commits, refusals and frames give nothing
 pub record Quiet (F : Line → List Line) : Type 0 where
   pub commit : (e n : ℕ) → F (Commit e n) ≡ []
   pub refuse : (e n : ℕ) (place : Place) (reason : Reason) → F (Refuse e n place reason) ≡ []
@@ -99,7 +99,7 @@ group-of F q h number n a =
     ∙ ap (λ l. l ++ flat_map F (map (Seal number n) a.seals)) (flat-map F (Accept number n) a.accepts)
     ∙ ap (λ l. flat_map (λ t. F (Accept number n t)) a.accepts ++ l) (flat-map F (Seal number n) a.seals))
 
--- where only changes, accepted terms, or sealed terms give something
+-- if only changes, accepted terms, or sealed terms give something
 
 pub changes-only : (F : Line → List Line) → Quiet F → (h : List Line) (number n : ℕ) (a : Answer)
     → ((t : Term) → F (Accept number n t) ≡ []) → ((t : Term) → F (Seal number n t) ≡ [])
@@ -269,7 +269,7 @@ floors-of number n (Reserve layer limit ∷ es) a = absurd a.0
 floors-of number n (Start key value ∷ es) a = absurd a.0
 floors-of number n (Moved m ∷ es) a = absurd a.0
 
--- edits are read off their lines
+-- edits are known from their lines
 edit_of : Line → List Edit
 edit_of (Changed e n edit) = edit ∷ []
 edit_of _ = []

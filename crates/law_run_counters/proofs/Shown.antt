@@ -1,4 +1,4 @@
--- What every rule keeps: a frame without NWK security takes no NWK counter, and at most one key becomes active, which
+-- What every rule keeps: a frame without NWK security uses no NWK counter, and at most one key becomes active, which
 -- has a row.
 use Rattle.std.proofs.Common.{◌≡◌, ℕ, Bool, true, false, cond, not, ◌&&◌, ◌||◌, List, [], ◌∷◌, ◌++◌, map, filter, reverse, Option, Some, None, is_some, nat_eq, refl, ap, ◌∙◌, inl, inr}
 use Rattle.std.specs.List.{AllByRecursion, list_any}

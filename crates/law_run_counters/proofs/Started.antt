@@ -1,4 +1,4 @@
--- A row of a run is started exactly where lines say that its key has started.
+-- A row of a run is started exactly if lines say that its key has started.
 use Rattle.std.proofs.Common.{◌≡◌, ℕ, ◌+◌, max, Bool, true, false, cond, ◌&&◌, ◌||◌, List, [], ◌∷◌, ◌++◌, map, Option, Some, None, option_map, find, nat_eq, flat_map, refl, sym, ap, ◌∙◌, subst, append_assoc, ⊎_elim, ◌⊎◌, inl, inr, eqb-true}
 use Rattle.std.proofs.lemmas.Bool.{false≢true}
 use Rattle.std.specs.List.{AllByRecursion, list_any}
@@ -75,7 +75,7 @@ pub started-at : (f : NetKey → NetKey) → KeepsRow f → (key other : Bytes) 
 started-at f k key other nets = started-map (λ r. cond (same_key r.key other) (f r) r)
     (only-row f (λ r. same_key r.key other) k) key nets
 
--- one row more, not started
+-- one more row, not started
 new-same : (x : NetKey) → x.started ≡ false → (key : Bytes) (nets : List NetKey) → started key (nets ++ x ∷ [])
     ≡ started key nets
 new-same x e key [] = one (at_key key x)
@@ -96,7 +96,7 @@ new-by : (b : Bool) (x : NetKey) → x.started ≡ false → (key : Bytes) (nets
 new-by true x e key nets = refl
 new-by false x e key nets = new-same x e key nets
 
--- one row more that is started, of a key that has none
+-- one more row that is started, of a key that has none
 or-parts : (a b : Bool) → (a || b) ≡ false → (a ≡ false) × (b ≡ false)
 or-parts true b e = absurd (false≢true (sym e))
 or-parts false b e = (refl, e)

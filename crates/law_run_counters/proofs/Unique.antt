@@ -1,4 +1,4 @@
--- The transcript is counted, and it alone is lawful and counted.
+-- The transcript is counted, and no other lines are lawful and counted.
 use Rattle.std.proofs.Common.{◌≡◌, ℕ, ◌+◌, List, [], ◌∷◌, ◌++◌, length, refl, sym, ap, ◌∙◌, subst}
 use Rattle.zb_model.specs.Lines.{Line}
 use Rattle.zb_model.specs.Tools.{Tools}

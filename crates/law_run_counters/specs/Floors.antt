@@ -20,13 +20,13 @@ abbrev pub FloorLine : Schedule → Line → List Line → Type 0
 FloorLine w (Changed e n (Floor layer base source value)) later = Any (IsFor w e n layer base source value) later
 FloorLine w _ later = ⊤
 
--- After each floor line stands what it is for.
+-- Each floor line is followed by what it is stored for.
 abbrev pub FloorsAreFor : Schedule → List Line → Type 0
 FloorsAreFor w [] = ⊤
 FloorsAreFor w (l ∷ ls) = FloorLine w l ls × FloorsAreFor w ls
 
--- A floor that an answer stores is for a term that it accepts: of the floor's layer, base key and source, and the
--- floor is at most a block above its counter.
+-- A floor that an answer stores is for a term that it accepts. The term has the floor's layer, base key and source,
+-- and the floor is at most a block above its counter.
 abbrev pub IsOfTerm : ℕ → Layer → Bytes → ℕ → ℕ → Term → Type 0
 IsOfTerm block layer base source value t = (t.layer ≡ layer) × (t.base ≡ base) × (t.source ≡ source)
     × (value ≤ t.counter + block)

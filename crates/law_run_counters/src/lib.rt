@@ -1,6 +1,5 @@
 //! The counters of whole runs: the transcript of a schedule is counted, and it is the only list of lines that is
-//! lawful and counted. Each law is the contract of a function with an empty body; docs/THEOREMS.md says it in
-//! words.
+//! lawful and counted. Each law is the contract of a function with an empty body; docs/THEOREMS.md says it in words.
 #![tactic(auto)]
 
 ghost use Rattle.std.specs.Prelude.{◌≡◌, ℕ, List};
@@ -20,15 +19,15 @@ ghost use Rattle.zb_model.specs.Transcript.{transcript};
 
 /// States that in the transcript of each schedule every counter is the next.
 ///
-/// Reserves, floors and starts are exactly where they must be, with the values that they must have. Where a stop or
-/// failure cuts a group short, that holds of the whole group.
+/// Reserves, floors and starts are exactly where they must be, with the values that they must have. If a stop or
+/// failure cuts a group short, this is true of the whole group.
 pub fn transcripts_are_counted()
     ensures { (tools : Tools) → Opens tools → (w : Schedule) → Counted tools w (transcript tools w) }
 {}
 
 /// States that lines that are lawful and counted for a schedule are its transcript.
 ///
-/// The policy and the counters together leave nothing open, to the last byte.
+/// The policy and the counters together determine every byte.
 pub fn lawful_and_counted_lines_are_the_transcript()
     ensures { (tools : Tools) → Opens tools → (w : Schedule) (lines : List Line) → Lawful tools w lines
         → Counted tools w lines
@@ -37,8 +36,8 @@ pub fn lawful_and_counted_lines_are_the_transcript()
 
 /// States that no floor is more than one incoming block above the counter for which it was stored.
 ///
-/// The block is that of the node. After each floor line, in its event, comes the accept line of that counter, or the
-/// stop or failure that cut the event short.
+/// The block is that of the node. Each floor line is followed, in its event, by the accept line of that counter, or
+/// by the stop or failure that cut the event short.
 pub fn a_floor_is_at_most_one_block_above_its_counter()
     ensures { (tools : Tools) → Opens tools → (w : Schedule) → FloorsAreFor w (transcript tools w) }
 {}
@@ -46,7 +45,7 @@ pub fn a_floor_is_at_most_one_block_above_its_counter()
 /// States that each floor that an answer stores is for a term that the answer accepts.
 ///
 /// The term has the floor's layer, base key and source. The floor is at most the node's incoming block above its
-/// counter. Where a stop or failure cuts the event, the floor lines that are left are those of the whole answer.
+/// counter. If a stop or failure cuts the event, the floor lines that are left are those of the whole answer.
 pub fn floors_of_an_answer_are_for_what_it_accepts()
     ensures { (tools : Tools) → Opens tools → (c : Setting) (h : List Line) (n : ℕ) (task : Task)
         → AllByRecursion (FloorOf c.me.in_block (answer tools c (state_of h n) task).accepts)

@@ -27,7 +27,7 @@ alike-same q k xs t = (λ h. h, λ h. h)
 pub alike-then : (q : ℕ) (k : Bytes) (xs ys zs : List LinkKey) → Alike q k xs ys → Alike q k ys zs → Alike q k xs zs
 alike-then q k xs ys zs a b t = (λ h. (b t).0 ((a t).0 h), λ h. (a t).1 ((b t).1 h))
 
--- a change of rows that keeps whose they are, and of those with this partner and key all else that counts
+-- a change of rows that keeps their partners and keys, and all else that matters in those with this partner and key
 record Plain (q : ℕ) (k : Bytes) (f : LinkKey → LinkKey) : Type 0 where
   partner : (r : LinkKey) → (f r).partner ≡ r.partner
   key : (r : LinkKey) → (f r).key ≡ r.key
@@ -136,7 +136,7 @@ alike-new q k x xs other t = (
 
 -- Changes
 
--- a change of no such row
+-- a change of other rows
 abbrev pub Spares : ℕ → Bytes → Move → Type 0
 Spares q k (DropLink p j) = p ≡ q → j ≡ k → ⊥
 Spares q k (Row p j t) = p ≡ q → j ≡ k → ⊥

@@ -169,7 +169,7 @@ unfolding plan_of carried
 delivery-fits tools c s bytes d = received-fits tools c s d (judge_nwk tools c s bytes)
     (judge-nwk-fits tools c s bytes)
 
--- so it is said of refusals and of frames
+-- so the claim is true of refusals and of frames
 
 spent-so : (o : Option Command) (s : NodeState) (x : Outcome) → Fits o s x → reason_of x ≡ Some CounterSpent
     → OneSpent (answer_layers o) s

@@ -201,7 +201,7 @@ next-drawn w h n task (inl f) k e = absurd (own-none w n task f k e)
 next-drawn w h n task (inr (inl f)) k e = sym (ap draw_of f.1) ∙ e
 next-drawn w h n task (inr (inr f)) k e = sym (ap draw_of f.3) ∙ e
 
--- a key that is entered is none of the supply
+-- a key that is entered is not in the supply
 entered-other : (w : Schedule) (n : ℕ) (task : Task) → EntersOwn w (Own n task) → (p : ℕ) (k : Bytes)
     → EnteredBy task p k → IsNoneOf w.draws k
 entered-other w n (DoProvision d key) f p k e = subst (IsNoneOf w.draws) e.1 f.2

@@ -1,5 +1,5 @@
--- A rule answers counter-spent only where a layer of its frame has no counter left, its frame is sealed at just these
--- layers, and it refuses as policy no event that is for a node of its role.
+-- A rule answers counter-spent only if a layer of its frame has no counter left. Its frame is sealed at exactly these
+-- layers. It refuses as policy no event that is for a node of its role.
 use Rattle.std.proofs.Common.{◌≡◌, ℕ, ◌≤◌, Bool, true, false, cond, List, [], ◌∷◌, Option, Some, None, find, is_some, nat_eq, not, ◌&&◌, refl, sym, ◌∙◌, subst, leb-true, ◌⊎◌, inl, inr}
 use Rattle.std.proofs.lemmas.Bool.{false≢true, or_cases}
 use Rattle.zb_model.specs.Data.{Bytes, Layer, Nwk, Aps, State, Joined, Offered, Reason, CounterSpent, Policy, Move, Command, TransportNet, TransportApp, TransportLink, UpdateDevice, RemoveDevice, RequestApp, RequestLink, SwitchKey, Tunnel, VerifyKey, ConfirmKey, Task, SayTo, TellTo, DoKnock, DoRejoin, DoTimer, AskFor, HasChild, DoProvision, DoRemove, DoRoll, DoSwitch, DoAgain, DoShare}
@@ -152,7 +152,7 @@ unfolding provision
 provision-fits P s device key =
     un P [] s _ _ _ (λ e. tt) (un P [] s _ _ _ (λ e. tt) (provision-new-fits P s device key (other_user s device key)))
 
--- who is told of a removal, if that can be sealed
+-- the node that is told of a removal, if that can be sealed
 if-sealed : (l : List Layer) (b : Bool) (send : Option Sending) → SealedAt l send → SealedAt l (cond b send None)
 if-sealed l true send f = f
 if-sealed l false send f = tt
@@ -240,7 +240,7 @@ own-fits tools c s task = by-test (is_centre c.me.role)
     by-test true = centre-own-fits c s task
     by-test false = member-own-fits tools c s task
 
--- commands, of which policy says nothing
+-- commands, which are never refused as policy
 
 abbrev Takes : List Layer → NodeState → Outcome → Type 0
 Takes = Fits (Unit {0})
@@ -300,7 +300,7 @@ take-tunnel-fits : (c : Setting) (s : NodeState) (m : Heard) (destination : ℕ)
 unfolding take_tunnel
 take-tunnel-fits c s m destination inner = un _ [] s _ _ _ (λ e. tt) (un _ [] s _ _ _ (λ e. tt) (refl, refl))
 
--- where nothing is sent, nothing is said
+-- if nothing is sent, nothing is claimed
 take-update-fits : (c : Setting) (s : NodeState) (m : Heard) (device status : ℕ)
     → Takes at_both s (take_update c s m device status)
 unfolding take_update

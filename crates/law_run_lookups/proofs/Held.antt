@@ -32,7 +32,7 @@ CurrentHeld s = (q : ℕ) (k : Bytes) → Has q k true s.links → Current q s.l
 abbrev pub OfferHeld : ℕ → NodeState → Type 0
 OfferHeld centre s = s.state ≡ Offered → Offer centre s.links
 
--- A row that comes
+-- A row that is added
 
 found-row : (q : ℕ) (k : Bytes) (t : Attribute) (told : Bool) (links : List LinkKey) (r : LinkKey) → In r links
     → is_link q k r ≡ true → Has q k (is_unverified t) (at_link q k (revived t told) links)
@@ -70,7 +70,7 @@ row-there : (q : ℕ) (k : Bytes) (t : Attribute) (s : NodeState)
 unfolding applied
 row-there q k t s = row-by q k t (is_told s q) s.links (has_link q k s.links) refl
 
--- a row that needn't come is there
+-- a row whose addition changes nothing is there already
 kind-same : (x a : Attribute) → nat_eq (attribute_byte x) (attribute_byte a) ≡ true → is_unverified x ≡ is_unverified a
 kind-same Provisional Provisional e = refl
 kind-same Provisional Unverified e = absurd (false≢true e)
@@ -139,7 +139,7 @@ kept-appended kk s0 xs ys s =
 abbrev pub same_rows : NodeState → NodeState → Type 0
 same_rows s t = (q : ℕ) (k : Bytes) → Alike q k s.links t.links
 
--- a row stands after the moves that bring it
+-- a row is there after the moves that add it
 pub settle : (kk : Counting) (s0 s1 : NodeState) → same_rows s0 s1
     → (q : ℕ) (k : Bytes) (a : Attribute) (before later : List Move) → AllByRecursion (Spares q k) before
     → AllByRecursion (Spares q k) later
@@ -162,7 +162,7 @@ settle kk s0 s1 same q k a before later u v = subst (λ s. Has q k (is_unverifie
         ((moves-alike q k kk s0 before u s1 (is_unverified a)).0
         ((same q k (is_unverified a)).0 (there-before s0 q k a e)))
 
--- Which moves spare a row
+-- Which moves leave a row
 
 pub still-spares : (q : ℕ) (k : Bytes) (ms : List Move) → AllByRecursion Still ms → AllByRecursion (Spares q k) ms
 still-spares q k [] a = tt
@@ -312,7 +312,7 @@ apart kk s s1 same c p ms only here q k h = by-test (nat_eq p q) refl
         (here k (subst (λ n. Has n k true (rows_after kk s s1 ms)) (sym (eqb-true p q e)) h))
     by-test false e = spared kk s s1 same c q ms (λ j. only-spares p q j (other e) ms only) k h
 
--- the rows that are dropped stand dropped
+-- the rows that are dropped stay dropped
 dropped-back : (q : ℕ) (k : Bytes) (p : ℕ) (j : Bytes) (t : Bool) (links : List LinkKey)
     → Has q k t (at_link p j dropped_link links) → Has q k t links × (p ≡ q → j ≡ k → ⊥)
 dropped-back q k p j t links h =
@@ -430,7 +430,7 @@ pub still-append : (xs ys : List Move) → AllByRecursion Still xs → AllByRecu
 still-append [] ys a b = b
 still-append (x ∷ xs) ys a b = (a.0, still-append xs ys a.1 b)
 
--- a new key is no row's
+-- no row has a new key
 new-apart : (s : NodeState) (draw : Option Bytes) (k : Bytes) → IsNew s draw k → (q : ℕ) (j : Bytes) (t : Bool)
     → Has q j t s.links → k ≡ j → ⊥
 new-apart s draw k new q j t h e =

@@ -1,4 +1,4 @@
--- A rule answers no-draw only where it is handed no key that it may take.
+-- A rule answers no-draw only if it is given no key that it may use.
 use Rattle.std.proofs.Common.{◌≡◌, ℕ, Bool, true, false, cond, List, [], ◌∷◌, ◌++◌, Option, Some, None, option_to_list, find, refl, sym, ap, ◌∙◌, subst}
 use Rattle.zb_model.specs.Data.{Bytes, Nwk, Aps, State, Joined, Offered, Reason, CounterSpent, NoDraw, Place, AtAps, Term, Command, TransportNet, TransportApp, TransportLink, UpdateDevice, RemoveDevice, RequestApp, RequestLink, SwitchKey, Tunnel, VerifyKey, ConfirmKey, Task, SayTo, TellTo, DoKnock, DoRejoin, DoTimer, AskFor, HasChild, DoProvision, DoRemove, DoRoll, DoSwitch, DoAgain, DoShare, Received}
 use Rattle.zb_model.specs.State.{LinkKey, PairKey, NodeState, is_centre, is_live_of, has_net, active_row, usable_active, usable_of, newest, current, offered, other_user, pair_of}
@@ -327,7 +327,7 @@ leave-fits : (c : Setting) (d : Option Bytes) (s : NodeState) (term : Term) (opt
 unfolding take_leave
 leave-fits c d s term options = un d s _ _ _ (λ e. tt) tt
 
--- judging
+-- verification
 
 abbrev VerdictFits : {A : Type 0} → Option Bytes → NodeState → Verdict A → Type 0
 VerdictFits d s (Not model_place reason) = ReasonFits d s reason
@@ -466,7 +466,7 @@ plan-fits tools c s DoSwitch = own-fits tools c s DoSwitch
 plan-fits tools c s (DoAgain device) = own-fits tools c s (DoAgain device)
 plan-fits tools c s (DoShare device partner) = own-fits tools c s (DoShare device partner)
 
--- so where the next key of the supply is taken as it is, the supply is empty
+-- so if the next key of the supply is used as it is, the supply is empty
 
 stops-so : (d : Option Bytes) (s : NodeState) (o : Outcome) → Fits d s o → Rattle.zb_model.specs.Answer.reason_of o
     ≡ Some NoDraw → unless_held s d ≡ None

@@ -1,5 +1,6 @@
--- What a node sends before an event of a run may be sealed: a frame that was judged under a network key came to a node
--- that has one, so an active row; and a command that passed without NWK security has no answer that is sealed at NWK.
+-- What a node sends before an event of a run may be sealed. A frame that was verified under a network key came to a
+-- node that has one, and so an active row. A command that passed without NWK security has no answer that is sealed at
+-- NWK.
 use Rattle.std.proofs.Common.{◌≡◌, ℕ, Bool, true, false, cond, not, ◌&&◌, ◌||◌, List, [], ◌∷◌, ◌++◌, filter, find, reverse, Option, Some, None, option_to_list, is_some, nat_eq, refl, ap, ◌∙◌, inl, inr}
 use Rattle.std.proofs.lemmas.Bool.{false≢true, and_parts}
 use Rattle.std.specs.List.{AllByRecursion}
@@ -27,7 +28,7 @@ use Rattle.law_run_lookups.proofs.Rules.{Fits, own-fits, take-command-fits, leav
 abbrev Uses : NodeState → Type 0
 Uses s = (sequence : ℕ) (row : NetKey) → usable_of s sequence ≡ Some row → Awake s
 
--- Judging
+-- Verification
 
 -- a frame that passed the NWK layer: under a network key, or in clear as the carrier of a command under a transport
 -- key
@@ -292,7 +293,7 @@ start-waking w n =
           (start-begins w) no-lines n;
     }
 
--- What goes out
+-- What is sent
 
 sent-frame : (tools : Tools) (c : Setting) (s : NodeState) (k : Counting) (send : Option Sending) → may_seal s send
     ≡ true → is_some (sent tools c s k send).frame ≡ is_some send

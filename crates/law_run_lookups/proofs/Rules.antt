@@ -1,5 +1,5 @@
--- What a rule sends may be sealed, where a node that judged the frame under a network key has an active row; and after
--- a network key that comes in a key is active.
+-- What a rule sends may be sealed, if a node that verified the frame under a network key has an active row. After a
+-- network key is installed, a key is active.
 use Rattle.std.proofs.Common.{◌≡◌, ℕ, Bool, true, false, cond, not, ◌&&◌, ◌||◌, List, [], ◌∷◌, ◌++◌, map, Option, Some, None, find, is_some, is_none, filter, nat_eq, nat_le, length, refl, sym, ap, ◌∙◌, ◌⊎◌, inl, inr}
 use Rattle.std.proofs.lemmas.Bool.{false≢true, and_parts}
 use Rattle.zb_model.specs.Data.{Bytes, Nwk, Aps, ForData, State, Joined, Offered, Reason, CounterSpent, Move, Install, Active, Became, Removed, Command, TransportNet, TransportApp, TransportLink, UpdateDevice, RemoveDevice, RequestApp, RequestLink, SwitchKey, Tunnel, VerifyKey, ConfirmKey, Task, SayTo, TellTo, DoKnock, DoRejoin, DoTimer, AskFor, HasChild, DoProvision, DoRemove, DoRoll, DoSwitch, DoAgain, DoShare, Term}
@@ -149,7 +149,7 @@ old-leads s ms l = by-test (nat_le 2 (length (live_nets s)))
     by-test true = first-leads (filter (λ (r : NetKey). not (is_active_key s.active r.key)) (live_nets s)) ms l
     by-test false = l
 
--- a network key that is taken in
+-- a network key that is installed
 activate-by : (key : Bytes) (g : State) (a b : Bool) → Leads (cond a (Active key ∷ []) [] ++ cond b (Became g ∷ []) [])
 activate-by key g true b = tt
 activate-by key g false true = tt
@@ -250,7 +250,7 @@ provision-fits : (s : NodeState) (device : ℕ) (key : Bytes) → Fits s (provis
 unfolding provision
 provision-fits s device key = un s _ _ _ (un s _ _ _ (provision-new-fits s device key (other_user s device key)))
 
--- who is told of a removal, if that can be sealed
+-- the node that is told of a removal, if that can be sealed
 if-may : (s : NodeState) (b : Bool) (send : Option Sending) → (b ≡ true → may_seal s send ≡ true)
     → may_seal s (cond b send None) ≡ true
 if-may s true send f = f refl
@@ -347,8 +347,8 @@ own-fits tools c s task = by-test (is_centre c.me.role)
     by-test true = centre-own-fits c s task
     by-test false = member-own-fits tools c s task
 
--- Commands. Where no active row is known, it came without NWK security to a router or device, sealed under a transport
--- key.
+-- Commands. If no active row is known, the command came without NWK security to a router or device, sealed under a
+-- transport key.
 
 abbrev pub Ready : Setting → NodeState → Heard → Type 0
 Ready c s m = Awake s ⊎ ((is_centre c.me.role ≡ false) × (labelled ForData m.label ≡ false))

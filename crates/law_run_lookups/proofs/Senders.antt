@@ -1,4 +1,4 @@
--- Floors are of declared nodes, so that there is room for each: rows-full never comes at NWK.
+-- Floors are of declared nodes, so there is room for each: rows-full never occurs at NWK.
 use Rattle.std.proofs.Common.{◌≡◌, ℕ, zero, suc, ◌<◌, ◌≤◌, ◌+◌, max, Bool, true, false, cond, not, ◌&&◌, List, [], ◌∷◌, ◌++◌, map, filter, find, length, Option, Some, None, option_map, option_to_list, is_some, flat_map, nat_eq, nat_lt, nat_le, refl, sym, ap, ◌∙◌, subst, arith, eq-eqb, eqb-true, lt_irrefl, ◌⊎◌, inl, inr, ⊎_elim}
 use Rattle.std.proofs.lemmas.Bool.{false≢true}
 use Rattle.std.proofs.lemmas.List.{length-map}

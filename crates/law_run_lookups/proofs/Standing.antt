@@ -1,4 +1,4 @@
--- What the rules take for granted holds of every node before each event of a run.
+-- What the rules take for granted is true of every node before each event of a run.
 use Rattle.std.proofs.Common.{◌≡◌, ℕ, ◌<◌, ◌≤◌, ◌+◌, Bool, true, false, cond, ◌&&◌, ◌||◌, not, List, [], ◌∷◌, ◌++◌, map, find, Option, Some, None, option_to_list, is_some, flat_map, slice_get, nat_eq, refl, sym, ap, ◌∙◌, subst, append_assoc, arith, le_refl, eq-eqb, ◌⊎◌, inl, inr}
 use Rattle.std.proofs.lemmas.Bool.{false≢true}
 use Rattle.std.specs.List.{AllByRecursion, list_any}

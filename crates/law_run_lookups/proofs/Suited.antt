@@ -1,4 +1,4 @@
--- A schedule's events suit the role of their node, and draws are there while the supply isn't empty.
+-- A schedule's events suit the role of their node, and draws are available while the supply isn't empty.
 use Rattle.std.proofs.Common.{ℕ, ◌+◌, List, [], ◌∷◌, ◌++◌}
 use Rattle.std.specs.List.{AllByRecursion}
 use Rattle.zb_model.specs.Data.{DoRoll}

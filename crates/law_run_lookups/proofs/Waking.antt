@@ -1,4 +1,4 @@
--- Where a node has a network key, it has an active row: a network key that comes in makes a key active, if none is.
+-- A node with a network key has an active row: a network key that is installed makes a key active, if none is.
 use Rattle.std.proofs.Common.{◌≡◌, ℕ, ◌+◌, Bool, true, false, cond, not, List, [], ◌∷◌, ◌++◌, map, filter, Option, Some, None, flat_map, is_some, refl, sym, ap, ◌∙◌, subst}
 use Rattle.std.proofs.lemmas.Bool.{false≢true}
 use Rattle.std.specs.List.{AllByRecursion}
@@ -22,7 +22,7 @@ Awake s = is_some (active_row s) ≡ true
 abbrev pub Rests : NodeState → Type 0
 Rests s = is_some s.active ≡ false → s.nets ≡ []
 
--- after the moves a key is active; after each network key that comes in one is
+-- after the moves a key is active; after each network key that is installed, one is
 abbrev pub Wakes : List Move → Type 0
 Wakes [] = ⊥
 Wakes (Active k ∷ ms) = Unit {0}
@@ -98,7 +98,7 @@ mere-bares (x ∷ es) a s b = mere-bares es a.1 (applied x s) (mere-bare x a.0 s
 abbrev kept : Counting → NodeState → List Move → List Edit
 kept k s0 ms = flat_map (move_edits k) (filter (changes s0) ms)
 
--- a move after which the rest goes on, whether or not it changes anything
+-- a move after which the rest continues, whether or not it changes anything
 abbrev Woken : Counting → NodeState → List Move → Type 0
 Woken k s0 ms = (s : NodeState) → is_some (applied_all (kept k s0 ms) s).active ≡ true
 
@@ -254,7 +254,7 @@ begin-rests (Counter n Nwk v) s b r = λ e. ap (map (declared_at v)) (r e)
 begin-rests (Counter n Aps v) s b r = r
 begin-rests _ s b r = absurd b
 
--- What it gives: an active row, where there is a network key
+-- The result: an active row, if there is a network key
 
 row-some : (o : Option NetKey) → row_is_started o ≡ true → is_some o ≡ true
 row-some None e = e

@@ -1,4 +1,4 @@
--- The command to whose rule a delivered frame comes, once its layers have passed, and the layers of the frame that
+-- The command whose rule answers a delivered frame after its layers have passed, and the layers of the frame that
 -- answers it.
 use Rattle.std.specs.Prelude.{if◌then◌else◌, List, [], Option, Some, None}
 use Rattle.zb_model.specs.Data.{Bytes, Layer, Term, Command}
@@ -27,7 +27,7 @@ abbrev pub command_in : Tools → Setting → NodeState → NwkShown → Option 
 command_in tools c s f nwk None = None
 command_in tools c s f nwk (Some a) = if a.is_command then command_by tools c s f nwk a a.auxiliary else None
 
--- a NWK command, in a secured frame, carries none of APS
+-- a NWK command, in a secured frame, carries no APS frame
 abbrev pub carried_by : Tools → Setting → NodeState → NwkShown → Option Term → Option Command
 carried_by tools c s f None = command_in tools c s f None (tools.read_aps f.body)
 carried_by tools c s f (Some term) = if f.is_command then None

@@ -1,6 +1,6 @@
--- At which layers the frame of a rule is sealed, so which counters it takes. Data and the requests of routers and
--- devices are sealed at NWK, and at APS where they go under a link key. A network key goes to a child of the centre
--- without NWK security.
+-- At which layers the frame of a rule is sealed, and so which counters it uses. Data and the requests of routers and
+-- devices are sealed at NWK, and also at APS if they are sent under a link key. A network key is sent to a child of
+-- the centre without NWK security.
 use Rattle.std.specs.Prelude.{◌≡◌, ◌≤◌, ◌⊎◌, if◌then◌else◌, Bool, List, [], ◌∷◌, Option, Some, None, nat_eq, ⊤}
 use Rattle.std.specs.List.{list_any}
 use Rattle.zb_model.specs.Data.{Layer, Nwk, Aps, State, Offered, Command, UpdateDevice, RemoveDevice, RequestApp, RequestLink, VerifyKey, Task, SayTo, TellTo, DoTimer, AskFor, HasChild, DoRemove, DoSwitch, DoShare}
@@ -14,12 +14,12 @@ at_nwk = Nwk ∷ []
 abbrev pub at_both : List Layer
 at_both = Nwk ∷ Aps ∷ []
 
--- in Offered the key is proved in clear (Verify-Key); else a key is asked for, under the current row
+-- in Offered the key is proved in clear (Verify-Key); otherwise a key is asked for, under the current row
 abbrev pub timer_layers : State → List Layer
 timer_layers Offered = at_nwk
 timer_layers _ = at_both
 
--- a child is reported under the current row of the centre, or in clear where there is none
+-- a child is reported under the current row of the centre, or in clear if there is none
 abbrev pub report_layers : Option LinkKey → List Layer
 report_layers None = at_nwk
 report_layers (Some row) = at_both
@@ -45,7 +45,7 @@ member_layers c s _ = []
 abbrev pub own_layers : Setting → NodeState → Task → List Layer
 own_layers c s task = if is_centre c.me.role then centre_layers c task else member_layers c s task
 
--- of the frame that answers a command: a Leave is sealed at NWK alone; a key, and a Confirm-Key, at APS too
+-- of the frame that answers a command: a Leave is sealed at NWK only; a key, and a Confirm-Key, at APS too
 abbrev pub command_layers : Command → List Layer
 command_layers (UpdateDevice device short status) = at_both
 command_layers (RemoveDevice target) = at_nwk
@@ -54,12 +54,12 @@ command_layers RequestLink = at_both
 command_layers (VerifyKey kind source hash) = at_both
 command_layers _ = []
 
--- one of the layers has no counter left: its next is the greatest, which is never used
+-- one of the layers has no counter left: its next counter is the greatest, which is never used
 abbrev pub OneSpent : List Layer → NodeState → Type 0
 OneSpent [] s = ⊥
 OneSpent (layer ∷ layers) s = (greatest_counter ≤ next_counter layer s) ⊎ OneSpent layers s
 
--- a frame is sealed at just these layers
+-- a frame is sealed at exactly these layers
 abbrev pub has_layer : Layer → List Layer → Bool
 has_layer layer layers = list_any (same_layer layer) layers
 

@@ -1,5 +1,5 @@
--- What the rules take for granted of a node. Each is what one of them looks for: its refusal where that isn't there
--- comes in no run.
+-- What the rules take for granted of a node. One of them looks up each of these things; no run has the refusal for a
+-- missing one.
 use Rattle.std.specs.Prelude.{ℕ, ◌≡◌, true, false, List, Some, None, is_some, ⊤}
 use Rattle.zb_model.specs.Data.{Bytes, Offered, NoDraw, Policy, Task, DoRoll, Received}
 use Rattle.zb_model.specs.Lines.{Line}
@@ -21,21 +21,21 @@ pub record Granted (w : Schedule) (h : List Line) (n : ℕ) : Type 0 where
   -- sent
   pub current_row : is_centre (setting_of w n).me.role ≡ true → (device : ℕ) → is_live (state_of h n) device ≡ true
       → is_some (current (state_of h n) device) ≡ true
-  -- no row of the centre has a key that is still to be drawn: the next key of the supply is taken as it is
+  -- no row of the centre has a key that is still to be drawn: the next key of the supply is used as it is
   pub next_key : is_centre (setting_of w n).me.role ≡ true → unless_held (state_of h n) (supply w h) ≡ supply w h
   -- the active key has a row, and that row has started
   pub active_row_started : (key : Bytes) → (state_of h n).active ≡ Some key
       → row_is_started (active_row (state_of h n)) ≡ true
 
--- Under each network key that a node may use a floor of a declared node has room beside those of others: rows-full
--- never comes at NWK.
+-- Under each network key that a node may use, there is room for a floor of a declared node in addition to those of
+-- others: rows-full never occurs at NWK.
 abbrev pub HasRoom : Schedule → List Line → ℕ → Type 0
 HasRoom w h n =
     (sequence : ℕ) (row : NetKey) → usable_of (state_of h n) sequence ≡ Some row → (source counter : ℕ)
     → is_declared (setting_of w n) source ≡ true
     → senders_full source counter row ≡ false
 
--- The centre answers no-draw only where the supply is empty: to a rollover, and to a frame.
+-- The centre answers no-draw only if the supply is empty: to a rollover, and to a frame.
 pub record DrawsAreThere (tools : Tools) (w : Schedule) (h : List Line) (n : ℕ) : Type 0 where
   pub rollovers : is_centre (setting_of w n).me.role ≡ true
       → refusal_of (plan_of tools (setting_of w n) (state_of h n) (DoRoll (supply w h))) ≡ Some NoDraw → supply w h
@@ -53,6 +53,6 @@ IsSuited tools w h (Own n task) = NotPolicy tools w h n task
 IsSuited tools w h (RollOver n) = NotPolicy tools w h n (DoRoll (supply w h))
 IsSuited tools w h _ = ⊤
 
--- where the active key has a row, there is a newest live one
+-- if the active key has a row, there is a newest live one
 abbrev pub HasNewest : NodeState → Setting → ℕ → Type 0
 HasNewest s c n = is_some (active_row s) ≡ true → is_some (newest s) ≡ true

@@ -1,4 +1,4 @@
--- What a node sends may be sealed, so a frame goes out exactly where the rule sends one.
+-- What a node sends may be sealed, so a frame is sent exactly if the rule sends one.
 use Rattle.std.specs.Prelude.{ℕ, ◌≡◌, true, List, Option, is_some}
 use Rattle.zb_model.specs.Data.{Task}
 use Rattle.zb_model.specs.Lines.{Line}
@@ -10,7 +10,7 @@ use Rattle.zb_model.specs.Readings.{state_of}
 use Rattle.zb_model.specs.Play.{Schedule, setting_of}
 
 -- Neither the test in `out_of` nor a missing active row decides: what is sent passes the test, the frame is that of
--- `sent`, and there is one. With the counters of any choice.
+-- `sent`, and there is one. This is so with any counters.
 pub record IsSealable (tools : Tools) (c : Setting) (s : NodeState) (send : Option Sending) : Type 0 where
   pub may : may_seal s send ≡ true
   pub as_sent : (k : Counting) → out_of tools c s k send ≡ sent tools c s k send

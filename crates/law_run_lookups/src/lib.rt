@@ -31,15 +31,15 @@ ghost use Rattle.law_run_lookups.specs.Sealable.{SendsSealable};
 /// - No row of the centre has a key that is still to be drawn.
 /// - The active key has a row, which has started.
 ///
-/// So no rule is refused for want of one of these.
+/// So no rule refuses because one of these is missing.
 pub fn rules_find_what_they_look_for()
     ensures { (tools : Tools) → Opens tools → (w : Schedule) → KeysApart w
         → BeforeEach (λ (h : List Line) (event : Event). (n : ℕ) → Granted w h n) tools w (start w) [] 1 w.events }
 {}
 
-/// States that the centre answers no-draw only where the supply is empty.
+/// States that the centre answers no-draw only if the supply is empty.
 ///
-/// That is so of a rollover and of a frame, where the centre has what rules take for granted.
+/// This covers a rollover and a frame, if the centre has what the rules look up.
 pub fn no_draw_comes_where_the_supply_is_empty()
     ensures rollovers { (tools : Tools) (w : Schedule) (h : List Line) (n : ℕ) → Granted w h n
         → is_centre (setting_of w n).me.role ≡ true
@@ -53,17 +53,17 @@ pub fn no_draw_comes_where_the_supply_is_empty()
 
 /// States that before each event of a run there is room for the floor of each declared sender.
 ///
-/// That is so under each network key that a node may use, in a run with at most 64 nodes. So rows-full never comes at
-/// NWK, where only declared senders are asked for it.
+/// This is so under each network key that a node may use, in a run with at most 64 nodes. So rows-full never occurs
+/// at NWK, where only declared senders need a floor.
 pub fn each_sender_has_room()
     ensures { (tools : Tools) → Opens tools → (w : Schedule) → length w.nodes ≤ most_nodes
         → BeforeEach (λ (h : List Line) (event : Event). (n : ℕ) → HasRoom w h n) tools w (start w) [] 1 w.events }
 {}
 
-/// States that a rule stops as counter-spent only where a layer of its frame is spent.
+/// States that a rule stops as counter-spent only if a layer of its frame is spent.
 ///
-/// A layer is spent where its next counter is the greatest. `own_layers` and `command_layers` say at which layers the
-/// frame of a rule is sealed, and what a rule sends is sealed at just these.
+/// A layer is spent if its next counter is the greatest. `own_layers` and `command_layers` say at which layers the
+/// frame of a rule is sealed, and what a rule sends is sealed at exactly these.
 pub fn counter_spent_is_of_the_layers_of_the_frame()
     ensures own_events { (tools : Tools) (c : Setting) (s : NodeState) (task : Task)
         → own tools c s task ≡ Stop CounterSpent → OneSpent (own_layers c s task) s }
@@ -80,7 +80,8 @@ pub fn counter_spent_is_of_the_layers_of_the_frame()
 
 /// States that no event of a node's own is refused as policy in a run.
 ///
-/// That refusal is for an event that isn't for a node of its role, and a schedule has none (`IsSchedule.roles`).
+/// That refusal is for an event that isn't for a node of its role, and a schedule has no such event
+/// (`IsSchedule.roles`).
 pub fn events_suit_the_role_of_their_node()
     ensures { (tools : Tools) (w : Schedule) → IsSchedule w
         → BeforeEach (IsSuited tools w) tools w (start w) [] 1 w.events }
@@ -88,7 +89,7 @@ pub fn events_suit_the_role_of_their_node()
 
 /// States that before each event of a run its node has a newest live network key.
 ///
-/// That is so if its active key has a row. So a rollover that goes on, and the switch that ends it, find the key that
+/// This is so if its active key has a row. So a rollover under way, and the switch that ends it, find the key that
 /// they send.
 pub fn a_newest_key_is_there()
     ensures { (tools : Tools) → OpensAsJudged tools → (w : Schedule) → IsSchedule w → euis_differ w ≡ true
@@ -97,17 +98,17 @@ pub fn a_newest_key_is_there()
 
 /// States that before each event of a run, what any node would send may be sealed.
 ///
-/// So neither the test in `out_of` nor a missing active row decides anything in a run: where a rule sends, a frame
-/// goes out. This holds whatever the node is to do, of any schedule, and with any tools.
+/// So neither the test in `out_of` nor a missing active row decides anything in a run: if a rule sends, a frame is
+/// sent. This is true whatever the node is to do, for any schedule, and with any tools.
 pub fn what_is_sent_may_be_sealed()
     ensures { (tools : Tools) (w : Schedule)
         → BeforeEach (λ (h : List Line) (event : Event). SendsSealable tools w h) tools w (start w) [] 1 w.events }
 {}
 
-/// States that a delivery is refused as counter-spent only where a layer of its answer is spent.
+/// States that a delivery is refused as counter-spent only if a layer of its answer is spent.
 ///
-/// `carried` is the command to whose rule the frame comes, and `answer_layers` the layers of what that rule sends:
-/// what goes out is sealed at just these. Where the frame carries no command, counter-spent never comes.
+/// `carried` is the command whose rule answers the frame, and `answer_layers` the layers of what that rule sends: its
+/// frame is sealed at exactly these. If the frame carries no command, counter-spent never occurs.
 pub fn counter_spent_is_of_the_layers_of_what_answers()
     ensures refusals { (tools : Tools) (c : Setting) (s : NodeState) (bytes : Bytes) (draw : Option Bytes)
         → refusal_of (plan_of tools c s (Received bytes draw)) ≡ Some CounterSpent

@@ -62,9 +62,10 @@ cut_down h armed calls number n a e =
     ap (λ x. is_up x n) (sym (append_assoc h some (fallen_line armed number n))) ∙ fallen_down (h ++ some) armed calls
     number n e
 
--- ---- what holds of a node with power
+-- ---- what is true of a node with power
 
--- Where no counter was taken since its last boot, the next one is the limit; and the floors in memory are as said.
+-- If no counter was used since its last boot, the next one is the limit; and the floors in memory are as the lines
+-- say.
 pub record Evens (h : List Line) (n : ℕ) : Type 0 where
   pub nwk : (key : Bytes) → sealed_since n Nwk key h ≡ None → Even key (state_of h n)
   pub aps : sealed_since n Aps [] h ≡ None → EvenAps (state_of h n)
@@ -409,7 +410,7 @@ own_evens tools w before ds number (ForgeOpen to from source label base aps_coun
 
 -- ---- other nodes
 
--- a line that is no seal, boot, change or accepted counter of the node
+-- a line other than a seal, boot, change or accepted counter of the node
 abbrev Deaf : ℕ → Line → Type 0
 Deaf m (Changed e n edit) = nat_eq n m ≡ false
 Deaf m (Accept e n t) = nat_eq n m ≡ false
@@ -598,7 +599,7 @@ other_evens tools w h ds number event m other e =
     (deaf_event tools w m h ds number event other)))
     (ap (λ (x : Condition). x.up) same) e
 
--- what holds of an event's node
+-- what is true of an event's node
 pub of_node : (P : ℕ → Type 0) (event : Event) (m : ℕ) → is_of m event ≡ true → OfNode P event → P m
 of_node P (Own n task) m is p = subst P (eqb-true n m is) p
 of_node P (RollOver n) m is p = subst P (eqb-true n m is) p
@@ -614,7 +615,7 @@ of_node P (ForgeNetAps to from source key sequence counter label base aps_counte
     absurd (false≢true is)
 of_node P (ForgeOpen to from source label base aps_counter command) m is p = absurd (false≢true is)
 
--- what holds of each declared node holds of the event's
+-- what is true of each declared node is true of the event's
 pub to_node : (P : ℕ → Type 0) (w : Schedule) → ((n : ℕ) → Names w n → P n) → (event : Event) → NamesNode w event
     → OfNode P event
 to_node P w each (Own n task) named = each n named

@@ -1,4 +1,4 @@
--- The changes of an answer are such that what is said of a node stays what its state says.
+-- After the changes of an answer, what lines say of a node is still what its state says.
 use Rattle.std.proofs.Common.{◌≡◌, ℕ, ◌≤◌, ◌<◌, ◌+◌, min, Bool, true, false, cond, not, ◌&&◌, ◌||◌, List, [], ◌∷◌, ◌++◌, map, filter, Option, Some, None, option_map, find, flat_map, is_some, nat_eq, nat_le, refl, sym, ap, ◌∙◌, subst, arith, leb-true, inl, inr, ◌⊎◌}
 use Rattle.std.specs.Prelude.{option_to_list}
 use Rattle.std.specs.List.{AllByRecursion, list_any}

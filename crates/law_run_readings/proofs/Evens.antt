@@ -1,4 +1,4 @@
--- Where no counter was taken since the last boot, the next one is the limit: of a node with power, after whole groups.
+-- If no counter was used since the last boot, the next one is the limit: for a node with power, after whole groups.
 use Rattle.std.proofs.Common.{◌≡◌, ℕ, ◌+◌, max, min, Bool, true, false, cond, ◌&&◌, List, [], ◌∷◌, ◌++◌, map, flat_map, Option, Some, None, option_map, nat_eq, refl, sym, ap, ◌∙◌, subst, append_assoc, unwrap_or}
 use Rattle.std.specs.List.{AllByRecursion}
 use Rattle.std.proofs.lemmas.Bool.{false≢true}
@@ -88,7 +88,7 @@ plain_even f key next limit = record { key = key; even = λ r e. next r ∙ e �
 
 -- ---- one own line
 
--- it takes no counter of the layer, under the key; and it reserves none
+-- it uses no counter of the layer, under the key; and it reserves none
 abbrev pub Unsealed : Layer → Bytes → Line → Type 0
 Unsealed layer key (Seal e n t) = (same_layer t.layer layer && is_under layer key t.base) ≡ false
 Unsealed layer key _ = Unit {0}
@@ -400,7 +400,7 @@ all_unreserved : (layer : Layer) (n : ℕ) (ls : List Line) → AllByRecursion (
 all_unreserved layer n [] a = tt
 all_unreserved layer n (l ∷ ls) a = (λ own. unreserved_line layer l a.0, all_unreserved layer n ls a.1)
 
--- a seal line of the layer takes its counter under the key, so that where there is none nothing is called for
+-- a seal line of the layer uses its counter under the key, so without one nothing is called for
 nwk_uncalled : (w : Schedule) (h : List Line) (n : ℕ) (key : Bytes) → (state_of h n).active ≡ Some key
     → (ls : List Line) → AllByRecursion (SealsOf n) ls → AllByRecursion (TakesCounter h) ls
     → AllOwn (Unsealed Nwk key) n ls

@@ -138,8 +138,8 @@ unfolding NoChange
 refused_changes before m disks number n reason = unchanged before m [] (refused_step disks number n reason).lines
     (tt, tt)
 
--- The changes of an answer fit the state and tell of devices as they must; its group accepts what isn't below the
--- floors, and stores each floor for that.
+-- The changes of an answer fit the state and tell of devices as they must. Its group accepts what isn't below the
+-- floors, and stores each floor for an accepted counter.
 pub record AnswerFits (tools : Tools) (w : Schedule) (before : List (List Line)) (n : ℕ) (task : Task) : Type 0 where
   pub edits : FitEdits (was_active before n) (answer_to tools w (flat before) n task).edits
       (state_of (flat before ++ []) n)
@@ -301,7 +301,7 @@ answers_fit tools opens judged w before n ready started is task =
       floors = floors_fit tools opens w (flat before) n task;
     }
 
--- ---- a step more
+-- ---- one more step
 
 pub step_recalls : (tools : Tools) (w : Schedule) → IsSchedule w → (before : List (List Line)) (disks : List Disk)
     (number : ℕ) (event : Event) → NamesNode w event → Inv tools (flat before)

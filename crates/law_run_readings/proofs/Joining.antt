@@ -24,7 +24,7 @@ pub joins_said : (h : List Line) (n : ℕ) → Joins h n → joining h n ≡ (st
 unfolding joining
 joins_said h n is = ap (λ r. unwrap_or (last_said n (state_in r) h) Fresh) (role_said h n) ∙ sym is
 
--- ---- a line more
+-- ---- one more line
 
 abbrev Undeclared : Line → Type 0
 Undeclared (Declared p) = ⊥
@@ -50,7 +50,7 @@ role_sealed : (layer : Layer) (t : Term) (s : NodeState) → (sealed_at layer t 
 role_sealed Nwk t s = refl
 role_sealed Aps t s = refl
 
--- what a line other than that of a declaration does
+-- what a line other than a declaration does
 role_kept : (l : Line) (s : NodeState) → Undeclared l → (after l s).role ≡ s.role
 unfolding after applied with_given_net with_given_link with_declared after_accepting after_sealing after_boot
 role_kept (Declared p) s u = absurd u

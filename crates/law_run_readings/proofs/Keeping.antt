@@ -1,4 +1,4 @@
--- What lines say of the stored floors stays where rows change in other things.
+-- What lines say of the stored floors stays true when rows change in other things.
 use Rattle.std.proofs.Common.{◌≡◌, ℕ, ◌≤◌, max, Bool, true, false, cond, ◌&&◌, List, [], ◌∷◌, ◌++◌, map, Option, Some, None, option_map, find, nat_eq, refl, sym, ap, ◌∙◌, subst, arith, eqb-true}
 use Rattle.std.proofs.lemmas.Bool.{and_parts}
 use Rattle.zb_model.specs.Data.{Bytes, Attribute}
@@ -173,7 +173,7 @@ pub plain_link : (f : LinkKey → LinkKey) → ((r : LinkKey) → (f r).partner 
     → ((r : LinkKey) → (f r).key ≡ r.key) → ((r : LinkKey) → (f r).stored ≡ r.stored) → LeavesLink f
 plain_link f partner key stored = record { keeps = record { partner = partner; key = key }; stored = stored }
 
--- a row more with no floor
+-- one more row with no floor
 more_link : (x : LinkKey) → x.stored ≡ 0 → (p : ℕ) (key : Bytes) (links : List LinkKey)
     → link_stored (link_at p key (links ++ x ∷ [])) ≡ link_stored (link_at p key links)
 more_link x zero_is p key [] = by_test (is_link p key x)
@@ -210,7 +210,7 @@ with_told_stored partner told p key links =
     (only_link (told_as told) (is_live_of partner) (plain_link (told_as told) (λ r. refl) (λ r. refl) (λ r. refl))) p
     key links
 
--- of the row of a partner and a key, whether it is another's is a question of the partner and the key
+-- whether the row of a partner and a key is another's depends on the partner and the key
 pub link_asks : (from : ℕ) (k : Bytes) (p : ℕ) (key : Bytes) (r : LinkKey) → is_link p key r ≡ true
     → is_link from k r ≡ (same_key k key && nat_eq from p)
 link_asks from k p key r e =

@@ -1,5 +1,5 @@
--- The floors in memory after whole groups, of a node with power: what was accepted since its boot moves them, and a
--- group that stores a floor accepts a counter of it.
+-- The floors in memory after whole groups, of a node with power: the counters that it accepted since its boot set
+-- them, and a group that stores a floor accepts a counter for it.
 use Rattle.std.proofs.Common.{◌≡◌, ℕ, zero, suc, ◌<◌, ◌+◌, arith, get_or, not-suc-le-zero, Bool, true, false, cond, ◌&&◌, List, [], ◌∷◌, ◌++◌, map, length, Option, Some, None, option_map, find, nat_eq, refl, sym, ap, ◌∙◌, subst, append_assoc, unwrap_or}
 use Rattle.std.specs.List.{AllByRecursion}
 use Rattle.std.specs.Option.{option_or}

@@ -44,7 +44,7 @@ alike_recalls x y s a is = record {
   link_floors = λ key sender. is.link_floors key sender ∙ ap (λ o. unwrap_or o 0) (a.floor Aps key sender);
 }
 
--- ---- a line more
+-- ---- one more line
 
 pub last_snoc : {A : Type 0} (n : ℕ) (f : Line → Option A) (h : List Line) (l : Line) → last_said n f (h ++ l ∷ [])
     ≡ option_or (said_by n f l) (last_said n f h)

@@ -15,7 +15,7 @@ said_at partner key links = option_map link_said (find (is_link partner key) lin
 abbrev found_said : Bool → LinkKey → Option LinkSaid → Option LinkSaid
 found_said b r rest = cond b (Some (link_said r)) rest
 
--- a row more in front
+-- one more row in front
 said_cons : (partner : ℕ) (key : Bytes) (r : LinkKey) (rs : List LinkKey) → said_at partner key (r ∷ rs)
     ≡ found_said (is_link partner key r) r (said_at partner key rs)
 said_cons partner key r rs = by_test (is_link partner key r)
@@ -84,7 +84,7 @@ at_said f keeps p k partner key links = said_same (λ r. cond (is_link p k r) (f
 
 -- ---- a change of the rows of one partner and key
 
--- a row of this partner and key is of that one where these are the same
+-- a row of this partner and key is of that one if these are the same
 row_is : (partner : ℕ) (key : Bytes) (p : ℕ) (k : Bytes) (r : LinkKey) → is_link partner key r ≡ true → is_link p k r
     ≡ is_row partner key p k
 row_is partner key p k r own =
@@ -140,7 +140,7 @@ said_dropped p k partner key links = changed_said dropped_link dropped_said drop
 revived_keeps : (attribute : Attribute) (told : Bool) → Keeps (revived attribute told)
 revived_keeps attribute told = record { partner = λ r. refl; key = λ r. refl }
 
--- where there is a row, something is said of it
+-- if there is a row, something is said of it
 is_said : (partner : ℕ) (key : Bytes) (x : LinkSaid) (links : List LinkKey) → has_link partner key links ≡ true
     → option_map (λ (y : LinkSaid). x) (said_at partner key links) ≡ Some x
 is_said partner key x [] has = absurd (false≢true has)
@@ -157,7 +157,7 @@ parts : (a b : Bool) → (a || b) ≡ false → (a ≡ false) × (b ≡ false)
 parts true b e = absurd (false≢true (sym e))
 parts false b e = (refl, e)
 
--- a row at the end of rows of which none is of its partner and key
+-- a row after rows of which none has its partner and key
 said_behind : (x : LinkKey) (partner : ℕ) (key : Bytes) (links : List LinkKey) → has_link x.partner x.key links ≡ false
     → said_at partner key (links ++ x ∷ []) ≡ cond (is_row partner key x.partner x.key) (Some (link_said x))
     (said_at partner key links)
@@ -334,7 +334,7 @@ own_given p k attribute told links own = by_has (has_link p k links) refl
         all-append (λ (r : LinkKey). find (is_link r.partner r.key) (links ++ x ∷ []) ≡ Some r) links (x ∷ [])
         (own_more x links links own) (found_behind (is_link p k) x links has itself, tt)
 
--- ---- a device is live where one of its rows is
+-- ---- a device is live if one of its rows is
 
 pub lives_in : (device : ℕ) (all rs : List LinkKey) → OwnRows all rs
     → list_any (λ (r : ℕ × Bytes). is_live_row (said_at r.0 r.1 all) && nat_eq r.0 device) (names rs)

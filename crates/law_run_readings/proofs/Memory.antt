@@ -1,4 +1,4 @@
--- The floors in memory: no change of rows moves them, and an accepted counter moves its sender's alone.
+-- The floors in memory: no change of rows changes them, and an accepted counter changes only its sender's.
 use Rattle.std.proofs.Common.{◌≡◌, ℕ, ◌<◌, ◌+◌, max, Bool, true, false, cond, ◌&&◌, List, [], ◌∷◌, ◌++◌, map, Option, Some, None, option_map, find, nat_eq, nat_lt, refl, sym, ap, ◌∙◌, subst, eqb-true, ltb-true, unwrap_or}
 use Rattle.std.proofs.lemmas.Bool.{false≢true}
 use Rattle.std.specs.List.{AllByRecursion}
@@ -239,7 +239,7 @@ links_kept f same kept p key links =
     ap link_memory (find-map (is_link p key) f (link_same f same p key) links) ∙ left_memory f kept
     (link_at p key links)
 
--- of the rows for which a test holds
+-- of the rows that pass a test
 some_kept : (f : LinkKey → LinkKey) → KeepsLink f → ((r : LinkKey) → (f r).kept ≡ r.kept) → (test : LinkKey → Bool)
     (p : ℕ) (key : Bytes) (links : List LinkKey)
     → link_memory (link_at p key (map (λ r. cond (test r) (f r) r) links)) ≡ link_memory (link_at p key links)

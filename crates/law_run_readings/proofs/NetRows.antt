@@ -113,7 +113,7 @@ live_dropped k key (r ∷ rs) =
         (same_key-eq r.key key is)
     by_own false is again = again
 
--- ---- a row more
+-- ---- one more row
 
 has_as : (key : Bytes) (nets : List NetKey) → list_any (λ (k : Bytes). same_key k key) (keys nets) ≡ has_net key nets
 has_as key [] = refl
@@ -128,7 +128,7 @@ keys_more x nets = by_test (has_net x.key nets) ∙ ap (λ b. cond b (keys nets)
     by_test true = refl
     by_test false = map-append (λ (r : NetKey). r.key) nets (x ∷ [])
 
--- at the end of rows of which none has its key
+-- after rows of which none has its key
 live_behind : (x : NetKey) (key : Bytes) (nets : List NetKey) → x.live ≡ true → has_net x.key nets ≡ false
     → live_at key (nets ++ x ∷ []) ≡ cond (same_key key x.key) (first_given (live_at key nets)) (live_at key nets)
 live_behind x key [] live none = by_test (same_key key x.key) refl

@@ -1,4 +1,4 @@
--- What is said of a node, as values: what each own line adds to it, and when a state is as said.
+-- What lines say of a node, as values: what each own line adds, and when a state agrees with it.
 use Rattle.std.proofs.Common.{◌≡◌, ℕ, ◌≤◌, ◌+◌, Bool, true, false, cond, List, [], ◌∷◌, ◌++◌, map, Option, Some, None, option_map, refl, sym, ap, ◌∙◌, subst, arith, unwrap_or}
 use Rattle.std.proofs.lemmas.Bool.{false≢true}
 use Rattle.zb_model.specs.Data.{Bytes}
@@ -10,7 +10,7 @@ use Rattle.law_run_readings.proofs.Rows.{row_at, own_row, other_row, new_row_oth
 -- ---- one network row
 
 -- What lines say of the limit of a key, and of its counter since the last boot: the row has it. A row that has not
--- started has none of both, and neither has a key without a row.
+-- started has neither, and a key without a row has neither.
 pub record SaysRow (lim sealed : Option ℕ) (d : ℕ) (r : NetKey) : Type 0 where
   pub limit : r.started ≡ true → r.limit ≡ unwrap_or lim d
   pub fresh : r.started ≡ false → (lim ≡ None) × (sealed ≡ None)

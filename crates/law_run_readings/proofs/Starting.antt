@@ -1,4 +1,4 @@
--- What the start lines say of a node: of all of them its own alone, and these say what its state says.
+-- What the start lines say of a node: only its own say anything, and these say what its state says.
 use Rattle.std.proofs.Common.{◌≡◌, ℕ, max, Bool, true, false, cond, not, List, [], ◌∷◌, ◌++◌, map, fold, find, flat_map, Option, Some, None, option_map, nat_eq, refl, sym, ap, ◌∙◌, subst, arith, append_assoc, eqb-true, eq-eqb, unwrap_or}
 use Rattle.std.specs.List.{AllByRecursion, list_any}
 use Rattle.std.specs.Option.{option_or}
@@ -25,7 +25,7 @@ use Rattle.law_run_readings.proofs.Lines.{Alike, alike_recalls, said_of, was_act
 
 -- ---- what one start line adds
 
--- no change is said yet, and these limits are
+-- no change was stated yet, and these limits were
 pub record Begins (x : Said) (s : NodeState) (nwk aps : Option ℕ) : Type 0 where
   pub recalls : Recalls x s
   pub lim : (key : Bytes) → x.lim key ≡ None
@@ -187,7 +187,7 @@ declared_begins was p x s nwk aps b = record {
   even_aps = b.even_aps;
 }
 
--- a limit at the start, of rows that began at none
+-- a limit at the start, for rows whose limit was 0
 raised_row : (v : ℕ) (o : Option NetKey) → RowIs None None 0 o → RowIs None None v (option_map (declared_at v) o)
 raised_row v None is = is
 raised_row v (Some r) is = by_started r.started refl
@@ -401,7 +401,7 @@ not_same a b n same other = by_test (nat_eq b n) refl
     by_test false is = refl
     by_test true is = absurd (false≢true (sym other ∙ eq-eqb a b (eqb-true a n same ∙ sym (eqb-true b n is))))
 
--- a reading that hears the lines of one node alone
+-- a reading that uses only the lines of one node
 module _ {S : Type 0} (G : S → Line → S) (n : ℕ)
     (deaf : (s : S) (l : Line) → nat_eq (speaker l) n ≡ false → G s l ≡ s) where
   others_read : (m : ℕ) → nat_eq m n ≡ false → (ls : List Line) → AreOf m ls → (s : S) → fold G s ls ≡ s

@@ -1,4 +1,4 @@
--- What each own line of a node adds to what is said of it, and that its state stays as said.
+-- What each own line of a node adds to what lines say of it, and that its state still agrees.
 use Rattle.std.proofs.Common.{◌≡◌, ℕ, ◌≤◌, ◌+◌, Bool, true, false, cond, ◌&&◌, List, [], Option, Some, None, nat_eq, refl, sym, ap, ◌∙◌, subst, arith, unwrap_or}
 use Rattle.std.proofs.lemmas.Bool.{false≢true}
 use Rattle.std.specs.Option.{option_or}
@@ -16,8 +16,8 @@ use Rattle.law_run_readings.proofs.Rows.{row_at, other_row, link_at}
 use Rattle.law_run_readings.proofs.SaidRows.{SaysRow, RowIs, LeavesRow, left_at, reserved_row, start_row, sealed_row, booted_row, installed_row, at_own}
 use Rattle.law_run_readings.proofs.Keeping.{LeavesLink, plain_floors, plain_link, only_link, booted_leaves, kept_leaves, floors_map, floors_at, floors_own, installed_floors, links_map, with_link_stored, with_told_stored, link_floors_own}
 
--- What is said of a node: the limits of its network keys, their counters since the last boot, that of APS, the key
--- that was given and the one that became active, the limits at the start, the limit reserved at APS, and the floors.
+-- What lines say of a node: the limits of its network keys, their counters since the last boot, the counter of APS,
+-- the given key and the key that became active, the limits at the start, the limit reserved at APS, and the floors.
 pub record Said : Type 0 where
   pub lim : Bytes → Option ℕ
   pub sealed : Bytes → Option ℕ
@@ -28,7 +28,7 @@ pub record Said : Type 0 where
   pub reserve : Option ℕ
   pub floor : Layer → Bytes → ℕ → Option ℕ
 
--- with one own line more; `was` tells the key that is active before the line's group
+-- with one more own line; `was` is the key that is active before the line's group
 abbrev pub with_line : (Bytes → Bool) → Line → Said → Said
 with_line was l x = record {
   lim = λ key. option_or (limit_in key (was key) l) (x.lim key);
@@ -41,7 +41,7 @@ with_line was l x = record {
   floor = λ layer key sender. option_or (floor_in layer key sender l) (x.floor layer key sender);
 }
 
--- The state is as said.
+-- The state agrees with what lines say.
 pub record Recalls (x : Said) (s : NodeState) : Type 0 where
   pub declared : s.declared ≡ unwrap_or (x.counter Nwk) 0
   pub active : s.active ≡ option_or x.active x.given
@@ -261,7 +261,7 @@ turned a b = by_turn (same_key a b) refl (same_key b a) refl
     by_turn false f true g = sym f ∙ ap (λ z. same_key a z) (same_key-eq b a g) ∙ same_key-refl a
     by_turn false f false g = refl
 
--- the row of key a, of which o says something new
+-- the row of key a, if o says something new about it
 one_says : (f : NetKey → NetKey) → ((r : NetKey) → (f r).key ≡ r.key)
     → (a : Bytes) (v : ℕ) (b : Bool) (lim sealed : Option ℕ) (d : ℕ) (key : Bytes) (nets : List NetKey) → b
     ≡ same_key a key → (row_at a nets ≡ None → ⊥)

@@ -1,5 +1,5 @@
--- Whom the centre told of a rollover: a live row says of its device what the lines say of it, or a line that makes the
--- device live is still to come.
+-- Which devices the centre told of a rollover: a live row says of its device what the lines say of it, or a line that
+-- makes the device live is still to come.
 use Rattle.std.proofs.Common.{◌≡◌, ℕ, ◌+◌, ◌⊎◌, inl, inr, ⊎_elim, Bool, true, false, cond, ◌&&◌, ◌||◌, List, [], ◌∷◌, ◌++◌, map, nat_eq, refl, sym, ap, ◌∙◌, subst, eqb-true, eq-eqb}
 use Rattle.std.proofs.lemmas.Bool.{false≢true, and_parts}
 use Rattle.std.specs.List.{AllByRecursion, list_any}
@@ -21,7 +21,7 @@ abbrev pub Due : ℕ → ℕ → List Line → Type 0
 Due n d [] = ⊥
 Due n d (l ∷ ls) = MakesLive n d l ⊎ Due n d ls
 
--- A row comes of a device that is live, or that the centre makes live after it. The centre alone tells devices.
+-- A row is added for a device that is live, or that the centre makes live after it. Only the centre tells devices.
 abbrev pub TellsLine : Line → NodeState → List Line → Type 0
 TellsLine (Changed e n (Moved (Row p k a))) s later =
     (is_live s p ≡ true) ⊎ (Due n p later ⊎ (is_centre s.role ≡ false))
@@ -47,7 +47,7 @@ abbrev pub RowTold : (ℕ → Bool) → Bool → ℕ → List Line → LinkKey �
 RowTold said centre n later r = (r.told ≡ (r.live && said r.partner))
     ⊎ ((centre ≡ true) × ((r.live ≡ true) × Due n r.partner later))
 
--- `said` tells whom the lines so far say to be told
+-- `said` tells which devices the lines so far call told
 pub record Telling (said : ℕ → Bool) (n : ℕ) (later : List Line) (s : NodeState) : Type 0 where
   pub rows : AllByRecursion (RowTold said (is_centre s.role) n later) s.links
   pub member : is_centre s.role ≡ false → (d : ℕ) → said d ≡ false
@@ -106,7 +106,7 @@ plain_at said centre n later f k p key links a =
     mapped (RowTold said centre n later) (RowTold said centre n later) (λ r. cond (is_link p key r) (f r) r)
     (λ r t. some_row (RowTold said centre n later) f (plain_row said centre n later f k) (is_link p key r) r t) links a
 
--- a line that makes nobody live is past
+-- a line that makes no device live is past
 pub past : (said : ℕ → Bool) (n : ℕ) (l : Line) (later : List Line) (s : NodeState) → ((d : ℕ) → MakesLive n d l → ⊥)
     → Telling said n (l ∷ later) s → Telling said n later s
 past said n l later s none t = record {
@@ -121,7 +121,7 @@ past said n l later s none t = record {
 
 -- ---- one change
 
--- of a device whether it is told, by its rows
+-- whether a device is told, by its rows
 told_by : (said : ℕ → Bool) (centre : Bool) (n : ℕ) (later : List Line) (p : ℕ) (links : List LinkKey)
     → AllByRecursion (RowTold said centre n later) links
     → (list_any (λ (r : LinkKey). is_live_of p r && r.told) links ≡ (list_any (is_live_of p) links && said p))
@@ -161,7 +161,7 @@ pub is_told_by : (said : ℕ → Bool) (n : ℕ) (later : List Line) (s : NodeSt
 unfolding is_told is_live
 is_told_by said n later s p t = told_by said (is_centre s.role) n later p s.links t.rows
 
--- what a row that comes says of its device
+-- what a new row says of its device
 abbrev NewRow : (ℕ → Bool) → ℕ → List Line → NodeState → ℕ → Type 0
 NewRow said n later s p = (is_told s p ≡ said p) ⊎ ((is_centre s.role ≡ true) × Due n p later)
 
@@ -272,7 +272,7 @@ first_of : (said : ℕ → Bool) (centre : Bool) (n : ℕ) (later : List Line) (
 first_of said centre n later d links a =
     all-map (RowTold said centre n later) (Either said centre n later d) (λ r row. inl row) links a
 
--- the line that makes a device live is that which was to come
+-- the line that makes a device live is the one that was to come
 live_comes : (said : ℕ → Bool) (centre : Bool) (n e m : ℕ) (later : List Line) (d : ℕ) (links : List LinkKey)
     → AllByRecursion (RowTold said centre n (Changed e m (Moved (Live d)) ∷ later)) links
     → AllByRecursion (Either said centre n later d) links
@@ -459,7 +459,7 @@ unfolding speaker
 live_speaker n d (Changed e m (Moved (Live x))) is = is.0
 live_speaker n d _ is = absurd is
 
--- another's line
+-- another node's line
 pub other_tells : (said : ℕ → Bool) (n : ℕ) (l : Line) (later : List Line) (s : NodeState)
     → nat_eq (speaker l) n ≡ false → Telling said n (l ∷ later) s → Telling said n later s
 other_tells said n l later s other t = past said n l later s

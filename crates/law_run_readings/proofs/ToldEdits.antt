@@ -1,5 +1,5 @@
--- The changes of an answer tell of devices as they must: a row comes of a device that is live or is made live at once,
--- and the centre alone tells.
+-- The changes of an answer say of devices what they must: a row is added for a device that is live or is made live at
+-- once, and only the centre tells.
 use Rattle.std.proofs.Common.{◌≡◌, ℕ, inl, inr, Bool, true, false, cond, not, ◌&&◌, ◌||◌, List, [], ◌∷◌, ◌++◌, map, filter, Option, Some, None, find, flat_map, nat_eq, refl, sym, ap, ◌∙◌, subst, eqb-true, unwrap_or}
 use Rattle.std.proofs.lemmas.Bool.{false≢true, and_parts, not-true}
 use Rattle.std.specs.List.{AllByRecursion, list_any}
@@ -21,7 +21,7 @@ use Rattle.law_run.proofs.LockoutGroups.{edits-parts}
 use Rattle.law_run.proofs.Sound.{Sound, link_test}
 use Rattle.law_run_readings.proofs.Telling.{TellsLine}
 
--- each of the changes asks for what is so in the state before it, and of the lines of those behind it
+-- each of the changes asks for what is true in the state before it, and of the lines of those after it
 abbrev pub TellAll : ℕ → ℕ → List Edit → NodeState → Type 0
 TellAll number n [] s = Unit {0}
 TellAll number n (e ∷ es) s = TellsLine (Changed number n e) s (map (Changed number n) es)
@@ -178,7 +178,7 @@ drawn_live : (k : Bytes) (s : NodeState) (p : ℕ) → is_live s p ≡ true → 
 unfolding applied
 drawn_live k s p live = live
 
--- ---- a row that is verified: its device goes on being live
+-- ---- a row that is verified: its device stays live
 
 any_in : (test : LinkKey → Bool) (r : LinkKey) (links : List LinkKey) → In r links → test r ≡ true
     → list_any test links ≡ true
@@ -221,7 +221,7 @@ live_dropped : (p q : ℕ) (k : Bytes) (s : NodeState) → list_any (Remains p q
 unfolding applied is_live
 live_dropped p q k s is = any_dropped p q k s.links is
 
--- two rows that are found are apart, where the one is unverified and the other isn't
+-- two rows that are found differ, if one is unverified and the other isn't
 apart : (s : NodeState) → Sound s → (a b : LinkKey) → In a s.links → In b s.links → is_unverified a.attribute ≡ true
     → is_unverified b.attribute ≡ false → (t : Bool) → is_link b.partner b.key a ≡ t
     → is_link b.partner b.key a ≡ false

@@ -1,5 +1,5 @@
--- Whom the centre told of a rollover, after the lines of whole groups: what lines say of a device and of its rows is
--- what the state says.
+-- Which devices the centre told of a rollover, after the lines of whole groups: what lines say of a device and of its
+-- rows is what the state says.
 use Rattle.std.proofs.Common.{◌≡◌, ℕ, inl, inr, ⊎_elim, Bool, true, false, cond, ◌&&◌, List, [], ◌∷◌, ◌++◌, Option, Some, None, option_map, find, nat_eq, refl, sym, ap, ◌∙◌, subst, append_assoc, eqb-true}
 use Rattle.std.proofs.lemmas.Bool.{and_parts}
 use Rattle.std.proofs.lemmas.List.Sums.{fold-append}
@@ -23,7 +23,7 @@ use Rattle.law_run_readings.proofs.Telling.{Later, Now, RowTold, Telling, TellsL
 abbrev pub ToldAt : List Line → ℕ → List Line → Type 0
 ToldAt h n later = Telling (told h n) n later (state_of h n)
 
--- ---- a line more
+-- ---- one more line
 
 said_snoc : (h : List Line) (l : Line) (n d : ℕ) → told (h ++ l ∷ []) n d
     ≡ cond (nat_eq (speaker l) n) (tells d l (told h n d)) (told h n d)

@@ -1,4 +1,4 @@
--- Where the lines of whole groups say of a node what its state says.
+-- The lines of whole groups say of a node what its state says.
 use Rattle.std.specs.Prelude.{ℕ, ◌≡◌, ◌+◌, true, false, Option, None, Some, List, [], ◌∷◌, ◌++◌, find}
 use Rattle.zb_model.specs.Data.{Bytes, Layer, Nwk, Aps}
 use Rattle.zb_model.specs.Lines.{Line}
@@ -29,9 +29,9 @@ abbrev pub memory_at : Layer → Bytes → ℕ → NodeState → ℕ
 memory_at Nwk key sender s = net_memory sender (net_of key s)
 memory_at Aps key sender s = link_memory (find (is_link sender key) s.links)
 
--- What the lines of these groups say of a node is what its state says. Of the next counters and the floors in memory
--- that is claimed of a node with power alone. Where a stop or failure cut a group after its reserves and floors, a
--- node without power has a memory that its boot leaves out.
+-- What the lines of these groups say of a node is what its state says. About the next counters and the floors in
+-- memory, we claim this only for a node with power. If a stop or failure cut a group after its reserves and floors, a
+-- node without power has a memory that its boot discards.
 pub record Agrees (before : List (List Line)) (n : ℕ) : Type 0 where
   pub active_is : active (flat before) n ≡ (state_of (flat before) n).active
   pub limits : (layer : Layer) → limit before n layer ≡ stored_limit layer (state_of (flat before) n)
@@ -45,12 +45,12 @@ pub record Agrees (before : List (List Line)) (n : ℕ) : Type 0 where
   pub networks : said_own names_key [] (flat before) n ≡ keys_of (state_of (flat before) n)
   pub network : (key : Bytes) → said_own (net_says key) None (flat before) n
       ≡ net_of_state key (state_of (flat before) n)
-  -- the link rows in their order, and of each its attribute and whether it is live
+  -- the link rows in their order, and the attribute of each and whether it is live
   pub rows : said_own names_row [] (flat before) n ≡ rows_of (state_of (flat before) n)
   pub row : (partner : ℕ) (key : Bytes) → said_own (link_says partner key) None (flat before) n
       ≡ link_of_state partner key (state_of (flat before) n)
   pub lives : (device : ℕ) → live (flat before) n device ≡ is_live (state_of (flat before) n) device
-  -- whom the centre told of a rollover, and the rows that say so
+  -- which devices the centre told of a rollover, and the rows that say so
   pub told : (device : ℕ) → told_live (flat before) n device ≡ is_told (state_of (flat before) n) device
   pub told_rows : (partner : ℕ) (key : Bytes) → told_row (flat before) n partner key
       ≡ told_of_state partner key (state_of (flat before) n)
@@ -61,14 +61,14 @@ pub record Agrees (before : List (List Line)) (n : ℕ) : Type 0 where
 abbrev pub AllAgree : Schedule → List (List Line) → Type 0
 AllAgree w before = (n : ℕ) → Names w n → Agrees before n
 
--- before each of these events and after the last one, of each declared node
+-- before each of these events and after the last one, for each declared node
 abbrev pub AgreeFrom : Tools → Schedule → List (List Line) → List Disk → ℕ → List Event → Type 0
 AgreeFrom tools w before disks number [] = AllAgree w before
 AgreeFrom tools w before disks number (event ∷ events) =
     let g = step tools w (flat before) disks number event in
     AllAgree w before × AgreeFrom tools w (before ++ g.lines ∷ []) g.disks (number + 1) events
 
--- Whole groups of a run say what the states of its nodes say: the start lines, and those with the group of each event
--- in turn.
+-- Whole groups of a run say what the states of its nodes say: the start lines, and those together with the groups of
+-- the first events, for each number of them.
 abbrev pub RunAgrees : Tools → Schedule → Type 0
 RunAgrees tools w = AgreeFrom tools w (start w ∷ []) [] 1 w.events

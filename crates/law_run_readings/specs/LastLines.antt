@@ -1,4 +1,4 @@
--- What lines say of a node as they stand: of each thing the last line that speaks of it decides.
+-- What lines say of a node by themselves: the last line about each thing decides.
 use Rattle.std.specs.Prelude.{ℕ, ◌+◌, Bool, true, if◌then◌else◌, ◌&&◌, List, [], ◌∷◌, ◌++◌, fold, Option, Some, None, nat_eq, flat_map, unwrap_or}
 use Rattle.std.specs.Option.{option_or}
 use Rattle.zb_model.specs.Data.{Bytes, Layer, Nwk, Aps, Term, Active, Reserve, Floor, Start, Moved}
@@ -33,9 +33,9 @@ counter_in layer _ = None
 unfoldable pub declared : List Line → ℕ → Layer → ℕ
 declared h n layer = unwrap_or (last_said n (counter_in layer) h) 0
 
--- The stored outgoing limit: at APS that of the last `reserve` line there. At NWK the limit of a network key is that
--- of its `start` line, or of the last `reserve` line that is for it. Such a line is for the key that is active before
--- its group.
+-- The stored outgoing limit. At APS it is that of the last `reserve` line there. At NWK the limit of a network key is
+-- that of its `start` line, or of the last `reserve` line that is for it. A `reserve` line is for the key that is
+-- active before its group.
 abbrev pub reserve_in : Layer → Line → Option ℕ
 reserve_in layer (Changed e n (Reserve l limit)) = if same_layer l layer then Some limit else None
 reserve_in layer _ = None
@@ -62,7 +62,8 @@ unfoldable pub limit : List (List Line) → ℕ → Layer → ℕ
 limit before n Aps = unwrap_or (last_said n (reserve_in Aps) (flat before)) (declared (flat before) n Aps)
 limit before n Nwk = limit_of_key before n (active (flat before) n)
 
--- The counter after the last one that was sealed since the last boot: at NWK under a network key, at APS under any.
+-- The counter after the last one that was sealed since the last boot: at NWK under a network key, at APS under any
+-- key.
 abbrev pub is_under : Layer → Bytes → Bytes → Bool
 is_under Nwk key base = same_key base key
 is_under Aps key base = true
@@ -77,7 +78,7 @@ unfoldable pub sealed_since : ℕ → Layer → Bytes → List Line → Option �
 sealed_since n layer key h = fold (λ found l. if nat_eq (speaker l) n then sealed_in layer key found l else found)
     None h
 
--- The next counter: after the last one that was sealed since the last boot, or else the stored limit.
+-- The next counter: after the last one that was sealed since the last boot, or otherwise the stored limit.
 abbrev pub sealed_of_key : List (List Line) → ℕ → Option Bytes → Option ℕ
 sealed_of_key before n None = None
 sealed_of_key before n (Some key) = sealed_since n Nwk key (flat before)
@@ -95,8 +96,8 @@ floor_in layer key sender _ = None
 unfoldable pub stored : List Line → ℕ → Layer → Bytes → ℕ → ℕ
 stored h n layer key sender = unwrap_or (last_said n (floor_in layer key sender) h) 0
 
--- The floor in memory of a sender under a base key: after the last counter of it that was accepted since the last
--- boot, or else the stored floor.
+-- The floor in memory of a sender under a base key: after the last counter of the sender that was accepted since the
+-- last boot, or otherwise the stored floor.
 abbrev pub is_from : Layer → Bytes → ℕ → Term → Bool
 is_from layer key sender t = same_layer t.layer layer && (same_key t.base key && nat_eq t.source sender)
 

@@ -1,5 +1,5 @@
--- What lines say of a node's rows, of its state of joining and of a rollover, with no tables and no counters. Of each
--- thing the last line of the node that speaks of it decides.
+-- What lines say of a node's rows, of its state of joining and of a rollover, without tables and counters. The last
+-- line of the node about each thing decides.
 use Rattle.std.specs.Prelude.{ℕ, Bool, true, false, if◌then◌else◌, ◌&&◌, List, [], ◌∷◌, ◌++◌, fold, find, map, Option, Some, None, nat_eq, option_map, unwrap_or}
 use Rattle.std.specs.List.{list_any}
 use Rattle.zb_model.specs.Data.{Attribute, Became, Bytes, Device, DropLink, DropNet, Fresh, Install, Joined, Live, Moved, Provisional, Role, Roll, Row, State, Told, Untold}
@@ -8,7 +8,7 @@ use Rattle.zb_model.specs.Readings.{speaker}
 use Rattle.zb_model.specs.State.{LinkKey, NetKey, NodeState, is_centre, is_link, same_key}
 use Rattle.law_run_readings.specs.LastLines.{last_said}
 
--- what a node's own lines say one after the other: others say nothing of it
+-- what a node's own lines say, one after the other: lines of other nodes say nothing about it
 abbrev pub said_own : {A : Type 0} → (Line → A → A) → A → List Line → ℕ → A
 said_own says first h n = fold (λ found l. if nat_eq (speaker l) n then says l found else found) first h
 
@@ -26,8 +26,8 @@ names_key (GivenNet n key sequence) found = with_key key found
 names_key (Changed e n (Moved (Install key sequence))) found = with_key key found
 names_key _ found = found
 
--- Whether a network key is live, where it has a row: from the first line that gives it until a drop of it. A dropped
--- key that comes again isn't taken.
+-- Whether a network key is live, if it has a row: from the first line that gives it until a drop of it. A dropped key
+-- that is given again stays dropped.
 abbrev pub first_given : Option Bool → Option Bool
 first_given None = Some true
 first_given (Some live) = Some live
@@ -39,8 +39,8 @@ net_says key (Changed e n (Moved (DropNet k))) found = if same_key key k
     then option_map (λ (live : Bool). false) found else found
 net_says key _ found = found
 
--- A link row, where there is one. Its attribute is that of the last line that gives the row, and a code's is
--- provisional. It is live unless it was dropped since.
+-- A link row, if there is one. Its attribute is that of the last line that gives the row; a code's is provisional. It
+-- is live unless it was dropped since.
 pub record LinkSaid : Type 0 where
   pub attribute : Attribute
   pub live : Bool
@@ -72,7 +72,7 @@ names_row (GivenLink n p k) found = with_row p k found
 names_row (Changed e n (Moved (Row p k attribute))) found = with_row p k found
 names_row _ found = found
 
--- A device is live where one of its rows is.
+-- A device is live if one of its rows is.
 abbrev pub is_live_row : Option LinkSaid → Bool
 is_live_row None = false
 is_live_row (Some x) = x.live
@@ -93,7 +93,7 @@ tells device _ found = found
 unfoldable pub told : List Line → ℕ → ℕ → Bool
 told h n device = said_own (tells device) false h n
 
--- Of live devices whether the centre told them, and of a link row whether it is marked so: a dropped one isn't.
+-- Whether the centre told a live device, and whether a link row is marked as told: a dropped one isn't.
 unfoldable pub told_live : List Line → ℕ → ℕ → Bool
 told_live h n device = live h n device && told h n device
 
@@ -109,8 +109,8 @@ role_in _ = None
 unfoldable pub role : List Line → ℕ → Role
 role h n = unwrap_or (last_said n role_in h) Device
 
--- The state of joining: that of the last `state` line. Where there is none, a router or device that was given a
--- network key has joined, and any other node is fresh.
+-- The state of joining: that of the last `state` line. If there is none, a router or device that was given a network
+-- key has joined, and any other node is fresh.
 abbrev pub state_in : Role → Line → Option State
 state_in r (GivenNet n key sequence) = Some (if is_centre r then Fresh else Joined)
 state_in r (Changed e n (Moved (Became state))) = Some state

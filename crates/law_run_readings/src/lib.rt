@@ -1,6 +1,5 @@
-//! What the lines of a run say of its nodes as they stand, the last line that speaks of a thing deciding, is what the
-//! states of the nodes say. Each law is the contract of a function with an empty body; docs/THEOREMS.md says them
-//! in words.
+//! The lines of a run say of its nodes what their states say, if the last line about a thing decides. Each law is the
+//! contract of a function with an empty body; docs/THEOREMS.md says them in words.
 #![tactic(auto)]
 
 ghost use Rattle.std.specs.Prelude.{◌≡◌, ℕ, List, [], None, false, true};
@@ -19,25 +18,25 @@ ghost use Rattle.law_answer_storable.specs.Storing.{OpensAsJudged};
 
 /// States that the lines of a run say what the states of its nodes say.
 ///
-/// That is so after its start and after each whole group.
+/// This is so after its start and after each whole group.
 ///
-/// The last line that speaks of a thing decides: of the active network key, of the stored limits and floors, of the
-/// network and link rows, and of whom the centre told of a rollover. Where the node has power it decides the next
-/// counters and the floors in memory too. No two nodes of the schedule have one EUI.
+/// The last line about a thing decides: about the active network key, the stored limits and floors, the network and
+/// link rows, and which devices the centre told of a rollover. If the node has power, it decides the next counters
+/// and the floors in memory too. No two nodes of the schedule have one EUI.
 #[tactic(auto, using(crate::proofs::Agreed::run_agrees))]
 pub fn lines_of_a_run_say_what_its_states_say()
     ensures { (tools : Tools) → Opens tools → OpensAsJudged tools → (w : Schedule) → IsSchedule w
         → euis_differ w ≡ true → RunAgrees tools w }
 {}
 
-/// States that of a node's rows and its rollover the last line that speaks of each decides.
+/// States that the last line about each of a node's rows, and about its rollover, decides.
 ///
-/// It holds of any lines and any node, and of these:
+/// This is true for any lines and any node, and about:
 /// - which network keys have rows, in which order, and whether each is live
 /// - which link rows there are, in which order, the attribute of each, and whether it is live
 /// - whether a device is live
 /// - the node's role
-/// - whether a rollover goes on
+/// - whether a rollover is under way
 #[tactic(auto, using(crate::proofs::OwnLines::rows_decide))]
 pub fn the_last_line_about_a_row_decides()
     ensures rolling { (h : List Line) (n : ℕ) → (state_of h n).sending ≡ said_own rolls false h n }

@@ -1,4 +1,4 @@
--- What an event that is answered comes to, whole and cut.
+-- The result of an event that is answered, whole and cut.
 use Rattle.std.proofs.Common.{◌≡◌, ℕ, ◌+◌, Bool, true, false, cond, List, [], ◌∷◌, ◌++◌, map, length, fold, nat_eq, refl, sym, ap, ◌∙◌, subst, append_assoc}
 use Rattle.std.proofs.lemmas.Bool.{false≢true}
 use Rattle.std.proofs.lemmas.List.Sums.{fold-append}
@@ -173,7 +173,7 @@ whole-comes : (w : Schedule) (h : List Line) (ds : List Disk) (number n : ℕ) (
 unfolding group_of stored_lines
 whole-comes w h ds number n a = record { lines = refl; condition = group-condition w h ds number n a }
 
--- what a fall on these calls comes to
+-- the result of a fall on these calls
 abbrev CutComes : Schedule → List Line → List Disk → ℕ → ℕ → Answer → Step → Calls → Type 0
 CutComes w h ds number n a g calls =
     falls (disk_of ds n).armed calls ≡ true

@@ -10,7 +10,7 @@ pub cond-same : {X : Type 0} (b : Bool) (x : X) → cond b x x ≡ x
 cond-same true x = refl
 cond-same false x = refl
 
--- what a test finds in a list is still found where only others were left out
+-- what a test finds in a list is still found if only others were left out
 find-filtered : {X : Type 0} (p q : X → Bool) → ((x : X) → p x ≡ true → q x ≡ true) → (xs : List X)
     → find p (filter q xs) ≡ find p xs
 find-filtered p q k [] = refl

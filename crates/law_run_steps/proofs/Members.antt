@@ -43,7 +43,7 @@ used-of : (o : Option LinkKey) (rest : Outcome) → Members rest → Members (re
 used-of None rest k = k
 used-of (Some r) rest k = tt
 
--- who isn't the centre refuses what is for the centre
+-- a node that isn't the centre refuses what is for the centre
 centre-of : (c : Setting) (b : Bool) (reason : Reason) (rest : Outcome) → is_centre c.me.role ≡ false
     → Members (refuse_unless (is_centre c.me.role && b) reason rest)
 unfolding refuse_if

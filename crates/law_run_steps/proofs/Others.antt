@@ -1,4 +1,4 @@
--- What the other steps of a node come to, and which step each event is.
+-- The results of the other steps of a node, and which step each event is.
 use Rattle.std.proofs.Common.{◌≡◌, ℕ, ◌+◌, Bool, true, false, cond, List, [], ◌∷◌, ◌++◌, length, Option, Some, None, nat_eq, refl, sym, ap, ◌∙◌, subst}
 use Rattle.zb_model.specs.Data.{Bytes, Label, Term, AtEvent, Reason, Down, NoFrame, WrongState, Task, Received, DoRoll}
 use Rattle.zb_model.specs.Lines.{Line, Refuse, DownReset, Boot, Dump}

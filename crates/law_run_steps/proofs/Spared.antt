@@ -1,4 +1,4 @@
--- The condition of a node after lines that aren't its own.
+-- The condition of a node after lines of other nodes.
 use Rattle.std.proofs.Common.{◌≡◌, ℕ, ◌+◌, Bool, true, false, cond, List, [], ◌∷◌, ◌++◌, Option, fold, nat_eq, refl, ap, ◌∙◌}
 use Rattle.std.proofs.lemmas.List.Sums.{fold-append}
 use Rattle.std.specs.List.{AllByRecursion}
@@ -15,7 +15,7 @@ use Rattle.law_run_steps.specs.Steps.{is_of}
 use Rattle.law_run_steps.proofs.Disks.{cond-same, other-disk}
 use Rattle.law_run_steps.proofs.Walks.{OfTold, OfNode, OfOutside, Asked, Has, step-has}
 
--- Readings go on after the lines so far.
+-- Readings continue after the lines so far.
 
 pub power-append : (h g : List Line) (n : ℕ) → is_up (h ++ g) n ≡ fold (power_line n) (is_up h n) g
 unfolding is_up
@@ -25,7 +25,7 @@ pub commits-append : (h g : List Line) (n : ℕ) → commits_of (h ++ g) n ≡ f
 unfolding commits_of
 commits-append h g n = fold-append (commit_line n) 0 h g
 
--- a fold over items that leave what there is
+-- a fold over items that leave the value as it is
 pub fold-left : {X Y : Type 0} (f : X → Y → X) (x : X) (ys : List Y) → AllByRecursion (λ y. f x y ≡ x) ys
     → fold f x ys ≡ x
 fold-left f x [] a = refl

@@ -1,4 +1,4 @@
--- The start of a run, how it goes on, and the nodes that its lines declare.
+-- The start of a run, how it continues, and the nodes that its lines declare.
 use Rattle.std.proofs.Common.{◌≡◌, ℕ, ◌+◌, true, List, [], ◌∷◌, ◌++◌, fold, nat_eq, refl, sym, ◌∙◌, append_assoc}
 use Rattle.std.proofs.lemmas.List.Sums.{fold-append}
 use Rattle.zb_model.specs.Data.{Station}

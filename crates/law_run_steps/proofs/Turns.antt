@@ -143,7 +143,7 @@ left_setting tools w h x number (play.ForgeOpen to from source label base aps_co
 
 -- ---- the step of an event is its turn
 
--- The step comes to this turn.
+-- The step is this turn.
 abbrev pub Comes : Schedule → List Line → ℕ → Step → Turn → Type 0
 Comes w h n g t = ComesTo w h n g t.lines t.left
 
@@ -333,7 +333,7 @@ step_comes tools w h ds number n (play.ForgeNetAps to from source key sequence c
 step_comes tools w h ds number n (play.ForgeOpen to from source label base aps_counter command) is = absurd
     (false≢true is)
 
--- an event of one node is of no other
+-- an event of one node is not of another
 other_eqb : (m n q : ℕ) → nat_eq m n ≡ true → nat_eq q n ≡ false → nat_eq m q ≡ false
 other_eqb m n q same other = grind (arith, nat_tests, same, other)
 

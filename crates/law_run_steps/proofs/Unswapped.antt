@@ -1,4 +1,4 @@
--- Where no disk is given, a run is the model's.
+-- If no disk is given, a run is the model's.
 use Rattle.std.proofs.Common.{◌≡◌, ℕ, ◌+◌, Bool, true, false, cond, nat_eq, eq-eqb, eqb-true, List, [], ◌∷◌, ◌++◌, length, Option, Some, None, refl, sym, ap, ◌∙◌}
 use Rattle.law_run_steps.proofs.Spared.{spared}
 use Rattle.law_run_steps.specs.Conditions.{Condition, condition_of}
@@ -26,7 +26,7 @@ pub if_other : (b : Bool) (x y : Condition) → b ≡ false → cond b x y ≡ y
 if_other true x y e = absurd (cc)
 if_other false x y e = refl
 
--- set to what it is
+-- set to its own value
 pub set_same : (xs : ℕ → Condition) (n m : ℕ) (x : Condition) → x ≡ xs n → with_condition xs n x m ≡ xs m
 set_same xs n m x same = by_test (nat_eq m n) refl
   where
@@ -75,7 +75,7 @@ of_none (play.ForgeOpen to from source label base aps_counter command) q e = ref
 
 -- ---- one event
 
--- The event comes to the model's step.
+-- The event is the model's step.
 pub record IsStep (w : Schedule) (h : List Line) (g : Step) (one : Passed) : Type 0 where
   pub lines_are : one.lines ≡ g.lines
   pub nodes_are : AreThose w (h ++ g.lines) g.disks one.nodes

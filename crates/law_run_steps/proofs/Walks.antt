@@ -1,4 +1,4 @@
--- A claim on each line, and one on the disks, over all that a step is made of.
+-- A claim on each line, and one on the disks, over all parts of a step.
 use Rattle.std.proofs.Common.{ℕ, ◌+◌, Bool, true, false, cond, List, [], ◌∷◌, ◌++◌, map, length, flat_map, Option, Some, None, nat_eq}
 use Rattle.std.specs.List.{AllByRecursion}
 use Rattle.zb_model.specs.Data.{Bytes, Layer, Nwk, Aps, Station, Term, Edit, Place, Reason, Down, NoFrame, WrongState, Task, Received, DoRoll}

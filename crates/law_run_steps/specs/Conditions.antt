@@ -1,5 +1,5 @@
 -- The condition of a node after the lines so far: its setting, its state, how many commits it made, whether it has
--- power, and what is armed on its disk. Then what becomes of it at an event.
+-- power, and what is armed on its disk. Then its condition after an event.
 use Rattle.std.specs.Prelude.{ℕ, ◌+◌, Bool, true, false, if◌then◌else◌, List, [], ◌∷◌}
 use Rattle.zb_model.specs.Answer.{Answer, answered}
 use Rattle.zb_model.specs.Data.{Edit}
@@ -32,7 +32,7 @@ abbrev pub calls_by : ℕ → List Edit → Calls
 calls_by commits [] = NoCalls
 calls_by commits (e ∷ es) = commit_calls commits
 
--- how many commits there are once these changes are stored
+-- how many commits there are after these changes are stored
 abbrev pub commits_with : ℕ → List Edit → ℕ
 commits_with commits [] = commits
 commits_with commits (e ∷ es) = commits + 1
@@ -41,7 +41,7 @@ commits_with commits (e ∷ es) = commits + 1
 abbrev pub disk_left : Bool → DiskState
 disk_left both = record { armed = NotArmed; both_open = both }
 
--- after an event that was answered so
+-- after an event with this answer
 abbrev pub after_whole : Answer → Condition → Condition
 after_whole a x = record x { state = answered a x.state; commits = commits_with x.commits a.edits }
 
@@ -49,11 +49,11 @@ after_whole a x = record x { state = answered a x.state; commits = commits_with 
 abbrev pub after_storing : List Edit → Condition → Condition
 after_storing es x = record x { state = applied_all es x.state; commits = commits_with x.commits es }
 
--- The disk fell on a call: the node is down.
+-- The disk stopped or failed at a call: the node has no power.
 abbrev pub after_fall : Bool → Condition → Condition
 after_fall both x = record x { up = false; disk = disk_left both }
 
--- after an event on whose commit what was armed fell: its changes are stored or not
+-- after an event whose commit was hit by an armed stop or failure: its changes are stored or not
 abbrev pub after_cut : Answer → Condition → Condition
 after_cut a x =
     let calls = calls_by x.commits a.edits in
@@ -63,7 +63,7 @@ after_cut a x =
 abbrev pub after_reset : Condition → Condition
 after_reset x = record x { up = false }
 
--- after a boot, and after one on which what was armed fell
+-- after a boot, and after a boot that was hit by an armed stop or failure
 abbrev pub after_power_on : Condition → Condition
 after_power_on x =
     record x { up = true; state = after_boot x.state; disk = record { armed = x.disk.armed; both_open = false } }
@@ -71,6 +71,6 @@ after_power_on x =
 abbrev pub after_cut_boot : Condition → Condition
 after_cut_boot x = record x { disk = disk_left (leaves_both x.disk.armed (BootCalls x.disk.both_open)) }
 
--- after this was armed in place of what was
+-- after this was armed instead of what was armed before
 abbrev pub after_arming : Armed → Condition → Condition
 after_arming a x = record x { disk = record { armed = a; both_open = x.disk.both_open } }

@@ -1,4 +1,5 @@
--- What a step of a run comes to: its lines, and the condition in which it leaves a node. Whose node an event is of.
+-- The results of a step of a run: its lines, and the condition in which it leaves a node. Also whose node an event is
+-- of.
 use Rattle.std.specs.Prelude.{ℕ, ◌≡◌, ◌+◌, Bool, true, false, if◌then◌else◌, List, [], ◌∷◌, ◌++◌, map, length, None, nat_eq}
 use Rattle.zb_model.specs.Answer.{Answer}
 use Rattle.zb_model.specs.Data.{Bytes, Term, Edit, Moved, Draw, Pair, Live, Removed, Roll, Told, Untold}
@@ -13,27 +14,28 @@ pub record ComesTo (w : Schedule) (h : List Line) (n : ℕ) (g : Step) (wanted :
     pub lines : g.lines ≡ wanted
     pub condition : condition_of w (h ++ g.lines) g.disks n ≡ x
 
--- the lines of an answer that is stored: its changes and their commit; and of one that is handed out too
+-- the lines of an answer that is stored: its changes and their commit; and of one whose frame is sent too
 abbrev pub storing_lines : ℕ → ℕ → Answer → List Line
 storing_lines number n a = change_lines number n a.edits ++ commit_lines number n a.edits
 
 abbrev pub whole_lines : List Line → ℕ → ℕ → Answer → List Line
 whole_lines h number n a = storing_lines number n a ++ told_lines number n (length (air h) + 1) a
 
--- The lines of an answer on whose commit what is armed falls: the stored ones, if the commit stands, and the fall.
+-- The lines of an answer whose commit is hit by what is armed: the stored ones, if the commit is stored, and the
+-- fall.
 abbrev pub cut_lines : Condition → ℕ → ℕ → Answer → List Line
 cut_lines x number n a =
     (if stands x.disk.armed (calls_by x.commits a.edits) then storing_lines number n a else [])
     ++ fallen_line x.disk.armed number n
 
--- whether what is armed falls on the calls of an event with this answer, and on those of a boot
+-- whether what is armed hits the calls of an event with this answer, and those of a boot
 abbrev pub falls_on : Answer → Condition → Bool
 falls_on a x = falls x.disk.armed (calls_by x.commits a.edits)
 
 abbrev pub falls_at_boot : Condition → Bool
 falls_at_boot x = falls x.disk.armed (BootCalls x.disk.both_open)
 
--- The step of an event that the node answers so in this condition.
+-- The step of an event to which the node gives this answer in this condition.
 pub record IsAnswered (w : Schedule) (h : List Line) (number n : ℕ) (a : Answer) (x : Condition) (g : Step) : Type 0
   where
     pub whole : falls_on a x ≡ false → ComesTo w h n g (whole_lines h number n a) (after_whole a x)
@@ -52,7 +54,7 @@ outside_step ds lines = record { lines = lines; disks = ds }
 abbrev pub forging : List Line → ℕ → List Term → Bytes → List Line
 forging h number terms bytes = map (Forge number) terms ++ Send number None (length (air h) + 1) bytes ∷ []
 
--- whether an event is of that node; those of the outside are of none
+-- whether an event is of that node; an event of the outside is of no node
 abbrev pub is_of : ℕ → Event → Bool
 is_of m (Own n task) = nat_eq n m
 is_of m (RollOver n) = nat_eq n m

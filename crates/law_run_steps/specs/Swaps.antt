@@ -1,5 +1,5 @@
--- A run whose nodes are given other disks. It carries the condition of each node; a swap sets its node's from what
--- stands on the new disk. Without swaps it is the model's run.
+-- A run whose nodes are given other disks. It carries the condition of each node; a swap sets its node's condition
+-- from what is on the new disk. Without swaps it is the model's run.
 use Rattle.std.specs.Prelude.{◌≡◌, ℕ, ◌+◌, Bool, if◌then◌else◌, nat_eq, List, [], ◌∷◌, ◌++◌, length, Option, Some, None}
 use Rattle.law_run_steps.specs.Conditions.{Condition, condition_of}
 use Rattle.law_run_steps.specs.Turns.{event_turn}
@@ -9,8 +9,8 @@ use Rattle.zb_model.specs.State.{NodeState}
 use Rattle.zb_model.specs.Tools.{Tools}
 use Rattle.zb_model.specs.Transcript.{end_line}
 
--- What stands on a disk that takes the place of another one: the state with which its node boots from it, how many
--- commits count for its entries, and whether both slots stand open.
+-- What is on a disk that replaces another one: the state with which its node boots from it, how many commits its
+-- entries count for, and whether both slots are open.
 pub record Stood : Type 0 where
   pub state : NodeState
   pub commits : ℕ
@@ -26,7 +26,7 @@ after_swap (Some s) x =
       disk = record { armed = x.disk.armed; both_open = s.both_open };
     }
 
--- the node that an event is of; one of the outside is of none
+-- the node that an event is of; an event of the outside is of no node
 abbrev pub node_of : Event → Option ℕ
 node_of (Own n task) = Some n
 node_of (RollOver n) = Some n
@@ -53,7 +53,7 @@ pub record Passed : Type 0 where
   pub lines : List Line
   pub nodes : ℕ → Condition
 
--- An event of a node is its turn; one of the outside reads no disk.
+-- An event of a node is its turn; an event of the outside reads no disk.
 abbrev pub passed : Tools → Schedule → List Line → (ℕ → Condition) → ℕ → Event → Option ℕ → Passed
 passed tools w h xs number event (Some n) =
     let t = event_turn tools w h (xs n) number event in
@@ -62,7 +62,7 @@ passed tools w h xs number event None = record { lines = (step tools w h [] numb
 
 -- ---- a run
 
--- An event, after the swap under its node: `gifts` has the disk that is given before the event of each number.
+-- An event, after the swap for its node: `gifts` has the disk that is given before the event of each number.
 abbrev pub one_passed : Tools → Schedule → (ℕ → Option Stood) → List Line → (ℕ → Condition) → ℕ → Event → Passed
 one_passed tools w gifts h xs number event =
     passed tools w h (swapped (gifts number) xs (node_of event)) number event (node_of event)

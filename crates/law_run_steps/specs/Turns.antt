@@ -1,5 +1,5 @@
--- What an event of a node in some condition comes to: the lines that are told of it, and the condition that it leaves.
--- Of the lines so far it takes the frames on the air and the draws alone, so a node may have any state before it.
+-- The results of an event of a node in some condition: the lines of the event, and the condition that it leaves. From
+-- the lines so far it uses only the frames on the air and the draws, so a node may have any state before it.
 use Rattle.std.specs.Prelude.{ℕ, if◌then◌else◌, List, [], ◌∷◌, Option, Some, None}
 use Rattle.zb_model.specs.Answer.{Answer, answer}
 use Rattle.zb_model.specs.Data.{AtEvent, Bytes, DoRoll, Down, NoFrame, Reason, Received, Task, WrongState}
@@ -20,7 +20,7 @@ turn lines x = record { lines = lines; left = x }
 abbrev pub refused_turn : Condition → ℕ → ℕ → Reason → Turn
 refused_turn x number n reason = turn (Refuse number n AtEvent reason ∷ []) x
 
--- Where what is armed falls on its commit, the stored lines and the fall; else all of its lines.
+-- If what is armed hits the answer's commit, the stored lines and the fall; otherwise all lines of the answer.
 unfoldable pub answer_turn : List Line → Condition → ℕ → ℕ → Answer → Turn
 answer_turn h x number n a = if falls_on a x then turn (cut_lines x number n a) (after_cut a x)
     else turn (whole_lines h number n a) (after_whole a x)

@@ -29,10 +29,10 @@ ghost use Rattle.zb_model.specs.Transcript.{end_line, run_lines, transcript};
 
 pub use swaps::{a_boot_reads_the_new_disk, a_turn_is_the_step, without_swaps_a_run_is_the_models};
 
-/// States what an event that a node answers comes to.
+/// States the result of an event that a node answers.
 ///
-/// Where nothing that is armed falls on its commit, its lines are the whole group, and the disks stay; else they are
-/// those that were stored, and the fall.
+/// If no armed stop or failure hits its commit, its lines are the whole group, and the disks stay. Otherwise they are
+/// the stored lines, and the line of the stop or failure.
 pub fn an_answer_leads_on()
     ensures calls { (h : List Line) (n : ℕ) (es : List Edit) → calls_for h n es ≡ calls_by (commits_of h n) es }
     ensures answer { (w : Schedule) (h : List Line) (ds : List Disk) (number n : ℕ) (a : Answer) (g : Step)
@@ -41,7 +41,7 @@ pub fn an_answer_leads_on()
         → falls_on a (condition_of w h ds n) ≡ false → (answer_step h ds number n a).disks ≡ ds }
 {}
 
-/// States what a refusal, a boot, a reset, a dump and the arming of a disk come to.
+/// States the results of a refusal, a boot, a reset, a dump and the arming of a disk.
 pub fn other_steps_lead_on()
     ensures refusal { (w : Schedule) (h : List Line) (ds : List Disk) (number n : ℕ) (reason : Reason) (g : Step)
         → g ≡ refused_step ds number n reason
@@ -104,10 +104,10 @@ pub fn a_node_without_power_refuses()
         → is_up h n ≡ false → step tools w h ds number (PowerOn n) ≡ boot_step ds number n }
 {}
 
-/// States which lines an event of the outside gives.
+/// States which lines an event of the outside makes.
 ///
-/// They are those of the frame that goes on the air. A forged frame is named by the terms that are sealed in it, `t`
-/// at NWK and `inner` at APS.
+/// They are those of the frame that is put on the air. A forged frame is named by the terms that are sealed in it,
+/// `t` at NWK and `inner` at APS.
 pub fn the_outside_sends()
     ensures bytes { (tools : Tools) (w : Schedule) (h : List Line) (ds : List Disk) (number : ℕ) (bytes : Bytes)
         → step tools w h ds number (InjectBytes bytes)
@@ -133,7 +133,7 @@ pub fn the_outside_sends()
 
 /// States that an event leaves the condition of every node but its own.
 ///
-/// An event of the outside leaves that of all.
+/// An event of the outside leaves the condition of all nodes.
 pub fn other_nodes_are_spared()
     ensures { (tools : Tools) (w : Schedule) (h : List Line) (ds : List Disk) (number : ℕ) (act : Event) (m : ℕ)
         → is_of m act ≡ false → let g = step tools w h ds number act in
@@ -160,9 +160,9 @@ pub fn others_make_no_change_of_the_centre()
         → is_centre c.me.role ≡ false → list_any is_of_the_centre (answer tools c s task).edits ≡ false }
 {}
 
-/// States how the lines of a run go on, event by event.
+/// States how the lines of a run continue, event by event.
 ///
-/// So a loop over the events carries that the lines so far and the groups to come are the lines of the run.
+/// So a loop over the events has the invariant that the lines so far and the groups to come are the lines of the run.
 pub fn a_run_goes_on()
     ensures begins { (tools : Tools) (w : Schedule)
         → start w ++ groups tools w (start w) [] 1 w.events ≡ run_lines tools w }

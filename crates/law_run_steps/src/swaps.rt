@@ -10,7 +10,7 @@ ghost use Rattle.zb_model.specs.State.{after_boot};
 ghost use Rattle.zb_model.specs.Tools.{Tools};
 ghost use Rattle.zb_model.specs.Transcript.{run_lines, transcript};
 
-/// States that in the condition that lines give, the turn of an event's node is the model's step.
+/// States that the turn of an event's node is the model's step, in the condition that lines give.
 ///
 /// In any condition it keeps the node's setting.
 pub fn a_turn_is_the_step()
@@ -29,9 +29,9 @@ pub fn without_swaps_a_run_is_the_models()
         → swapped_transcript tools w gifts ≡ transcript tools w }
 {}
 
-/// States that a node that is down boots with the state on the disk that it was given.
+/// States that a node without power boots with the state on the disk that it was given.
 ///
-/// What was armed on its disk stays armed, and the next commit is counted from the entries that stand there.
+/// What was armed on its disk stays armed, and the next commit is counted from the entries on the new disk.
 pub fn a_boot_reads_the_new_disk()
     ensures { (tools : Tools) (w : Schedule) (h : List Line) (x : Condition) (number n : ℕ) (s : Stood)
         → x.up ≡ false → falls_at_boot (after_swap (Some s) x) ≡ false

@@ -1,5 +1,5 @@
--- A joined device is confirmed. At a front of the worked run nothing is in the way, and the exchange ends as the
--- laws say.
+-- A joined device is confirmed. At a front of the worked run nothing prevents the exchange, and it ends as the laws
+-- say.
 use Rattle.std.specs.Prelude.{◌≡◌, refl}
 use Rattle.std.proofs.Math.Path.{subst}
 use Rattle.law_recovery.proofs.Instances.Worked.{w, c, d, network, code, drawn, joined, confirmed}

@@ -1,5 +1,5 @@
--- The centre is stopped within the exchange of link keys, and booted. In the worked run all is in order, and
--- repeats lead to the end.
+-- The centre is stopped during the exchange of link keys, and booted. The worked run meets the premises, and repeats
+-- lead to the end.
 use Rattle.std.specs.Prelude.{◌≡◌, List, [], ◌∷◌, Some, refl}
 use Rattle.std.proofs.Math.Path.{subst}
 use Rattle.law_recovery.proofs.Instances.Worked.{w, c, d, network, code, drawn, front, joined, proving}
@@ -145,7 +145,7 @@ unfolding toy plan_of part_of may_seal out_of edits_of answer_by reserve_of stor
     why_not_confirmed why_not_heard why_not_opened why_offer_not_kept why_no_offer_again
 asked_is_next = refl
 
--- what happens is in order from each of these fronts on, and the two are done then
+-- what happens from each of these fronts on meets the premises, and at the end the two are done
 abbrev InOrder : Front → Far → List Happening → Type 0
 InOrder y far happenings = AreInOrder toy w c d keys y far happenings
     × (kept_far_all toy w c d keys y far happenings ≡ Done)

@@ -1,5 +1,5 @@
--- A device joins, and a member rejoins. At a front of the worked run nothing is in the way, and it ends as the
--- laws say.
+-- A device joins, and a member rejoins. At a front of the worked run nothing prevents it, and it ends as the laws
+-- say.
 use Rattle.std.specs.Prelude.{◌≡◌, refl}
 use Rattle.std.proofs.Common.{sym, ap}
 use Rattle.std.proofs.lemmas.Bool.{false≢true}

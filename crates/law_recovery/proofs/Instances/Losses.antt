@@ -1,5 +1,5 @@
--- Frames of the exchange are lost. In the worked run nothing else is in the way, and two turns without a loss are
--- enough.
+-- Frames of the exchange are lost. In the worked run nothing else prevents the exchange, and two turns without a loss
+-- are enough.
 use Rattle.std.specs.Prelude.{◌≡◌, List, [], ◌∷◌, refl}
 use Rattle.law_recovery.proofs.Instances.Worked.{w, c, d, network, code, drawn, joined}
 use Rattle.law_recovery.specs.Obstacles.{why_no_confirmation, why_no_offer, why_no_offer_again, why_not_confirmed, why_not_heard, why_not_opened, why_offer_not_kept}

@@ -1,5 +1,5 @@
--- A confirmed device is removed and admitted again. At the last front of the worked run nothing is in the way of
--- that, and it ends as the law says.
+-- A confirmed device is removed and admitted again. At the last front of the worked run nothing prevents that, and it
+-- ends as the law says.
 use Rattle.std.specs.Prelude.{◌≡◌, [], ◌∷◌, ◌++◌, Some, refl}
 use Rattle.std.proofs.Math.Path.{subst}
 use Rattle.law_recovery.proofs.Instances.Worked.{w, c, d, network, code, drawn, confirmed}

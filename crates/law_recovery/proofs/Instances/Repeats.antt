@@ -1,4 +1,4 @@
--- A frame of the worked run is lost or comes twice. What its law asks is there, and what it says comes of it.
+-- A frame of the worked run is lost or repeated. The run meets the premises of its law, and ends as the law says.
 use Rattle.std.specs.Prelude.{◌≡◌, ℕ, false, Some, None, refl}
 use Rattle.std.proofs.Math.Path.{subst}
 use Rattle.law_recovery.proofs.Instances.Worked.{w, c, d, network, code, drawn, front, the_net, the_link, knocked, joined}

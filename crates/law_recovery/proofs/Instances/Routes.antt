@@ -1,5 +1,5 @@
--- A device joins through a router, in the whole and event by event. At a front of a small run nothing is in the
--- way, and it ends as the laws say.
+-- A device joins through a router, as a whole and event by event. At a front of a small run nothing prevents it, and
+-- it ends as the laws say.
 use Rattle.std.specs.Prelude.{◌≡◌, ℕ, false, [], ◌∷◌, ◌++◌, Some, None, refl}
 use Rattle.law_recovery.proofs.Instances.Worked.{c, d, network, code, drawn, the_net, the_link}
 use Rattle.law_recovery.proofs.Instances.Worked as worked

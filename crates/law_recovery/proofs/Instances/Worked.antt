@@ -23,11 +23,11 @@ code = x "66B6900981E1EE3CA4206B6B861C02BB"
 abbrev pub drawn : Bytes
 drawn = x "A0A1A2A3A4A5A6A7A8A9AAABACADAEAF"
 
--- the schedule, with one draw more
+-- the schedule, with one more draw
 abbrev pub w : Schedule
 w = record schedule { draws = drawn ∷ x "B0B1B2B3B4B5B6B7B8B9BABBBCBDBEBF" ∷ [] }
 
--- the front that so many lines of the run lead to, before the event of this number
+-- the front that this many lines of the run lead to, before the event of this number
 abbrev pub front : ℕ → ℕ → Front
 front count number = record { lines = take count lines; disks = []; number = number }
 

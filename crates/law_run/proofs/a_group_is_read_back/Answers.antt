@@ -1,4 +1,4 @@
--- Changes, accepted terms and seals, one after the other; the other lines leave the state.
+-- Changes, accepted terms and seals, in this order; the other lines leave the state.
 use Rattle.law_run.proofs.GroupStates.{group-state}
 use Rattle.law_run.proofs.a_group_is_read_back.Goals as goal
 

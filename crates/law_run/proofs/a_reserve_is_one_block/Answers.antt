@@ -1,4 +1,4 @@
--- Read off the definition, and of a run line by line.
+-- By the definition, and for a run line by line.
 use Rattle.law_run.proofs.CountedRuns.{reserve-block}
 use Rattle.law_run.proofs.a_reserve_is_one_block.Goals as goal
 

@@ -1,4 +1,4 @@
--- Each seal takes the counter that comes next, and no other line moves it.
+-- Each seal uses the next counter, and no other line changes it.
 use Rattle.law_run.proofs.SpentSteps.{takes-all}
 use Rattle.law_run.proofs.no_counter_is_skipped_without_a_boot.Goals as goal
 

@@ -1,4 +1,4 @@
--- Read off what the rules do with keys.
+-- By what the rules do with keys.
 use Rattle.law_run.proofs.CentreAlone.{centre-alone}
 use Rattle.law_run.proofs.the_centre_alone_draws_and_admits.Goals as goal
 

@@ -1,4 +1,4 @@
--- Event by event, what is counted is what the run has.
+-- Event by event, a counted group is the run's.
 use Rattle.law_run_counters.proofs.Unique.{unique}
 use Rattle.law_run_counters.proofs.lawful_and_counted_lines_are_the_transcript.Goals as goal
 

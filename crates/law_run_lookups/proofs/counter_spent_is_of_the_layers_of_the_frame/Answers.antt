@@ -1,4 +1,4 @@
--- One lemma a rule.
+-- One lemma per rule.
 use Rattle.law_run_lookups.proofs.FrameLayers.{own-spent, own-sealed, command-spent, command-sealed}
 use Rattle.law_run_lookups.proofs.counter_spent_is_of_the_layers_of_the_frame.Goals as goal
 

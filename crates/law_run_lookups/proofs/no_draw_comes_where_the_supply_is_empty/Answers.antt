@@ -1,4 +1,4 @@
--- One lemma a rule.
+-- One lemma per rule.
 use Rattle.law_run_lookups.proofs.NoDraws.{roll-no-draw, frame-no-draw}
 use Rattle.law_run_lookups.proofs.no_draw_comes_where_the_supply_is_empty.Goals as goal
 

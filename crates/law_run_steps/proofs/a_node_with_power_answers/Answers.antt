@@ -1,4 +1,4 @@
--- By what a step is where its node has power.
+-- By the definition of a step whose node has power.
 use Rattle.law_run_steps.proofs.Others.{own-up, roll-up, frame-up, frame-none, boot-up}
 use Rattle.law_run_steps.proofs.a_node_with_power_answers.Goals as goal
 

@@ -1,4 +1,4 @@
--- By what the lines of all events are.
+-- By the definition of the lines of all events.
 use Rattle.std.proofs.Common.{◌≡◌, [], ◌∷◌, ◌++◌, length, refl}
 use Rattle.zb_model.specs.Play.{Schedule, start, groups}
 use Rattle.zb_model.specs.Tools.{Tools}

@@ -1,4 +1,4 @@
--- The lines of the group one after the other, and the cut by whether the commit stands.
+-- The lines of the group in order, and the cut by whether the commit is stored.
 use Rattle.law_run_steps.proofs.Answered.{calls-are, is-answered, whole-disks}
 use Rattle.law_run_steps.proofs.an_answer_leads_on.Goals as goal
 

@@ -1,4 +1,4 @@
--- Read off what each rule changes.
+-- By what each rule changes.
 use Rattle.law_run_steps.proofs.Centre.{none-of-others}
 use Rattle.law_run_steps.proofs.others_make_no_change_of_the_centre.Goals as goal
 

@@ -1,4 +1,4 @@
--- By what a step of the outside is, with its terms for what they are.
+-- By the definition of a step of the outside, with the values of its terms.
 use Rattle.law_run_steps.proofs.Others.{injected, net-forged, both-forged, open-forged}
 use Rattle.law_run_steps.proofs.the_outside_sends.Goals as goal
 

@@ -1,4 +1,4 @@
--- By what a boot of a node that is down is.
+-- By the definition of a boot of a node without power.
 use Rattle.std.proofs.Common.{◌∙◌, Some, false}
 use Rattle.law_run_steps.proofs.Turns.{boot_by, boot_whole}
 use Rattle.law_run_steps.proofs.swaps.a_boot_reads_the_new_disk.Goals as goal
