@@ -82,6 +82,6 @@ last_short = 65527
 abbrev pub broadcast_eui : ℕ
 broadcast_eui = 18446744073709551615
 
--- The most bytes of a cut write that remain on the disk of a stopped node, as an event gives them.
+-- The most torn bytes of an event that stops a node. They replace, repeated, what was written and not synced.
 abbrev pub longest_torn : ℕ
 longest_torn = 32

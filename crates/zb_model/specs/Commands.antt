@@ -134,7 +134,7 @@ take_confirm c s m status kind destination =
     && (nat_eq status 0 && (nat_eq kind 4 && nat_eq destination c.me.eui))))) Policy (
     refuse_if (in_rejoining s.state) WrongState (
     refuse_unless (row_is m.row (offered s (centre_of c.stations))) WrongState (
-    -- has no effect: the row that opened the command is the offered one, so there is one
+    -- this never refuses: the row that opened the command is the offered one, so there is one
     found_or (offered s (centre_of c.stations)) WrongState (λ row.
     Does (drop_row (current s (centre_of c.stations)) ++ (Row row.partner row.key Verified ∷ Became Confirmed ∷ []))
     None))))
@@ -200,7 +200,7 @@ answer_request c s device draw row None =
 unfoldable pub take_request : Setting → NodeState → Heard → Option Bytes → Outcome
 take_request c s m draw =
     refuse_unless (is_centre c.me.role && under_current s m) Policy (
-    -- has no effect: the row that opened the request is the current one, so there is one
+    -- this never refuses: the row that opened the request is the current one, so there is one
     found_or (current s m.sender) Policy (λ row.
     answer_request c s m.sender draw row (offered s m.sender)))
 
@@ -233,7 +233,7 @@ take_app_request c s m draw partner =
     Policy (
     refuse_unless (is_live s partner) NotMember (
     refuse_unless (is_verified_row (current s m.sender) && is_verified_row (current s partner)) WrongState (
-    -- has no effect: the current row was verified above, so there is one
+    -- this never refuses: the current row was verified above, so there is one
     found_or (current s m.sender) Policy (λ row.
     answer_pair c s m.sender partner draw row (pair_of s m.sender partner)))))
 
@@ -260,7 +260,7 @@ take_verify tools c s m kind device hash =
     refuse_unless (is_live s device) NotMember (
     refuse_if (is_none (offered s device) && is_none (verified_current s device)) WrongState (
     refuse_if (both_spent s) CounterSpent (
-    -- neither refusal of `found_or` has an effect: a row with that proof exists
+    -- neither `found_or` refuses: a row with that proof exists
     choose (proves tools hash (offered s device))
     (found_or (offered s device) WrongHash (λ row.
     send_confirm c device row.key (drop_row (current s device) ++ (Row device row.key Verified ∷ []))))

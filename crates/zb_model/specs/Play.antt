@@ -131,7 +131,7 @@ falls NotArmed calls = false
 falls (StopAfter n torn) calls = nat_lt n (count_of calls)
 falls (FailAt n) calls = nat_le n (count_of calls)
 
--- A gate that was written and not synced reads as open if the torn bytes leave it open or begin with A5.
+-- A gate that was written and not synced reads as open if there are no torn bytes, or if they begin with A5.
 abbrev pub is_gate : Bytes → Bool
 is_gate [] = false
 is_gate (b ∷ bytes) = nat_eq b 0xa5
