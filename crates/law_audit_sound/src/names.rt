@@ -1,5 +1,5 @@
-//! What the audit reads by names from the printed lines of a run is what the model reads by addresses: which node is
-//! which, which keys the lines show and which nodes hold them, and the two words of the end line. The law is the
+//! The audit reads by names, from the printed lines of a run, what the model reads by addresses. That is which node
+//! is which, which keys the lines show and which nodes hold them, and the two words of the end line. The law is the
 //! contract of a function with an empty body; docs/THEOREMS.md says it in words.
 ghost use Rattle.std.specs.Prelude.{◌≡◌, true};
 ghost use Rattle.law_audit_sound.specs.Agreeing.{RunReadSame};

@@ -1,4 +1,4 @@
-//! The laws on the nodes of a run, for each schedule that a text gives, with no premise left: its nodes have
+//! The laws on the nodes of a run, for each schedule that a text gives, with no premise left. Its nodes have
 //! different EUIs, and real frames open to the values by which they were verified.
 #![tactic(auto)]
 

@@ -29,7 +29,7 @@ abbrev pub why_old : Option ℕ → Option Reason → Option Reason
 why_old None rest = rest
 why_old (Some place) rest = Some (KeyOld place)
 
--- Why a member doesn't install a network key that is sealed under a link key with a counter: its floor for that link
+-- Why a member doesn't install a network key that is sealed under a link key with a counter. Its floor for that link
 -- key is above the counter, or one of the two reasons above applies.
 unfoldable pub why_not_taken : NodeState → LinkKey → ℕ → Bytes → Option Reason
 why_not_taken t row counter key =

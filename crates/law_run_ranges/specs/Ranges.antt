@@ -1,5 +1,5 @@
--- The ranges of the values in lines: addresses have 64 and 16 bits, counters and numbers 32, sequences of network
--- keys 8; keys have 16 bytes, and a frame on the air has at most 127 bytes.
+-- The ranges of the values in lines. Addresses have 64 and 16 bits, counters and numbers 32, sequences of network
+-- keys 8. Keys have 16 bytes, and a frame on the air has at most 127 bytes.
 use Rattle.std.specs.Prelude.{◌≡◌, ◌<◌, ◌≤◌, ◌^◌, ℕ, length, ⊤}
 use Rattle.std.specs.List.{AllByRecursion}
 use Rattle.zb_model.specs.Data.{Bytes, Station, Term, Move, Draw, DropNet, DropLink, Install, Active, Row, Pair, Became, Live, Removed, Roll, Told, Untold, Edit, Reserve, Floor, Start, Moved, Reason, Stale, KeyOld, KeyInUse}
