@@ -40,7 +40,7 @@ pub fn runs_are_sound()
     frames_show_their_own_keys();
 }
 
-/// States that, if a text is a schedule, no line of its run is bad.
+/// States that no line of the run is bad, for each text that is a schedule.
 ///
 /// So an audit returns the verdict on it.
 pub fn runs_of_texts_are_sound(text: &[u8])

@@ -58,7 +58,7 @@ pub fn lines_of_each_run_agree()
     ensures { (p : Schedule) → IsSchedule p → RunAgrees real (schedule_of p) }
 {}
 
-/// States that, if a text is a schedule, its nodes are sound in its run.
+/// States that the nodes of each text that is a schedule are sound in its run.
 pub fn nodes_are_sound_in_each_text(text: &[u8])
     ensures { (p : Schedule) → schedule_in text.now ≡ Ok p → NodesAreSound (schedule_of p) }
 {

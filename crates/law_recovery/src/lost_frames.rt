@@ -107,7 +107,7 @@ pub fn a_stop_costs_a_repeat()
         → EndsConfirmed w (after_turns tools w c d x turns) c d k.network k.sequence k.drawn }
 {}
 
-/// States that, if no disk stops or fails, frames of the exchange are on the air and stay there.
+/// States that frames of the exchange are on the air and stay there, if no disk stops or fails.
 ///
 /// The device's timer sends its frame, and the centre that receives it sends its own. Each is the next on the air.
 pub fn frames_of_the_exchange_are_on_the_air()

@@ -36,15 +36,15 @@ pub fn schedules_are_in_their_ranges()
     ensures { (p : Schedule) → IsSchedule p → ScheduleInRange (schedule_of p) }
 {}
 
-/// States that the lines of each schedule's run are proper, and that no other such lines have their text.
+/// States that the lines of each schedule's run are proper, and that no other proper lines have their text.
 #[tactic(auto, using(crate::proofs::Wide::are_their_own))]
 pub fn the_lines_of_each_run_are_proper()
     ensures { (p : Schedule) → IsSchedule p → AreTheirOwn (schedule_of p) }
 {}
 
-/// States that, if a text is a schedule, the lines of its run are proper.
+/// States that the lines of the run are proper, for each text that is a schedule.
 ///
-/// No other such lines have their text.
+/// No other proper lines have their text.
 pub fn the_lines_of_each_text_are_proper(text: &[u8])
     ensures { (p : Schedule) → schedule_in text.now ≡ Ok p → AreTheirOwn (schedule_of p) }
 {

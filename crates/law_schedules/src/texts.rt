@@ -12,7 +12,7 @@ use crate::laws::each_schedule_holds;
 use zb_sched_line::read_line;
 use zb_text::lines::next_line;
 
-/// States that, if a text is a schedule, it keeps what every schedule keeps.
+/// States that each text that is a schedule keeps what every schedule keeps.
 pub fn texts_read_as_schedules(text: &[u8])
     ensures { (p : Schedule) → schedule_in text.now ≡ Ok p → IsSchedule p }
 {
@@ -23,7 +23,7 @@ pub fn texts_read_as_schedules(text: &[u8])
     }
 }
 
-/// States that, if a text is a schedule, all laws over runs hold for its run.
+/// States that all laws over runs hold for the run of each text that is a schedule.
 pub fn each_text_holds(text: &[u8])
     ensures { (p : Schedule) → schedule_in text.now ≡ Ok p → Holds (schedule_of p) }
 {

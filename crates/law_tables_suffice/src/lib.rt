@@ -88,7 +88,7 @@ pub fn nodes_start_by_the_rules()
 
 /// States that before each event of a run its node's state keeps the rules for records.
 ///
-/// In such a state all changes of an answer fit (law_answer_storable).
+/// In this state all changes of an answer fit (law_answer_storable).
 pub fn states_keep_the_rules_all_along()
     ensures { (tools : Tools) → OpensAsJudged tools → (w : Schedule) → IsSchedule w → euis_differ w ≡ true
         → NodesAllAlong IsRuled tools w }
