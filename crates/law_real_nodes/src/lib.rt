@@ -36,7 +36,7 @@ pub fn real_frames_open_as_they_are_judged()
     ensures { OpensAsJudged real }
 {}
 
-/// States that in the run of each schedule its nodes start alone and by the rules, and stay sound.
+/// States that the nodes of each schedule start by their own lines and by the rules, and stay sound.
 ///
 /// Before each event:
 /// - Its node is as it was declared, keeps the rules for records, and has a newest network key if it has an active

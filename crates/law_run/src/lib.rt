@@ -99,8 +99,8 @@ pub fn outsiders_are_refused()
 /// The two words say that the run was ideal and forgery private. Until the device is admitted again, it obtains no
 /// key that is drawn after its removal:
 /// - None of these keys is installed at the device.
-/// None can be opened in what was sealed or forged, by somebody who holds the well-known key and all keys that the
-/// device ever held.
+/// - None can be opened in what was sealed or forged, by somebody who holds the well-known key and all keys that the
+///   device ever held.
 ///
 /// `KeysApart` is about the schedule: its keys are different keys. `ShowsKeys` is about the frames: if a node's own
 /// frame shows a key, it is the key of the command in that frame.
