@@ -20,8 +20,9 @@ Ran = namedtuple("Ran", "status output said")
 class Bench:
     """A program, a folder for its stores, and the violations that were found."""
 
-    def __init__(self, program, room):
+    def __init__(self, program, room, centre=None):
         self.program = os.path.abspath(program)
+        self.centre = centre and os.path.abspath(centre)
         self.room = room
         self.library = None
         self.cases = None
@@ -47,12 +48,20 @@ class Bench:
         return env
 
     def run(self, store, commands, fault=None, log=None, before=(), **how):
-        """Runs commands on a store. Returns the status, the output and the text of standard error."""
+        """Serves commands on a store; returns the status, the output and what standard error said."""
+        words = [*before, self.program, "admin", store]
+        return self.ran(words, scripts.script(commands), fault, log, **how)
+
+    def run_session(self, store, lines, fault=None, log=None):
+        """Serves the lines of a session on a store; returns the same."""
+        return self.ran([self.centre, store], ("\n".join(lines) + "\n").encode(), fault, log)
+
+    def ran(self, words, given, fault, log, **how):
+        """Runs a program on these bytes; returns the status, the output and what standard error said."""
         env = self.surroundings(fault, log) if fault or log else None
         how = {"stdout": subprocess.PIPE, "stderr": subprocess.PIPE, "timeout": SECONDS, "close_fds": False, **how}
-        words = [*before, self.program, "admin", store]
         try:
-            ran = subprocess.run(words, input=scripts.script(commands), env=env, **how)
+            ran = subprocess.run(words, input=given, env=env, **how)
         except subprocess.TimeoutExpired:
             return Ran("no end", "", "")
         return Ran(ran.returncode, (ran.stdout or b"").decode("latin1"), (ran.stderr or b"").decode("latin1"))

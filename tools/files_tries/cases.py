@@ -42,9 +42,19 @@ class Case:
         """Makes the store as it is before the script, and returns its path."""
         return self.bench.put(name, self.content)
 
+    def run(self, store, fault=None, log=None):
+        """Serves the script on a store; a call may be spoiled, and the calls may be logged."""
+        return self.bench.run(store, self.commands, fault=fault, log=log)
+
     def calls(self):
-        """Returns the calls of the script, run alone."""
-        return self.bench.calls(self.put(), self.commands)
+        """Returns the calls of the script, served alone."""
+        log = self.bench.path("calls")
+        self.run(self.put(), log=log)
+        return self.bench.logged(log)
+
+    def is_said(self, ran):
+        """Returns whether standard error has as many lines as the status wants."""
+        return ran.said.count("\n") == (ran.status != 0)
 
     def lines_of(self, ran):
         """Returns the commands' lines of a run, or None if they or the status aren't what a fault may leave."""

@@ -70,6 +70,11 @@ def writes_after_failed_sync(calls):
     return any(call.name == "write" and call.file > 2 and call.number > failed[-1].number for call in calls if failed)
 
 
+def names_error(fault, ran):
+    """Returns whether standard error has the number of the error, if the store failed by one."""
+    return ran.status != 7 or not fault.error or f"(error {fault.error} of the system)" in ran.said
+
+
 def judge(fault, ran, calls, store):
     """Returns what is wrong with a run except its output and its store, or None."""
     case = fault.case
@@ -77,7 +82,7 @@ def judge(fault, ran, calls, store):
         return f"status {ran.status}, which isn't one of {fault.statuses()}"
     if ran.status == 0 and ran.output != case.output:
         return f"status 0 with another output: {ran.output[-80:]!r}"
-    if ran.said.count("\n") != (ran.status != 0):
+    if not case.is_said(ran) or not names_error(fault, ran):
         return f"standard error says {ran.said!r}"
     if fault.error != errno.EINTR and writes_after_failed_sync(calls):
         return "the store was written after a failed sync"
@@ -90,7 +95,7 @@ def try_fault(fault):
     """Tests a fault, checks what it left, and returns the status."""
     case, log = fault.case, fault.case.bench.path("calls")
     store = case.put()
-    ran = case.bench.run(store, case.commands, fault=fault.words(), log=log)
+    ran = case.run(store, fault=fault.words(), log=log)
     why = judge(fault, ran, case.bench.logged(log), store)
     if why:
         case.bench.found(f"{fault}: {why}", store, case.commands)
@@ -99,9 +104,14 @@ def try_fault(fault):
 
 
 def faults(bench, count, seed):
-    """Tests at most COUNT faults, and returns the line of counts."""
-    every = [fault for case in all_cases(bench) for fault in all_faults(case)]
+    """Tries COUNT faults of `tc admin` at most, and returns the line of counts."""
+    return tried_on(bench, "faults", all_cases(bench), count, seed)
+
+
+def tried_on(bench, what, cases, count, seed):
+    """Tries COUNT faults of these cases at most, and returns the line of counts."""
+    every = [fault for case in cases for fault in all_faults(case)]
     tried = some(every, count, random.Random(seed))
-    statuses = Counter(try_fault(fault) for fault in bench.each("faults", tried, len(tried)))
+    statuses = Counter(try_fault(fault) for fault in bench.each(what, tried, len(tried)))
     ends = ", ".join(f"{number} with status {status}" for status, number in sorted(statuses.items(), key=str))
     return f"{len(tried)} faults, of which ended {ends}"

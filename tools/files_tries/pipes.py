@@ -221,13 +221,13 @@ def odd_warning(bench, content):
 
 
 def locked(bench, content):
-    """Locks a store by another program: the fault is reported at once, and nothing is changed."""
+    """Locks a store by another program: the store is busy at once, and nothing is changed."""
     store = bench.put("locked", content)
     with open(store, "rb") as it:
         fcntl.flock(it, fcntl.LOCK_SH)
         for commands in (["list"], [provision("d", 9)], [INIT]):
             ran = bench.run(store, commands)
-            if (ran.status, ran.output) != (7, "store fault\n") or read(store) != content:
+            if (ran.status, ran.output) != (13, "busy\n") or read(store) != content:
                 bench.found(f"pipes: on a locked store {commands} ended with {ran.status}", store, commands)
     return 3
 

@@ -21,6 +21,7 @@ STATUS_LINES = {
     9: "too long 16777216\n",
     11: "bad store [0-9]+\n",
     12: "worn\n",
+    13: "busy\n",
 }
 
 

@@ -10,7 +10,9 @@ from files_tries.scripts import INIT, acknowledged, comes_again, provision, turn
 
 FIRST = [INIT, provision("d", 1), "remove d via c", provision("d", 2)]
 SECOND = [INIT, provision("e", 3), "remove e via c", provision("e", 4)]
-REFUSED = (7, "store fault\n")
+BUSY = (13, "busy\n")
+# The second one finds the store locked, or made meanwhile.
+REFUSED = (BUSY, (7, "store fault\n"))
 
 
 def stopped(process):
@@ -57,7 +59,7 @@ class Pair:
     def judge(self, store, runs):
         """Returns what is wrong after these runs, in the order in which they got the store, or None."""
         for ran, commands in runs:
-            if ran.status != 0 and (ran.status, ran.output) != REFUSED:
+            if ran.status != 0 and (ran.status, ran.output) not in REFUSED:
                 return f"one ended with status {ran.status} and {ran.output[-60:]!r}"
         again = comes_again(*(ran.output for ran, _ in runs))
         if again:
@@ -95,7 +97,7 @@ def held_at(pair, calls, number):
     before = read(store)
     second = bench.run(store, pair.second)
     if is_locked_at(calls, number):
-        if (second.status, second.output) != REFUSED or read(store) != before:
+        if (second.status, second.output) != BUSY or read(store) != before:
             bench.found(f"two: {pair.name}: held at call {number}: the second ended with {second}", store, pair.second)
     runs = [(second, pair.second), (ended(first, signal.SIGCONT), pair.first)]
     pair.check(f"the first was held before call {number}, {calls[number - 1].name}", store, runs)
@@ -119,7 +121,7 @@ def killed_at(case, calls, number):
     stopped(process)
     before = read(store)
     second = bench.run(store, ["list"])
-    if is_locked_at(calls, number) and ((second.status, second.output) != REFUSED or read(store) != before):
+    if is_locked_at(calls, number) and ((second.status, second.output) != BUSY or read(store) != before):
         bench.found(f"two: {case.name}: held at call {number}: a second ended with {second}", store, case.commands)
     case.check(ended(process, signal.SIGKILL), f"two: {case.name}: killed at call {number} with the lock", store)
 
@@ -159,7 +161,7 @@ def rounds(bench, count):
         pair.content = read(store)
         processes = [bench.start(store, commands) for commands in scripts]
         runs = [(ended(process, signal.SIGCONT), commands) for process, commands in zip(processes, scripts)]
-        refused += sum(ran.status == 7 for ran, _ in runs)
+        refused += sum(ran.status == BUSY[0] for ran, _ in runs)
         pair.check(f"round {number}", store, runs)
         outputs += [ran.output for ran, _ in runs]
         if comes_again(*outputs):
@@ -177,17 +179,17 @@ def backups(bench, whole, commands):
         made.append(bench.run(store, ["backup"]))
     served.join()
     status, told, again = outputs[0].status, acknowledged(outputs[0].output), comes_again(outputs[0].output)
-    if (status, outputs[0].output) == REFUSED:  # a backup had the store at that moment
+    if (status, outputs[0].output) == BUSY:  # a backup had the store at that moment
         return 0, 0
     if status != 0 or told != len(commands) or again:
         what = f"two: beside backups a script ended with {status}, {told} acknowledged, counters again {again}"
         bench.found(what, store, commands)
     for ran in made:
-        if ran.status != 0 and (ran.status, ran.output) != REFUSED:
+        if ran.status != 0 and (ran.status, ran.output) != BUSY:
             bench.found(f"two: a backup beside a script ended with {ran}", store, ["backup"])
     if bench.shown(store) != whole:
         bench.found("two: beside backups a script left another store than alone", store, commands)
-    return len(made), sum(ran.status == 7 for ran in made)
+    return len(made), sum(ran.status == BUSY[0] for ran in made)
 
 
 def beside(bench, count):

@@ -1,14 +1,18 @@
 """Takes the frames of a capture out of its packets, part by part, and keeps count of what has none."""
+from __future__ import annotations
+
 import collections
 import queue
 import threading
 import time
+from typing import Any, Iterator, List, Optional, Tuple
 
 from .formats import mac
 from .formats.checks import Checks
 from .formats.headers import try_nwk
 from .formats.links import Links, LeftOut
-from .formats.packets import Ended, open_source, read_packets
+from .formats.packets import read_packets
+from .formats.sources import Ended, open_source
 from .opening import MOST_FRAMES, Frame
 
 QUIET, LONGEST_WAIT, MOST_WAITING = 0.3, 1.0, 10000
@@ -17,28 +21,28 @@ QUIET, LONGEST_WAIT, MOST_WAITING = 0.3, 1.0, 10000
 class Tally:
     """Counts by reason, with the first packet of each."""
 
-    def __init__(self):
+    def __init__(self) -> None:
         self.counts, self.firsts = collections.Counter(), {}
 
-    def add(self, reason, number):
+    def add(self, reason: str, number: int) -> None:
         """Counts a packet."""
         self.counts[reason] += 1
         self.firsts[reason] = min(number, self.firsts.get(reason, number))
 
-    def copy(self):
+    def copy(self) -> Tally:
         """Returns another one that counts on."""
         other = Tally()
         other.counts.update(self.counts)
         other.firsts.update(self.firsts)
         return other
 
-    def rows(self):
+    def rows(self) -> List[Tuple[str, int, int]]:
         """Returns reason, count and first packet, the greatest count first."""
         rows = [(reason, count, self.firsts[reason]) for reason, count in self.counts.items()]
         return sorted(rows, key=lambda row: (-row[1], row[2]))
 
 
-def parts_of_file(packets):
+def parts_of_file(packets: Iterator[Any]) -> Iterator[list]:
     """Yields the packets of a file in parts, also those before a packet that isn't whole."""
     part, ended = [], None
     try:
@@ -54,7 +58,7 @@ def parts_of_file(packets):
         raise ended
 
 
-def fill(waiting, packets):
+def fill(waiting: queue.Queue, packets: Iterator[Any]) -> None:
     """Puts packets into a queue, and at the end what ended them: an exception or none."""
     try:
         for packet in packets:
@@ -64,7 +68,7 @@ def fill(waiting, packets):
         waiting.put(error)
 
 
-def next_of(waiting, seconds):
+def next_of(waiting: queue.Queue, seconds: float) -> Any:
     """Returns the next packet of a queue, or an empty text where none comes in time."""
     try:
         return waiting.get(timeout=max(seconds, 0))
@@ -72,7 +76,7 @@ def next_of(waiting, seconds):
         return ''
 
 
-def live_part(waiting):
+def live_part(waiting: queue.Queue) -> tuple:
     """Returns the packets that come until it is quiet for a moment, and what ended them: an empty text where they go
     on."""
     part, begun = [], time.monotonic()
@@ -84,11 +88,11 @@ def live_part(waiting):
     return part, ''
 
 
-def live_parts(packets):
+def live_parts(packets: Iterator[Any]) -> Iterator[list]:
     """Yields the packets of a source that grows, in the parts in which they come."""
     waiting = queue.Queue(MOST_WAITING)
     threading.Thread(target=fill, args=(waiting, packets), daemon=True).start()
-    ended = ''
+    ended: Any = ''
     while ended == '':
         part, ended = live_part(waiting)
         if part:
@@ -100,24 +104,29 @@ def live_parts(packets):
 class Capture:
     """A capture that is read once. left_out counts the packets without a frame, by reason."""
 
-    def __init__(self, path, checks='auto', zep_port=None, is_followed=False):
+    def __init__(
+        self, path: str, checks: str = 'auto', zep_port: Optional[int] = None, is_followed: bool = False
+    ) -> None:
         self.links = Links(zep_port)
         self.checks = Checks(checks)
         self.path, self.is_followed = path, is_followed
         self.packets, self.frames, self.left_out = 0, 0, Tally()
         self.associations = []
 
-    def packet_parts(self):
+    def packet_parts(self) -> Iterator[list]:
         """Yields the packets of the capture in parts. A packet that isn't whole ends them, and is counted."""
-        packets = read_packets(self.path, open_source(self.path, self.is_followed))
+        source = open_source(self.path, self.is_followed)
+        packets = read_packets(self.path, source)
         try:
             for part in (live_parts if self.is_followed else parts_of_file)(packets):
                 self.packets += len(part)
                 yield part
         except Ended as ended:
             self.left_out.add(ended.reason, self.packets + 1)
+        finally:
+            source.close()
 
-    def parts(self):
+    def parts(self) -> Iterator[List[Frame]]:
         """Yields the frames of the capture in parts. After each part, left_out counts the packets so far."""
         for packets in self.packet_parts():
             frames = [self.frame_of(*it) for it in self.stripped(packets)]
@@ -125,19 +134,19 @@ class Capture:
             self.frames += len(frames)
             yield frames
 
-    def bodies(self):
+    def bodies(self) -> Iterator[List[Tuple[float, bytes]]]:
         """Yields time and bytes of each packet in parts, without check sequences, and no bytes where there are
         none."""
         for packets in self.packet_parts():
             bodies = {packet.number: body for packet, body, _ in self.stripped(packets)}
             yield [(packet.time, bodies.get(packet.number, b'')) for packet in packets]
 
-    def take_associations(self):
+    def take_associations(self) -> list:
         """Returns PAN, short address and EUI of the association responses since the last call."""
         taken, self.associations = self.associations, []
         return taken
 
-    def unwrap(self, packet):
+    def unwrap(self, packet: Any) -> Any:
         """Returns what is in a packet, or none and keeps the reason."""
         try:
             return self.links.unwrap(packet)
@@ -145,7 +154,7 @@ class Capture:
             self.left_out.add(str(why), packet.number)
             return None
 
-    def strip(self, packet, wrapped):
+    def strip(self, packet: Any, wrapped: Any) -> Optional[tuple]:
         """Returns a packet, its bytes and the size of its check sequence, or none and keeps the reason."""
         try:
             return (packet, *self.checks.take_off(wrapped))
@@ -153,7 +162,7 @@ class Capture:
             self.left_out.add(str(why), packet.number)
             return None
 
-    def stripped(self, packets):
+    def stripped(self, packets: list) -> List[tuple]:
         """Returns each packet that is whole, its bytes, and the size of its check sequence. These are judged
         together."""
         wrapped = [
@@ -163,7 +172,7 @@ class Capture:
             self.checks.learn(it)
         return [it for it in (self.strip(*pair) for pair in wrapped) if it is not None]
 
-    def frame_of(self, packet, body, check_size):
+    def frame_of(self, packet: Any, body: bytes, check_size: int) -> Optional[Frame]:
         """Returns the frame of a packet, or none and keeps the reason."""
         given = mac.read_association(body)
         if given:

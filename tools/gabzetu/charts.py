@@ -5,6 +5,7 @@ so that no arrow lies over another. The heads come again after each screenful of
 import collections
 import sys
 import textwrap
+from typing import Any, Iterator, List, Optional
 
 from .errors import WRONG_USE, Stop
 from .formats import history as histories
@@ -33,7 +34,7 @@ Shown = collections.namedtuple('Shown', 'event node frames boxes')
 Row = collections.namedtuple('Row', 'arcs lines')
 
 
-def shown_events(history, first, last, only):
+def shown_events(history: Any, first: Optional[int], last: Optional[int], only: Any) -> Any:
     """Yields the events from the first to the last that have anything to draw, of some nodes where these are given."""
     sent = collections.defaultdict(list)
     for frame in history.frames:
@@ -46,35 +47,35 @@ def shown_events(history, first, last, only):
             yield Shown(event, node, frames, boxes)
 
 
-def clean(text):
+def clean(text: str) -> str:
     """Returns a text as it may be in a label: mscgen's language has no sign for a quote that is one."""
     return text.replace('\\', '/').replace('"', "'")
 
 
-def cut(word):
+def cut(word: str) -> str:
     """Returns a word of a schedule, or the first digits of a long one."""
     return word if len(word) <= LONGEST_WORD else word[:8] + '..'
 
 
-def wrap(texts, span):
+def wrap(texts: List[str], span: int) -> List[str]:
     """Returns texts in lines that are no longer than some columns."""
     width = LETTERS * min(span, LONGEST_SPAN)
     return [line for text in texts for line in textwrap.wrap(text, width, break_on_hyphens=False) or ['']]
 
 
-def arc(source, sign, to, lines, **attributes):
+def arc(source: str, sign: str, to: str, lines: List[str], **attributes: str) -> str:
     """Returns an arc: from, sign, to, label and attributes."""
     label = '\\n'.join(clean(line) for line in lines)
     more = ''.join(f', {name}="{value}"' for name, value in attributes.items())
     return f'{source} {sign} {to} [label="{label}"{more}]'
 
 
-def colour_of(verdicts):
+def colour_of(verdicts: List[histories.Verdict]) -> str:
     """Green where somebody accepted the frame, red where it was only refused, grey where nobody judged it."""
     return GREEN if any(it.reason is None for it in verdicts) else RED if verdicts else GREY
 
 
-def around_arrow(above, below):
+def around_arrow(above: List[str], below: List[str]) -> List[str]:
     """Returns the lines of a label whose middle one is empty: the arrow goes there."""
     size = max(len(above), len(below))
     return [''] * (size - len(above)) + above + [''] + below + [''] * (size - len(below))
@@ -83,15 +84,15 @@ def around_arrow(above, below):
 class Chart:
     """The rows of one chart."""
 
-    def __init__(self, history, shown, names):
+    def __init__(self, history: histories.History, shown: List[Shown], names: List[Optional[str]]) -> None:
         self.history, self.shown = history, shown
         self.columns = {name: place for place, name in enumerate(names)}
 
-    def name(self, node):
+    def name(self, node: str) -> str:
         """Returns how the chart calls the column of a node, or of nobody: node names may be words of its language."""
         return f'n{self.columns[node]}'
 
-    def fate(self, frame, node):
+    def fate(self, frame: Any, node: str) -> List[str]:
         """Returns in words what a node made of a frame."""
         return [
             f'{histories.deed(it.reason)} at {it.event}' + ('' if it.reason is None else f': {it.reason}')
@@ -99,7 +100,7 @@ class Chart:
             if it.node == node
         ]
 
-    def frame_rows(self, frame):
+    def frame_rows(self, frame: Any) -> List[Row]:
         """Returns the rows of a frame: one for each node to which an arrow goes, with what it carries in the first."""
         (first, *more), counters = self.history.reader.describe(frame.event, frame.data)
         texts = [f'{frame.number} {KINDS[frame.kind]}{first}', *more]
@@ -112,7 +113,7 @@ class Chart:
         heads = [(texts, counters)] + [([f'{frame.number}'], [])] * (len(targets) - 1)
         return [self.arrow_row(frame, node, *head) for node, head in zip(targets, heads)]
 
-    def arrow_row(self, frame, node, texts, counters):
+    def arrow_row(self, frame: Any, node: str, texts: List[str], counters: List[str]) -> Row:
         """Returns the row of a frame to one node: what it carries is above the arrow, what became of it below."""
         span = abs(self.columns[node] - self.columns[frame.sender])
         verdicts = [it for it in self.history.verdicts[frame.number] if it.node == node]
@@ -125,13 +126,13 @@ class Chart:
             len(lines),
         )
 
-    def box_row(self, node, box):
+    def box_row(self, node: str, box: histories.Box) -> Row:
         """Returns the row of a box at a node."""
         shape, colour = SHAPES[box.kind]
         lines = wrap(box.texts, 1)
         return Row([arc(self.name(node), shape, self.name(node), lines, textbgcolour=colour)], len(lines))
 
-    def event_rows(self, shown):
+    def event_rows(self, shown: Shown) -> List[Row]:
         """Returns the rows of an event. The first has its number, and its words where the schedule is known."""
         rows = [self.box_row(shown.node, box) for box in shown.boxes] + [
             row for it in shown.frames for row in self.frame_rows(it)
@@ -141,12 +142,12 @@ class Chart:
         mark = arc('event', 'box', 'event', lines, linecolour='white')
         return [Row([mark, *rows[0].arcs], max(rows[0].lines, len(lines))), *rows[1:]]
 
-    def head(self, node):
+    def head(self, node: str) -> List[str]:
         """Returns the lines of the head of a column."""
         it = next((it for it in self.history.nodes if it.name == node), None)
         return ['outside', 'forged, injected'] if it is None else [it.name, f'{it.role} {it.short}']
 
-    def head_row(self):
+    def head_row(self) -> Row:
         """Returns the heads once more, as a row of boxes."""
         arcs = [arc('event', 'box', 'event', ['event'], linecolour='white')]
         arcs += [
@@ -155,7 +156,7 @@ class Chart:
         ]
         return Row(arcs, 2)
 
-    def rows(self):
+    def rows(self) -> Iterator[Row]:
         """Yields all rows. Before an event that begins below a screen's end, the heads come again."""
         height = 0
         for shown in self.shown:
@@ -166,7 +167,7 @@ class Chart:
             height += sum(LINE * row.lines + GAP for row in rows)
             yield from rows
 
-    def text(self):
+    def text(self) -> str:
         """Returns what mscgen reads."""
         entities = ['event [label="event", linecolour="white"]']
         entities += [
@@ -177,7 +178,7 @@ class Chart:
         return 'msc {\n  ' + '\n  '.join(lines) + '\n}\n'
 
 
-def column_names(history, shown, only):
+def column_names(history: histories.History, shown: List[Shown], only: Optional[List[str]]) -> List[Optional[str]]:
     """Returns the nodes that are drawn, none for nobody: all, or those that have to do with the ones that are asked
     for."""
     used = {
@@ -190,7 +191,9 @@ def column_names(history, shown, only):
     return names + ([None] if None in used else [])
 
 
-def make_chart(history, first=1, last=sys.maxsize, only=None):
+def make_chart(
+    history: histories.History, first: int = 1, last: int = sys.maxsize, only: Optional[List[str]] = None
+) -> str:
     """Returns the chart of the events from the first to the last, of some nodes where these are given, as mscgen reads
     it."""
     unknown = sorted(set(only or []) - {node.name for node in history.nodes})

@@ -9,7 +9,7 @@ import signal
 import sys
 import threading
 import traceback
-from typing import Iterator, List
+from typing import Any, Dict, Iterator, List, Optional, Sequence
 
 from . import commands
 from .errors import OUT_OF_MEMORY, UNEXPECTED, UNREADABLE, UNWRITABLE, WRONG_USE, Stop, reason_of
@@ -28,7 +28,7 @@ LONGEST_ERROR = 200
 class Ended(BaseException):
     """A signal ends the program. What it holds is its number."""
 
-    def __init__(self, number: int):
+    def __init__(self, number: int) -> None:
         super().__init__(number)
         self.number = number
 
@@ -36,29 +36,29 @@ class Ended(BaseException):
 class Parser(argparse.ArgumentParser):
     """A parser whose mistakes end with the status of wrong use. Options are written out."""
 
-    def __init__(self, **how):
+    def __init__(self, **how: Any) -> None:
         super().__init__(allow_abbrev=False, **how)
 
-    def error(self, message):
+    def error(self, message: str) -> None:
         """Stops with the message and the usage."""
         raise Stop(f'{message}\n{self.format_usage().rstrip()}', WRONG_USE)
 
-    def _print_message(self, message, file=None):
+    def _print_message(self, message: str, file: Any = None) -> None:
         """Writes the text of --help, and says so where that fails, which argparse passes over."""
         write_output(None, message)
 
 
-def command_names():
+def command_names() -> List[str]:
     """Returns the names of the modules of commands, in order."""
     return sorted(it.name for it in pkgutil.iter_modules(commands.__path__))
 
 
-def load_command(name):
+def load_command(name: str) -> Any:
     """Returns the module of a command."""
     return importlib.import_module(f'{commands.__name__}.{name}')
 
 
-def make_parser(names=None):
+def make_parser(names: Optional[List[str]] = None) -> argparse.ArgumentParser:
     """Returns the parser of some commands, or of all. A module from_zigpy.py is the command from-zigpy."""
     parser = Parser(prog='gabzetu', description=DESCRIPTION, epilog=EPILOG)
     parser.add_argument('--version', action='store_true', help='print the versions of the front end and of tc')
@@ -74,17 +74,17 @@ def make_parser(names=None):
     return parser
 
 
-def parsers_of(parser):
+def parsers_of(parser: argparse.ArgumentParser) -> Dict[str, argparse.ArgumentParser]:
     """Returns the parsers of the commands by their names."""
     return next(it.choices for it in parser._actions if isinstance(it, argparse._SubParsersAction))
 
 
-def describe(module):
+def describe(module: Any) -> str:
     """Returns what `--help` says first of a command: its DESCRIPTION where it has one, else its summary."""
     return getattr(module, 'DESCRIPTION', module.SUMMARY[:1].upper() + module.SUMMARY[1:] + '.')
 
 
-def count_of_values(parser, word):
+def count_of_values(parser: argparse.ArgumentParser, word: str) -> Any:
     """Returns how many of the words after this one are values of the option that it is, or none where it is none."""
     name, *value = word.split('=', 1) if word.startswith('--') else [word[:2], *([word[2:]] if word[2:] else [])]
     option = parser._option_string_actions.get(name)
@@ -93,7 +93,7 @@ def count_of_values(parser, word):
     return 0 if value else 1 if option.nargs is None else option.nargs
 
 
-def with_options_first(parser, words):
+def with_options_first(parser: argparse.ArgumentParser, words: List[str]) -> List[str]:
     """Returns the words of a command with its options first: else argparse takes no optional word after an option."""
     options, places, at = [], [], 0
     while at < len(words) and words[at] != '--':
@@ -109,7 +109,7 @@ def with_options_first(parser, words):
     return options + places + words[at:]
 
 
-def run(words):
+def run(words: Sequence[str]) -> int:
     """Runs the command of these words, and returns its exit status."""
     words = [*words[1:], words[0]] if words[:1] == ['--debug'] else words
     known = {name.replace('_', '-'): name for name in command_names()}
@@ -129,7 +129,7 @@ def run(words):
     return arguments.run(arguments) or 0
 
 
-def fill_streams():
+def fill_streams() -> None:
     """Opens the standard streams that are closed, so that no file of a command gets their place.
 
     Reading such an input fails, and so does writing such an output; what is said on standard error is lost."""
@@ -145,7 +145,7 @@ def fill_streams():
         sys.stdout.reconfigure(errors='backslashreplace')  # a terminal may lack a letter of a file's name
 
 
-def drop_output():
+def drop_output() -> None:
     """Sends what is still buffered nowhere, after standard output took no more."""
     try:
         os.dup2(os.open(os.devnull, os.O_WRONLY), sys.stdout.fileno())
@@ -153,12 +153,12 @@ def drop_output():
         pass
 
 
-def run_to_end(words):
+def run_to_end(words: Sequence[str]) -> int:
     """Runs the command of these words until its output is written, and returns its exit status."""
     try:
         status = run(words)
     except SystemExit as ended:  # by --help
-        status = ended.code or 0
+        status = int(ended.code or 0)
     sys.stdout.flush()
     return status
 
@@ -182,12 +182,12 @@ def signals_as_exceptions() -> Iterator[None]:
             signal.signal(it, handler)
 
 
-def wants_trace(words: List[str]) -> bool:
+def wants_trace(words: Sequence[str]) -> bool:
     """Returns whether `--debug` is among the words before `--`."""
     return '--debug' in (words[: words.index('--')] if '--' in words else words)
 
 
-def tell_unexpected(error: Exception, words: List[str]) -> int:
+def tell_unexpected(error: Exception, words: Sequence[str]) -> int:
     """Says in a sentence what no command expects, and returns the exit status."""
     if wants_trace(words):
         say(traceback.format_exc().rstrip())
@@ -205,14 +205,14 @@ def tell_unexpected(error: Exception, words: List[str]) -> int:
     return UNEXPECTED
 
 
-def main(words):
+def main(words: Sequence[str]) -> int:
     """Runs gabzetu with these words, and returns its exit status."""
     fill_streams()
     with signals_as_exceptions():
         return run_and_tell(words)
 
 
-def run_and_tell(words):
+def run_and_tell(words: Sequence[str]) -> int:
     """Runs gabzetu with these words, says what went wrong, and returns its exit status."""
     try:
         return run_to_end(words)

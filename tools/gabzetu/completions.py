@@ -1,16 +1,18 @@
 """Completions for bash, zsh and fish, made from the tree of commands."""
+from typing import Any, Iterator, List, Union
+
 from . import helping
 from .tree import options_of, places_of, read_tree
 
 
-def words_of_places(command):
+def words_of_places(command: Any) -> List[str]:
     """Returns the words that a command takes by their place, where they are certain ones."""
     if command.name == 'help':
         return [it.name for it in read_tree()[1]] + helping.TOPICS
     return [word for it in places_of(command) for word in it.choices or []]
 
 
-def unique(words):
+def unique(words: Union[Iterator[Any], List[str]]) -> str:
     """Returns words with one space between them, repeats left out."""
     return ' '.join(dict.fromkeys(words))
 
@@ -42,19 +44,19 @@ complete -o filenames -F _gabzetu gabzetu
 """
 
 
-def bash_value(command, option):
+def bash_value(command: Any, option: Any) -> str:
     """Returns the case of an option with certain values."""
     names = '|'.join(f'{command.name}:{name}' for name in option.names)
     return f'        {names}) COMPREPLY=($(compgen -W "{" ".join(option.choices)}" -- "$word")); return ;;\n'
 
 
-def bash_options(command):
+def bash_options(command: Any) -> str:
     """Returns the case of a command: its options, and its words."""
     options = unique(name for it in options_of(command) for name in it.names)
     return f'        {command.name}) options="{options}" words="{unique(words_of_places(command))}" ;;\n'
 
 
-def write_bash():
+def write_bash() -> str:
     """Returns the completions for bash."""
     top, commands = read_tree()
     first = unique([*(it.name for it in commands), *(name for it in options_of(top) for name in it.names)])
@@ -85,13 +87,13 @@ _gabzetu "$@"
 """
 
 
-def quoted(text):
+def quoted(text: str) -> str:
     """Returns a text in single quotes, without the marks that zsh reads in descriptions."""
     plain = text.replace('[', '(').replace(']', ')').replace(':', ' ')
     return plain.replace("'", "'\\''")
 
 
-def zsh_option(option):
+def zsh_option(option: Any) -> List[str]:
     """Returns the names of an option as words of _arguments."""
     value = ''
     if option.value:
@@ -99,7 +101,7 @@ def zsh_option(option):
     return [f"'{name}[{quoted(option.help)}]{value}'" for name in option.names]
 
 
-def zsh_case(command):
+def zsh_case(command: Any) -> str:
     """Returns the case of a command."""
     words = words_of_places(command)
     rest = f"'*:word:({unique(words)})'" if words else "'*:file:_files'"
@@ -107,7 +109,7 @@ def zsh_case(command):
     return f'        {command.name}) _arguments {options} {rest} ;;\n'
 
 
-def write_zsh():
+def write_zsh() -> str:
     """Returns the completions for zsh."""
     _, commands = read_tree()
     names = ''.join(f"        '{it.name}:{quoted(it.summary)}'\n" for it in commands)
@@ -123,12 +125,12 @@ end
 """
 
 
-def fish_quoted(text):
+def fish_quoted(text: str) -> str:
     """Returns a text in single quotes."""
     return "'" + text.replace('\\', '\\\\').replace("'", "\\'") + "'"
 
 
-def fish_option(command, option):
+def fish_option(command: Any, option: Any) -> str:
     """Returns the line of an option."""
     names = ' '.join(f'-l {it[2:]}' if it.startswith('--') else f'-s {it[1:]}' for it in option.names)
     value = '' if not option.value else f' -x -a {fish_quoted(" ".join(option.choices))}' if option.choices else ' -r'
@@ -138,7 +140,7 @@ def fish_option(command, option):
     )
 
 
-def fish_command(command):
+def fish_command(command: Any) -> str:
     """Returns the lines of a command."""
     first = f"complete -c gabzetu -n __gabzetu_first -f -a {command.name} -d {fish_quoted(command.summary)}\n"
     words = unique(words_of_places(command))
@@ -147,7 +149,7 @@ def fish_command(command):
     return first + ''.join(fish_option(command, it) for it in options_of(command))
 
 
-def write_fish():
+def write_fish() -> str:
     """Returns the completions for fish."""
     _, commands = read_tree()
     return FISH_HEAD + 'complete -c gabzetu -n __gabzetu_first -l version\n' + ''.join(map(fish_command, commands))

@@ -1,6 +1,7 @@
 """What `gabzetu help` says of the lines of texts: made from the same tables that read them."""
 import collections
 import textwrap
+from typing import Dict, List
 
 from .formats import captures, fields, schedules, scripts
 from .formats.causes import CAUSES, CLAIMS
@@ -52,7 +53,7 @@ CAUSES_TOPIC = 'causes'
 TOPICS = sorted([*INTRODUCTIONS, CAUSES_TOPIC])
 
 
-def transcript_lines():
+def transcript_lines() -> List[Described]:
     """Returns the lines of a transcript: the forms of each kind, and what it means. The end line alone has no event."""
     found = []
     for kind, about in fields.MEANINGS.items():
@@ -61,7 +62,7 @@ def transcript_lines():
     return found
 
 
-SECTIONS = {
+SECTIONS: Dict[str, List[tuple]] = {
     'schedule': [('Declarations', schedules.DECLARATIONS), ('Events', schedules.EVENTS)],
     'capture': [('Lines', captures.FORMS)],
     'script': [('Lines', scripts.FORMS)],
@@ -84,12 +85,12 @@ MORE = {
 }
 
 
-def wrapped(text, indent=''):
+def wrapped(text: str, indent: str = '') -> str:
     """Returns a text in lines of the width of help."""
     return textwrap.fill(text, WIDTH, initial_indent=indent, subsequent_indent=indent)
 
 
-def describe_forms(title, forms):
+def describe_forms(title: str, forms: list) -> str:
     """Returns the forms of some lines, each with its sentence below it."""
     lines = [f'{title}:']
     for form in forms:
@@ -97,7 +98,7 @@ def describe_forms(title, forms):
     return '\n'.join(lines)
 
 
-def describe_sentences(title, sentences):
+def describe_sentences(title: str, sentences: Dict[str, str]) -> str:
     """Returns words such as causes, each with its sentence below it."""
     lines = [f'{title}:']
     for word, sentence in sentences.items():
@@ -105,7 +106,7 @@ def describe_sentences(title, sentences):
     return '\n'.join(lines)
 
 
-def describe_causes():
+def describe_causes() -> str:
     """Returns the text of `gabzetu help causes`: what each refusal, each broken claim and each fault of tc means."""
     refusals = (describe_sentences(f'refused LINE CAUSE ({TITLES[kind]})', CAUSES[kind]) for kind in TITLES)
     claims = describe_sentences('broken LINE CLAIM', {str(number): it for number, it in CLAIMS.items()})
@@ -113,7 +114,7 @@ def describe_causes():
     return '\n\n'.join([*refusals, claims, statuses]) + '\n'
 
 
-def describe_topic(topic):
+def describe_topic(topic: str) -> str:
     """Returns the text of `gabzetu help` on the lines of a kind of text, or on causes."""
     if topic == CAUSES_TOPIC:
         return describe_causes()

@@ -1,6 +1,7 @@
 """Writes what was opened of a capture: lines for people and JSON lines, and at the end the keys and why the rest
 stayed closed."""
 import collections
+from typing import Any, Iterator, List, Optional
 
 from .capture import Tally
 from .formats.contents import describe
@@ -20,13 +21,13 @@ WRONG_CHECK = (
 NO_KEY = 'No network key is known: give one by --key, --code or --keys-from, or a capture of a join under a known key.'
 
 
-def addresses_of(frame):
+def addresses_of(frame: Any) -> tuple:
     """Returns the short addresses of the NWK header, source and destination, or those of the MAC where it isn't
     read."""
     return (frame.nwk.source, frame.nwk.to) if frame.nwk else (frame.source, frame.to)
 
 
-def layer_words(layer, ring):
+def layer_words(layer: Any, ring: Any) -> str:
     """Returns the words of a layer: under which key it opened, or why it didn't."""
     if layer.key:
         label = f' {layer.label}' if layer.label else ''
@@ -34,7 +35,7 @@ def layer_words(layer, ring):
     return f'{layer.kind} {layer.reason}'
 
 
-def line_of(frame, layers, ring, is_again=False):
+def line_of(frame: Any, layers: tuple, ring: Any, is_again: bool = False) -> str:
     """Returns the line of a frame: number of the packet, PAN, addresses, layers, and what it carries.
 
     One that was shown before, with fewer layers open, says so."""
@@ -47,14 +48,14 @@ def line_of(frame, layers, ring, is_again=False):
     return f'{head:<{WIDTH}}  {what}' if what else head
 
 
-def layer_object(layer, ring):
+def layer_object(layer: Any, ring: Any) -> dict:
     """Returns the fields of a layer, named as those of a report, without those that it has not."""
     number = ring.keys[layer.key].number if layer.key else None
     fields = {'kind': layer.kind, 'k': number, **layer._asdict()}
     return {name: value for name, value in fields.items() if value is not None}
 
 
-def object_of(frame, layers, ring, is_again=False):
+def object_of(frame: Any, layers: tuple, ring: Any, is_again: bool = False) -> dict:
     """Returns the JSON object of a frame. One that was shown before, with fewer layers open, has `again`."""
     source, to = addresses_of(frame)
     return {
@@ -70,20 +71,20 @@ def object_of(frame, layers, ring, is_again=False):
     }
 
 
-def key_line(key, ring):
+def key_line(key: Any, ring: Any) -> str:
     """Returns the line of a key: its number, itself, and where it comes from."""
     by = f', which key {ring.keys[key.by].number} opened' if key.by else ''
     return f'  key {key.number:<3} {key.key}  {key.origin}{by}'
 
 
-def key_object(key, ring):
+def key_object(key: Any, ring: Any) -> dict:
     """Returns the JSON object of a key."""
     by = ring.keys[key.by].number if key.by else None
     fields = {'kind': 'key', 'k': key.number, 'key': key.key, 'origin': key.origin, 'packet': key.packet, 'by': by}
     return {name: value for name, value in fields.items() if value is not None}
 
 
-def row_lines(title, tally):
+def row_lines(title: str, tally: Tally) -> Optional[List[str]]:
     """Returns a line for each reason with its count and first packet, or nothing where there is none."""
     lines = [
         f'  {count:>5}  {reason} ({"" if count == 1 else "the first is "}packet {first})'
@@ -92,7 +93,7 @@ def row_lines(title, tally):
     return [title, *lines] if lines else []
 
 
-def category_of(layers):
+def category_of(layers: tuple) -> str:
     """Returns how far a frame is open: opened, partly, closed, or clear where nothing is sealed."""
     is_shut = is_closed(layers) or any(it.reason == 'malformed' for it in layers)
     if opened_layers(layers):
@@ -103,12 +104,12 @@ def category_of(layers):
 class Listing:
     """Counts what is shown of a capture, and says at the end what there was."""
 
-    def __init__(self, capture, opener):
+    def __init__(self, capture: Any, opener: Any) -> None:
         self.capture, self.opener = capture, opener
         self.counts, self.known, self.malformed, self.categories = collections.Counter(), Known(), Tally(), {}
         self.start = None
 
-    def note(self, frame, layers):
+    def note(self, frame: Any, layers: tuple) -> None:
         """Counts a frame, or counts it anew where more of it opened since."""
         category = category_of(layers)
         self.start = frame.time if self.start is None else self.start
@@ -121,18 +122,18 @@ class Listing:
             self.malformed.add(why_closed(frame, layers, self.known), frame.number)
         self.known.note(frame, layers)
 
-    def since(self, frame):
+    def since(self, frame: Any) -> str:
         """Returns the seconds of a frame since the first one, as the beginning of its line."""
         return f'{frame.time - self.start:>12.6f} s  '
 
-    def closed(self):
+    def closed(self) -> Tally:
         """Returns the tally of the reasons why frames are not open, by all that is known at the end."""
         tally = self.malformed.copy()
         for frame, layers in self.opener.closed.values():
             tally.add(why_closed(frame, layers, self.known), frame.number)
         return tally
 
-    def hints(self):
+    def hints(self) -> List[str]:
         """Returns sentences on what to try."""
         wrong = sum(
             count for reason, count, _ in self.capture.left_out.rows() if reason.startswith('wrong check sequence')
@@ -147,7 +148,7 @@ class Listing:
             for port, count in ports
         ]
 
-    def lines(self):
+    def lines(self) -> List[str]:
         """Returns the lines of the end, for people."""
         it = self.counts
         counts = (
@@ -164,10 +165,10 @@ class Listing:
             *(f'Hint: {hint}' for hint in self.hints()),
         ]
 
-    def objects(self):
+    def objects(self) -> Iterator[dict]:
         """Yields the JSON objects of the end."""
         yield from (key_object(key, self.opener.ring) for key in self.opener.ring.keys.values())
-        rows = [('reason', *row) for row in self.closed().rows()]
+        rows: List[tuple] = [('reason', *row) for row in self.closed().rows()]
         rows += [('left-out', *row) for row in self.capture.left_out.rows()]
         yield from (dict(zip(('kind', 'reason', 'count', 'first'), row)) for row in rows)
         yield {

@@ -1,4 +1,6 @@
 """The man page, made from the tree of commands."""
+from typing import Any
+
 from . import read_version
 from .errors import MISSING, UNEXPECTED, UNREADABLE, UNWRITABLE, WRONG_INPUT, WRONG_USE
 from .helping import INTRODUCTIONS, SECTIONS
@@ -26,48 +28,48 @@ STATUSES = [
 ]
 
 
-def escaped(text):
+def escaped(text: str) -> str:
     """Returns a text as roff reads it: no line begins with a control character."""
     lines = text.replace('\\', '\\e').replace('-', '\\-').split('\n')
     return '\n'.join('\\&' + it if it[:1] in (".", "'") else it for it in lines)
 
 
-def paragraphs(text):
+def paragraphs(text: str) -> str:
     """Returns a description of several paragraphs. One whose lines are indented keeps its lines."""
     return '\n.PP\n'.join(paragraph(it.strip('\n')) for it in text.split('\n\n'))
 
 
-def paragraph(text):
+def paragraph(text: str) -> str:
     """Returns a paragraph, or a block of lines that stay as they are if each is indented."""
     if all(it.startswith('  ') for it in text.split('\n')):
         return f'.nf\n{escaped(text)}\n.fi'
     return escaped(text.replace('\n', ' '))
 
 
-def tagged(tag, text):
+def tagged(tag: str, text: str) -> str:
     """Returns a paragraph with a tag."""
     return f'.TP\n.B {escaped(tag)}\n{escaped(text)}\n'
 
 
-def tag_of(argument):
+def tag_of(argument: Any) -> str:
     """Returns how the man page names an argument."""
     if not argument.names:
         return argument.value
     return ', '.join(name + (f' {argument.value}' if argument.value else '') for name in argument.names)
 
 
-def rows_of(command):
+def rows_of(command: Any) -> str:
     """Returns the paragraphs on the words of a command."""
     arguments = places_of(command) + [it for it in options_of(command) if '--help' not in it.names]
     return ''.join(tagged(tag_of(it), it.help.replace('%%', '%')) for it in arguments)
 
 
-def describe_command(command):
+def describe_command(command: Any) -> str:
     """Returns the section of a command."""
     return f'.SS {escaped(command.usage)}\n{paragraphs(command.description)}\n{rows_of(command)}'
 
 
-def write_page(command) -> str:
+def write_page(command: Any) -> str:
     """Returns the man page gabzetu-NAME.1 of a command."""
     name = f'gabzetu-{command.name}'
     head = f'.TH {name.upper()} 1 "" "gabzetu {read_version()}" "User Commands"\n'
@@ -89,13 +91,13 @@ def write_pages() -> dict:
     return {'gabzetu.1': write_manual(), **pages}
 
 
-def describe_texts(topic):
+def describe_texts(topic: str) -> str:
     """Returns the section on the lines of schedules, captures, scripts or scenarios."""
     rows = ''.join(tagged(form.text, form.about) for _, forms in SECTIONS[topic] for form in forms)
     return f'.SH LINES OF A {topic.upper()}\n{escaped(INTRODUCTIONS[topic])}\n{rows}'
 
 
-def write_manual():
+def write_manual() -> str:
     """Returns the man page gabzetu.1."""
     top, commands = read_tree()
     return ''.join(

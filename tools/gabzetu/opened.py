@@ -5,29 +5,21 @@ from typing import Dict, List, NamedTuple, Optional
 from . import listing
 from .capture import Capture
 from .errors import UNREADABLE, Stop
+from .formats.packets import MAGICS
 from .formats.reports import Heard, Report
+from .formats.sources import GZIP
 from .opening import MOST_FRAMES, Key, Layer, Opener, Ring
 from .runs import default_jobs
-
-MAGICS = (
-    b'\xd4\xc3\xb2\xa1',
-    b'\xa1\xb2\xc3\xd4',
-    b'\x4d\x3c\xb2\xa1',
-    b'\xa1\xb2\x3c\x4d',
-    b'\x34\xcd\xb2\xa1',
-    b'\n\r\r\n',
-)
-GZIP = b'\x1f\x8b'
 
 
 def is_capture(path: str) -> bool:
     """Returns whether a file begins as a capture of a sniffer does. Standard input is taken to be none."""
     try:
         with open(path, 'rb') as file:
-            first = file.read(4)
+            first = file.read(8)
     except OSError:
         return False
-    return first in MAGICS or first[:2] == GZIP
+    return first.startswith((*MAGICS, GZIP))
 
 
 class Opened(NamedTuple):

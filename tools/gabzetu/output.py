@@ -5,7 +5,7 @@ import os
 import stat
 import sys
 import tempfile
-from typing import Iterable, Optional
+from typing import Any, Iterable, Iterator, Optional, Union
 
 from .errors import UNREADABLE, UNWRITABLE, WRONG_USE, Stop, reason_of
 
@@ -67,7 +67,7 @@ def keep_inputs(read: Iterable[Optional[str]], written: Iterable[Optional[str]])
             taken[found] = out
 
 
-def is_written_in_place(path):
+def is_written_in_place(path: str) -> bool:
     """Returns whether a path is no regular file, for example /dev/null or a pipe: it can't be renamed over."""
     try:
         return not stat.S_ISREG(os.stat(path).st_mode)
@@ -75,7 +75,7 @@ def is_written_in_place(path):
         return False
 
 
-def mode_of(path, is_private=False):
+def mode_of(path: str, is_private: bool = False) -> int:
     """Returns the mode that a file at this path gets: that of the file it replaces, else what the umask leaves.
 
     A new file with keys may be read and written by its owner alone."""
@@ -88,7 +88,7 @@ def mode_of(path, is_private=False):
 
 
 @contextlib.contextmanager
-def beside(path, is_private=False):
+def beside(path: str, is_private: bool = False) -> Iterator[Any]:
     """Yields a file beside `path`, which is renamed to it at the end, or removed if the body fails."""
     path = os.path.realpath(path)
     handle, other = tempfile.mkstemp(prefix='.gabzetu-', dir=os.path.dirname(path))
@@ -103,7 +103,7 @@ def beside(path, is_private=False):
 
 
 @contextlib.contextmanager
-def open_output(path, is_private=False):
+def open_output(path: Optional[str], is_private: bool = False) -> Iterator[Any]:
     """Yields a binary file that becomes `path` when the body succeeds. `-` or none is standard output.
 
     `is_private` says that keys are in it."""
@@ -124,7 +124,7 @@ def open_output(path, is_private=False):
         raise Stop(f'{name}: cannot be written: {reason_of(error)}', UNWRITABLE) from error
 
 
-def write_output(path, data, is_private=False):
+def write_output(path: Optional[str], data: Union[bytes, str], is_private: bool = False) -> None:
     """Writes bytes or text to a path, all or nothing. `-` or none is standard output.
 
     `is_private` says that keys are in it."""
@@ -132,17 +132,17 @@ def write_output(path, data, is_private=False):
         file.write(data.encode('utf-8', 'backslashreplace') if isinstance(data, str) else data)
 
 
-def shown(text):
+def shown(text: str) -> str:
     """Returns a text, as the name of a file, in which what isn't printed is escaped: a terminal takes no orders from
     it."""
     return ''.join(it if it.isprintable() else ascii(it)[1:-1] for it in text)
 
 
-def say(text):
+def say(text: str) -> None:
     """Writes lines for people on standard error."""
     print('\n'.join(map(shown, text.split('\n'))), file=sys.stderr, flush=True)
 
 
-def is_watched():
+def is_watched() -> bool:
     """Returns whether standard error is a terminal, so that progress is worth a line."""
     return sys.stderr.isatty()

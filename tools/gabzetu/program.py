@@ -2,6 +2,7 @@
 import collections
 import os
 import subprocess
+from typing import Any, List
 
 from . import TOP
 from .errors import MISSING, Stop
@@ -19,13 +20,13 @@ HOW_TO_GET_IT = (
 Completed = collections.namedtuple('Completed', 'status output')
 
 
-def is_program(path):
+def is_program(path: str) -> bool:
     """Returns whether a path is a file that can be run."""
     return os.path.isfile(path) and os.access(path, os.X_OK)
 
 
-def find_tc():
-    """Returns the path of tc: $GABZETU_TC, else that of this installation, else /usr/lib/gabzetu/tc, else the built one.
+def find_tc() -> str:
+    """Returns the path of tc: $GABZETU_TC, that of this installation, /usr/lib/gabzetu/tc, or the built one.
 
     Raises Stop where there is none."""
     named = os.environ.get('GABZETU_TC')
@@ -39,7 +40,7 @@ def find_tc():
     raise Stop(HOW_TO_GET_IT, MISSING)
 
 
-def start_tc(words, **how):
+def start_tc(words: List[str], **how: Any) -> subprocess.Popen:
     """Starts tc with these words. Its standard output is a pipe where `how` doesn't say otherwise."""
     how.setdefault('stdout', subprocess.PIPE)
     try:
@@ -48,7 +49,7 @@ def start_tc(words, **how):
         raise Stop(f'tc cannot be started: {error}', MISSING) from error
 
 
-def run_tc(words, given=b''):
+def run_tc(words: List[str], given: bytes = b'') -> Completed:
     """Runs tc with these words on the given bytes, and returns its status and output.
 
     What tc writes on standard error is dropped: the front end has sentences of its own for each status."""

@@ -3,6 +3,7 @@ import contextlib
 import sys
 import threading
 import time
+from typing import Iterator
 
 from .output import is_watched
 
@@ -10,13 +11,13 @@ FIRST_AFTER = 1.0
 CLEAR = '\r\x1b[K'
 
 
-def show(text):
+def show(text: str) -> None:
     """Writes a text in place of the line of progress."""
     sys.stderr.write(CLEAR + text)
     sys.stderr.flush()
 
 
-def count_seconds(what, done):
+def count_seconds(what: str, done: threading.Event) -> None:
     """Shows the seconds since the start, once a second, until `done` is set."""
     begun = time.monotonic()
     while not done.wait(FIRST_AFTER):
@@ -24,7 +25,7 @@ def count_seconds(what, done):
 
 
 @contextlib.contextmanager
-def shown(what):
+def shown(what: str) -> Iterator[None]:
     """Shows on a terminal that `what` is going on, while the body runs."""
     if not is_watched():
         yield

@@ -1,7 +1,9 @@
 """Runs a command of tc for a command of the front end: its input, its output as text or JSON lines, and what is told
 of faults."""
+import argparse
 import json
 import os
+from typing import Any, Callable, List, Optional
 
 from . import program, progress, told
 from .formats import diagnosis
@@ -14,7 +16,7 @@ JOBS_USAGE = 'JOBS is a number from 1 to 64.'
 ANSWERS = (0, 10)
 
 
-def add_output(parser, how='all or nothing'):
+def add_output(parser: argparse.ArgumentParser, how: str = 'all or nothing') -> None:
     """Adds `-o OUT` and `--json`. `how` says how OUT is written."""
     parser.add_argument(
         '-o', '--output', metavar='OUT', help=f'write to this file, {how}, and not to standard output'
@@ -22,7 +24,7 @@ def add_output(parser, how='all or nothing'):
     parser.add_argument('--json', action='store_true', help='write JSON lines: an object for each line of the output')
 
 
-def add_jobs(parser):
+def add_jobs(parser: argparse.ArgumentParser) -> None:
     """Adds `-j JOBS`."""
     parser.add_argument(
         '-j',
@@ -33,23 +35,23 @@ def add_jobs(parser):
     )
 
 
-def default_jobs():
+def default_jobs() -> int:
     """Returns the number of processors that this process may use, at most as many as tc takes jobs."""
     return min(len(os.sched_getaffinity(0)), MOST_JOBS)
 
 
-def object_of(line, reader):
+def object_of(line: str, reader: Callable[..., Any]) -> dict:
     """Returns the fields of a line, and of a line that `reader` does not know its text."""
     return reader(line.split(' ')) or {'kind': 'other', 'text': line}
 
 
-def json_lines(output, reader):
+def json_lines(output: bytes, reader: Callable[..., Any]) -> str:
     """Returns the JSON lines of the lines of an output."""
     lines = output.decode('ascii', 'replace').splitlines()
     return ''.join(json.dumps(object_of(line, reader)) + '\n' for line in lines)
 
 
-def tell(kind, path, ran, given, usage=''):
+def tell(kind: str, path: str, ran: program.Completed, given: bytes, usage: str = '') -> None:
     """Says on standard error what a status means, and of a refused text what is wrong with its line.
 
     `usage` says which words the command takes."""
@@ -66,7 +68,9 @@ def tell(kind, path, ran, given, usage=''):
             say(f'  {name}:{hint}')
 
 
-def finish(arguments, ran, reader, has_keys=False):
+def finish(
+    arguments: argparse.Namespace, ran: program.Completed, reader: Callable[..., Any], has_keys: bool = False
+) -> int:
     """Writes an answer of tc as text or JSON lines, and returns the exit status. `has_keys` says what is in it."""
     if ran.status in ANSWERS:
         written = json_lines(ran.output, reader) if arguments.json else ran.output
@@ -74,7 +78,16 @@ def finish(arguments, ran, reader, has_keys=False):
     return told.exit_status(ran.status)
 
 
-def run_file(arguments, words, kind, path, reader, usage='', has_keys=True, look_at=None):
+def run_file(
+    arguments: argparse.Namespace,
+    words: List[str],
+    kind: str,
+    path: str,
+    reader: Callable[..., Any],
+    usage: str = '',
+    has_keys: bool = True,
+    look_at: Optional[Callable[..., Any]] = None,
+) -> int:
     """Runs tc on the content of a file, and returns the exit status.
 
     `has_keys` says whether its output has keys. `look_at` is called with the output before it is written."""

@@ -2,26 +2,32 @@
 import hashlib
 import os
 import subprocess
+from typing import List, Optional
 
 from . import TOP, read_version
 from .errors import Stop
 from .program import find_tc
 
 
-def read_commit():
+def said_by_git(*words: str) -> str:
+    """Returns what git says at the top of this clone."""
+    ran = subprocess.run(['git', *words], cwd=TOP, capture_output=True, text=True, check=True)
+    return ran.stdout.strip()
+
+
+def read_commit() -> Optional[str]:
     """Returns the commit of this clone with `+` where files were edited, or none outside a clone."""
     if not os.path.exists(os.path.join(TOP, '.git')):
         return None
     try:
-        how = {'cwd': TOP, 'capture_output': True, 'text': True, 'check': True}
-        commit = subprocess.run(['git', 'rev-parse', '--short=12', 'HEAD'], **how).stdout.strip()
-        edited = subprocess.run(['git', 'status', '--porcelain', '--untracked-files=no'], **how).stdout.strip()
+        commit = said_by_git('rev-parse', '--short=12', 'HEAD')
+        edited = said_by_git('status', '--porcelain', '--untracked-files=no')
     except (OSError, subprocess.CalledProcessError):
         return None
     return commit + ('+' if edited else '')
 
 
-def read_line(path):
+def read_line(path: str) -> Optional[str]:
     """Returns the first line of a file, or none where there is no such file."""
     try:
         with open(path, encoding='utf-8', errors='replace') as file:
@@ -30,7 +36,7 @@ def read_line(path):
         return None
 
 
-def describe_program():
+def describe_program() -> List[str]:
     """Returns the lines on tc: its path and hash, and the kit that built it where a file KIT beside it says so."""
     try:
         path = find_tc()
@@ -42,7 +48,7 @@ def describe_program():
     return lines + ([f'kit: {kit}'] if kit else [])
 
 
-def describe_versions():
+def describe_versions() -> str:
     """Returns the text of `gabzetu --version`."""
     commit = read_commit() or read_line(os.path.join(TOP, 'COMMIT'))
     return '\n'.join([f'gabzetu {read_version()}', *([f'commit: {commit}'] if commit else []), *describe_program()])

@@ -29,7 +29,7 @@ class Stuck(Exception):
 class Killed:
     """The result of a session: its whole lines, and whether it was killed before it ended by itself."""
 
-    def __init__(self, output: bytes, status: int):
+    def __init__(self, output: bytes, status: int) -> None:
         self.lines = output.decode('ascii', 'replace').split('\n')[:-1]
         self.status, self.is_killed = status, status == -signal.SIGKILL
 

@@ -1,5 +1,6 @@
 """Reads logs of sessions: `start` when tc_centre was started, `> LINE` for a line to it, `< LINE` for one from it."""
 import re
+from typing import List, Optional
 
 from hub.words import ENDS, EVENTS, HEADER, QUESTIONS
 
@@ -12,22 +13,23 @@ class Asked:
     """A line to the program with its number in the session. `lines` answer it, without the last one, which is `word`:
     `ok`, `refuse`, or None if there was no answer."""
 
-    def __init__(self, number, text, place):
+    def __init__(self, number: int, text: str, place: int) -> None:
         self.number, self.text, self.place = number, text, place
-        self.lines, self.word = [], None
+        self.lines: List[str] = []
+        self.word: Optional[str] = None
 
     @property
-    def kind(self):
+    def kind(self) -> str:
         """Returns the first word of the line."""
         return self.text.split(' ')[0]
 
     @property
-    def is_event(self):
-        """Returns whether the line is that of an event, and was carried out if it was answered."""
+    def is_event(self) -> bool:
+        """Returns whether the line is one of an event, and was carried out where it was answered."""
         return self.kind in EVENTS and self.word != 'refuse'
 
     @property
-    def is_known(self):
+    def is_known(self) -> bool:
         """Returns whether the line is one of those that the tools know, or wasn't carried out."""
         return self.word == 'refuse' or self.kind in EVENTS or self.kind in HEADER + QUESTIONS
 
@@ -35,17 +37,19 @@ class Asked:
 class Session:
     """What was asked in one run of the program, and the line with which it ended by itself, or None."""
 
-    def __init__(self):
-        self.asked, self.end, self.lines = [], None, 0
+    def __init__(self) -> None:
+        self.asked: List[Asked] = []
+        self.end: Optional[str] = None
+        self.lines = 0
 
-    def ask(self, text, place):
-        """Adds a line to the program. Empty lines and comments have numbers, and no answer."""
+    def ask(self, text: str, place: int) -> None:
+        """Takes a line to the program. Empty lines and comments count, and have no answer."""
         self.lines += 1
         if text and not text.startswith('#'):
             self.asked.append(Asked(self.lines, text, place))
 
-    def hear(self, text, place):
-        """Adds a line from the program."""
+    def hear(self, text: str, place: int) -> None:
+        """Takes a line from the program."""
         waiting = next((it for it in self.asked if it.word is None), None)
         if text.startswith(ENDS):
             self.end = text
@@ -56,20 +60,20 @@ class Session:
         else:
             waiting.lines.append(text)
 
-    def header(self, word):
-        """Returns the words of the header lines of a kind that were accepted."""
+    def header(self, word: str) -> List[List[str]]:
+        """Returns the words of the header lines of a kind that were taken."""
         return [it.text.split(' ') for it in self.asked if it.kind == word and it.word == 'ok']
 
-    def events(self):
+    def events(self) -> List[Asked]:
         """Returns the events that were answered."""
         return [it for it in self.asked if it.is_event and it.word == 'ok']
 
-    def cut(self):
-        """Returns the event that had no answer when the session ended, or None."""
+    def cut(self) -> Optional[Asked]:
+        """Returns the event that had no answer when the session ended, or none."""
         return next((it for it in self.asked if it.is_event and it.word is None), None)
 
-    def first_backup(self):
-        """Returns the backup that was answered before any event, or None."""
+    def first_backup(self) -> Optional[str]:
+        """Returns the backup that was answered before any event, or none."""
         for it in self.asked:
             if it.is_event:
                 return None
@@ -78,8 +82,8 @@ class Session:
         return None
 
 
-def read(lines):
-    """Returns the sessions of a log. Empty lines are skipped, because a host that starts again ends a line that its
+def read(lines: List[str]) -> List[Session]:
+    """Returns the sessions of a log. Empty lines are passed over: a host that starts anew ends a line that its
     predecessor may have begun."""
     sessions = []
     for place, line in enumerate(lines, 1):

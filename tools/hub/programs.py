@@ -1,6 +1,7 @@
 """Finds the proved programs of a hub: tc, which makes a store, and tc_centre, which serves it."""
 import os
 import sys
+from typing import Optional
 
 TOP = os.path.dirname(os.path.dirname(os.path.dirname(os.path.abspath(__file__))))
 # If this folder is PREFIX/share/gabzetu/tools/hub, the programs are in PREFIX/lib/gabzetu.
@@ -11,8 +12,8 @@ BUILT = {
 }
 
 
-def find(name):
-    """Returns the path of a program, or None: the one that its variable names, else the installed or the built one."""
+def find(name: str) -> Optional[str]:
+    """Returns the path of a program, or none: the one that its variable names, else the installed or the built one."""
     variable, built, _ = BUILT[name]
     named = os.environ.get(variable)
     for path in [named] if named else [os.path.join(BESIDE, name), built]:
@@ -21,8 +22,8 @@ def find(name):
     return None
 
 
-def find_or_stop(tool, name):
-    """Returns the path of a program. If it is missing, says what to do and ends with status 70."""
+def find_or_stop(tool: str, name: str) -> str:
+    """Returns the path of a program. Where it is missing, says what to do and ends with status 70."""
     path = find(name)
     if path is None:
         variable, _, command = BUILT[name]

@@ -3,6 +3,7 @@ import os
 import re
 import select
 import subprocess
+from typing import List, Optional
 
 SECONDS = 60
 
@@ -10,7 +11,7 @@ SECONDS = 60
 class Ended(Exception):
     """The program ended before it answered. The exception has the lines before the end, and the status."""
 
-    def __init__(self, lines, status):
+    def __init__(self, lines: List[str], status: int) -> None:
         super().__init__(f'tc_centre ended with status {status} after {lines}')
         self.lines, self.status = lines, status
 
@@ -22,17 +23,17 @@ class Silent(Exception):
 class Session:
     """A running tc_centre on a store. `log` is a list for the lines of both sides, or None."""
 
-    def __init__(self, program, store, log=None):
+    def __init__(self, program: str, store: str, log: None = None) -> None:
         self.log, self.count, self.held = log, 0, b''
         self.process = subprocess.Popen([program, store], stdin=subprocess.PIPE, stdout=subprocess.PIPE, bufsize=0)
         self.note('start')
 
-    def note(self, line):
-        """Adds a line to the log."""
+    def note(self, line: str) -> None:
+        """Keeps a line of the log."""
         if self.log is not None:
             self.log.append(line)
 
-    def send(self, *lines):
+    def send(self, *lines: str) -> None:
         """Sends lines in one write, and doesn't wait for their answers."""
         for line in lines:
             self.note(f'> {line}')
@@ -42,8 +43,8 @@ class Session:
         except BrokenPipeError:
             pass
 
-    def line(self):
-        """Returns the next line of the program, or None at its end."""
+    def line(self) -> Optional[str]:
+        """Returns the next line of the program, or none at its end."""
         while b'\n' not in self.held:
             if not select.select([self.process.stdout], [], [], SECONDS)[0]:
                 self.process.kill()
@@ -56,7 +57,7 @@ class Session:
         self.note('< ' + line.decode('ascii'))
         return line.decode('ascii')
 
-    def answer(self, number):
+    def answer(self, number: int) -> List[str]:
         """Returns the lines that answer the line of that number; the last one begins with `ok` or `refuse`."""
         lines = []
         while not lines or not re.fullmatch(f'(?:ok|refuse) {number}(?: .*)?', lines[-1]):
@@ -66,13 +67,13 @@ class Session:
             lines.append(line)
         return lines
 
-    def ask(self, line):
+    def ask(self, line: str) -> List[str]:
         """Sends a line, and returns the lines of its answer."""
         self.send(line)
         return self.answer(self.count)
 
-    def kill(self):
-        """Kills the program by SIGKILL, and returns the whole lines that it had written."""
+    def kill(self) -> List[str]:
+        """Ends the program by SIGKILL, and returns the whole lines that it had written."""
         self.process.kill()
         self.process.wait()
         lines = []
@@ -81,21 +82,21 @@ class Session:
         self.close_pipes()
         return lines
 
-    def end(self):
+    def end(self) -> int:
         """Ends the input, and returns the status of the program."""
         self.process.stdin.close()
         status = self.process.wait()
         self.process.stdout.close()
         return status
 
-    def close_pipes(self):
+    def close_pipes(self) -> None:
         """Closes both pipes. What wasn't written is dropped."""
         self.process.stdout.close()
         self.process.stdin.close()
 
 
-def make_store(tc, store, header, command):
-    """Makes a store with `tc admin`: the header has the lines of the centre and its peers. Returns what tc wrote."""
+def make_store(tc: str, store: str, header: List[str], command: str) -> str:
+    """Makes a store by `tc admin`: the header has the lines of the centre and its peers. Returns what tc wrote."""
     script = '\n'.join([*header, command]) + '\n'
     ran = subprocess.run([tc, 'admin', store], input=script.encode('ascii'), stdout=subprocess.PIPE, check=True)
     return ran.stdout.decode('ascii')

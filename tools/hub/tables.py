@@ -2,6 +2,7 @@
 and which change lines lead from some tables to others."""
 import copy
 import json
+from typing import Iterator, List, Optional
 
 ATTRIBUTES = ('provisional', 'unverified', 'verified')
 GREATEST = 4_294_967_295
@@ -11,27 +12,27 @@ class Apart(Exception):
     """No changes lead from the tables to the others."""
 
 
-def read(text):
+def read(text: str) -> dict:
     """Returns the tables of a backup."""
     return json.loads(text)
 
 
-def net_of(tables, key):
-    """Returns the network row of a key, or None."""
+def net_of(tables: dict, key: str) -> Optional[dict]:
+    """Returns the network row of a key, or none."""
     return next((row for row in tables['nets'] if row['key'] == key), None)
 
 
-def active_net(tables):
-    """Returns the active network row, or None."""
+def active_net(tables: dict) -> Optional[dict]:
+    """Returns the active network row, or none."""
     return None if tables['active'] is None else tables['nets'][tables['active']]
 
 
-def links_of(tables, partner, key=None):
-    """Returns the link rows of a partner, or those with a key if one is given."""
+def links_of(tables: dict, partner: str, key: Optional[str] = None) -> List[dict]:
+    """Returns the link rows of a partner, those with a key where one is given."""
     return [row for row in tables['links'] if row['partner'] == partner and key in (None, row['key'])]
 
 
-def live_links(tables, partner):
+def live_links(tables: dict, partner: str) -> List[dict]:
     """Returns the link rows of a partner that are in use."""
     return [row for row in links_of(tables, partner) if row['live']]
 
@@ -39,7 +40,7 @@ def live_links(tables, partner):
 # ---- what a change line does
 
 
-def reserve(tables, layer, limit):
+def reserve(tables: dict, layer: str, limit: str) -> None:
     row = tables if layer == 'aps' else active_net(tables)
     name = 'aps' if layer == 'aps' else 'limit'
     if row is not None:
@@ -47,7 +48,7 @@ def reserve(tables, layer, limit):
         row.update({} if layer == 'aps' else {'started': True})
 
 
-def floor(tables, layer, key, sender, value):
+def floor(tables: dict, layer: str, key: str, sender: str, value: str) -> None:
     if layer == 'aps':
         for row in links_of(tables, sender, key):
             row['floor'] = max(row['floor'], int(value))
@@ -61,7 +62,7 @@ def floor(tables, layer, key, sender, value):
         found['floor'] = max(found['floor'], int(value))
 
 
-def drop(tables, kind, *words):
+def drop(tables: dict, kind: str, *words: str) -> None:
     if kind == 'net':
         net_of(tables, words[0]).update(live=False, floors=[])
         return
@@ -69,22 +70,22 @@ def drop(tables, kind, *words):
         row.update(live=False, told=False)
 
 
-def install(tables, key, sequence):
+def install(tables: dict, key: str, sequence: str) -> None:
     if net_of(tables, key) is None:
         row = {'floors': [], 'key': key, 'limit': 0, 'live': True, 'sequence': int(sequence), 'started': False}
         tables['nets'].append(row)
 
 
-def activate(tables, key):
+def activate(tables: dict, key: str) -> None:
     tables['active'] = tables['nets'].index(net_of(tables, key))
 
 
-def start(tables, key, value):
+def start(tables: dict, key: str, value: str) -> None:
     row = net_of(tables, key)
     row.update(started=True, limit=max(row['limit'], int(value)))
 
 
-def put_link(tables, partner, key, attribute):
+def put_link(tables: dict, partner: str, key: str, attribute: str) -> None:
     place, told = ATTRIBUTES.index(attribute), any(row['told'] for row in live_links(tables, partner))
     if not links_of(tables, partner, key):
         tables['links'].append({'partner': partner, 'key': key, 'code': False, 'floor': 0})
@@ -92,21 +93,21 @@ def put_link(tables, partner, key, attribute):
         row.update(attribute=place, live=True, code=row['code'] or place == 0, told=told)
 
 
-def put_pair(tables, first, second, key):
+def put_pair(tables: dict, first: str, second: str, key: str) -> None:
     if not any((row['first'], row['second']) == (first, second) for row in tables['pairs']):
         tables['pairs'].append({'first': first, 'second': second, 'key': key})
 
 
-def tell(tables, device, told):
+def tell(tables: dict, device: str, told: bool) -> None:
     for row in live_links(tables, device):
         row['told'] = told
 
 
-def remove(tables, device):
+def remove(tables: dict, device: str) -> None:
     tables['pairs'] = [row for row in tables['pairs'] if device not in (row['first'], row['second'])]
 
 
-def roll(tables, word):
+def roll(tables: dict, word: str) -> None:
     tables['roll'] = word
     if word == 'sending':
         for row in tables['links']:
@@ -130,15 +131,15 @@ DEEDS = {
 }
 
 
-def change(tables, line):
-    """Changes the tables by a line of a transcript, without the event's number. Other lines change nothing."""
+def change(tables: dict, line: str) -> None:
+    """Does to the tables what a line of a transcript says, the event's number left out. Other lines do nothing."""
     kind, *words = line.split(' ')
     if kind in DEEDS:
         DEEDS[kind](tables, words)
 
 
-def changed(tables, lines):
-    """Returns the tables after lines of a transcript, given without the numbers of events."""
+def changed(tables: dict, lines: List[str]) -> dict:
+    """Returns the tables after lines of a transcript, the numbers of events left out."""
     found = copy.deepcopy(tables)
     for line in lines:
         change(found, line)
@@ -148,8 +149,8 @@ def changed(tables, lines):
 # ---- which change lines lead from tables to others
 
 
-def limits_between(old, new, name):
-    """Yields the reserve lines: the limit of the row that was active, and that of the application support layer."""
+def limits_between(old: dict, new: dict, name: str) -> Iterator[str]:
+    """Yields the reserve lines: a limit of the row that was active, and that of the application support layer."""
     row = active_net(old)
     after = None if row is None else net_of(new, row['key'])
     if after is not None and after['limit'] > row['limit']:
@@ -158,7 +159,7 @@ def limits_between(old, new, name):
         yield f"reserve {name} aps {new['aps']}"
 
 
-def floors_between(old, new, name):
+def floors_between(old: dict, new: dict, name: str) -> Iterator[str]:
     """Yields the floor lines, of network rows and then of link rows."""
     for row in new['nets']:
         before = net_of(old, row['key'])
@@ -167,12 +168,12 @@ def floors_between(old, new, name):
             if it['floor'] > kept.get(it['sender'], 0):
                 yield f"floor {name} nwk {row['key']} {it['sender']} {it['floor']}"
     for row in new['links']:
-        before = links_of(old, row['partner'], row['key'])
-        if row['floor'] > (before[0]['floor'] if before else 0):
+        earlier = links_of(old, row['partner'], row['key'])
+        if row['floor'] > (earlier[0]['floor'] if earlier else 0):
             yield f"floor {name} aps {row['key']} {row['partner']} {row['floor']}"
 
 
-def draws_between(old, new):
+def draws_between(old: dict, new: dict) -> Iterator[str]:
     """Yields a draw line for each key that is new and isn't that of an install code."""
     known = {row['key'] for part in ('nets', 'links', 'pairs') for row in old[part]}
     fresh = [row['key'] for row in new['nets']] + [row['key'] for row in new['links'] if not row['code']]
@@ -181,19 +182,19 @@ def draws_between(old, new):
             yield f'draw {key}'
 
 
-def drops_between(old, new, name):
+def drops_between(old: dict, new: dict, name: str) -> Iterator[str]:
     """Yields the drop lines."""
     for row in old['nets']:
         after = net_of(new, row['key'])
         if row['live'] and after and not after['live']:
             yield f"drop {name} net {row['key']}"
     for row in old['links']:
-        after = links_of(new, row['partner'], row['key'])
-        if row['live'] and after and not after[0]['live']:
+        later = links_of(new, row['partner'], row['key'])
+        if row['live'] and later and not later[0]['live']:
             yield f"drop {name} link {row['partner']} {row['key']}"
 
 
-def nets_between(old, new, name):
+def nets_between(old: dict, new: dict, name: str) -> Iterator[str]:
     """Yields the lines of new network keys, of the active one and of the first counter of a key."""
     for row in new['nets']:
         if net_of(old, row['key']) is None:
@@ -205,7 +206,7 @@ def nets_between(old, new, name):
             yield f"start {name} {row['key']} {row['limit']}"
 
 
-def links_between(old, new, name):
+def links_between(old: dict, new: dict, name: str) -> Iterator[str]:
     """Yields the lines of link rows that are new, in use again, or have another attribute, and those of pairs."""
     for row in new['links']:
         before = links_of(old, row['partner'], row['key'])
@@ -217,8 +218,8 @@ def links_between(old, new, name):
             yield f"pair {name} {row['first']} {row['second']} {row['key']}"
 
 
-def states_between(old, new, name):
-    """Yields the lines of devices that became live or were removed, of the rollover, and of devices that were told."""
+def states_between(old: dict, new: dict, name: str) -> Iterator[str]:
+    """Yields the lines of devices that became live or were removed, of the rollover, and of who was told."""
     partners = list(dict.fromkeys(row['partner'] for row in new['links']))
     was, now = ([it for it in partners if live_links(tables, it)] for tables in (old, new))
     yield from (f'live {it}' for it in now if it not in was)
@@ -233,8 +234,8 @@ def states_between(old, new, name):
             yield f"{'told' if after else 'untold'} {it}"
 
 
-def between(old, new, name):
-    """Returns the change lines that lead from tables to others, in the order of a group; none if they are equal.
+def between(old: dict, new: dict, name: str) -> List[str]:
+    """Returns the change lines that lead from tables to others, in the order of a group; none where they are equal.
 
     Raises Apart if no changes lead there: tables never lose a row, and no limit falls."""
     lines = lines_between(old, new, name)
@@ -243,7 +244,7 @@ def between(old, new, name):
     return lines
 
 
-def lines_between(old, new, name):
+def lines_between(old: dict, new: dict, name: str) -> List[str]:
     """Returns the change lines for what is new in tables, in the order of a group."""
     return [
         *limits_between(old, new, name),

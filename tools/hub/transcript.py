@@ -1,11 +1,13 @@
-"""Makes the transcript of a centre's sessions on one store (docs/FORMATS.md), for `tc audit`."""
+"""Makes the transcript of a centre's sessions on one store (docs/FORMATS.md), which `tc audit` judges."""
+from typing import Any, Dict, List
+
 from hub import tables
 from hub.log import BadLog
 
 BLOCKS_OF_OTHERS = '1 1'
 
 
-def nodes_of(sessions):
+def nodes_of(sessions: list) -> Dict[str, List[str]]:
     """Returns the words of the node lines by name, the centre first. Later sessions may declare more peers."""
     found = {}
     for session in sessions:
@@ -21,13 +23,13 @@ def nodes_of(sessions):
     return found
 
 
-def in_use(backup):
+def in_use(backup: dict) -> dict:
     """Returns the tables of a backup without the rows that were dropped."""
     nets, links = ([row for row in backup[part] if row['live']] for part in ('nets', 'links'))
     return {**backup, 'active': nets.index(tables.active_net(backup)), 'links': links, 'nets': nets}
 
 
-def first_tables(backup):
+def first_tables(backup: dict) -> dict:
     """Returns the tables of a centre with the active network key and the limits of a backup, and nothing else."""
     net = {**tables.active_net(backup), 'floors': []}
     return {**backup, 'active': 0, 'links': [], 'nets': [net], 'nwk': net['limit'], 'pairs': [], 'roll': 'idle'}
@@ -36,19 +38,20 @@ def first_tables(backup):
 class Transcript:
     """A transcript that grows: its lines, the tables of the centre, and the counts of events and frames."""
 
-    def __init__(self, nodes):
+    def __init__(self, nodes: Dict[str, List[str]]) -> None:
         self.nodes = nodes
         self.name, _, _, _, block, _ = next(row for row in nodes.values() if row[1] == 'centre')
         self.block = int(block)
         self.lines = [f"0 node {' '.join(row)}" for row in nodes.values()]
-        self.tables, self.event, self.frame, self.notes = None, 0, 0, []
+        self.tables: Dict[str, Any] = {}
+        self.event, self.frame, self.notes = 0, 0, []
 
-    def put(self, *lines):
+    def put(self, *lines: str) -> None:
         """Writes the lines of the next event, without its number."""
         self.event += 1
         self.lines += [f'{self.event} {line}' for line in lines]
 
-    def begin(self, text):
+    def begin(self, text: str) -> None:
         """Writes the lines of the start: the network key, and the counters that aren't 0."""
         backup = tables.read(text)
         if tables.active_net(backup) is None:
@@ -65,9 +68,9 @@ class Transcript:
             self.put(f'boot {self.name}')
         self.tables = backup
 
-    def stand(self, found, end, why):
-        """Writes the changes that lead to the tables that a session found, as an event that was cut short. Returns
-        whether there are any."""
+    def stand(self, found: dict, end: str, why: str) -> bool:
+        """Writes what leads to the tables that a session found as an event that was cut short, and returns whether
+        there is such a thing."""
         try:
             lines = tables.between(self.tables, found, self.name)
         except tables.Apart:
@@ -77,9 +80,9 @@ class Transcript:
         self.tables = found
         return bool(lines)
 
-    def cut_short(self, lines, end, why):
-        """Writes changes as an event that was cut short. If a limit rose by several blocks, each block has
-        an event."""
+    def cut_short(self, lines: List[str], end: str, why: str) -> None:
+        """Writes changes as an event that was cut short. A limit that went up by several blocks has an event for each
+        of them."""
         commit, self.notes = f'commit {self.name}', [*self.notes, f'{why}: {len(lines)} changes']
         for word in ('nwk', 'aps'):
             for limit in self.blocks_before(lines, word):
@@ -87,8 +90,8 @@ class Transcript:
                 self.put(f'boot {self.name}')
         self.put(*lines, commit, f'{end} {self.name}' if end == 'stopped' else f'down {self.name} {end}')
 
-    def blocks_before(self, lines, word):
-        """Returns the limits of a layer between that of the tables and the one to which it rises."""
+    def blocks_before(self, lines: List[str], word: str) -> Any:
+        """Returns the limits of a layer between that of the tables and the one to which it is raised."""
         start = f'reserve {self.name} {word} '
         raised = next((int(line[len(start) :]) for line in lines if line.startswith(start)), None)
         if raised is None:
@@ -96,7 +99,7 @@ class Transcript:
         old = self.tables['aps'] if word == 'aps' else tables.active_net(self.tables)['limit']
         return range(old + self.block, raised, self.block)
 
-    def take(self, asked):
+    def take(self, asked: Any) -> None:
         """Writes the event of a line that was answered, and before it the frame that it heard."""
         self.hear(asked)
         self.event += 1
@@ -109,15 +112,15 @@ class Transcript:
             tables.change(self.tables, ' '.join(words[1:]))
             self.lines.append(' '.join(words))
 
-    def hear(self, asked):
+    def hear(self, asked: Any) -> None:
         """Writes the frame that a line delivers as an injected one."""
         words = asked.text.split(' ')
         if words[0] == 'deliver' and words[1] != '-':
             self.frame += 1
             self.put(f'inject {self.frame} {words[1].upper()}')
 
-    def restart(self, session, backup):
-        """Writes that the centre went down after a session and was started again, and what was stored then."""
+    def restart(self, session: Any, backup: str) -> None:
+        """Writes that the centre went down after a session and was started again, and what stood then."""
         cut = session.cut()
         if backup is None and cut is not None:
             raise BadLog(
@@ -132,7 +135,7 @@ class Transcript:
             self.put(f'down {self.name} reset')
         self.put(f'boot {self.name}')
 
-    def text(self):
+    def text(self) -> str:
         """Returns the transcript, with its end line."""
         kinds = [line.split(' ')[1] for line in self.lines]
         seals, accepts, refusals = (kinds.count(kind) for kind in ('seal', 'accept', 'refuse'))
@@ -141,8 +144,8 @@ class Transcript:
         return '\n'.join([*self.lines, end]) + '\n'
 
 
-def make(sessions):
-    """Returns the transcript of the sessions on one store, in order."""
+def make(sessions: list) -> Transcript:
+    """Returns the transcript of the sessions on one store, in their order."""
     if not sessions:
         raise BadLog('no session opened a store')
     for session in sessions:

@@ -1,5 +1,7 @@
-"""The words of sessions and of scripts of `admin`, by docs/FORMATS.md and docs/ADMIN.md, for all tools for the centre;
-and words that are made here: keys and install codes."""
+"""The words of sessions and of scripts of `admin`, by docs/FORMATS.md and docs/ADMIN.md, which all tools around the
+centre read here; and words that are made up: keys and install codes."""
+from typing import Any
+
 
 # The lines of a session before `open`, those that only show something, and the last lines of one that ends by itself.
 HEADER = ('centre', 'peer', 'log', 'open')
@@ -24,12 +26,12 @@ EVENTS = {
 }
 
 
-def new_key(dice):
+def new_key(dice: Any) -> str:
     """Returns a key as its 32 digits."""
     return f'{dice.getrandbits(128):032X}'
 
 
-def install_code(number):
+def install_code(number: int) -> str:
     """Returns the digits of an install code of 6 bytes and its CRC, low byte first."""
     data, crc = number.to_bytes(6, 'big'), 0xFFFF
     for byte in data:

@@ -102,7 +102,7 @@ def rows_of(page: str) -> Iterator[Tuple[str, str, str]]:
 
 
 def wrong_rows(page: str, specs: Dict[str, str]) -> Iterator[str]:
-    """Yields what is wrong with the rows of the policy's page by the definitions. `specs` has the text of each file."""
+    """Yields what is wrong with the rows of the policy's page, by the definitions: `specs` has each file's text."""
     reasons, order = reasons_of(specs['Data']), order_of(page)
     rules: Dict[str, Found] = {}
     for name in ('Rules', 'OwnEvents', 'Commands'):

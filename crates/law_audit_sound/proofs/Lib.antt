@@ -29,3 +29,4 @@ pub mod StoredRows
 pub mod Confirmable
 pub mod Numbers
 pub mod Endings
+mod Instances

@@ -10,3 +10,4 @@ pub mod ArrivingRelays
 pub mod Through
 pub mod Fronts
 pub mod Repeated
+mod Instances

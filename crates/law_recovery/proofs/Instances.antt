@@ -5,10 +5,10 @@ mod Exchanges
 mod Steps
 mod Repeats
 mod Losses
-mod Low
+pub mod Low
 mod Readmits
-mod Stale
+pub mod Stale
 mod Answers
 mod Rolls
 mod Halts
-mod Routes
+pub mod Routes

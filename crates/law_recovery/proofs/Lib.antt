@@ -66,4 +66,4 @@ pub mod Reporting
 pub mod Passing
 pub mod Through
 mod RouterCases
-mod Instances
+pub mod Instances

@@ -3,7 +3,7 @@ use Rattle.std.specs.Prelude.{ℕ, ◌≡◌, true, false, [], ◌∷◌, replic
 use Rattle.std.proofs.Common.{sym, ap, ◌∙◌}
 use Rattle.std.proofs.lemmas.Bool.{false≢true, ltb-true, leb-true}
 use Rattle.zb_model.specs.Data.{Bytes, Role, Centre, Device, Station, DoKnock, DoProvision, DoRemove}
-use Rattle.zb_model.specs.Schedules.{IsSchedule, Names}
+use Rattle.zb_model.specs.Schedules.{IsMember, IsSchedule, Names}
 use Rattle.zb_model.specs.Secrets.{well_known}
 use Rattle.zb_model.specs.State.{same_key}
 use Rattle.zb_model.specs.Tools.{Tools}
@@ -19,7 +19,7 @@ use Rattle.law_run.proofs.OnceRuns.{once}
 use Rattle.law_run.proofs.ConfirmsRuns.{confirms}
 use Rattle.law_run.proofs.LockoutLaw.{locked}
 use Rattle.law_run.proofs.RecordLaws.{read-back}
-use Rattle.zb_model.specs.Play.{RollOver, Schedule, Own, start, disk_of, with_disk, stands, leaves_both, stored_lines, told_lines, group_of, cut_of, setting_of, supply, task_step, forged_net, forged_both, forged_open, step_by, step, groups}
+use Rattle.zb_model.specs.Play.{Node, RollOver, Schedule, Own, start, disk_of, with_disk, stands, leaves_both, stored_lines, told_lines, group_of, cut_of, setting_of, supply, task_step, forged_net, forged_both, forged_open, step_by, step, groups}
 use Rattle.zb_model.specs.Transcript.{end_line, run_lines, transcript}
 use Rattle.zb_model.specs.Answer.{plan_of, part_of, may_seal, out_of, edits_of, answer_by, reserve_of, stored_floor, floor_of, counting_of, answer, answered}
 use Rattle.zb_model.specs.Commands.{take_net_key, take_row, take_link_key, take_app_key, take_switch, take_confirm, take_remove, take_tunnel, take_update, take_request, take_app_request, take_verify, take_command, take_leave}
@@ -39,13 +39,17 @@ key n = replicate 16 n
 abbrev station : Role → ℕ → Station
 station role eui = record { name = []; eui = eui; short = eui; role = role; out_block = 16; in_block = 4 }
 
--- A centre and a device, whose code is entered, which knocks, and which is removed; then the network key is replaced.
+abbrev centre : Node
+centre =
+    record { station = station Centre 1; code = None; network = Some (key 1, 7); start_nwk = 0; start_aps = 0 }
+
+abbrev device : Node
+device = record { station = station Device 2; code = Some (key 2); network = None; start_nwk = 0; start_aps = 0 }
+
+-- The code of the device is entered, it knocks, and it is removed; then the network key is replaced.
 abbrev w : Schedule
 w = record {
-  nodes =
-      record { station = station Centre 1; code = None; network = Some (key 1, 7); start_nwk = 0; start_aps = 0 } ∷
-      record { station = station Device 2; code = Some (key 2); network = None; start_nwk = 0; start_aps = 0 } ∷
-      [];
+  nodes = centre ∷ device ∷ [];
   draws = key 3 ∷ key 4 ∷ [];
   events = Own 1 (DoProvision 2 (key 2)) ∷ Own 2 DoKnock ∷ Own 1 (DoRemove 2 1) ∷ RollOver 1 ∷ [];
 }
@@ -56,14 +60,29 @@ differ a b other same e = false≢true (sym other ∙ ap (λ bytes. same_key byt
 apart : (a b : ℕ) → nat_eq a b ≡ false → nat_eq b b ≡ true → a ≡ b → ⊥
 apart a b other same e = false≢true (sym other ∙ ap (λ n. nat_eq n b) e ∙ same)
 
+centre_is_member : IsMember centre
+centre_is_member = record {
+  eui = ltb-true _ _ refl;
+  out_block = ltb-true _ _ refl;
+  in_block = ltb-true _ _ refl;
+  start_nwk = leb-true _ _ refl;
+  start_aps = leb-true _ _ refl;
+}
+
+device_is_member : IsMember device
+device_is_member = record {
+  eui = ltb-true _ _ refl;
+  out_block = ltb-true _ _ refl;
+  in_block = ltb-true _ _ refl;
+  start_nwk = leb-true _ _ refl;
+  start_aps = leb-true _ _ refl;
+}
+
 is_schedule : IsSchedule w
 unfolding setting_of station_of
 is_schedule = record {
   few_nodes = leb-true _ _ refl;
-  nodes = (
-    record { eui = ltb-true _ _ refl; out_block = ltb-true _ _ refl; in_block = ltb-true _ _ refl; start_nwk = leb-true _ _ refl; start_aps = leb-true _ _ refl },
-    (record { eui = ltb-true _ _ refl; out_block = ltb-true _ _ refl; in_block = ltb-true _ _ refl; start_nwk = leb-true _ _ refl; start_aps = leb-true _ _ refl }, tt),
-  );
+  nodes = (centre_is_member, (device_is_member, tt));
   events = (refl, (refl, (refl, (refl, tt))));
   roles = (refl, (refl, (refl, (refl, tt))));
   calls = (tt, (tt, (tt, (tt, tt))));
@@ -107,7 +126,7 @@ keys_apart = record {
 -- who_has_spent_its_counters_stands_at_the_end, rules_find_what_they_look_for, events_suit_the_role_of_their_node,
 -- a_newest_key_is_there, lines_of_a_run_say_what_its_states_say, nodes_are_as_declared_all_along,
 -- nodes_start_by_the_rules, states_keep_the_rules_all_along, every_run_of_real_frames_holds,
--- runs_keep_the_first_claim.
+-- runs_keep_the_first_claim, lines_of_a_run_are_of_its_nodes.
 record RunCase : Type 0 where
   schedule : IsSchedule w
   one_centre : OneCentre w

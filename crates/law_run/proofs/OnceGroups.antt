@@ -235,7 +235,7 @@ abbrev rest_of : NodeState → Counting → Plan → List Edit
 rest_of s k p = flat_map (move_edits k) (filter (changes s) (moves_of p.outcome))
 
 -- the edits of one term, and of two
-abbrev Takes_ : Layer → Term → NodeState → Type 0
+abbrev pub Takes_ : Layer → Term → NodeState → Type 0
 Takes_ layer t s = TakesAt layer t.counter t.base t.source s
 
 one-takes : (c : Setting) (s : NodeState) (t : Term) (layer : Layer) (before rest : List Edit) → Judged layer s t → 0
@@ -266,7 +266,8 @@ heard-nwk-links : (t u : Term) (s : NodeState) → Takes_ Aps u s
 unfolding TakesAt after_hearing
 heard-nwk-links t u s h = h
 
-accept-keeps-aps : (t u : Term) → t.layer ≡ Nwk → (s : NodeState) → Takes_ Aps u s → Takes_ Aps u (after_accepting t s)
+pub accept-keeps-aps : (t u : Term) → t.layer ≡ Nwk → (s : NodeState) → Takes_ Aps u s → Takes_ Aps u
+    (after_accepting t s)
 unfolding after_accepting
 accept-keeps-aps t u e s h = subst (λ l. Takes_ Aps u (after_hearing l t.base t.source t.counter s)) (sym e)
     (heard-nwk-links t u s h)
@@ -296,10 +297,10 @@ two-lines h number n t u a b f g = (
 )
 
 -- the state of a plan's accepted terms, by their number
-abbrev edits : Setting → NodeState → Plan → List Edit
+abbrev pub edits : Setting → NodeState → Plan → List Edit
 edits c s p = edits_of s (counting_of c s p) p
 
-edits-one : (c : Setting) (s : NodeState) (p : Plan) (t : Term) (layer : Layer) → p.accepts ≡ t ∷ [] → 0
+pub edits-one : (c : Setting) (s : NodeState) (p : Plan) (t : Term) (layer : Layer) → p.accepts ≡ t ∷ [] → 0
     < c.me.in_block → Judged layer s t → Takes_ layer t (applied_all (edits c s p) s)
 unfolding edits_of counting_of
 edits-one c s p t layer e block j =
@@ -330,7 +331,7 @@ edits-two c s p t u e a b =
     ∙ ap (λ o. two_edits c s p t u o (k_floor c s (t ∷ u ∷ []) u)) (first-floor c s t u)
     ∙ ap (λ o. two_edits c s p t u (floor_for c s t) o) (second-floor c s t u a b)
 
-edits-first : (c : Setting) (s : NodeState) (p : Plan) (t u : Term) → p.accepts ≡ t ∷ u ∷ [] → u.layer ≡ Aps → 0
+pub edits-first : (c : Setting) (s : NodeState) (p : Plan) (t u : Term) → p.accepts ≡ t ∷ u ∷ [] → u.layer ≡ Aps → 0
     < c.me.in_block → Judged Nwk s t → Takes_ Nwk t (applied_all (edits c s p) s)
 edits-first c s p t u e b block j =
     subst (λ es. Takes_ Nwk t (applied_all es s)) (sym (edits-two c s p t u e j.at b))
@@ -341,7 +342,7 @@ edits-first c s p t u e b block j =
     ((floor_list u (floor_for c s u) ++ []) ++ rest_of s (counting_of c s p) p) j block
     (pre-reserves Nwk t.counter t.base t.source c s (sending_of p.outcome) s j.pre)))
 
-edits-second : (c : Setting) (s : NodeState) (p : Plan) (t u : Term) → p.accepts ≡ t ∷ u ∷ [] → 0 < c.me.in_block
+pub edits-second : (c : Setting) (s : NodeState) (p : Plan) (t u : Term) → p.accepts ≡ t ∷ u ∷ [] → 0 < c.me.in_block
     → Judged Nwk s t → Judged Aps s u → Takes_ Aps u (applied_all (edits c s p) s)
 edits-second c s p t u e block i j =
     subst (λ es. Takes_ Aps u (applied_all es s)) (sym (edits-two c s p t u e i.at j.at ∙ shape))

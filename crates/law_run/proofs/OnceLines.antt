@@ -46,7 +46,7 @@ AcceptFits h l = AcceptState l (state_of h (speaker l))
 
 -- network rows
 
-over-closed : (c source : ℕ) → Closed (RowOver c source)
+pub over-closed : (c source : ℕ) → Closed (RowOver c source)
 over-closed c source = record {
   reserves = λ limit. record { key = λ r. refl; kept = λ r h. h };
   drops = record { key = λ r. refl; kept = λ r h. h };
@@ -68,7 +68,7 @@ over-mild c source (Reserve layer limit) = tt
 over-mild c source (Floor layer key sender value) = tt
 over-mild c source (Moved m) = tt
 
-over-booted : (c source : ℕ) → Keeps (RowOver c source) booted_net
+pub over-booted : (c source : ℕ) → Keeps (RowOver c source) booted_net
 over-booted c source =
     record { key = λ r. refl; kept = λ r h. (sorted-booted r.floors h.0, booted-over c source r.floors h.1) }
 
@@ -166,7 +166,7 @@ links-applied P c p k (Floor Aps key sender value) s h = links-if P (link_floor 
 links-applied P c p k (Start key value) s h = h
 links-applied P c p k (Moved m) s h = links-moved P c p k m s h
 
-over-links : (c : ℕ) → LinkClosed (LinkOver c)
+pub over-links : (c : ℕ) → LinkClosed (LinkOver c)
 over-links c =
     record {
       drops = λ r h. h;

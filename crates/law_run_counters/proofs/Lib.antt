@@ -7,3 +7,4 @@ pub mod ActiveRows
 pub mod Events
 pub mod Unique
 pub mod Floors
+mod Instances

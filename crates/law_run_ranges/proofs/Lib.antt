@@ -9,3 +9,4 @@ mod Frames
 mod Answers
 mod Records
 pub mod Runs
+mod Instances

@@ -8,3 +8,4 @@ pub mod Members
 pub mod Centre
 pub mod Turns
 pub mod Unswapped
+mod Instances

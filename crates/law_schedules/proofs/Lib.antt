@@ -3,3 +3,4 @@ pub mod Meets
 pub mod Holding
 pub mod TextLemmas
 mod Cases
+pub mod Instances

@@ -69,7 +69,7 @@ module _ {D W : Type 0} (x : Outside D W) (input : Input) (old : D) (before : W)
       all_along lines next more last (one_stretch lines now next so_far stretch) rest
 
   module _ (result : Ended) (rest : Input) (new : D) (after : W) (lives : Lives x input old before result rest new
-    after)
+      after)
     where
       pub leaves_sessions : ((c : List ℕ) → (x.state old).since (x.state old).moment c → (x.state old).images c)
           → IsTrue x.tells.content → CanBeServed (x.state old)

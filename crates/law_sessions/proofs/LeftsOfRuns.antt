@@ -53,7 +53,7 @@ module _ {D W : Type 0} (x : Outside D W) (script : Script) (is_script : IsScrip
     (image : List ℕ) (only : IsOnly image (x.state old)) (s : NodeState) (found : found_on image ≡ Ok (Some s))
     (kept : AreKeptAlong script s) where
   of_first : (n : ℕ) (left : List ℕ) → StandsAs (standing_after (setting_for script.config) script.steps (Some s) n)
-    left
+      left
       → IsOfRun image script left
   of_first n left holds = record {
     stored = n;

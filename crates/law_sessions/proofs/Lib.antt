@@ -23,3 +23,5 @@ mod LeftsOfRuns
 mod FirstFound
 mod Done
 mod DoneSince
+mod Heard
+mod HeardDeeds

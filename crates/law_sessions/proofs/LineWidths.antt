@@ -14,7 +14,9 @@ use Rattle.zb_aes.proofs.Lengths.{length-enciphered}
 use Rattle.zb_aes.proofs.Xored.{length-xored}
 use Rattle.zb_aes.specs.Block.{enciphered}
 use Rattle.zb_live.specs.Grammar.{again_of, child_of, deliver_of, draw_of, event_at, header_at, log_of, meaning_of, own_line, roll_of, say_of, scripted_in, share_of}
-use Rattle.zb_live.specs.Said.{Event, Delivers, Rolls, Ticks, Switches, Repeats, Shares, Sentence, Quiet, Founds, Introduces, Logs, Opens, Happens}
+use Rattle.zb_model.specs.Data.{DoTimer, DoRoll, DoSwitch, DoAgain, DoShare, Received}
+use Rattle.zb_script.specs.Resolving.{SaidTask}
+use Rattle.zb_live.specs.Said.{Sentence, Quiet, Founds, Introduces, Logs, Opens, Happens}
 use Rattle.zb_mmo.specs.Hash.{blocks_of, hash, mixed, padded}
 use Rattle.zb_sched_line.specs.Grammar.{◌>>=◌, is_quiet, is_real_eui, kept, name_alone, or_else, real_eui_of, rejoin_of, two_names}
 use Rattle.zb_sched_line.specs.Grammar as schedule_line
@@ -128,9 +130,9 @@ first P (Some x) p is other = is
 
 -- ---- events
 
-abbrev pub EventFits : Event → Type 0
-EventFits (Delivers bytes draw) = IfSome draw IsWholeKey
-EventFits (Rolls draw) = IfSome draw IsWholeKey
+abbrev pub EventFits : SaidTask → Type 0
+EventFits (Received bytes draw) = IfSome draw IsWholeKey
+EventFits (DoRoll draw) = IfSome draw IsWholeKey
 EventFits _ = Unit {0}
 
 -- what a line says is within the widths, and a peer is a router or a device
@@ -173,23 +175,23 @@ say_fits ws =
 event_among : (deliver child timer say roll switch again share : Bool) (ws : List (List ℕ))
     → IfSome (if deliver then deliver_of ws
     else if child then child_of ws
-    else if timer then option_map (λ end. Ticks) (nothing ws)
+    else if timer then option_map (λ end. DoTimer) (nothing ws)
     else if say then say_of ws
     else if roll then roll_of ws
-    else if switch then option_map (λ end. Switches) (nothing ws)
+    else if switch then option_map (λ end. DoSwitch) (nothing ws)
     else if again then again_of ws
     else if share then share_of ws
     else None) EventFits
 event_among true child timer say roll switch again share ws = deliver_fits ws
 event_among false true timer say roll switch again share ws = child_fits ws
-event_among false false true say roll switch again share ws = any EventFits (λ end. Ticks) (nothing ws) (λ end. tt)
+event_among false false true say roll switch again share ws = any EventFits (λ end. DoTimer) (nothing ws) (λ end. tt)
 event_among false false false true roll switch again share ws = say_fits ws
 event_among false false false false true switch again share ws = roll_fits ws
 event_among false false false false false true again share ws =
-    any EventFits (λ end. Switches) (nothing ws) (λ end. tt)
-event_among false false false false false false true share ws = any EventFits Repeats (name_alone ws) (λ name. tt)
+    any EventFits (λ end. DoSwitch) (nothing ws) (λ end. tt)
+event_among false false false false false false true share ws = any EventFits DoAgain (name_alone ws) (λ name. tt)
 event_among false false false false false false false true ws =
-    any EventFits (λ names. Shares names.0 names.1) (two_names ws) (λ names. tt)
+    any EventFits (λ names. DoShare names.0 names.1) (two_names ws) (λ names. tt)
 event_among false false false false false false false false ws = tt
 
 event_fits : (word : List ℕ) (ws : List (List ℕ)) → IfSome (event_at word ws) EventFits

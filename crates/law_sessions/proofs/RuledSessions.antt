@@ -18,14 +18,17 @@ use Rattle.zb_base.specs.declared.node.Role.{Role}
 use Rattle.zb_base.specs.declared.node.Role.TheVariants.{Centre as RoleCentre}
 use Rattle.zb_centre_store.specs.Standing.{found_on, found_store, found_tables}
 use Rattle.zb_centre_store.specs.declared.fault.AdminFault.TheVariants.{BadStore}
-use Rattle.zb_live.specs.Events.{provided, task_for, with_node}
+use Rattle.zb_live.specs.Events.{caused, task_for}
+use Rattle.zb_script.specs.Resolving.{SaidTask, provided, resolved, with_node}
+use Rattle.zb_script.specs.Unresolved.{Unresolved}
+use Rattle.zb_script.specs.Unresolved.TheVariants as unresolved
 use Rattle.zb_live.specs.Living.{Found, Living, counted, declared, done, first_station, fresh, happened, next, on_header, on_meaning, on_open, on_stage, opened, refused, served, setting_of, station}
 use Rattle.zb_live.specs.Grammar.{meaning_of}
-use Rattle.zb_live.specs.Said.{Event, Delivers, Adopts, Ticks, Says, Provisions, Removes, Rolls, Switches, Repeats, Shares, Sentence, Quiet, Founds, Introduces, Logs, Opens, Happens, Asks}
+use Rattle.zb_live.specs.Said.{Sentence, Quiet, Founds, Introduces, Logs, Opens, Happens, Asks}
 use Rattle.zb_live.specs.declared.cause.Cause.{Cause}
 use Rattle.zb_live.specs.declared.cause.Cause.TheVariants as cause
 use Rattle.zb_model.specs.Answer.{Answer, accepted_all, answer, answered, sealed_all}
-use Rattle.zb_model.specs.Data.{Bytes, Centre, Layer, Nwk, Aps, Station, Task, Term}
+use Rattle.zb_model.specs.Data.{Bytes, Centre, Layer, Nwk, Aps, Station, Task, SayTo, TellTo, DoKnock, DoRejoin, DoTimer, AskFor, HasChild, DoProvision, DoRemove, DoRoll, DoSwitch, DoAgain, DoShare, Received, Term}
 use Rattle.zb_model.specs.Fits.{all_apart}
 use Rattle.zb_model.specs.Rules.{Setting, station_of}
 use Rattle.zb_model.specs.State.{NodeState, after_accepting, after_boot, after_hearing, after_sealing, applied_all, is_centre, sealed_at, shown}
@@ -75,7 +78,7 @@ answered_role a s =
     ∙ all_accepted_role a.accepts (applied_all a.edits s) ∙ all_applied_role a.edits s
 
 -- a centre with a block of incoming counters, whose nodes have addresses of 64 bits
-record IsHead (c : Setting) : Type 0 where
+pub record IsHead (c : Setting) : Type 0 where
   pub role : c.me.role ≡ Centre
   pub in_block : 1 ≤ c.me.in_block
   pub small : DeclaresSmall c
@@ -158,7 +161,7 @@ named_small test (p ∷ nodes) small = by_test (test p) (named_small test nodes 
     by_test true more = small.0
     by_test false more = more
 
-node_fits : (o : Option ℕ) (go_on : ℕ → Result Task Cause) → IfSome o (λ n. n < 2 ^ 64)
+node_fits : (o : Option ℕ) (go_on : ℕ → Result Task Unresolved) → IfSome o (λ n. n < 2 ^ 64)
     → ((n : ℕ) → n < 2 ^ 64 → IfOk (go_on n) TaskFits) → IfOk (with_node o go_on) TaskFits
 node_fits None go_on small each = tt
 node_fits (Some n) go_on small each = each n small
@@ -167,32 +170,46 @@ provided_fits : (code : Option Bytes) (n : ℕ) → n < 2 ^ 64 → IfOk (provide
 provided_fits None n small = tt
 provided_fits (Some code) n small = (small, hash_whole code)
 
-unless_same : (b : Bool) (x : Result Task Cause) → IfOk x TaskFits
-    → IfOk (if b then Err cause.UnknownNode else x) TaskFits
+unless_same : (b : Bool) (x : Result Task Unresolved) → IfOk x TaskFits
+    → IfOk (if b then Err unresolved.UnknownNode else x) TaskFits
 unless_same true x is = tt
 unless_same false x is = is
 
-task_fits : (nodes : List script.Station) (event : Event) → AreSmall nodes → EventFits event
-    → IfOk (task_for nodes event) TaskFits
-task_fits nodes (Delivers bytes draw) small fits = fits
-task_fits nodes (Adopts name rejoin) small fits =
+caused_fits : (x : Result Task Unresolved) → IfOk x TaskFits → IfOk (caused x) TaskFits
+caused_fits (Ok task) is = is
+caused_fits (Err why) is = tt
+
+resolved_fits : (nodes : List script.Station) (said : SaidTask) → AreSmall nodes → EventFits said
+    → IfOk (resolved (λ name. device_named name nodes) (λ name. parent_named name nodes) said) TaskFits
+resolved_fits nodes (Received bytes draw) small fits = fits
+resolved_fits nodes (HasChild name rejoin) small fits =
     node_fits (device_named name nodes) _ (named_small _ nodes small) (λ n is. tt)
-task_fits nodes Ticks small fits = tt
-task_fits nodes (Says to bytes) small fits = tt
-task_fits nodes (Provisions name code) small fits =
+resolved_fits nodes DoTimer small fits = tt
+resolved_fits nodes DoKnock small fits = tt
+resolved_fits nodes DoRejoin small fits = tt
+resolved_fits nodes (SayTo to bytes) small fits = tt
+resolved_fits nodes (TellTo partner bytes) small fits =
+    node_fits (device_named partner nodes) _ (named_small _ nodes small) (λ n is. tt)
+resolved_fits nodes (AskFor partner) small fits =
+    node_fits (device_named partner nodes) _ (named_small _ nodes small) (λ n is. tt)
+resolved_fits nodes (DoProvision name code) small fits =
     node_fits (device_named name nodes) (provided code) (named_small _ nodes small) (provided_fits code)
-task_fits nodes (Removes name parent) small fits =
+resolved_fits nodes (DoRemove name parent) small fits =
     unless_same (bytes_eq name parent) _
     (node_fits (device_named name nodes) _ (named_small _ nodes small)
     (λ n is. node_fits (parent_named parent nodes) _ (named_small _ nodes small) (λ via at. tt)))
-task_fits nodes (Rolls draw) small fits = fits
-task_fits nodes Switches small fits = tt
-task_fits nodes (Repeats name) small fits =
+resolved_fits nodes (DoRoll draw) small fits = fits
+resolved_fits nodes DoSwitch small fits = tt
+resolved_fits nodes (DoAgain name) small fits =
     node_fits (device_named name nodes) _ (named_small _ nodes small) (λ n is. tt)
-task_fits nodes (Shares name partner) small fits =
+resolved_fits nodes (DoShare name partner) small fits =
     unless_same (bytes_eq name partner) _
     (node_fits (device_named name nodes) _ (named_small _ nodes small)
     (λ n is. node_fits (device_named partner nodes) _ (named_small _ nodes small) (λ m at. tt)))
+
+task_fits : (nodes : List script.Station) (event : SaidTask) → AreSmall nodes → EventFits event
+    → IfOk (task_for nodes event) TaskFits
+task_fits nodes event small fits = caused_fits _ (resolved_fits nodes event small fits)
 
 -- ---- the header
 
@@ -337,10 +354,10 @@ IsFoundRuled (Ok None) = ⊤
 IsFoundRuled (Err fault) = ⊤
 
 -- the tables of the session keep both, or what is found does, before it is open
-abbrev IsOpen : Script → Type 0
+abbrev pub IsOpen : Script → Type 0
 IsOpen network = IsHead (setting_of network) × IsHeader network
 
-abbrev IsRuledIn : Found → Option NodeState → Script → Type 0
+abbrev pub IsRuledIn : Found → Option NodeState → Script → Type 0
 IsRuledIn found None network = IsFoundRuled found × HasHead network
 IsRuledIn found (Some s) network = IsWell s × IsOpen network
 
@@ -424,7 +441,7 @@ stage_ruled number found (Some s) (Some said) v some fits is =
     (on_stage number found o said v).after.network) (sym some)
     (open_ruled number found s said v some fits is.0 is.1)
 
-line_ruled : (found : Found) (line : Bytes) (v : Living) → IsRuledIn found v.tables v.network
+pub line_ruled : (found : Found) (line : Bytes) (v : Living) → IsRuledIn found v.tables v.network
     → IsRuledIn found (done found line v).after.tables (done found line v).after.network
 unfolding done
 line_ruled found line v is =
@@ -469,7 +486,7 @@ store_ruled None = tt
 store_ruled (Some z) = tables_ruled (state_given Centre z.content (concat z.payloads))
     (given_ruled z.content (concat z.payloads))
 
-found_ruled : (image : List ℕ) → IsFoundRuled (found_on image)
+pub found_ruled : (image : List ℕ) → IsFoundRuled (found_on image)
 unfolding found_on
 found_ruled [] = tt
 found_ruled (byte ∷ bytes) = store_ruled (stands (byte ∷ bytes))
@@ -479,7 +496,7 @@ are_kept found None network is = tt
 are_kept found (Some s) network is =
     record { rules = is.0.ruled.rules; forgets = is.0.ruled.forgets; widths = is.0.fits }
 
-no_header : has_centre start ≡ true → IsHeader start
+pub no_header : has_centre start ≡ true → IsHeader start
 no_header some = absurd (false≢true some)
 
 after_ruled : (image : List ℕ) (lines : List Bytes)

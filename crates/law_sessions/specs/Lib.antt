@@ -7,3 +7,4 @@ pub mod Runs
 pub mod Leaving
 pub mod Deeds
 pub mod Stores
+pub mod Accepts

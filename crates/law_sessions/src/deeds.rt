@@ -1,6 +1,7 @@
 //! What holds of all sessions of `tc_centre` and all runs of `admin` on one store together, in any order. Each law
 //! is the contract of a function with an empty body.
 ghost use Rattle.std.specs.Prelude.{ℕ, List, [], ◌∷◌};
+ghost use Rattle.law_sessions.specs.Accepts.{AllRise, all_accepts};
 ghost use Rattle.law_sessions.specs.Deeds.{AreDeeds, Deed, all_seals};
 ghost use Rattle.law_sessions.specs.Sessions.{NoneTwice};
 ghost use Rattle.law_sessions.specs.Stores.{AreRestored, Restored, life_seals, store_on};
@@ -32,4 +33,13 @@ pub fn no_counter_comes_twice_in_a_life()
         → AreRestored (store_on image deeds ∷ []) more → NoneTwice (life_seals image deeds more) }
     ensures nonces { (image : List ℕ) (deeds : List Deed) (more : List Restored) → AreDeeds image deeds
         → AreRestored (store_on image deeds ∷ []) more → AreApart real (life_seals image deeds more) }
+{}
+
+/// States that the centre accepts no counter of a sender twice on one store.
+///
+/// That is in any sessions and runs of `admin`. Of two terms that it accepts of one layer, base key and source, the
+/// later one has the greater counter. Headers may
+/// grow and change, and each deed begins on the image that the one before left.
+pub fn no_counter_is_accepted_twice_on_one_store()
+    ensures { (image : List ℕ) (deeds : List Deed) → AreDeeds image deeds → AllRise (all_accepts image deeds) }
 {}

@@ -34,7 +34,10 @@ ghost use Rattle.zb_stored_tables.specs.Stored.{IsKept};
 pub use admin_runs::{
     no_counter_comes_twice_in_all_runs, no_counter_of_admin_comes_again_after_a_restore,
 };
-pub use deeds::{no_counter_comes_twice_in_a_life, no_counter_comes_twice_on_one_store};
+pub use deeds::{
+    no_counter_comes_twice_in_a_life, no_counter_comes_twice_on_one_store,
+    no_counter_is_accepted_twice_on_one_store,
+};
 use law_real_runs::only_confirmations_read_as_such;
 pub use programs::{what_live_leaves_is_a_session, what_serve_leaves_is_a_run};
 use zb_keys::start_lines_give_the_first_state;

@@ -1,5 +1,7 @@
 //! What standard error says to people when a run doesn't end well. Standard output has the exact words for programs.
-use zb_command::{Cause, Status};
+use std::io;
+use zb_command::{Cause, Ending, ExitStatus, Status};
+use zb_disk::{FileCall, FileFault};
 
 /// The commands and their words.
 const USAGE: &str = "\
@@ -13,9 +15,17 @@ usage: tc COMMAND [WORD ..] < INPUT > OUTPUT
   inspect JOBS                writes what the frames of a capture show, by 1 to 64 jobs
   sniff JOBS KEY ..           does so for a capture file (pcap), under these keys and install codes";
 
-/// Prints on standard error how a run ended that didn't end well. Who has closed standard error misses it.
-pub fn advise(rt: &HostRuntime, status: &Status) {
-    let _ = match status {
+/// Prints on standard error how a process ended that didn't end well. Who has closed standard error misses it.
+pub fn advise(rt: &HostRuntime, ending: &Ending) {
+    let _ = match &ending.status {
+        ExitStatus::Run(status) => run_ended(rt, status, ending.first_fault),
+        ExitStatus::Busy => eprintln!(rt; "tc: another process has the store open"),
+    };
+}
+
+/// Prints how a run ended that didn't end well.
+fn run_ended(rt: &HostRuntime, status: &Status, first: Option<FileFault>) -> io::Result<()> {
+    match status {
         Status::Ok => Ok(()),
         Status::Usage => eprintln!(rt; "{USAGE}"),
         Status::Refused { line, cause } => refused(rt, *line, cause),
@@ -36,22 +46,50 @@ pub fn advise(rt: &HostRuntime, status: &Status) {
             "tc: standard output can't be written; what was written is a prefix"
         ),
         Status::NoMemory => eprintln!(rt; "tc: out of memory"),
-        Status::DiskFault => {
-            eprintln!(rt;
-                "tc: the store can't be used: another process has it open, or the system refused a call"
-            )
-        }
+        Status::DiskFault => store_failed(rt, first),
         Status::NoStore => eprintln!(rt;
             "tc: the file has bytes, and no store: it is another file, or an init was cut off"
         ),
         Status::Worn => eprintln!(rt;
             "tc: the store's last generation is used up: restore its backup into a new one"
         ),
-    };
+    }
+}
+
+/// Prints which call on the store's file failed first, and the system's number for the error.
+fn store_failed(rt: &HostRuntime, first: Option<FileFault>) -> io::Result<()> {
+    match first {
+        Some(fault) => call_failed(rt, fault.call, fault.errno),
+        None => eprintln!(rt; "tc: the store can't be used"),
+    }
+}
+
+/// Prints which call failed, and the system's number for the error, if the system refused the call.
+fn call_failed(rt: &HostRuntime, call: FileCall, errno: Option<i32>) -> io::Result<()> {
+    let call = name_of(call);
+    match errno {
+        Some(number) => eprintln!(rt;
+            "tc: the store can't be used: {call} failed (error {number} of the system)"
+        ),
+        None => eprintln!(rt;
+            "tc: the store can't be used: {call} failed (the path names no file of a store, or another one)"
+        ),
+    }
+}
+
+/// Returns the name of a call.
+fn name_of(call: FileCall) -> &'static str {
+    match call {
+        FileCall::Open => "open",
+        FileCall::Size => "size",
+        FileCall::Read => "read",
+        FileCall::Write => "write",
+        FileCall::Sync => "sync",
+    }
 }
 
 /// Prints why an input is refused, and where its format is described.
-fn refused(rt: &HostRuntime, line: u32, cause: &Cause) -> std::io::Result<()> {
+fn refused(rt: &HostRuntime, line: u32, cause: &Cause) -> io::Result<()> {
     match cause {
         Cause::NotHex { .. } | Cause::Length { .. } | Cause::Crc { .. } => {
             eprintln!(rt; "tc: this is no install code: {}", reason(cause))

@@ -7,7 +7,7 @@ use std::process::ExitCode;
 use zb_command::run_process;
 
 fn main(rt: HostRuntime) -> ExitCode {
-    let status = run_process(&rt);
-    advice::advise(&rt, &status);
-    ExitCode::from(status.number())
+    let ending = run_process(&rt);
+    advice::advise(&rt, &ending);
+    ExitCode::from(ending.status.number())
 }

@@ -13,7 +13,7 @@ ghost use Rattle.zb_admin.specs.Texts.{ok_line, refuse_line};
 ghost use Rattle.zb_backup.specs.Format.{backup_text};
 ghost use Rattle.zb_base.specs.Config.{IsConfig};
 ghost use Rattle.zb_base.specs.Outside.{AppendsFront, Rose, Unrisen};
-ghost use Rattle.zb_centre_store.specs.Tasks.{task_of};
+ghost use Rattle.zb_centre_store.specs.Events.{task_of};
 ghost use Rattle.zb_host.specs.Hosts.{Hosted};
 ghost use Rattle.zb_model.specs.Answer.{answer};
 ghost use Rattle.zb_model.specs.Data as model;

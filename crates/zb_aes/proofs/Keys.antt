@@ -4,26 +4,28 @@ use Rattle.std.proofs.Math.ListN.{set}
 use Rattle.std.proofs.lemmas.List.{get_or-map, get_or-set_other, get_or-set_same}
 use Rattle.std.proofs.lemmas.List.FromFn.{get_or-map-range_with_len}
 use Rattle.std.specs.List.{range_with_len}
+use Rattle.zb_aes.proofs.Linear.{get_or-bytes, map-xored}
 use Rattle.zb_aes.specs.Block.{round, last_round, next_key, round_constant, round_key, state_after, enciphered}
-use Rattle.zb_aes.specs.Bytes.{word_bytes, xored}
+use Rattle.zb_aes.specs.Bytes.{xored}
 use Rattle.zb_aes.specs.Field.{substitute, times}
-use Rattle.zb_aes.specs.Columns.{state_bytes, key_at, AreRoundKeys}
+use Rattle.zb_aes.specs.Columns.{key_at, AreRoundKeys}
+use Rattle.zb_aes.specs.Pairs.{byte_of, found}
 use Rattle.zb_aes.specs.declared.schedule.TheConstants.{CONSTANTS, ZERO_KEYS}
-use Rattle.zb_aes.specs.declared.state.State.{State}
 
-constants : CONSTANTS ≡ map (λ i. round_constant (i + 1)) (range_with_len 0 10)
+constants : map byte_of CONSTANTS ≡ map (λ i. round_constant (i + 1)) (range_with_len 0 10)
+unfolding byte_of found
 constants = refl
 
-constant_at : (i : ℕ) → i < 10 → get_or CONSTANTS i 0 ≡ round_constant (i + 1)
+constant_at : (i : ℕ) → i < 10 → byte_of (get_or CONSTANTS i 0) ≡ round_constant (i + 1)
 constant_at i h =
-    ap (λ l. get_or l i 0) constants
+    get_or-bytes CONSTANTS i ∙ ap (λ l. get_or l i 0) constants
     ∙ get_or-map-range_with_len (λ i. round_constant (i + 1)) 0 10 i i 0 h (omega arith)
 
 round_key-more : (key : List ℕ) (n : ℕ) → round_key key (n + 1) ≡ next_key (round_constant (n + 1)) (round_key key n)
 unfolding round_key
 round_key-more key n = rw add-one refl
 
-pub keys_one : (keys : List State) → AreRoundKeys 1 keys
+pub keys_one : (keys : List (List ℕ)) → AreRoundKeys 1 keys
 unfolding round_key
 keys_one keys = record { each = first_only }
   where
@@ -31,20 +33,20 @@ keys_one keys = record { each = first_only }
     first_only zero h = refl
     first_only (suc i) h = absurd (omega arith)
 
-pub keys_more : (n : ℕ) (keys : List State) (next : State) → n < 10 → length keys ≡ 11 → AreRoundKeys (n + 1) keys
-    → state_bytes next ≡ next_key (get_or CONSTANTS n 0) (key_at keys n)
+pub keys_more : (n : ℕ) (keys : List (List ℕ)) (next : List ℕ) → n < 10 → length keys ≡ 11 → AreRoundKeys (n + 1) keys
+    → map byte_of next ≡ next_key (byte_of (get_or CONSTANTS n 0)) (key_at keys n)
     → AreRoundKeys (n + 1 + 1) (set keys (n + 1) next) × (key_at (set keys (n + 1) next) 0 ≡ key_at keys 0)
-    × (state_bytes next ≡ key_at (set keys (n + 1) next) (n + 1))
+    × (next ≡ get_or (set keys (n + 1) next) (n + 1) [])
 keys_more n keys next few long before e =
     let other : 0 ≢ n + 1 = omega arith in
     let first : key_at (set keys (n + 1) next) 0 ≡ key_at keys 0 =
-    ap state_bytes (get_or-set_other keys (n + 1) 0 next _ other) in
+    ap (map byte_of) (get_or-set_other keys (n + 1) 0 next _ other) in
     let below : (i : ℕ) → i < n + 1 → key_at (set keys (n + 1) next) i
     ≡ round_key (key_at (set keys (n + 1) next) 0) i =
-    λ i h. ap state_bytes (get_or-set_other keys (n + 1) i next _ (omega arith)) ∙ before.each i h
+    λ i h. ap (map byte_of) (get_or-set_other keys (n + 1) i next _ (omega arith)) ∙ before.each i h
     ∙ ap (λ k. round_key k i) (sym first) in
     let here : key_at (set keys (n + 1) next) (n + 1) ≡ round_key (key_at (set keys (n + 1) next) 0) (n + 1) =
-    ap state_bytes (get_or-set_same keys (n + 1) next _ (omega arith)) ∙ e
+    ap (map byte_of) (get_or-set_same keys (n + 1) next _ (omega arith)) ∙ e
     ∙ ap (λ k. next_key k (key_at keys n)) (constant_at n few)
     ∙ ap (next_key (round_constant (n + 1))) (before.each n (omega arith))
     ∙ sym (round_key-more (key_at keys 0) n) ∙ ap (λ k. round_key k (n + 1)) (sym first) in (
@@ -53,7 +55,7 @@ keys_more n keys next few long before e =
             (n + 1) below here;
       },
       first,
-      sym (ap state_bytes (get_or-set_same keys (n + 1) next _ (omega arith))),
+      sym (get_or-set_same keys (n + 1) next _ (omega arith)),
     )
 
 state_after-zero : (key block : List ℕ) → state_after key block 0 ≡ xored block key
@@ -66,9 +68,12 @@ unfolding state_after
 state_after-more key block zero h = absurd (omega arith)
 state_after-more key block (suc n) h = let e : suc n - 1 ≡ n = omega arith in rw e refl
 
-pub rounds-init : (key block first start state : List ℕ) → first ≡ key → start ≡ block → state ≡ xored start first
-    → state ≡ state_after key block 0
-rounds-init key block first start state p q r = let e = state_after-zero key block in cc
+-- The first round key is added to a block as pairs.
+pub start-of-pairs : (key pairs block bytes state : List ℕ) → bytes ≡ block → map byte_of pairs ≡ bytes
+    → state ≡ xored pairs key → map byte_of state ≡ state_after (map byte_of key) block 0
+start-of-pairs key pairs block bytes state p q r =
+    ap (map byte_of) r ∙ map-xored pairs key ∙ ap (λ b. xored b (map byte_of key)) (q ∙ p)
+    ∙ sym (state_after-zero (map byte_of key) block)
 
 pub rounds-more : (key block first now state next : List ℕ) (i : ℕ) → 1 ≤ i → first ≡ key → now ≡ round_key first i
     → state ≡ state_after key block (i - 1) → next ≡ round now state → next ≡ state_after key block (i + 1 - 1)
@@ -83,18 +88,17 @@ rounds-end key block first now state last result i h p q r s t =
     let k : i - 1 ≡ 9 = omega arith in let r' = rw k at r in cc
 
 -- The round keys of 16 zeros, by computation.
-zero_keys : map state_bytes ZERO_KEYS ≡ map (λ i. round_key (replicate 16 0) i) (range_with_len 0 11)
-unfolding round_key next_key substitute times xored word_bytes
+zero_keys : map (map byte_of) ZERO_KEYS ≡ map (λ i. round_key (replicate 16 0) i) (range_with_len 0 11)
+unfolding round_key next_key substitute times xored byte_of found
 zero_keys = refl
 
 zero_key_at : (i : ℕ) → i < 11 → key_at ZERO_KEYS i ≡ round_key (replicate 16 0) i
 zero_key_at i h =
-    sym (get_or-map state_bytes ZERO_KEYS i (record { 0 = 0; 1 = 0; 2 = 0; 3 = 0 }) [] h)
-    ∙ ap (λ l. get_or l i []) zero_keys
+    sym (get_or-map (map byte_of) ZERO_KEYS i [] [] h) ∙ ap (λ l. get_or l i []) zero_keys
     ∙ get_or-map-range_with_len (λ i. round_key (replicate 16 0) i) 0 11 i i [] h (omega arith)
 
 pub first_zero_key : key_at ZERO_KEYS 0 ≡ replicate 16 0
-unfolding word_bytes
+unfolding byte_of found
 first_zero_key = refl
 
 pub zero_keys_are : AreRoundKeys 11 ZERO_KEYS

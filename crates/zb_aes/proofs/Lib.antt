@@ -1,6 +1,10 @@
-pub mod Table
 pub mod Words
-pub mod Rounds
-pub mod Keys
 pub mod Xored
 pub mod Lengths
+pub mod Lanes
+pub mod Pairs
+pub mod Inverses
+pub mod Blocks
+pub mod Keys
+pub mod Turned
+pub mod Linear

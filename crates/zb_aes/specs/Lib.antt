@@ -1,4 +1,5 @@
 pub mod Bytes
 pub mod Field
 pub mod Block
+pub mod Pairs
 pub mod Columns

@@ -11,10 +11,10 @@ ghost use Rattle.zb_aes.specs.Bytes.{xored};
 pub use schedule::{Cipher, encrypt_under_zeros};
 pub use state::State;
 
+mod rounds;
 mod schedule;
 mod state;
-mod tables;
-mod word;
+mod substitution;
 
 /// Enciphers one block of 16 bytes.
 ///

@@ -4,18 +4,21 @@ ghost use Rattle.std.specs.Prelude.{◌≡◌, replicate};
 ghost use Rattle.zb_aes.specs.Block.{enciphered};
 ghost use Rattle.zb_aes.specs.Columns.{key_at, state_bytes, AreRoundKeys};
 
+use crate::rounds::{last_round, next_key, plus, round};
 use crate::state::State;
+use crate::substitution::pairs;
 use std::marker::Model;
+use std::simd::prelude::*;
 
-/// The constants of the rounds from 1 on.
-static CONSTANTS: [u8; 10] = [0x01, 0x02, 0x04, 0x08, 0x10, 0x20, 0x40, 0x80, 0x1b, 0x36];
+/// The constants of the rounds from 1 on, as pairs.
+static CONSTANTS: [u8; 10] = [0x70, 0x2a, 0x98, 0x08, 0x4d, 0x7c, 0x7d, 0x81, 0x1f, 0x83];
 
 /// A key that was expanded once, for any number of blocks.
 ///
 /// A contract sees it as its key of 16 bytes.
 #[derive(Drop)]
 pub struct Cipher {
-    keys: [State; 11],
+    keys: [[u8; 16]; 11],
 }
 
 impl Model for Cipher {
@@ -34,11 +37,11 @@ impl Cipher {
     pub fn new(key: &[u8; 16]) -> Cipher
         ensures { result ≡ key.now }
     {
-        let mut last = State::read(key);
-        let mut keys = [last; 11];
+        let mut last = pairs(u8x16::from_array(*key));
+        let mut keys = [last.to_array(); 11];
         for i in 0..10 {
-            last = last.next_key(CONSTANTS[i]);
-            keys[i + 1] = last;
+            last = next_key(CONSTANTS[i], last);
+            keys[i + 1] = last.to_array();
         }
         Cipher { keys }
     }
@@ -58,19 +61,49 @@ impl Cipher {
     }
 }
 
-/// The round keys of the key of 16 zeros.
-static ZERO_KEYS: [State; 11] = [
-    State(0, 0, 0, 0),
-    State(0x62636363, 0x62636363, 0x62636363, 0x62636363),
-    State(0x9b9898c9, 0xf9fbfbaa, 0x9b9898c9, 0xf9fbfbaa),
-    State(0x90973450, 0x696ccffa, 0xf2f45733, 0x0b0fac99),
-    State(0xee06da7b, 0x876a1581, 0x759e42b2, 0x7e91ee2b),
-    State(0x7f2e2b88, 0xf8443e09, 0x8dda7cbb, 0xf34b9290),
-    State(0xec614b85, 0x1425758c, 0x99ff0937, 0x6ab49ba7),
-    State(0x21751787, 0x3550620b, 0xacaf6b3c, 0xc61bf09b),
-    State(0x0ef90333, 0x3ba96138, 0x97060a04, 0x511dfa9f),
-    State(0xb1d4d8e2, 0x8a7db9da, 0x1d7bb3de, 0x4c664941),
-    State(0xb4ef5bcb, 0x3e92e211, 0x23e951cf, 0x6f8f188e),
+/// The round keys of the key of 16 zeros, as pairs.
+static ZERO_KEYS: [[u8; 16]; 11] = [
+    [0; 16],
+    [
+        0x2b, 0x5b, 0x5b, 0x5b, 0x2b, 0x5b, 0x5b, 0x5b, 0x2b, 0x5b, 0x5b, 0x5b, 0x2b, 0x5b, 0x5b,
+        0x5b,
+    ],
+    [
+        0x9e, 0xc4, 0xc4, 0x84, 0xb5, 0x9f, 0x9f, 0xdf, 0x9e, 0xc4, 0xc4, 0x84, 0xb5, 0x9f, 0x9f,
+        0xdf,
+    ],
+    [
+        0xcc, 0x0e, 0xa9, 0x30, 0x79, 0x91, 0x36, 0xef, 0xe7, 0x55, 0xf2, 0x6b, 0x52, 0xca, 0x6d,
+        0xb4,
+    ],
+    [
+        0x3a, 0xb2, 0x93, 0x1e, 0x43, 0x23, 0xa5, 0xf1, 0xa4, 0x76, 0x57, 0x9a, 0xf6, 0xbc, 0x3a,
+        0x2e,
+    ],
+    [
+        0x86, 0xc6, 0x2e, 0x89, 0xc5, 0xe5, 0x8b, 0x78, 0x61, 0x93, 0xdc, 0xe2, 0x97, 0x2f, 0xe6,
+        0xcc,
+    ],
+    [
+        0x10, 0x71, 0x2f, 0x69, 0xd5, 0x94, 0xa4, 0x11, 0xb4, 0x07, 0x78, 0xf3, 0x23, 0x28, 0x9e,
+        0x3f,
+    ],
+    [
+        0x0c, 0xa4, 0x8f, 0x43, 0xd9, 0x30, 0x2b, 0x52, 0x6d, 0x37, 0x53, 0xa1, 0x4e, 0x1f, 0xcd,
+        0x9e,
+    ],
+    [
+        0xba, 0xb5, 0x5a, 0x6b, 0x63, 0x85, 0x71, 0x39, 0x0e, 0xb2, 0x22, 0x98, 0x40, 0xad, 0xef,
+        0x06,
+    ],
+    [
+        0xc0, 0x29, 0xb9, 0xaa, 0xa3, 0xac, 0xc8, 0x93, 0xad, 0x1e, 0xea, 0x0b, 0xed, 0xb3, 0x05,
+        0x0d,
+    ],
+    [
+        0x28, 0x4a, 0x62, 0xae, 0x8b, 0xe6, 0xaa, 0x3d, 0x26, 0xf8, 0x40, 0x36, 0xcb, 0x4b, 0x45,
+        0x3b,
+    ],
 ];
 
 /// Enciphers one block under the key of 16 zeros, whose round keys are known beforehand.
@@ -81,20 +114,19 @@ pub fn encrypt_under_zeros(block: State) -> State
 }
 
 // Enciphers a block by the round keys of the first of them.
-fn encrypt_by(keys: &[State; 11], block: State) -> State
+fn encrypt_by(keys: &[[u8; 16]; 11], block: State) -> State
     requires { AreRoundKeys 11 keys.now }
     ensures { state_bytes result ≡ enciphered (key_at keys.now 0) (state_bytes block) }
 {
-    block
-        .plus(keys[0])
-        .round(keys[1])
-        .round(keys[2])
-        .round(keys[3])
-        .round(keys[4])
-        .round(keys[5])
-        .round(keys[6])
-        .round(keys[7])
-        .round(keys[8])
-        .round(keys[9])
-        .last_round(keys[10])
+    let state = plus(pairs(block.lanes()), &keys[0]);
+    let state = round(state, &keys[1]);
+    let state = round(state, &keys[2]);
+    let state = round(state, &keys[3]);
+    let state = round(state, &keys[4]);
+    let state = round(state, &keys[5]);
+    let state = round(state, &keys[6]);
+    let state = round(state, &keys[7]);
+    let state = round(state, &keys[8]);
+    let state = round(state, &keys[9]);
+    State::of_lanes(last_round(state, &keys[10]))
 }

@@ -1,5 +1,5 @@
--- How the reading of an APS frame ends on any bytes: they are cut and can go on, have a fault that stays, or are a
--- frame.
+-- How the reading of an APS frame ends on any bytes: they are cut and can be continued, have a fault that remains, or
+-- are a frame.
 use Rattle.std.proofs.Common.{◌≡◌, ◌≢◌, ℕ, ◌-◌, ◌^◌, ◌<◌, Bool, true, false, eqb, List, [], ◌∷◌, ◌++◌, length, take, drop, Option, Some, None, Ok, Err, refl, sym, ap, subst, ◌∙◌, append_assoc, arith, inl, inr, length-append}
 use Rattle.std.specs.Prelude.{replicate, IfSome, not, ◌&&◌}
 use Rattle.std.specs.Int.{w16, w32}
@@ -228,7 +228,7 @@ join_whole : (bytes hd rest au end body mic : List ℕ) → bytes ≡ hd ++ rest
     → bytes ≡ hd ++ ((au ++ body) ++ mic)
 join_whole bytes hd rest au end body mic p q r = rw (p, q, r) (simp append_assoc)
 
--- after any header there can be a content
+-- any header can be followed by a content
 content_text : (h : ApsHeader) → IsHeader h → HeaderInRange h → (b : Bool) → bit h.control 5 ≡ b → CanGoOn (header h)
 content_text h shaped fits false e = (
   [],

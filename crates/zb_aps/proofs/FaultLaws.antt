@@ -1,4 +1,4 @@
--- The first fault of the walk is the fault that the bytes have.
+-- The first fault on the walk is the fault that the bytes have.
 use Rattle.std.proofs.Common.{◌≡◌, ℕ, ◌≤◌, List, ◌∷◌, ◌++◌, length, Result, Ok, Err, refl, ap, subst, ◌∙◌, arith, inl, inr}
 use Rattle.std.proofs.lemmas.Bool.{cases_lt, le-ltb, lt-ltb, eq-eqb}
 use Rattle.zb_cursor.specs.Spelling.{IsBytes}
@@ -67,7 +67,7 @@ fault_found bytes fits e given =
           ]
     ]
 
--- bytes that can go on have no fault that stays
+-- bytes that can be continued have no fault that remains
 stays_not : (bytes : List ℕ) (e : ApsError)
     → ((cut : ApsError) (more : List ℕ) → frame_at cut (bytes ++ more) ≡ Err e) → CanGoOn bytes → ⊥
 stays_not bytes e wrong (more, f, is) =

@@ -1,4 +1,4 @@
--- When bytes have each fault, said of the bytes and of the frames that there are, and not of any order of reading.
+-- When bytes have each fault, in terms of the bytes and all possible frames, without any order of reading.
 use Rattle.std.specs.Prelude.{◌≡◌, ℕ, ◌<◌, ◌≤◌, true, List, ◌∷◌, ◌++◌, length}
 use Rattle.zb_cursor.specs.Spelling.{bit}
 use Rattle.zb_aps.specs.declared.fault.ApsError.{ApsError}
@@ -9,11 +9,11 @@ use Rattle.zb_aps.specs.Spelling.{header}
 use Rattle.zb_aps.specs.Shape.{kind, delivery, key_id, IsHeader, HeaderInRange, IsFrame}
 use Rattle.zb_base.specs.Limits.{longest_frame}
 
--- Some longer bytes that begin so are a frame, be they more than 127.
+-- Some longer bytes with this prefix are a frame, possibly longer than 127.
 abbrev pub CanGoOn : List ℕ → Type 0
 CanGoOn bytes = (more : List ℕ) × (f : ApsFrame) × IsFrame (bytes ++ more) f
 
--- The bytes ran out: they are no frame, and longer ones that begin so can be one.
+-- The bytes ran out: they aren't a frame, and longer bytes with this prefix can be one.
 pub record IsCut (bytes : List ℕ) : Type 0 where
   pub no_frame : (f : ApsFrame) → ¬ IsFrame bytes f
   pub goes_on : CanGoOn bytes
@@ -25,7 +25,7 @@ pub record IsSecuredBy (bytes : List ℕ) (control : ℕ) (h : ApsHeader) (rest 
   pub secured : bit h.control 5 ≡ true
   pub parts : bytes ≡ header h ++ (control ∷ rest)
 
--- what a fault of at most 127 bytes says of them
+-- what a fault of at most 127 bytes means for them
 abbrev pub Explains : List ℕ → ApsError → Type 0
 Explains bytes TooLong = ⊥
 Explains bytes (Short place) = (place ≡ length bytes) × IsCut bytes

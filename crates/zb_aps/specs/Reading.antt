@@ -1,4 +1,4 @@
--- Reading an APS frame field by field, with the first fault that is met.
+-- Reading an APS frame field by field, up to the first fault.
 use Rattle.std.specs.Prelude.{ℕ, Bool, true, false, not, ◌&&◌, List, length, Some, None, Result, Ok, Err, [], ◌∷◌, nat_lt, ◌==◌, if◌then◌else◌}
 use Rattle.std.specs.Int.{w16, w32}
 use Rattle.zb_cursor.specs.Spelling.{bit}
@@ -86,13 +86,13 @@ frame_at = do
   header ← header_at
   content_at (bit header.control 5) header
 
--- the frame without what is left after it, which is nothing
+-- the frame without the bytes left after it, of which there are none
 abbrev pub whole : Result (ApsFrame × List ℕ) ApsError → Result ApsFrame ApsError
 whole (Ok x) = Ok x.0
 whole (Err e) = Err e
 
--- The frame that all of the bytes are, or their first fault: more than 127 bytes, or what the first field gives that
--- is not whole or not known.
+-- The frame that takes all of the bytes, or their first fault: more than 127 bytes, or the fault of the first field
+-- that isn't whole or not known.
 unfoldable pub frame_of : List ℕ → Result ApsFrame ApsError
 frame_of bytes =
     if nat_lt longest_frame (length bytes) then Err TooLong else whole (frame_at (Short (length bytes)) bytes)

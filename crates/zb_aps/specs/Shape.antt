@@ -1,4 +1,4 @@
--- Which values are APS frames: what the control byte says is there, and nothing else.
+-- Which values are APS frames: the optional parts are exactly those that the control byte names.
 use Rattle.std.specs.Prelude.{◌≡◌, ◌≢◌, ℕ, ◌/◌, ◌%◌, ◌^◌, ◌<◌, ◌≤◌, ◌==◌, ◌&&◌, ◌||◌, not, Bool, List, [], ◌∷◌, length, is_some, IfSome, IfNone}
 use Rattle.zb_cursor.specs.Spelling.{bit}
 use Rattle.zb_aps.specs.declared.header.Extended.{Extended}
@@ -23,7 +23,7 @@ is_ack control = kind control == 2
 abbrev pub to_group : ℕ → Bool
 to_group control = delivery control == 3
 
--- a data frame (0), and an ack whose ack format (bit 4) is 0, say their endpoints, cluster and profile
+-- a data frame (0), and an ack whose ack format (bit 4) is 0, have endpoints, cluster and profile
 abbrev pub is_addressed : ℕ → Bool
 is_addressed control = (kind control == 0) || (is_ack control && not (bit control 4))
 
@@ -40,7 +40,7 @@ pub record IsExtended (ack : Bool) (e : Extended) : Type 0 where
   pub block : is_some e.block ≡ is_block e.control
   pub bits : is_some e.bits ≡ (is_block e.control && ack)
 
--- the fields of the addressing are those that the control byte tells
+-- the addressing fields are those that the control byte names
 pub record AddressesAgree (h : ApsHeader) : Type 0 where
   pub endpoint : is_some h.endpoint ≡ (is_addressed h.control && not (to_group h.control))
   pub group : is_some h.group ≡ (is_addressed h.control && to_group h.control)
@@ -59,7 +59,7 @@ pub record IsHeader (h : ApsHeader) : Type 0 where
 abbrev pub key_id : ℕ → ℕ
 key_id control = control / 8 % 4
 
--- not the network key (1); the source is there where bit 5 is 1
+-- not the network key (1); the source is present if bit 5 is 1
 pub record IsAux (a : ApsAux) : Type 0 where
   pub link_key : key_id a.control ≢ 1
   pub source : is_some a.source ≡ bit a.control 5
@@ -103,7 +103,7 @@ pub record IsFrame (bytes : List ℕ) (f : ApsFrame) : Type 0 where
   pub shaped : IsShaped f
   pub text : bytes ≡ frame f
 
--- The bytes spell the frame: they are it, and they are at most 127.
+-- The bytes spell the frame: they are the frame, and they are at most 127.
 pub record Spells (bytes : List ℕ) (f : ApsFrame) : Type 0 where
   pub is_frame : IsFrame bytes f
   pub fits : length bytes ≤ longest_frame

@@ -12,7 +12,7 @@ use Rattle.zb_aps.specs.declared.frame.ApsFrame.{ApsFrame}
 abbrev pub extended : Extended → List ℕ
 extended e = byte e.control ++ optional byte e.block ++ optional byte e.bits
 
--- the control byte and where the frame goes
+-- the control byte and the destination
 abbrev pub addressing : ApsHeader → List ℕ
 addressing h = byte h.control ++ optional byte h.endpoint ++ optional (number w16) h.group
     ++ optional (number w16) h.cluster
@@ -24,7 +24,8 @@ header h = addressing h ++ optional (number w16) h.profile ++ optional byte h.so
 abbrev pub aux : ApsAux → List ℕ
 aux a = byte a.control ++ number w32 a.counter ++ optional eui a.source
 
--- what stands after the header: the body, and where it is secured an auxiliary header before it and the MIC after it
+-- what comes after the header: the body; if the frame is secured, also an auxiliary header before it and the MIC after
+-- it
 abbrev pub content : Option ApsAux → List ℕ → List ℕ → List ℕ
 content None body mic = body
 content (Some a) body mic = aux a ++ body ++ mic

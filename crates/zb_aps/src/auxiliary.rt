@@ -16,14 +16,14 @@ use zb_cursor::{Reader, TooLong, has_bit, put_byte, put_number32, put_optional_e
 pub struct ApsAux {
     /// The byte as on the air. Bits 0 to 2: level; 3 and 4: key identifier; 5: extended nonce; the others are free.
     pub control: u8,
-    /// The frame counter of the node that sealed.
+    /// The frame counter of the node that sealed the frame.
     pub counter: u32,
-    /// The EUI of the node that sealed, there exactly where the extended nonce bit is 1.
+    /// The EUI of the node that sealed the frame, present exactly if the extended nonce bit is 1.
     pub source: Option<Eui>,
 }
 
 impl ApsAux {
-    /// Returns whether the reader takes the key identifier, and the source is there where the control byte tells it.
+    /// Returns whether the reader accepts the key identifier, and the source is present if the control byte says so.
     pub fn shape_ok(&self) -> bool
         ensures { IsTrue result ↔ IsAux self.now }
     {
@@ -31,7 +31,7 @@ impl ApsAux {
     }
 }
 
-/// Reads the control byte of a header that does not name the network key.
+/// Reads the control byte of a header that doesn't name the network key.
 #[tactic(auto, unfolding(crate::specs::Reading::aux_control_at))]
 fn read_aux_control(reader: &mut Reader<ApsError>) -> Result<u8, ApsError>
     ensures exact { Gives result reader.new.rest.now (aux_control_at reader.old.cut reader.old.rest.now) }

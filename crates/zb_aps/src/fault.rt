@@ -1,32 +1,33 @@
-//! Why bytes are no APS frame.
+//! Why bytes aren't an APS frame.
 use std::error::Error;
 use std::fmt;
 
-/// The first fault of bytes that are no APS frame.
+/// The first fault of bytes that aren't an APS frame.
 ///
-/// `TooLong` comes before all others. Then the first counts that is met as the fields are walked from the start.
+/// `TooLong` comes before all others. Among these, the fault is the first one on a walk over the fields from the
+/// start.
 #[derive(Clone, Copy, Debug, PartialEq, Eq)]
 pub enum ApsError {
     /// More than 127 bytes.
     TooLong,
-    /// A field is not whole.
+    /// A field isn't whole.
     Short {
         /// The number of all bytes.
         at: u32,
     },
     /// The frame type is neither data (0), command (1) nor ack (2).
     FrameType {
-        /// The type that stands there.
+        /// The type of the frame.
         found: u8,
     },
     /// The delivery mode is neither unicast (0), broadcast (2) nor group (3).
     Delivery {
-        /// The delivery mode that stands there.
+        /// The delivery mode of the frame.
         found: u8,
     },
     /// The auxiliary header names the network key (1).
     KeyId {
-        /// The key identifier that stands there.
+        /// The key identifier of the header.
         found: u8,
     },
 }

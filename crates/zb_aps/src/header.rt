@@ -14,34 +14,34 @@ use zb_cursor::{
     Reader, TooLong, has_bit, put, put_byte, put_optional_byte, put_optional_number16,
 };
 
-/// The extended header of a fragment (05-3474-21, 2.2.5.1.8). Fragments are shown and not put together.
+/// The extended header of a fragment (05-3474-21, 2.2.5.1.8). Fragments are shown but not put together.
 #[derive(Clone, Copy, Debug, PartialEq, Eq)]
 pub struct Extended {
     /// The control byte. Bits 0 and 1: fragmentation; the others are free.
     pub control: u8,
-    /// The number of the block, where the frame is a fragment.
+    /// The number of the block, if the frame is a fragment.
     pub block: Option<u8>,
-    /// Which blocks came, in the ack of a fragment.
+    /// Which blocks arrived, in the ack of a fragment.
     pub bits: Option<u8>,
 }
 
-/// The header of an APS frame (05-3474-21, 2.2.5.1). The control byte says which fields are there.
+/// The header of an APS frame (05-3474-21, 2.2.5.1). The control byte says which fields are present.
 #[derive(Clone, Copy, Debug, PartialEq, Eq)]
 pub struct ApsHeader {
     /// The control byte. Bits 0 and 1: frame type; 2 and 3: delivery mode; 4: ack format; 5: security; 6: ack request;
     /// 7: extended header.
     pub control: u8,
-    /// The endpoint that the frame goes to, where it goes to no group.
+    /// The endpoint that the frame goes to, unless it goes to a group.
     pub endpoint: Option<u8>,
     /// The group that the frame goes to.
     pub group: Option<u16>,
-    /// The cluster that the frame is of.
+    /// The cluster of the frame.
     pub cluster: Option<u16>,
-    /// The profile that the frame is of.
+    /// The profile of the frame.
     pub profile: Option<u16>,
     /// The endpoint that the frame comes from.
     pub source_endpoint: Option<u8>,
-    /// The APS counter that the source gave the frame.
+    /// The APS counter that the source gave to the frame.
     pub counter: u8,
     /// The extended header.
     pub extended: Option<Extended>,
@@ -59,7 +59,7 @@ fn to_group(control: u8) -> bool
     (control >> 2) & 3 == 3
 }
 
-/// Returns whether the frame says its endpoints, cluster and profile: data, and an ack whose ack format is 0.
+/// Returns whether the frame has endpoints, cluster and profile: data, and an ack whose ack format is 0.
 fn is_addressed(control: u8) -> bool
     ensures { result ≡ addressed control }
 {
@@ -83,7 +83,7 @@ impl Extended {
 }
 
 impl ApsHeader {
-    /// Makes a header that others may be read into.
+    /// Makes a header into which others may be read.
     pub(crate) fn blank() -> ApsHeader {
         ApsHeader {
             control: 0,
@@ -108,7 +108,7 @@ impl ApsHeader {
             && self.source_endpoint.is_some() == addressed
     }
 
-    /// Returns whether the reader takes type and delivery mode, and the options are those of the control byte.
+    /// Returns whether the reader accepts type and delivery mode, and the options are those of the control byte.
     pub fn shape_ok(&self) -> bool
         ensures { IsTrue result ↔ IsHeader self.now }
     {
@@ -251,7 +251,7 @@ fn put_optional_extended(out: &mut Frame, value: &Option<Extended>) -> Result<()
     Ok(())
 }
 
-/// Writes the control byte and where the frame goes.
+/// Writes the control byte and the destination.
 fn put_addressing(out: &mut Frame, value: &ApsHeader) -> Result<(), TooLong>
     ensures { Appends out.old.items (addressing value.now) out.new.items result }
 {

@@ -1,5 +1,5 @@
 //! Laws of APS frames: a value has one spelling and a spelling one value, and reading and writing undo each other.
-//! Each function here says laws and does nothing.
+//! Each function here states laws and has an empty body.
 ghost use Rattle.std.specs.Prelude.{◌≡◌, ◌≤◌, ℕ, List, length, Ok};
 ghost use Rattle.zb_cursor.specs.Spelling.{IsBytes};
 ghost use Rattle.zb_aps.specs.declared.frame.ApsFrame.{ApsFrame};

@@ -1,5 +1,5 @@
-//! APS frames both ways (05-3474-21, 2.2.5 and 4.5.1): a frame of at most 127 bytes as a value, its reader and its
-//! writer. The reader finds the first fault of other bytes. The writer gives the one spelling of a value.
+//! APS frames, read and written (05-3474-21, 2.2.5 and 4.5.1). A frame has at most 127 bytes. The reader makes a value
+//! from bytes, or finds their first fault. The writer makes the one spelling of a value.
 #![tactic(auto)]
 
 mod auxiliary;

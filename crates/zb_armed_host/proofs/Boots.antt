@@ -13,8 +13,8 @@ use Rattle.zb_store.specs.Steps.{WentThrough}
 use Rattle.zb_store.specs.Store.{AllWhole, OpenStop, both_gates_open, open_calls}
 use Rattle.zb_store.specs.Power.{StopFell, FailureFell}
 use Rattle.zb_store.proofs.Powers.{open_stands, open_failure_stands, open_gates, open_failure_gates, open_closed, open_within, stop_falls, failure_falls}
-use Rattle.zb_host.specs.declared.fault.HostFault.{HostFault}
-use Rattle.zb_host.specs.declared.fault.HostFault.TheVariants.{Disk, NoMemory, NoRecord, BadRecord, Worn}
+use Rattle.zb_host.specs.declared.fault.RecordFault.{RecordFault}
+use Rattle.zb_host.specs.declared.fault.RecordFault.TheVariants.{Disk, NoRecord, BadRecord, Worn}
 use Rattle.zb_host.specs.Plans.{Restored, gives, bad}
 use Rattle.zb_host.specs.Hosts.{Restoring, Hosted}
 use Rattle.zb_host.specs.HostFaults.{IsBootFault}
@@ -152,12 +152,10 @@ IsLack (Fault fallen) = ⊥
 IsLack Lacking = Unit {0}
 
 -- a fault that is told is how the call ended
-pub fault_of : (seen fallen : Fallen) (fault : HostFault) → boot_cause fault seen ≡ Fault fallen → seen ≡ fallen
-fault_of seen fallen (Disk changes) cause = ap (fault_in seen) cause
-fault_of seen fallen NoMemory cause = absurd (subst IsLack cause tt)
-fault_of seen fallen NoRecord cause = ap (fault_in seen) cause
-fault_of seen fallen (BadRecord at) cause = ap (fault_in seen) cause
-fault_of seen fallen Worn cause = ap (fault_in seen) cause
+pub fault_of : (seen fallen : Fallen) (fault : OrMemory RecordFault) → boot_cause fault seen ≡ Fault fallen → seen
+    ≡ fallen
+fault_of seen fallen (Fault fault) cause = ap (fault_in seen) cause
+fault_of seen fallen Lacking cause = absurd (subst IsLack cause tt)
 
 abbrev IsThere : Option Standing → Type 0
 IsThere None = ⊥
@@ -168,37 +166,33 @@ IsGood (gives w) = Unit {0}
 IsGood (bad at) = ⊥
 
 -- a boot that lacked memory left the count of faults
-pub lacked : (restored : Restoring) (old new : View) (fault : HostFault) (fallen : Fallen) → boot_cause fault fallen
-    ≡ Lacking
+pub lacked : (restored : Restoring) (old new : View) (fault : OrMemory RecordFault) (fallen : Fallen)
+    → boot_cause fault fallen ≡ Lacking
     → IsBootFault memory_tells restored old new fault → Unrisen old.faults new.faults
-lacked restored old new (Disk changes) fallen cause of_fault = absurd (subst IsLack (sym cause) tt)
-lacked restored old new NoMemory fallen cause of_fault = of_fault
-lacked restored old new NoRecord fallen cause of_fault = absurd (subst IsLack (sym cause) tt)
-lacked restored old new (BadRecord at) fallen cause of_fault = absurd (subst IsLack (sym cause) tt)
-lacked restored old new Worn fallen cause of_fault = absurd of_fault
+lacked restored old new (Fault fault) fallen cause of_fault = absurd (subst IsLack (sym cause) tt)
+lacked restored old new Lacking fallen cause of_fault = of_fault
 
 -- a boot of a node at rest fails for the disk or for out of memory alone
 pub has_fallen_at_boot : {C : Type 0} (words : Words C Medium) (s : Standing) (w : List ℕ) (a : Armed)
-    (old m : Medium) (fault : HostFault) (seen fallen : Fallen) → IsDown words s w a old
+    (old m : Medium) (fault : OrMemory RecordFault) (seen fallen : Fallen) → IsDown words s w a old
     → IsBootFault memory_tells words.restored (memory_view (armed_medium a old)) (memory_view m) fault
-    → ((changes : _) → fault ≡ Disk changes → OpenStop memory_tells s (memory_view (armed_medium a old))
-    (memory_view m))
+    → (fault ≡ Fault Disk → OpenStop memory_tells s (memory_view (armed_medium a old)) (memory_view m))
     → seen.fall ≡ fall_seen (is_stopped old.arming) (is_stopped m.arming) → seen.fired
     ≡ fired_seen a (is_stopped old.arming) (is_stopped m.arming) (will_refuse m.arming)
     → Only (powered m).bytes (memory_view (powered m)).images → boot_cause fault seen ≡ Fault fallen
     → HasFallenAtBoot s a old fallen (disarmed_medium a (powered m))
-has_fallen_at_boot words s w a old m (Disk changes) seen fallen down of_fault stopped is did only cause =
+has_fallen_at_boot words s w a old m (Fault Disk) seen fallen down of_fault stopped is did only cause =
     let same : fallen ≡ seen = sym (ap (fault_in seen) cause) in
-    fell_at_open s a old m fallen down.rest (stopped changes refl) (ap (λ (f : Fallen). f.fall) same ∙ is)
+    fell_at_open s a old m fallen down.rest (stopped refl) (ap (λ (f : Fallen). f.fall) same ∙ is)
     (ap (λ (f : Fallen). f.fired) same ∙ did) only
-has_fallen_at_boot words s w a old m NoMemory seen fallen down of_fault stopped is did only cause =
+has_fallen_at_boot words s w a old m Lacking seen fallen down of_fault stopped is did only cause =
     absurd (subst IsLack cause tt)
-has_fallen_at_boot words s w a old m NoRecord seen fallen down of_fault stopped is did only cause =
+has_fallen_at_boot words s w a old m (Fault NoRecord) seen fallen down of_fault stopped is did only cause =
     absurd (subst IsThere (sym (armed_stands s a old down.rest) ∙ of_fault.0 refl) tt)
-has_fallen_at_boot words s w a old m (BadRecord at) seen fallen down of_fault stopped is did only cause =
+has_fallen_at_boot words s w a old m (Fault (BadRecord at)) seen fallen down of_fault stopped is did only cause =
     let (r, there, wrong) = of_fault.0 refl in
     let same = same_standing r s (armed_medium a old).bytes there (armed_stands s a old down.rest) in
     absurd (subst IsGood
     (sym down.gives_it ∙ sym (ap (λ (x : Standing). words.restored x.content (concat x.payloads)) same) ∙ wrong)
     tt)
-has_fallen_at_boot words s w a old m Worn seen fallen down of_fault stopped is did only cause = absurd of_fault
+has_fallen_at_boot words s w a old m (Fault Worn) seen fallen down of_fault stopped is did only cause = absurd of_fault

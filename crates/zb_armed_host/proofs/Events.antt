@@ -10,8 +10,8 @@ use Rattle.zb_store.specs.Steps.{WentThrough, StoppedWithin}
 use Rattle.zb_store.specs.Store.{Place, both_gates_open}
 use Rattle.zb_store.specs.Power.{stop_commits, failure_commits, stop_opens_both, failure_opens_both, StopFell, FailureFell}
 use Rattle.zb_store.proofs.Powers.{append_stands, append_failure_stands, append_gates, put_stands, put_failure_stands, put_gates, put_failure_gates, append_within, put_within, stop_falls, failure_falls}
-use Rattle.zb_host.specs.declared.fault.CommitFault.{CommitFault}
-use Rattle.zb_host.specs.declared.fault.CommitFault.TheVariants as commit
+use Rattle.zb_host.specs.declared.fault.RecordFault.{RecordFault}
+use Rattle.zb_host.specs.declared.fault.RecordFault.TheVariants as why
 use Rattle.zb_host.specs.Hosts.{Gives, Hosted, IsCurrent, writes_whole, next_standing, CommitStop, HasStopped, commit_calls}
 use Rattle.zb_host.specs.HostFaults.{IsUnstored}
 use Rattle.zb_host.specs.Calls.{Words}
@@ -206,29 +206,33 @@ generation_in (Some p) = p.generation
 
 -- the same fault ends a call in the same way
 abbrev pub Ended : Type 0
-Ended = Result (Unit {0}) CommitFault
+Ended = Result (Unit {0}) RecordFault
 
-abbrev pub err : CommitFault → Ended
+abbrev pub err : RecordFault → Ended
 err f = Err f
 
-pub err_is : {f g : CommitFault} → f ≡ g → err f ≡ err g
+pub err_is : {f g : RecordFault} → f ≡ g → err f ≡ err g
 err_is is = ap err is
 
 -- an event that failed, by its fault: no other comes of a host that is up over such a disk
 pub fallen_by : {C : Type 0} (words : Words C Medium) (s : Standing) (a : Armed) (before after : Hosted C)
-    (old m : Medium) (fault : CommitFault) (items : List Change) (fallen : Fallen) → IsUp words s a before old
+    (old m : Medium) (fault : RecordFault) (items : List Change) (fallen : Fallen) → IsUp words s a before old
     → IsUnstored (writes_whole before) before.store (memory_view (armed_medium a old)) (memory_view m) fault
     → items ≢ []
-    → (fault ≡ commit.Disk → HasStopped memory_tells words.restored (writes_whole before) s
+    → (fault ≡ why.Disk → HasStopped memory_tells words.restored (writes_whole before) s
     (words.recorded after.core) (words.payload items) (memory_view (armed_medium a old)) (memory_view m))
     → fallen.fall ≡ fall_seen (is_stopped old.arming) (is_stopped m.arming) → fallen.fired
     ≡ fired_seen a (is_stopped old.arming) (is_stopped m.arming) (will_refuse m.arming)
     → Only (powered m).bytes (memory_view (powered m)).images
     → HasFallen words s a before old items fallen after (disarmed_medium a (powered m))
-fallen_by words s a before after old m commit.Disk items fallen up of_fault some stopped is did only =
+fallen_by words s a before after old m why.Disk items fallen up of_fault some stopped is did only =
     let stop = stopped refl in
     has_fallen words s a before after old m items fallen up some stop.0 stop.1 is did only
-fallen_by words s a before after old m commit.Worn items fallen up of_fault some stopped is did only =
+fallen_by words s a before after old m why.NoRecord items fallen up of_fault some stopped is did only =
+    absurd of_fault
+fallen_by words s a before after old m (why.BadRecord at) items fallen up of_fault some stopped is did only =
+    absurd of_fault
+fallen_by words s a before after old m why.Worn items fallen up of_fault some stopped is did only =
     let p = of_fault.1.0 in
     let same : p.generation ≡ s.generation = ap generation_in (sym of_fault.1.1 ∙ up.current.place) in
     let last : p.generation ≡ 18446744073709551615 = of_fault.1.2 in

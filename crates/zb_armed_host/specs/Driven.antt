@@ -13,8 +13,7 @@ use Rattle.zb_store.specs.Steps.{calls_then}
 use Rattle.zb_store.specs.Store.{both_gates_open}
 use Rattle.zb_store.specs.declared.fault.StoreFault.{StoreFault}
 use Rattle.zb_store.specs.declared.fault.StoreFault.TheVariants as store
-use Rattle.zb_host.specs.declared.fault.HostFault.{HostFault}
-use Rattle.zb_host.specs.declared.fault.HostFault.TheVariants.{Disk, NoMemory, NoRecord, BadRecord, Worn}
+use Rattle.zb_host.specs.declared.fault.RecordFault.{RecordFault}
 use Rattle.zb_host.specs.Plans.{Restored, gives, bad}
 use Rattle.zb_host.specs.Hosts.{Restoring, Gives, Hosted, IsCurrent, writes_whole, next_standing}
 use Rattle.zb_host.specs.Calls.{Words, words_of}
@@ -106,12 +105,9 @@ pub record HasFallen {C : Type 0} (words : Words C Medium) (s : Standing) (a : A
   pub calls : new.calls ≡ risen old.calls (fallen_calls a)
 
 -- why a boot failed
-abbrev pub boot_cause : HostFault → Fallen → OrMemory Fallen
-boot_cause (Disk changes) fallen = Fault fallen
-boot_cause NoMemory fallen = Lacking
-boot_cause NoRecord fallen = Fault fallen
-boot_cause (BadRecord at) fallen = Fault fallen
-boot_cause Worn fallen = Fault fallen
+abbrev pub boot_cause : OrMemory RecordFault → Fallen → OrMemory Fallen
+boot_cause (Fault fault) fallen = Fault fallen
+boot_cause Lacking fallen = Lacking
 
 -- A node that is down over a disk at rest, which represents the core of this record, and what is to be armed.
 pub record IsDown {C : Type 0} (words : Words C Medium) (s : Standing) (w : List ℕ) (a : Armed) (m : Medium) : Type 0

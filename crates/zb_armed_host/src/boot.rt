@@ -13,11 +13,11 @@ use crate::{Arms, Fallen};
 use std::alloc::Global;
 use zb_base::{Config, OrMemory};
 use zb_disk::MemDisk;
-use zb_host::{Core, Host, HostFault};
+use zb_host::{Core, Host, RecordFault};
 
 /// Boots a node that is down from its disk, with what is armed on that.
 ///
-/// Where what was armed falls, or the boot fails otherwise, the power of the disk is back, and nothing of it is armed.
+/// If what was armed falls, or the boot fails otherwise, the power of the disk is back, and nothing of it is armed.
 /// Requires a configuration of a node of the core's role.
 ///
 /// # Errors
@@ -65,15 +65,12 @@ pub fn boot_armed<C: Core>(
     }
 }
 
-// Why a boot failed: out of memory, or that it ended so.
-fn cause_of(fault: HostFault, fallen: Fallen) -> OrMemory<Fallen>
+// Returns why a boot failed: out of memory, or how it ended.
+fn cause_of(fault: OrMemory<RecordFault>, fallen: Fallen) -> OrMemory<Fallen>
     ensures { result ≡ boot_cause fault fallen }
 {
     match fault {
-        HostFault::NoMemory => OrMemory::NoMemory,
-        HostFault::Disk { .. }
-        | HostFault::NoRecord
-        | HostFault::BadRecord { .. }
-        | HostFault::Worn => OrMemory::Fault(fallen),
+        OrMemory::NoMemory => OrMemory::NoMemory,
+        OrMemory::Fault(_) => OrMemory::Fault(fallen),
     }
 }

@@ -11,7 +11,7 @@ use Rattle.std.specs.declared.cmp.Ordering.TheVariants.{Less, Equal, Greater}
 abbrev Bytes : List ℕ → Type 0
 Bytes bs = (i : ℕ) → get_or bs i 0 < 256
 
--- orders one after the other
+-- two orders, one after the other
 
 then_again : (o p q : Ordering) → ordering_then (ordering_then o p) q ≡ ordering_then o (ordering_then p q)
 then_again Less p q = refl
@@ -40,7 +40,7 @@ is_greater x y Less h l = let e : x < y = h in absurd (omega arith)
 is_greater x y Equal h l = let e : x ≡ y = h in absurd (omega arith)
 is_greater x y Greater h l = refl
 
--- two numbers with one more byte each
+-- two numbers, each with one more byte
 
 with_byte : (a b u v : ℕ) (o p q : Ordering) → u < 256 → v < 256 → MatchOrdering o (a < b) (a ≡ b) (b < a)
     → MatchOrdering p (u < v) (u ≡ v) (v < u)
@@ -67,7 +67,7 @@ one_more a b u v small other =
     (ranked a b (nat_cmp a b) refl) (ranked u v (nat_cmp u v) refl)
     (ranked (a * 256 + u) (b * 256 + v) (nat_cmp (a * 256 + u) (b * 256 + v)) refl)
 
--- the number that bytes spell after n
+-- the number that bytes spell after the number n
 
 abbrev spelled : ℕ → List ℕ → ℕ
 spelled n [] = n
@@ -114,7 +114,7 @@ in_parts (suc n) (x ∷ xs) (y ∷ ys) l m =
     then_again (nat_cmp x y) (slice_cmp nat_cmp (take n xs) (take n ys)) (slice_cmp nat_cmp (drop n xs) (drop n ys))
     ∙ ap (ordering_then (nat_cmp x y)) (in_parts n xs ys (omega arith) (omega arith))
 
--- The order of two keys, and whether they are the same, by the numbers that their halves spell.
+-- The order of two keys, and whether they are the same, from the numbers that their halves spell.
 
 high : (xs ys : List ℕ) → length xs ≡ 16 → length ys ≡ 16 → Bytes (take 8 xs) → Bytes (take 8 ys)
     → nat_cmp (from_be_bytes w64 (take 8 xs)) (from_be_bytes w64 (take 8 ys))

@@ -1,4 +1,4 @@
--- What a node's configuration keeps. Each call that takes a `Config` has it as a condition.
+-- What a valid configuration of a node is. Each call that takes a `Config` requires it.
 use Rattle.std.specs.Prelude.{◌≡◌, ◌≢◌, ◌≤◌, ◌<◌, List, [], ◌∷◌, ⊤, length, count_by, Bool, true, false}
 use Rattle.std.specs.List.{AllByRecursion}
 use Rattle.zb_base.specs.declared.node.Config.{Config}
@@ -7,7 +7,7 @@ use Rattle.zb_base.specs.declared.node.Role.{Role}
 use Rattle.zb_base.specs.declared.node.Role.TheVariants.{Centre, Router, Device}
 use Rattle.zb_base.specs.Limits.{most_out_block, most_in_block}
 
--- no two items have the same reading
+-- the readings of all items differ
 abbrev pub ApartBy : {T V : Type 0} → (T → V) → List T → Type 0
 ApartBy reading [] = ⊤
 ApartBy reading (item ∷ items) = AllByRecursion (λ other. reading item ≢ reading other) items × ApartBy reading items

@@ -17,7 +17,7 @@ most_events = 100000
 abbrev pub most_lines : ℕ
 most_lines = 4294967295
 
--- The length at which a beginning of an input shows that the whole is too long: 2^24 + 1 bytes.
+-- The length of a prefix of an input that shows that the whole is too long: 2^24 + 1 bytes.
 abbrev pub first_too_long : ℕ
 first_too_long = 16777217
 
@@ -41,11 +41,12 @@ most_steps = 10000
 abbrev pub most_runs : ℕ
 most_runs = 1000
 
--- The greatest start value of a campaign: its last run has a start value below 2^32 still.
+-- The greatest start value of a campaign: its last run still has a start value below 2^32.
 abbrev pub last_start : ℕ
 last_start = 4294966295
 
--- The greatest count that is told or kept: 2^32 - 1, as of the events and frames of a run. A count stops there.
+-- The greatest count that is printed or kept, for example of the events and frames of a run: 2^32 - 1. A count stops
+-- there.
 abbrev pub greatest_count : ℕ
 greatest_count = 4294967295
 
@@ -53,7 +54,7 @@ greatest_count = 4294967295
 abbrev pub longest_content : ℕ
 longest_content = 64
 
--- The longest frame that the command Tunnel carries, in bytes: of a command's 127, it leaves 9 to its own fields.
+-- The longest frame that the command Tunnel carries, in bytes: of a command's 127 bytes, 9 are for the other fields.
 abbrev pub longest_tunnelled : ℕ
 longest_tunnelled = 118
 
@@ -61,7 +62,7 @@ longest_tunnelled = 118
 abbrev pub most_nodes : ℕ
 most_nodes = 64
 
--- The most routers and devices of a made schedule.
+-- The most routers and devices of a generated schedule.
 abbrev pub most_made : ℕ
 most_made = 60
 
@@ -69,7 +70,7 @@ most_made = 60
 abbrev pub most_jobs : ℕ
 most_jobs = 64
 
--- The most keys that a capture gives, and that stand on a command line.
+-- The most keys that a capture gives, and that a command line may have.
 abbrev pub most_keys : ℕ
 most_keys = 256
 
@@ -81,6 +82,6 @@ last_short = 65527
 abbrev pub broadcast_eui : ℕ
 broadcast_eui = 18446744073709551615
 
--- The most bytes of a write that a stopped node leaves on its disk, as an event gives them.
+-- The most torn bytes of an event that stops a node. They replace, repeated, what was written and not synced.
 abbrev pub longest_torn : ℕ
 longest_torn = 32

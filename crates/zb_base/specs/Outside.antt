@@ -1,4 +1,4 @@
--- What the program may rely on of the objects outside it: sources, sinks and their counts of faults.
+-- What the program may assume of the objects outside it: sources, sinks and their counts of faults.
 use Rattle.std.specs.Prelude.{ℕ, ◌+◌, ◌-◌, ◌^◌, ◌≡◌, ◌≤◌, min, List, take, Option, Result, OnOk, OnErr, Bool, ◌==◌}
 use Rattle.std.specs.List.{list_any}
 use Rattle.std.specs.Io.KnownBytes.{Appends}
@@ -7,15 +7,15 @@ use Rattle.std.specs.Io.KnownBytes.{Appends}
 abbrev pub risen : ℕ → ℕ → ℕ
 risen count more = min (count + more) (2 ^ 64 - 1)
 
--- a count rose: it is greater than before, or stands at 2^64 - 1
+-- a count rose: it is greater than before, or is 2^64 - 1
 abbrev pub Rose : ℕ → ℕ → Type 0
 Rose before now = risen before 1 ≤ now
 
--- a count stands as it was
+-- a count didn't change
 abbrev pub Unrisen : ℕ → ℕ → Type 0
 Unrisen before now = now ≡ before
 
--- a count of faults never falls: it stands where the call went through, and rose where the call failed
+-- a count of faults never falls: it doesn't change if the call succeeded, and rose if the call failed
 pub record HasCause {T E : Type 0} (before now : ℕ) (result : Result T E) : Type 0 where
   pub later : before ≤ now
   pub unrisen : OnOk result (Unrisen before now)

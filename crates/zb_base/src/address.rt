@@ -1,5 +1,5 @@
-//! The two addresses of a node: its EUI (the IEEE address), with which it is made, and its short address (the network
-//! address).
+//! The two addresses of a node: its EUI (the IEEE address), which its maker gave it, and its short address (the
+//! network address).
 
 /// An EUI, the IEEE address of a node (EUI-64), as a number.
 ///

@@ -54,7 +54,7 @@ impl Ord for Key {
     }
 }
 
-/// Returns the numbers that the two halves of a key spell, each from its highest byte on.
+/// Returns the numbers that the two halves of a key spell, most significant byte first.
 fn halves(key: &Key) -> (u64, u64)
     ensures numbers { result ≡ (from_be_bytes w64 (take 8 key.now.0), from_be_bytes w64 (drop 8 key.now.0)) }
     ensures high { (i : ℕ) → get_or (take 8 key.now.0) i 0 < 256 }
@@ -63,7 +63,7 @@ fn halves(key: &Key) -> (u64, u64)
     (number(&key.0[..8]), number(&key.0[8..]))
 }
 
-/// Returns the number that eight bytes spell, from the highest one on.
+/// Returns the number that eight bytes spell, most significant byte first.
 fn number(bytes: &[u8]) -> u64
     requires { length bytes.now ≡ 8 }
     ensures value { result ≡ from_be_bytes w64 bytes.now }

@@ -1,5 +1,5 @@
-//! What every crate of the security plane speaks of: addresses, keys, frames, the roles and states of nodes, and a
-//! node's configuration. Here are also the two traits by which the program reads and writes.
+//! The words that all crates of the security plane share: addresses, keys, frames, the roles and states of nodes, and
+//! a node's configuration. The crate also has the two traits by which the program reads and writes.
 #![tactic(auto)]
 
 mod address;

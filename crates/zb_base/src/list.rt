@@ -3,7 +3,7 @@ ghost use Rattle.std.specs.Prelude.{◌≡◌};
 
 use std::marker::Model;
 
-/// A list that contracts see as its items alone, where those of a `Vec` also see its room.
+/// A list that contracts see as its items alone; for a `Vec` they also see its room.
 #[derive(Debug, Drop)]
 pub struct List<T> {
     items: Vec<T>,

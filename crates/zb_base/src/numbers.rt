@@ -1,8 +1,9 @@
-//! What the objects in memory share: the numbers of the calls that are to fail, and a copy of what fits.
+//! What the objects in memory share: a look-up among the numbers of the calls that are to fail, and a copy of what
+//! fits.
 ghost use Rattle.std.specs.Prelude.{◌≡◌, ◌+◌, length, min, take};
 ghost use Rattle.zb_base.specs.Outside.{has_number as has};
 
-/// Returns whether the numbers have this one.
+/// Returns whether a number is one of these.
 pub(crate) fn has_number(numbers: &[u32], number: u64) -> bool
     ensures { result ≡ has numbers.now number }
 {

@@ -12,9 +12,9 @@ use std::marker::Model;
 
 /// An output that is written from its beginning on.
 ///
-/// Its meanings are the bytes that it took, where it tells them, and a count of faults, which never falls.
+/// Its meanings are the bytes that it took, if it shows them, and a count of faults, which never falls.
 pub trait Sink {
-    // The bytes that it took so far, where the sink tells them.
+    // The bytes that it took so far, if the sink shows them.
     ghost taken: { Self → Option (List ℕ) };
 
     // How many of its calls failed. The count of an adapter stops at 2^64 - 1.
@@ -23,7 +23,7 @@ pub trait Sink {
     /// Appends the whole piece.
     ///
     /// # Errors
-    /// `Failed` only where the count of faults rose; then a prefix of the piece was appended.
+    /// `Failed` only if the count of faults rose; then a prefix of the piece was appended.
     fn write(&mut self, piece: &[u8]) -> Result<(), Failed>
         ensures whole { OnOk result (Appends (taken self.old) (taken self.new) piece.now) }
         ensures front { OnErr result (AppendsFront (taken self.old) (taken self.new) piece.now) }
@@ -60,7 +60,8 @@ impl Model for MemSink {
 impl MemSink {
     /// Makes a sink with room for `room` bytes, taken now, some of whose calls are to fail.
     ///
-    /// Those are the calls of the numbers in `fails`, counted from 1.
+    ///
+    /// Those are the calls whose numbers are in `fails`, counted from 1.
     ///
     /// # Errors
     /// `NoMemory`.
@@ -98,7 +99,8 @@ impl Sink for MemSink {
             (has self.old.fails (risen self.old.calls 1)
             || nat_lt self.old.room (length self.old.taken + length piece.now)) }
         ensures kept { OnErr result (self.new.taken ≡ self.old.taken) }
-        // It counts each call once, and each failed one. Its room, and which calls are to fail, stay.
+        // It counts each call once, and each failed one. Its room and the numbers of the calls that are to fail don't
+        // change.
         ensures after { self.new ≡ record self.old {
           taken = self.new.taken;
           calls = risen self.old.calls 1;
@@ -117,12 +119,12 @@ impl Sink for MemSink {
     }
 }
 
-/// A sink that drops what it takes. It tells nothing of content, and never fails.
+/// A sink that drops what it takes. It shows no content, and never fails.
 #[derive(Clone, Copy, Debug, Default, PartialEq, Eq)]
 pub struct NullSink;
 
 impl NullSink {
-    /// Makes the one sink of this kind.
+    /// Makes the only value of this type.
     pub fn new() -> NullSink
         ensures { result ≡ record {} }
     {
@@ -142,8 +144,8 @@ impl Sink for NullSink {
 
 /// A sink over any writer of std, such as standard output.
 ///
-/// It tells nothing of content, and contracts see it as its count of faults: one for each call of the writer that
-/// failed, or that took none of some bytes.
+/// It shows no content, and contracts see it as its count of faults: one for each call of the writer that failed, or
+/// that took none of some bytes.
 #[derive(Debug, Drop)]
 pub struct StdSink<W> {
     inner: W,
@@ -166,10 +168,10 @@ impl<W> StdSink<W> {
 }
 
 impl<W: Write> StdSink<W> {
-    /// Hands on what the writer still holds back.
+    /// Flushes the writer.
     ///
     /// # Errors
-    /// `Failed` only where the count of faults rose.
+    /// `Failed` only if the count of faults rose.
     pub fn flush(&mut self) -> Result<(), Failed>
         ensures { self.new ≡ (if is_err result then risen self.old 1 else self.old) }
     {
@@ -205,7 +207,7 @@ impl<W: Write> Sink for StdSink<W> {
     }
 }
 
-/// Writes the whole piece, in as many calls as the writer wants. An interrupted call is repeated.
+/// Writes the whole piece, in as many calls as the writer needs. An interrupted call is repeated.
 fn write_whole<W: Write>(writer: &mut W, piece: &[u8]) -> Result<(), Failed> {
     let mut rest = piece;
     for _ in 0..u64::MAX {

@@ -12,10 +12,10 @@ use std::marker::Model;
 
 /// An input that is read from its beginning to its end.
 ///
-/// Its meanings are the bytes still to come, if it tells them, a count of its calls, and a count of faults, which
+/// Its meanings are the bytes still to come, if it shows them, a count of its calls, and a count of faults, which
 /// never falls.
 pub trait Source {
-    // The bytes still to come, if the source tells them.
+    // The bytes still to come, if the source shows them.
     ghost rest: { Self → Option (List ℕ) };
 
     // How often it was called. The count of an adapter stops at 2^64 - 1.
@@ -29,7 +29,7 @@ pub trait Source {
     /// 0 into a buffer that isn't empty is the end of the input.
     ///
     /// # Errors
-    /// `Failed` only if the count of faults rose; the rest stays as it was.
+    /// `Failed` only if the count of faults rose; the bytes to come don't change then.
     fn read(&mut self, buf: &mut [u8]) -> Result<usize, Failed>
         ensures bound { ReadsAtMost result buf.new }
         ensures bytes { ReadConsumes (rest self.old) (rest self.new) result buf.new }
@@ -66,7 +66,7 @@ impl Model for MemSource {
 impl MemSource {
     /// Makes a source of these bytes, some of whose calls are to fail.
     ///
-    /// Those are the calls of the numbers in `fails`, counted from 1.
+    /// Those are the calls whose numbers are in `fails`, counted from 1.
     ///
     /// # Errors
     /// `NoMemory`.
@@ -85,7 +85,7 @@ impl MemSource {
 
 /// A source over any reader of std, such as standard input.
 ///
-/// It tells nothing of content, and contracts see it as its counts of calls and faults.
+/// It shows no content, and contracts see it as its counts of calls and faults.
 #[derive(Debug, Drop)]
 pub struct StdSource<R> {
     inner: R,
@@ -162,7 +162,7 @@ impl Source for MemSource {
         ensures listed { is_err result ≡ has self.old.fails (risen self.old.calls 1) }
         // It gives as much as there is room for.
         ensures full { IfOk result (λ n. n ≡ min (length buf.old) (length self.old.rest)) }
-        // It counts each call once, and each failed one. Which calls are to fail stays.
+        // It counts each call once, and each failed one. The numbers of the calls that are to fail don't change.
         ensures after { self.new ≡ record self.old {
           rest = self.new.rest;
           calls = risen self.old.calls 1;

@@ -3,3 +3,4 @@ pub mod Chains
 pub mod Streams
 pub mod Openings
 pub mod Sealings
+pub mod Words

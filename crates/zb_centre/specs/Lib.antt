@@ -1,1 +1,1 @@
-pub mod Tasks
+pub use Rattle.zb_core.specs.Events

@@ -1,5 +1,4 @@
 //! The core of the trust centre: the policy of its role.
-ghost use Rattle.zb_centre.specs.Tasks.{IsTaskOf, some_task};
 ghost use Rattle.zb_model.specs.Data as model;
 
 use crate::event::CentreEvent;
@@ -14,11 +13,7 @@ use zb_seal::Term;
 pub struct CentrePolicy;
 
 impl Policy for CentrePolicy {
-    type Event = CentreEvent;
-
     ghost of = { model.Centre };
-
-    ghost stands_for = { IsTaskOf };
 
     fn role() -> Role {
         Role::Centre
@@ -27,8 +22,6 @@ impl Policy for CentrePolicy {
     fn plan(node: &NodeCore, event: &CentreEvent, plan: &mut Plan<Outcome<Term, Refusal>>) {
         plan_centre(node, event, plan);
     }
-
-    ghost some = { some_task };
 }
 
 /// Decides what the trust centre does.

@@ -1,7 +1,7 @@
 //! The plan of the trust centre for each of its events.
 ghost use Rattle.std.specs.Prelude.{◌≡◌, true};
 ghost use Rattle.zb_base.specs.declared.place.Place.TheVariants.{Event};
-ghost use Rattle.zb_centre.specs.Tasks.{task_of};
+ghost use Rattle.zb_core.specs.Events.{task_of};
 ghost use Rattle.zb_model.specs.Answer.{answer};
 ghost use Rattle.zb_model.specs.OwnEvents.{own_at_centre};
 ghost use Rattle.zb_model.specs.State.{is_centre};
@@ -24,31 +24,34 @@ use zb_seal::{KeyMemo, Term};
 use zb_send::copied;
 use zb_setting::Network;
 
-// Decides an event of the centre's own by its rule. A delivery is not such an event. Each arm returns its value, so
-// that it is copied once.
+// Decides an event of the centre's own by its rule, and refuses those of routers and devices. Each arm returns its
+// value, so that it is copied once.
 fn decide(network: &Network, tables: &Tables, event: &CentreEvent) -> Result<Effect, Refusal>
     ensures rule { decided result ≡ told (own_at_centre network.now tables.now (task_of event.now)) }
     ensures keeps { Keeps Event result }
 {
     match event {
+        CentreEvent::Say { to, bytes } => return say(tables, *to, copied(bytes)),
+        CentreEvent::Timer => return centre_timer(network, tables),
+        CentreEvent::Child { device, .. } => return child_of_centre(network, tables, *device),
         CentreEvent::Provision { device, key } => return provision(tables, *device, key),
         CentreEvent::Remove { device, via } => return remove_device(network, tables, *device, *via),
         CentreEvent::Roll { draw } => return roll(tables, *draw),
         CentreEvent::Switch => return switch_over(tables),
         CentreEvent::Again { device } => return again(tables, *device),
-        CentreEvent::Child { device, .. } => return child_of_centre(network, tables, *device),
-        CentreEvent::Deliver { .. } => {}
-        CentreEvent::Timer => return centre_timer(network, tables),
-        CentreEvent::Say { to, bytes } => return say(tables, *to, copied(bytes)),
         CentreEvent::Share { device, partner } => return share(network, tables, *device, *partner),
+        CentreEvent::Tell { .. }
+        | CentreEvent::Ask { .. }
+        | CentreEvent::Knock
+        | CentreEvent::Rejoin
+        | CentreEvent::Deliver { .. } => {}
     }
     Err(Refusal::Policy {
         place: Place::Event,
     })
 }
 
-// Plans an event of the centre's own by its rule. The decision is a local of this function, so that other events
-// don't pay for clearing it.
+// Plans an event of the centre's own by its rule. The decision has its place here, so that others clear none.
 fn plan_by_rule(
     network: &Network,
     tables: &Tables,
@@ -62,7 +65,7 @@ fn plan_by_rule(
     plan_own(network, tables, memo, &decide(network, tables, event), plan);
 }
 
-// Plans an event from the centre's network, tables and base keys.
+// Plans an event from what the centre knows of its network, its tables and its base keys.
 fn plan_event(
     network: &Network,
     tables: &Tables,

@@ -12,10 +12,10 @@ use Rattle.zb_centre_store.specs.Standing.{CanBeServed, IsEmpty, IsUp, IsWornOut
 use Rattle.zb_centre_store.specs.declared.fault.AdminFault.{AdminFault}
 use Rattle.zb_centre_store.specs.declared.fault.AdminFault.TheVariants.{Disk as AdminDisk, NoStore, BadStore, Worn as AdminWorn, Write, NoMemory as LackOfMemory}
 use Rattle.zb_base.specs.Outside.{Rose, Unrisen}
-use Rattle.zb_base.specs.declared.fault.OrMemory.TheVariants.{Fault}
+use Rattle.zb_base.specs.declared.fault.OrMemory.{OrMemory}
+use Rattle.zb_base.specs.declared.fault.OrMemory.TheVariants.{Fault, NoMemory}
 use Rattle.zb_base.specs.declared.node.Config.{Config}
-use Rattle.zb_centre.specs.Tasks.{IsTaskOf, task_of}
-use Rattle.zb_centre.specs.declared.event.CentreEvent.{CentreEvent}
+use Rattle.zb_core.specs.Events.{NodeEvent, task_of}
 use Rattle.zb_core.proofs.PlanLaws.{core_plan_leads}
 use Rattle.zb_core.specs.CorePlans.{CorePlan, IsCoreAfter, IsCorePlan}
 use Rattle.zb_disk.proofs.Moments.{still_leaves, still_then, still_trans, weakened}
@@ -23,9 +23,9 @@ use Rattle.zb_disk.specs.View.{Telling, View, IsStill, LeavesOnly}
 use Rattle.zb_host.specs.HostFaults as host
 use Rattle.zb_host.specs.Hosts.{Gives, Hosted, IsCurrent, IsWorn, StandsForEither, is_full, writes_whole}
 use Rattle.zb_host.specs.Plans.{gives, bad}
-use Rattle.zb_host.specs.declared.fault.HostFault.{HostFault}
+use Rattle.zb_host.specs.declared.fault.RecordFault.{RecordFault}
 use Rattle.zb_host.specs.declared.outcome.Outcome.{Outcome}
-use Rattle.zb_host.specs.declared.fault.HostFault.TheVariants.{Disk, NoMemory, NoRecord, BadRecord, Worn}
+use Rattle.zb_host.specs.declared.fault.RecordFault.TheVariants.{Disk, NoRecord, BadRecord, Worn}
 use Rattle.zb_model.specs.Answer.{answer, answered}
 use Rattle.zb_model.specs.Data.{Centre, Task}
 use Rattle.zb_model.specs.Record.{record_of}
@@ -67,28 +67,31 @@ same_fault {S} f g not is =
     let again : ◌≡◌ {A = Result S AdminFault} (Err f) (Err g) = ap (λ (x : AdminFault). Err x) same in
     not again
 
-boot_stands : (tells : Telling) (old new : View) (f : HostFault) → host.IsBootFault tells (restored Centre) old new f
-    → (fault_of f ≡ AdminDisk → ⊥) → Unrisen old.faults new.faults
-boot_stands tells old new (Disk changes) h not = absurd (not refl)
+boot_stands : (tells : Telling) (old new : View) (f : OrMemory RecordFault)
+    → host.IsBootFault tells (restored Centre) old new f → (fault_of f ≡ AdminDisk → ⊥) → Unrisen old.faults new.faults
+boot_stands tells old new (Fault Disk) h not = absurd (not refl)
+boot_stands tells old new (Fault NoRecord) h not = h.1
+boot_stands tells old new (Fault (BadRecord at)) h not = h.1
+boot_stands tells old new (Fault Worn) h not = absurd h
 boot_stands tells old new NoMemory h not = h
-boot_stands tells old new NoRecord h not = h.1
-boot_stands tells old new (BadRecord at) h not = h.1
-boot_stands tells old new Worn h not = absurd h
 
-event_stands : (whole : Bool) (store : Option Place) (old new : View) (f : HostFault)
-    → host.IsHandleFault whole store old new f → (fault_of f ≡ AdminDisk → ⊥) → Unrisen old.faults new.faults
-event_stands whole store old new (Disk changes) h not = absurd (not refl)
-event_stands whole store old new NoMemory h not = absurd h
+event_stands : (whole : Bool) (store : Option Place) (old new : View) (f : RecordFault)
+    → host.IsUnstored whole store old new f → (fault_of (Fault f) ≡ AdminDisk → ⊥) → Unrisen old.faults new.faults
+event_stands whole store old new Disk h not = absurd (not refl)
 event_stands whole store old new NoRecord h not = absurd h
 event_stands whole store old new (BadRecord at) h not = absurd h
 event_stands whole store old new Worn h not = h.2
 
 -- an event that wasn't handled, and its fault as it is told
-pub unhandled_stands : {T : Type 0} (whole : Bool) (store : Option Place) (old new : View) (f : HostFault)
-    (g : AdminFault) → g ≡ fault_of f → host.IsHandleFault whole store old new f
+pub unhandled_stands : {T : Type 0} (whole : Bool) (store : Option Place) (old new : View) (f : RecordFault)
+    (g : AdminFault) → g ≡ fault_of (Fault f) → host.IsUnstored whole store old new f
     → (◌≡◌ {A = Result T AdminFault} (Err g) (Err AdminDisk) → ⊥) → Unrisen old.faults new.faults
 unhandled_stands whole store old new f g same h not =
     event_stands whole store old new f h (λ is. not (ap (λ (x : AdminFault). Err x) (same ∙ is)))
+
+-- the same fault ends a call of the host in the same way
+pub err_is : {f g : RecordFault} → f ≡ g → ◌≡◌ {A = Result (Unit {0}) RecordFault} (Err f) (Err g)
+err_is is = ap (λ (x : RecordFault). Err x) is
 
 -- ---- a boot
 
@@ -111,15 +114,15 @@ bad_found at (Ok s) e = by_width (fits_widths s) e
     by_width false e = let same : 0 ≡ at = cc in ap (λ n. Err (BadStore n)) same
 bad_found at (Err n) e = let same : n ≡ at = cc in ap (λ m. Err (BadStore m)) same
 
-pub boot_fault : (tells : Telling) (old new : View) (f : HostFault) → host.IsBootFault tells (restored Centre) old new
-    f → IsBootFault tells old new (fault_of f)
+pub boot_fault : (tells : Telling) (old new : View) (f : OrMemory RecordFault)
+    → host.IsBootFault tells (restored Centre) old new f → IsBootFault tells old new (fault_of f)
 unfolding restored
-boot_fault tells old new (Disk changes) h = h.0
+boot_fault tells old new (Fault Disk) h = h
 boot_fault tells old new NoMemory h = h
-boot_fault tells old new NoRecord h = h.0
-boot_fault tells old new (BadRecord at) h = λ told. let found =
+boot_fault tells old new (Fault NoRecord) h = h.0
+boot_fault tells old new (Fault (BadRecord at)) h = λ told. let found =
     h.0 told in (found.0, found.1, bad_found at (state_given Centre found.0.content (concat found.0.payloads)) found.2)
-boot_fault tells old new Worn h = absurd h
+boot_fault tells old new (Fault Worn) h = absurd h
 
 module _ (tells : Telling) (config : Config) (old new : View) (centre : Hosted CoreValue) where
   abbrev pub Answering : Type 0
@@ -450,15 +453,15 @@ images_stand c (Some s) (Some host) v up image there = (
 
 -- ---- an event
 
-module _ (c : Setting) (event : CentreEvent) (before after : Hosted CoreValue) (p : CorePlan)
-    (plan : IsCorePlan Centre IsTaskOf before.core event p) (leads : IsCoreAfter before.core p after.core) where
+module _ (c : Setting) (event : NodeEvent) (before after : Hosted CoreValue) (p : CorePlan)
+    (plan : IsCorePlan Centre before.core event p) (leads : IsCoreAfter before.core p after.core) where
   abbrev pub task : Task
   task = task_of event
 
   next_core : (s : NodeState) → before.core ≡ record { setting = c; tables = s } → after.core
       ≡ record { setting = c; tables = tables_after c task s }
   next_core s e =
-      core_plan_leads Centre IsTaskOf before.core after.core event p plan leads task refl
+      core_plan_leads Centre before.core after.core event p plan leads
       ∙ ap (λ (x : CoreValue). let y : CoreValue =
       record { setting = x.setting; tables = shown (answered (answer real x.setting x.tables task) x.tables) } in
       y) e
@@ -466,7 +469,7 @@ module _ (c : Setting) (event : CentreEvent) (before after : Hosted CoreValue) (
   pub answer_so : (s : NodeState) → before.core ≡ record { setting = c; tables = s }
       → IsAnswer p (answer real c s task)
   answer_so s core = subst (λ (x : CoreValue). IsAnswer p (answer real x.setting x.tables task)) core
-      (plan.answer_is task refl)
+      plan.answer_is
 
   -- the same of a plan with these parts
   pub told_so : (all : ArrayVec Change) (out : Outcome Term Refusal) → out ≡ p.out → all ≡ p.changes → (s : NodeState)
@@ -494,7 +497,7 @@ module _ (c : Setting) (event : CentreEvent) (before after : Hosted CoreValue) (
       ≡ p.changes.items → shown before.core.tables ≡ before.core.tables → (changes ≡ [] → IsStill old new)
       → is_own task ≡ true → is_some out.refused ≡ true → IsStill old new × (after.core ≡ before.core)
   spared_so old new changes out same_out same forgets still own refused =
-      let is = plan.answer_is task refl in
+      let is = plan.answer_is in
       let a = answer real before.core.setting before.core.tables task in
       let some : is_some a.refusal ≡ true = ap is_some (sym is.refusal) ∙ some_mapped reason p.out.refused ∙ sym
       (ap (λ (o : Outcome Term Refusal). is_some o.refused) same_out) ∙ refused in
@@ -504,7 +507,7 @@ module _ (c : Setting) (event : CentreEvent) (before after : Hosted CoreValue) (
       let tables : shown (answered a before.core.tables) ≡ before.core.tables =
       ap shown (refused_effect before.core.setting before.core.tables task own some) ∙ forgets in (
         still none,
-        core_plan_leads Centre IsTaskOf before.core after.core event p plan leads task refl ∙ ap
+        core_plan_leads Centre before.core after.core event p plan leads ∙ ap
             (λ (t : NodeState). let y : CoreValue = record { setting = before.core.setting; tables = t } in y) tables,
       )
 
@@ -566,12 +569,11 @@ worn_so before z p place is last whole first = record {
     by_version true first e = inl (first refl)
     by_version false first e = inr (eqb-true (length z.payloads) 32 e)
 
-pub event_fault : (tells : Telling) (c : Setting) (before : Hosted CoreValue) (old new : View) (f : HostFault)
-    → (IsTrue tells.content → old.images old.seen) → host.IsHandleFault (writes_whole before) before.store old new f
+pub event_fault : (tells : Telling) (c : Setting) (before : Hosted CoreValue) (old new : View) (f : RecordFault)
+    → (IsTrue tells.content → old.images old.seen) → host.IsUnstored (writes_whole before) before.store old new f
     → (f ≡ Worn → IsStill old new)
-    → IsEventFault tells c old new before (fault_of f)
-event_fault tells c before old new (Disk changes) reads h still = h
-event_fault tells c before old new NoMemory reads h still = h
+    → IsEventFault tells c old new before (fault_of (Fault f))
+event_fault tells c before old new Disk reads h still = h
 event_fault tells c before old new NoRecord reads h still = h
 event_fault tells c before old new (BadRecord at) reads h still = h
 event_fault tells c before old new Worn reads h still = λ told s up.
@@ -583,18 +585,17 @@ event_fault tells c before old new Worn reads h still = λ told s up.
     )
 
 -- an event that is worn: the host is at its last generation
-event_worn : (before : Hosted CoreValue) (old new : View) (f : HostFault)
-    → host.IsHandleFault (writes_whole before) before.store old new f → fault_of f ≡ AdminWorn → IsWorn before
-event_worn before old new (Disk changes) h is = let none : AdminDisk ≡ AdminWorn = is in absurd (cc)
-event_worn before old new NoMemory h is = absurd h
+event_worn : (before : Hosted CoreValue) (old new : View) (f : RecordFault)
+    → host.IsUnstored (writes_whole before) before.store old new f → fault_of (Fault f) ≡ AdminWorn → IsWorn before
+event_worn before old new Disk h is = let none : AdminDisk ≡ AdminWorn = is in absurd (cc)
 event_worn before old new NoRecord h is = absurd h
 event_worn before old new (BadRecord at) h is = absurd h
 event_worn before old new Worn h is = (h.0, h.1)
 
 -- the call for an event
 
-pub handled_ok : (tells : Telling) (c : Setting) (event : CentreEvent) (before after : Hosted CoreValue)
-    (p : CorePlan) (plan : IsCorePlan Centre IsTaskOf before.core event p)
+pub handled_ok : (tells : Telling) (c : Setting) (event : NodeEvent) (before after : Hosted CoreValue)
+    (p : CorePlan) (plan : IsCorePlan Centre before.core event p)
     (leads : IsCoreAfter before.core p after.core) (old new : View) (all : ArrayVec Change) (changes : List Change)
     (out : Outcome Term Refusal)
     → out ≡ p.out → all ≡ p.changes → changes ≡ p.changes.items → shown before.core.tables ≡ before.core.tables
@@ -622,13 +623,13 @@ handled_ok tells c event before after p plan leads old new all changes out same 
       worn = tt;
     }
 
-pub handled_err : (tells : Telling) (c : Setting) (event : CentreEvent) (before after : Hosted CoreValue)
-    (p : CorePlan) (plan : IsCorePlan Centre IsTaskOf before.core event p)
-    (leads : IsCoreAfter before.core p after.core) (old new : View) (f : HostFault) (g : AdminFault)
-    → g ≡ fault_of f → (IsTrue tells.content → old.images old.seen)
+pub handled_err : (tells : Telling) (c : Setting) (event : NodeEvent) (before after : Hosted CoreValue)
+    (p : CorePlan) (plan : IsCorePlan Centre before.core event p)
+    (leads : IsCoreAfter before.core p after.core) (old new : View) (f : RecordFault) (g : AdminFault)
+    → g ≡ fault_of (Fault f) → (IsTrue tells.content → old.images old.seen)
     → ((z : Standing) → IsCurrent (restored Centre) recorded z before old → IsTrue tells.content
     → LeavesOnly old new (StandsForEither (restored Centre) (recorded before.core) (recorded after.core)))
-    → host.IsHandleFault (writes_whole before) before.store old new f → (f ≡ Worn → IsStill old new)
+    → host.IsUnstored (writes_whole before) before.store old new f → (f ≡ Worn → IsStill old new)
     → p.changes.items ≢ [] → HasHandled tells c (task_of event) before old (Err g) after new
 handled_err tells c event before after p plan leads old new f g same reads moments fault still some = record {
   told = tt;
@@ -642,8 +643,8 @@ handled_err tells c event before after p plan leads old new f g same reads momen
   worn = λ is. (event_worn before old new f fault (sym same ∙ is), wanted_so c event before after p plan leads some);
 }
 
-pub booted_failed : (tells : Telling) (c : Setting) (old new : View) (f : HostFault) (g : AdminFault) → g ≡ fault_of f
-    → (AllWhole old → IsTrue tells.content → LeavesOnly old new (WasThere old))
+pub booted_failed : (tells : Telling) (c : Setting) (old new : View) (f : OrMemory RecordFault) (g : AdminFault)
+    → g ≡ fault_of f → (AllWhole old → IsTrue tells.content → LeavesOnly old new (WasThere old))
     → host.IsBootFault tells (restored Centre) old new f → HasBooted tells c old (Err g) new
 booted_failed tells c old new f g same moments fault = record {
   found = tt;

@@ -5,7 +5,6 @@ pub mod Makings
 pub mod Faults
 pub mod Calls
 pub mod Outside
-pub use Rattle.zb_centre.specs.Tasks
-pub use Rattle.zb_centre.specs.declared.event.CentreEvent
+pub use Rattle.zb_core.specs.Events
 pub mod Skipping
 pub mod Freshness

@@ -5,8 +5,10 @@ use Rattle.zb_centre_store.specs.declared.fault.AdminFault.{AdminFault}
 use Rattle.zb_centre_store.specs.declared.fault.AdminFault.TheVariants.{Disk, NoStore, BadStore, Worn, NoMemory}
 use Rattle.zb_disk.specs.View.{View}
 use Rattle.zb_host.specs.Hosts.{Hosted, IsCurrent, StandsFor}
-use Rattle.zb_host.specs.declared.fault.HostFault.{HostFault}
-use Rattle.zb_host.specs.declared.fault.HostFault.TheVariants as host
+use Rattle.zb_base.specs.declared.fault.OrMemory.{OrMemory}
+use Rattle.zb_base.specs.declared.fault.OrMemory.TheVariants as memory
+use Rattle.zb_host.specs.declared.fault.RecordFault.{RecordFault}
+use Rattle.zb_host.specs.declared.fault.RecordFault.TheVariants as why
 use Rattle.zb_model.specs.Data.{Centre}
 use Rattle.zb_model.specs.Record.{record_of}
 use Rattle.zb_model.specs.Rules.{Setting}
@@ -76,12 +78,12 @@ Stands c (Some s) (Some centre) v = IsUp c s centre v
 
 -- ---- faults
 
-abbrev pub fault_of : HostFault → AdminFault
-fault_of (host.Disk changes) = Disk
-fault_of host.NoMemory = NoMemory
-fault_of host.NoRecord = NoStore
-fault_of (host.BadRecord at) = BadStore at
-fault_of host.Worn = Worn
+abbrev pub fault_of : OrMemory RecordFault → AdminFault
+fault_of (memory.Fault why.Disk) = Disk
+fault_of (memory.Fault why.NoRecord) = NoStore
+fault_of (memory.Fault (why.BadRecord at)) = BadStore at
+fault_of (memory.Fault why.Worn) = Worn
+fault_of memory.NoMemory = NoMemory
 
 -- A commit has to write the whole record, and there is no further generation.
 pub record IsWornOut (s : Standing) : Type 0 where

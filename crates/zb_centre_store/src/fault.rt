@@ -6,8 +6,8 @@ ghost use Rattle.zb_centre_store.specs.declared.fault.AdminFault.TheVariants.{No
 use std::alloc::{AllocError, AllocFailed};
 use std::error::Error;
 use std::fmt;
-use zb_base::NoMemory;
-use zb_host::HostFault;
+use zb_base::{NoMemory, OrMemory};
+use zb_host::RecordFault;
 
 /// Why a script wasn't served to its end.
 #[derive(Clone, Copy, Debug, PartialEq, Eq)]
@@ -73,15 +73,16 @@ impl<T: Drop> From<AllocFailed<T>> for AdminFault {
     }
 }
 
-// Returns why the centre's host failed.
-pub(crate) fn of_host(fault: HostFault) -> AdminFault
-    ensures { result ≡ fault_of fault }
-{
-    match fault {
-        HostFault::Disk { changes: _ } => AdminFault::Disk,
-        HostFault::NoMemory => AdminFault::NoMemory,
-        HostFault::NoRecord => AdminFault::NoStore,
-        HostFault::BadRecord { at } => AdminFault::BadStore { at },
-        HostFault::Worn => AdminFault::Worn,
+impl From<OrMemory<RecordFault>> for AdminFault {
+    ghost from_gives = { λ fault f. f ≡ fault_of fault };
+
+    fn from(fault: OrMemory<RecordFault>) -> AdminFault {
+        match fault {
+            OrMemory::Fault(RecordFault::Disk) => AdminFault::Disk,
+            OrMemory::Fault(RecordFault::NoRecord) => AdminFault::NoStore,
+            OrMemory::Fault(RecordFault::BadRecord { at }) => AdminFault::BadStore { at },
+            OrMemory::Fault(RecordFault::Worn) => AdminFault::Worn,
+            OrMemory::NoMemory => AdminFault::NoMemory,
+        }
     }
 }

@@ -4,7 +4,7 @@ ghost use Rattle.zb_centre_store.specs.Calls.{HasBooted, HasHandled, HasLaidOut,
 ghost use Rattle.zb_centre_store.specs.Makings.{first_tables, tables_of};
 ghost use Rattle.zb_backup.specs.Reading.{IsOfCentre};
 ghost use Rattle.zb_base.specs.Config.{IsConfig};
-ghost use Rattle.zb_centre.specs.Tasks.{task_of};
+ghost use Rattle.zb_core.specs.Events.{task_of};
 ghost use Rattle.zb_base.specs.Outside.{Unrisen};
 ghost use Rattle.zb_keys.specs.Declarations.{declared_state};
 ghost use Rattle.zb_model.specs.Data as model;
@@ -19,7 +19,6 @@ ghost use Rattle.zb_base.specs.Sizes.{record_room};
 ghost use Rattle.zb_store.specs.Store.{IsHeld, formatted};
 ghost use Rattle.zb_stored_tables.specs.Cores.{IsOfRole};
 
-use crate::fault::of_host;
 use crate::{AdminFault, skip};
 use std::alloc::Global;
 use zb_base::{Config, Failed, Key, NoMemory, OrMemory, RECORD_ROOM, Role};
@@ -41,7 +40,7 @@ fn boot<D: Disk>(alloc: Global, config: &Config, disk: &mut D) -> Result<Host<Ce
 {
     match Host::boot(alloc, config, disk) {
         Ok(host) => Ok(host),
-        Err(fault) => Err(of_host(fault)),
+        Err(fault) => Err(AdminFault::from(fault)),
     }
 }
 
@@ -266,8 +265,9 @@ pub fn handle<D: Disk>(
         → Unrisen (D.state disk.old).faults (D.state disk.new).faults }
 {
     keep_rules(host);
-    match host.handle(disk, event) {
-        Ok((changes, out)) => Ok(Plan { changes, out }),
-        Err(fault) => Err(of_host(fault)),
+    let mut plan = Plan::new();
+    match host.handle_into(disk, event, &mut plan) {
+        Ok(()) => Ok(plan),
+        Err(fault) => Err(AdminFault::from(OrMemory::Fault(fault))),
     }
 }

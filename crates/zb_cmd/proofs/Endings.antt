@@ -1,4 +1,4 @@
--- How the reading of a command ends on any bytes: they are cut, have a fault that stays, or begin with a command.
+-- How the reading of a command ends on any bytes: they are cut, have a fault that remains, or begin with a command.
 use Rattle.std.proofs.Common.{◌≡◌, ◌≢◌, ℕ, suc, ◌-◌, ◌^◌, ◌<◌, Bool, true, false, leb, List, [], ◌∷◌, ◌++◌, length, get_or, take, drop, Ok, Err, refl, sym, ap, subst, ◌∙◌, append_assoc, arith, inl, inr, ◌⊎◌, length-append}
 use Rattle.std.specs.Prelude.{min, replicate}
 use Rattle.std.proofs.lemmas.Bool.{cases_lt, le-leb, lt-leb}
@@ -24,7 +24,7 @@ use Rattle.zb_cmd.proofs.ReadAgain.{regroup2, regroup3, regroup4, inner_front, c
 not_inner : (xs : List ℕ) → length xs < 19 → is_inner xs ≡ true → ⊥
 not_inner xs lt inner = let plain = rw (lt-leb _ _ lt) at inner in cc
 
--- what is at the start of an inner frame stays where bytes follow
+-- the start of an inner frame doesn't change if bytes follow
 pub inner_grows : (xs rest : List ℕ) → is_inner xs ≡ true → is_inner (xs ++ rest) ≡ true
 inner_grows xs rest inner =
     elim (cases_lt (length xs) 19) [
@@ -49,7 +49,7 @@ begins_tunnel cut destination xs rest fits inner =
           (eui_again cut destination all fits, inner_front all, inner_grows xs rest inner) refl,
     )
 
--- the command that is read may be longer, where it is a Tunnel
+-- the command that is read may be longer, if it is a Tunnel
 pub begins_read : (cut : CmdError) (bytes : List ℕ) (c : Command) (rest : List ℕ) → BeginsWith bytes c rest
     → (d : Command) × (end : List ℕ) × (command_at cut bytes ≡ Ok (d, end))
 begins_read cut bytes (Tunnel destination inner) rest begins =
@@ -161,7 +161,7 @@ of_ends front read same ends rest fits =
           (inr spelt.takes)
     ]
 
--- bytes that are cut before a field that can be spelled
+-- bytes that are cut before a field for which a spelling exists
 of_text : (bytes : List ℕ) → ((cut : CmdError) → command_at cut bytes ≡ Err cut) → (c : Command) (more : List ℕ)
     → InRange c → IsCommand c → bytes ++ more ≡ command c → CommandEnd bytes
 of_text bytes short c more fits is parts =

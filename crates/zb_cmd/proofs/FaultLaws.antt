@@ -1,4 +1,4 @@
--- The first fault of the walk is the fault that the bytes have.
+-- The first fault on the walk is the fault that the bytes have.
 use Rattle.std.proofs.Common.{◌≡◌, ◌≢◌, ℕ, Bool, true, false, eqb, List, [], ◌∷◌, ◌++◌, length, get_or, leb, Result, Ok, Err, refl, sym, ap, subst, ◌∙◌, arith, inl, inr, ◌⊎◌}
 use Rattle.std.specs.Prelude.{◌&&◌}
 use Rattle.std.proofs.lemmas.Bool.{ne_eqb}
@@ -71,7 +71,7 @@ fault_found bytes fits e given =
 not_inner : (xs : List ℕ) → bit (get_or xs 2 0) 5 ≡ false → is_inner xs ≡ false
 not_inner xs plain = rw plain (and_false (leb 19 (length xs)))
 
--- a Tunnel without the extended nonce is cut whatever the fault of a missing byte is
+-- a Tunnel without the extended nonce is cut, whatever the fault of a missing byte is
 plain_cut : (cut : CmdError) (bytes : List ℕ) (destination : Eui) (inner : List ℕ)
     → LacksNonce bytes destination inner → command_at cut bytes ≡ Err cut
 unfolding command_at body_of tunnel_at inner_at
@@ -101,7 +101,7 @@ ends_there : (c : Command) (rest : List ℕ) → TakesAll c → ReadAgain.Ends c
 ends_there (Tunnel destination inner) rest takes = inl takes
 ends_there _ _ _ = tt
 
--- two bytes at the start that are known
+-- two known bytes at the start
 pair : (a b c d : ℕ) (tail : List ℕ) → a ≡ c → b ≡ d → c ∷ d ∷ tail ≡ a ∷ b ∷ tail
 pair a b c d tail p q = rw (p, q) refl
 

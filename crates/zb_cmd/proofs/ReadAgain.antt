@@ -1,4 +1,4 @@
--- A command that is spelled is read again.
+-- A command that is written is read back.
 use Rattle.std.proofs.Common.{◌≡◌, ℕ, ◌≤◌, true, leb, List, [], ◌∷◌, ◌++◌, length, take, Ok, refl, sym, ap, subst, ◌∙◌, append_assoc, arith, inl, inr, ◌⊎◌, length-append}
 use Rattle.std.specs.Prelude.{min}
 use Rattle.std.proofs.lemmas.Bool.{cases_lt, le-leb}
@@ -23,7 +23,7 @@ regroup3 a b c r = simp append_assoc
 pub regroup4 : (a b c d r : List ℕ) → (((a ++ b) ++ c) ++ d) ++ r ≡ a ++ (b ++ (c ++ (d ++ r)))
 regroup4 a b c d r = simp append_assoc
 
--- the first 118 bytes are an inner frame where all of them are
+-- the first 118 bytes are an inner frame if all of them are
 pub inner_front : (xs : List ℕ) → is_inner (take (min (length xs) 118) xs) ≡ is_inner xs
 inner_front xs =
     elim (cases_lt 118 (length xs)) [
@@ -37,7 +37,7 @@ inner_front xs =
           rw (n, take_all (length xs) xs (omega arith)) refl
     ]
 
--- what is read of a Tunnel's inner frame is all of it, where it has 118 bytes or nothing stands after it
+-- the reading of a Tunnel's inner frame takes all of it, if it has 118 bytes or nothing follows it
 pub inner_again : (cut : CmdError) (xs rest : List ℕ) → is_inner xs ≡ true → (length xs ≡ 118)
     ⊎ ((rest ≡ []) × (length xs ≤ 118)) → inner_at cut (xs ++ rest) ≡ Ok (record { items = xs }, rest)
 unfolding inner_at
@@ -48,7 +48,7 @@ inner_again cut xs rest inner (inr (nothing, le)) =
     let n : min (length (xs ++ [])) 118 ≡ length xs = omega (arith, le, length-append xs []) in
     rw (nothing, n, take_at xs [] (length xs) refl, drop_at xs [] (length xs) refl, inner) refl
 
--- where the command ends: a Tunnel goes on to the 127th byte, or to the end
+-- where the command ends: a Tunnel extends to the 127th byte, or to the end
 abbrev pub Ends : Command → List ℕ → Type 0
 Ends (Tunnel destination inner) rest = (length inner.items ≡ 118) ⊎ ((rest ≡ []) × (length inner.items ≤ 118))
 Ends _ rest = Unit {0}
@@ -112,7 +112,7 @@ spelled_again bytes c spells =
     spells.shaped (ends_whole c (subst (λ (b : List ℕ). length b ≤ 127) spells.text spells.fits)) in
     rw reads refl
 
--- what is small has at most 127 bytes
+-- a small command has at most 127 bytes
 pub small_fits : (c : Command) → InRange c → IsSmall c → length (command c) ≤ 127
 small_fits (TransportNetwork k sequence destination source) fits small =
     omega (

@@ -1,4 +1,4 @@
--- What is read whole is what the walk over all of the bytes says, and has what the call that read it ensured.
+-- A reading of all bytes has the result of the walk over them, and what the call that read them ensured.
 use Rattle.std.proofs.Common.{◌≡◌, ◌<◌, ℕ, false, eqb, List, [], length, Result, Ok, Err, refl, ap, subst, ◌∙◌, arith, inl, inr, Bor, MutBor}
 use Rattle.std.proofs.lemmas.Bool.{ne_eqb}
 use Rattle.std.specs.Prelude.{IfOk}
@@ -32,7 +32,7 @@ module _ {A F : Type 0}
     read_whole_has (Ok x) all = has_all x all.value.0 all.value.1 all.value.2
     read_whole_has (Err e) all = tt
 
-  -- where `read` reads as `reading` says, and the fault of n bytes that are left is `Trailing n`
+  -- if `read` reads as `reading` says, and the fault of n bytes that are left is `Trailing n`
   module _ (reading : Reading CmdError A)
       (reads : (r : Result A CmdError) (shown left : MutBor (Reader CmdError))
       → call.post read (shown, tt) (r, (left, tt))

@@ -1,4 +1,4 @@
--- When bytes have each fault, said of the bytes and of the commands that there are, and not of any order of reading.
+-- When bytes have each fault, in terms of the bytes and all possible commands, without any order of reading.
 use Rattle.std.specs.Prelude.{◌≡◌, ◌≢◌, ℕ, ◌^◌, ◌<◌, ◌≤◌, ◌⊎◌, false, List, [], ◌∷◌, ◌++◌, length, slice_index}
 use Rattle.zb_cursor.specs.Spelling.{bit, eui}
 use Rattle.zb_base.specs.declared.address.Eui.{Eui}
@@ -11,13 +11,13 @@ use Rattle.zb_cmd.specs.Spelling.{command, leave}
 use Rattle.zb_cmd.specs.Shape.{IsCommand, InRange}
 use Rattle.zb_base.specs.Limits.{longest_tunnelled}
 
--- The bytes are a command and then the rest.
+-- The bytes are a command followed by the rest.
 pub record BeginsWith (bytes : List ℕ) (c : Command) (rest : List ℕ) : Type 0 where
   pub in_range : InRange c
   pub shaped : IsCommand c
   pub parts : bytes ≡ command c ++ rest
 
--- Some longer bytes that begin so are a command, be they more than 127.
+-- Some longer bytes with this prefix are a command, possibly longer than 127.
 abbrev pub CanGoOn : List ℕ → Type 0
 CanGoOn bytes = (more : List ℕ) × (c : Command) × BeginsWith (bytes ++ more) c []
 
@@ -28,7 +28,7 @@ pub record LacksNonce (bytes : List ℕ) (destination : Eui) (inner : List ℕ) 
   pub judged : 3 ≤ length inner
   pub plain : bit (slice_index inner 2) 5 ≡ false
 
--- The bytes ran out: no command stands at their prefix, and longer bytes that begin so can be one, or they are a
+-- The bytes ran out: no prefix of them is a command; and longer bytes that begin with them can be one, or they are a
 -- Tunnel without the extended nonce.
 pub record IsCut (bytes : List ℕ) : Type 0 where
   pub no_command : (c : Command) (rest : List ℕ) → ¬ BeginsWith bytes c rest
@@ -49,7 +49,7 @@ HasFault bytes (Short place) = (place ≡ length bytes) × IsCut bytes
 HasFault bytes (Trailing count) = (c : Command) × (rest : List ℕ) × BeginsWith bytes c rest × TakesAll c
     × (length rest ≡ count) × (0 < count)
 
--- The same of bytes that are to be a Leave.
+-- The same for bytes that should be a Leave.
 abbrev pub HasLeaveFault : List ℕ → CmdError → Type 0
 HasLeaveFault bytes (Unknown id) = (rest : List ℕ) × (bytes ≡ id ∷ rest) × (id ≢ 4)
 HasLeaveFault bytes (KeyType found) = ⊥

@@ -1,4 +1,4 @@
--- Reading a command field by field, with the first fault that is met.
+-- Reading a command field by field, up to the first fault.
 use Rattle.std.specs.Prelude.{◌≡◌, ◌≤◌, ℕ, List, ◌++◌, IfOk, length, take, drop, min, Result, Ok, Err, ◌==◌, if◌then◌else◌}
 use Rattle.zb_cursor.specs.Reading.{Reading, Gives, follow, ◌>>=◌, give, refuse, byte_at, bytes_at, short_at, eui_at, key_at}
 use Rattle.arrayvec.specs.ArrayVec.{ArrayVec}
@@ -61,7 +61,7 @@ partner_at = do
   partner ← eui_at
   give (RequestApplication partner)
 
--- the type byte of a key that is asked for: application (2) or link (4)
+-- the type byte of a requested key: application (2) or link (4)
 unfoldable pub request_of : ℕ → Reading CmdError Command
 request_of kind cut bytes = if kind == 2 then partner_at cut bytes else if kind == 4 then give RequestLink cut bytes
     else refuse (KeyType kind) cut bytes
@@ -76,7 +76,7 @@ switch_at = do
   sequence ← byte_at
   give (Switch sequence)
 
--- the frame in a Tunnel is all that is left, up to the 127th byte of the command
+-- the frame in a Tunnel is all that remains, up to the 127th byte of the command
 unfoldable pub inner_at : Reading CmdError (ArrayVec ℕ)
 inner_at cut bytes = if is_inner (take (min (length bytes) longest_tunnelled) bytes)
     then Ok (
@@ -104,7 +104,7 @@ confirm_at = do
   destination ← eui_at
   give (Confirm status kind destination)
 
--- what stands after the identifier
+-- the fields after the identifier
 unfoldable pub body_of : ℕ → Reading CmdError Command
 body_of id cut bytes =
     if id == 5 then transport_at cut bytes
@@ -122,8 +122,8 @@ command_at = do
   id ← byte_at
   body_of id
 
--- What a reader of the fields after `prefix` returned, and what it left of the bytes: all that reading says, and of a
--- command that it is spelled so.
+-- What a reader of the fields after `prefix` returned, and what it left of the bytes: this is the result of the
+-- reading, and a command that is returned has this spelling.
 pub record IsRead (reading : Reading CmdError Command) (front : List ℕ) (cut : CmdError) (old new : List ℕ)
     (result : Result Command CmdError) : Type 0 where
   pub exact : Gives result new (reading cut old)
@@ -138,7 +138,7 @@ abbrev pub whole : {A : Type 0} → Result (A × List ℕ) CmdError → Result A
 whole (Ok x) = if length x.1 == 0 then Ok x.0 else Err (Trailing (length x.1))
 whole (Err e) = Err e
 
--- The command that all of the bytes are, or their first fault.
+-- The command that takes all of the bytes, or their first fault.
 unfoldable pub command_of : List ℕ → Result Command CmdError
 command_of bytes = whole (command_at (Short (length bytes)) bytes)
 

@@ -8,7 +8,7 @@ use Rattle.zb_cmd.specs.Spelling.{command, leave}
 use Rattle.zb_base.specs.Limits.{longest_frame, longest_tunnelled}
 
 -- The frame in a Tunnel has an APS header of 2 bytes, an auxiliary header of 13 with the extended nonce (bit 5 of its
--- control byte) and a MIC of 4. No other place of it is judged.
+-- control byte) and a MIC of 4. Nothing else in it is checked.
 abbrev pub shortest_tunnelled : ℕ
 shortest_tunnelled = 19
 
@@ -28,7 +28,7 @@ abbrev pub is_tunnel : Command → Bool
 is_tunnel (Tunnel destination inner) = true
 is_tunnel _ = false
 
--- The bytes of the longest command that is no Tunnel: a Transport-Key of a network key.
+-- The length of the longest command other than a Tunnel: a Transport-Key of a network key.
 abbrev pub most_bytes : ℕ
 most_bytes = 35
 
@@ -46,7 +46,7 @@ InRange (Tunnel destination inner) = destination.0 < 2 ^ 64
 InRange (Verify kind source hash) = (kind < 2 ^ 8) × (source.0 < 2 ^ 64) × (length hash ≡ 16)
 InRange (Confirm status kind destination) = (status < 2 ^ 8) × (kind < 2 ^ 8) × (destination.0 < 2 ^ 64)
 
--- The bytes spell the command; they are at most 127, which only a Tunnel could pass.
+-- The bytes spell the command; they are at most 127, a limit that only a Tunnel could exceed.
 pub record Spells (bytes : List ℕ) (c : Command) : Type 0 where
   pub in_range : InRange c
   pub shaped : IsCommand c

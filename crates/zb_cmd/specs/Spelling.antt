@@ -1,4 +1,4 @@
--- The one spelling of each command: the identifier, the type byte of a key where the command has one, and the fields
+-- The one spelling of each command: the identifier, the type byte of a key if the command has one, and the fields
 -- (05-3474-21, 4.4.10 for the commands of the APS and 3.4.4 for Leave).
 use Rattle.std.specs.Prelude.{ℕ, List, [], ◌∷◌, ◌++◌}
 use Rattle.zb_cursor.specs.Spelling.{byte, short, eui, key}

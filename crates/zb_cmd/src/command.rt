@@ -29,9 +29,9 @@ pub enum Command {
         key: Key,
         /// The sequence number of the key.
         sequence: u8,
-        /// The device that the key is for.
+        /// The device that gets the key.
         destination: Eui,
-        /// The trust centre that hands it out.
+        /// The trust centre that sends it.
         source: Eui,
     },
     /// Transport-Key (05) of an application link key (03).
@@ -40,16 +40,16 @@ pub enum Command {
         key: Key,
         /// The device with which the receiver shares it.
         partner: Eui,
-        /// 1 where the receiver asked for the key, else 0.
+        /// 1 if the receiver asked for the key, else 0.
         initiator: u8,
     },
     /// Transport-Key (05) of a trust centre link key (04).
     TransportLink {
         /// The trust centre link key.
         key: Key,
-        /// The device that the key is for.
+        /// The device that gets the key.
         destination: Eui,
-        /// The trust centre that hands it out.
+        /// The trust centre that sends it.
         source: Eui,
     },
     /// Update-Device (06).
@@ -68,39 +68,39 @@ pub enum Command {
     },
     /// Request-Key (08) of an application link key (02) with a partner.
     RequestApplication {
-        /// The device with which the key is to be shared.
+        /// The device with which the key will be shared.
         partner: Eui,
     },
     /// Request-Key (08) of the trust centre link key (04).
     RequestLink,
     /// Switch-Key (09).
     Switch {
-        /// The sequence number of the network key that is to be used from now on.
+        /// The sequence number of the network key that is used from now on.
         sequence: u8,
     },
     /// Tunnel (0E).
     Tunnel {
-        /// The device that the frame is for.
+        /// The device that gets the frame.
         destination: Eui,
-        /// The sealed frame, which `inner_ok` takes.
+        /// The sealed frame, which `inner_ok` accepts.
         inner: Frame,
     },
     /// Verify-Key (0F).
     Verify {
-        /// The key type of the key that is shown to be known, as in Transport-Key.
+        /// The key type of the key that the device proves it knows, as in Transport-Key.
         kind: u8,
-        /// The device that shows it.
+        /// The device that proves it.
         source: Eui,
         /// The keyed hash of 03 under the key.
         hash: [u8; 16],
     },
     /// Confirm-Key (10).
     Confirm {
-        /// 00 where the key is verified, else why it is not.
+        /// 00 if the key is verified, else the reason why it isn't.
         status: u8,
         /// The key type of the key, as in Verify-Key.
         kind: u8,
-        /// The device that is answered.
+        /// The device that gets the answer.
         destination: Eui,
     },
 }
@@ -166,7 +166,7 @@ fn read_confirm(reader: &mut Reader<CmdError>) -> Result<Command, CmdError>
     })
 }
 
-/// Reads what stands after the identifier.
+/// Reads the bytes after the identifier.
 #[tactic(auto, unfolding(crate::specs::Reading::body_of))]
 fn read_body(reader: &mut Reader<CmdError>, id: u8) -> Result<Command, CmdError>
     ensures read { IsRead (body_of id) (id ∷ []) reader.old.cut reader.old.rest.now reader.new.rest.now result }
@@ -195,17 +195,17 @@ fn read_front(reader: &mut Reader<CmdError>) -> Result<Command, CmdError>
     Ok(command)
 }
 
-/// Reads the command that all of the bytes are. Requires fewer than 2^32 bytes.
+/// Reads a command that must take all of the bytes. Requires fewer than 2^32 bytes.
 ///
 /// # Errors
 ///
-/// The first fault of the bytes, where they are no command.
+/// The first fault of the bytes, if they aren't a command.
 pub fn read_command(bytes: &[u8]) -> Result<Command, CmdError>
     requires { length bytes.now < 2 ^ 32 }
-    // What is read is spelled so, and what is spelled so is read.
+    // A command that is read has these bytes as its spelling, and a spelled command is read.
     ensures found { IfOk result (λ c. Spells bytes.now c) }
     ensures only { (c : Command) → Spells bytes.now c → result ≡ Ok c }
-    // Which fault it is, by a walk over the fields, and by the bytes and the commands that there are.
+    // The fault, defined by a walk over the fields, and also by the bytes and all possible commands.
     ensures exact { result ≡ command_of bytes.now }
     ensures fault { (e : CmdError) → (result ≡ Err e) ↔ HasFault bytes.now e }
 {
@@ -290,7 +290,7 @@ fn put_command(out: &mut Frame, value: &Command) -> Result<(), TooLong>
     Ok(())
 }
 
-// States that a command but a Tunnel has at most 35 bytes, for what is said of it.
+// States for the proofs that a command other than a Tunnel has at most 35 bytes.
 fn known_length(value: &Command)
     ensures { is_tunnel value.now ≡ false → length (command value.now) ≤ most_bytes }
 {
@@ -309,25 +309,25 @@ fn known_length(value: &Command)
     }
 }
 
-// States that a key has 16 bytes, for what is said of it.
+// States for the proofs that a key has 16 bytes.
 fn known_key(key: &Key)
     ensures { length key.now.0 ≡ 16 }
 {
     let _bytes = key.0;
 }
 
-// States that a hash has 16 bytes, for what is said of it.
+// States for the proofs that a hash has 16 bytes.
 fn known_hash(hash: &[u8; 16])
     ensures { length hash.now ≡ 16 }
 {
     let _bytes = *hash;
 }
 
-/// Writes the one spelling of a command. Requires that `inner_ok` takes the frame in a Tunnel.
+/// Writes the one spelling of a command. Requires that `inner_ok` accepts the frame in a Tunnel.
 ///
 /// # Errors
 ///
-/// `TooLong` where the spelling has more than 127 bytes, as only that of a Tunnel can.
+/// `TooLong` if the spelling has more than 127 bytes, which only that of a Tunnel can have.
 pub fn write_command(value: &Command) -> Result<Frame, TooLong>
     requires { IsCommand value.now }
     ensures text { IfOk result (λ bytes. bytes.items ≡ command value.now) }

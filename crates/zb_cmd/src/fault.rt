@@ -1,30 +1,30 @@
-//! Why bytes are no command.
+//! Why bytes aren't a command.
 use std::error::Error;
 use std::fmt;
 
-/// The first fault of bytes that are no command.
+/// The first fault of bytes that aren't a command.
 ///
-/// `Unknown` comes first, then `KeyType`, then `Short`, then `Trailing`.
+/// The faults have this order: `Unknown`, `KeyType`, `Short`, `Trailing`.
 #[derive(Clone, Copy, Debug, PartialEq, Eq)]
 pub enum CmdError {
     /// No command has this identifier.
     Unknown {
-        /// The identifier that stands there.
+        /// The identifier in the bytes.
         id: u8,
     },
-    /// A Transport-Key or a Request-Key of a key type that it does not have.
+    /// A Transport-Key or a Request-Key with an unknown key type.
     KeyType {
-        /// The key type that stands there.
+        /// The key type in the bytes.
         found: u8,
     },
-    /// A field is not whole, or the frame in a Tunnel has no extended nonce.
+    /// A field isn't whole, or the frame in a Tunnel has no extended nonce.
     Short {
         /// The number of all bytes.
         at: u32,
     },
-    /// Bytes stand after the command.
+    /// There are bytes after the command.
     Trailing {
-        /// How many they are.
+        /// How many bytes.
         count: u32,
     },
 }

@@ -1,5 +1,5 @@
 //! Laws of the commands: a value has one spelling and a spelling one value, and reading and writing undo each other.
-//! Each function here says laws and does nothing.
+//! Each function here states laws and has an empty body.
 ghost use Rattle.std.specs.Prelude.{◌≡◌, ◌≤◌, ◌<◌, ◌^◌, ℕ, List, length, Ok};
 ghost use Rattle.zb_cursor.specs.Spelling.{IsBytes};
 ghost use Rattle.zb_cmd.specs.declared.command.Command.{Command};
@@ -9,7 +9,7 @@ ghost use Rattle.zb_cmd.specs.Shape.{InRange, IsCommand, Spells, SpellsLeave};
 ghost use Rattle.zb_cmd.specs.Reading.{command_of, leave_of};
 ghost use Rattle.zb_base.specs.Limits.{longest_frame};
 
-/// States that `read_command` and `write_command` undo each other, and likewise for a Leave.
+/// States that `read_command` and `write_command` undo each other, and that this holds for a Leave too.
 pub fn round_trips()
     ensures one_value { (bytes : List ℕ) (c d : Command) → Spells bytes c → Spells bytes d → c ≡ d }
     ensures one_spelling { (bytes other : List ℕ) (c : Command) → Spells bytes c → Spells other c

@@ -47,17 +47,17 @@ fn read_front(reader: &mut Reader<CmdError>) -> Result<Leave, CmdError>
     Ok(leave)
 }
 
-/// Reads the Leave that all of the bytes are. Requires fewer than 2^32 bytes.
+/// Reads a Leave that must take all of the bytes. Requires fewer than 2^32 bytes.
 ///
 /// # Errors
 ///
-/// The first fault of the bytes, where they are no Leave.
+/// The first fault of the bytes, if they aren't a Leave.
 pub fn read_leave(bytes: &[u8]) -> Result<Leave, CmdError>
     requires { length bytes.now < 2 ^ 32 }
-    // What is read is spelled so, and what is spelled so is read.
+    // A Leave that is read has these bytes as its spelling, and a spelled Leave is read.
     ensures found { IfOk result (λ l. SpellsLeave bytes.now l) }
     ensures only { (l : Leave) → SpellsLeave bytes.now l → result ≡ Ok l }
-    // Which fault it is, by a walk over the fields, and by the bytes.
+    // The fault, defined by a walk over the fields, and also by the bytes.
     ensures exact { result ≡ leave_of bytes.now }
     ensures fault { (e : CmdError) → (result ≡ Err e) ↔ HasLeaveFault bytes.now e }
 {

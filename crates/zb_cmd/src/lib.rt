@@ -1,4 +1,4 @@
-//! The commands of the security plane both ways: those of the APS (05-3474-21, 4.4.10) and Leave of the NWK
+//! The commands of the security plane, read and written: those of the APS (05-3474-21, 4.4.10) and Leave of the NWK
 //! (3.4.4). Each has one spelling of at most 127 bytes.
 #![tactic(auto)]
 

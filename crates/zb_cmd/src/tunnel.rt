@@ -14,17 +14,17 @@ use crate::fault::CmdError;
 use zb_base::{Eui, Frame};
 use zb_cursor::{Reader, TooLong, frame_from, has_bit, put, put_byte, put_eui};
 
-/// Returns whether a frame may stand in a Tunnel.
+/// Returns whether a frame may be in a Tunnel.
 ///
 /// It has an APS header of 2 bytes, an auxiliary header of 13 with the extended nonce, and a MIC of 4 after the cipher
-/// text. No other place of it is judged.
+/// text. Nothing else in it is checked.
 pub fn inner_ok(inner: &Frame) -> bool
     ensures { result ≡ is_inner inner.now.items }
 {
     inner.len() >= 19 && has_bit(u16::from(inner[2]), 5)
 }
 
-/// Reads the frame in a Tunnel: all that is left, up to the 127th byte of the command.
+/// Reads the frame in a Tunnel: all remaining bytes, up to the 127th byte of the command.
 #[tactic(auto, unfolding(crate::specs::Reading::inner_at))]
 fn read_inner(reader: &mut Reader<CmdError>) -> Result<Frame, CmdError>
     ensures exact { Gives result reader.new.rest.now (inner_at reader.old.cut reader.old.rest.now) }

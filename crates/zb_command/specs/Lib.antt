@@ -2,6 +2,7 @@ pub mod Answers
 pub mod CountsLine
 pub mod Commands
 pub mod Statuses
+pub mod Exits
 pub mod Outcomes
 pub mod Auditing
 pub mod Serving

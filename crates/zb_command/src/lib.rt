@@ -5,6 +5,7 @@ mod admin;
 mod audit;
 mod campaign;
 mod command;
+mod exit;
 mod input;
 mod inspect;
 mod install;
@@ -15,6 +16,7 @@ mod program;
 mod sniff;
 mod status;
 
-pub use process::run_process;
+pub use exit::ExitStatus;
+pub use process::{Ending, run_process};
 pub use program::run;
 pub use status::{Cause, Status};

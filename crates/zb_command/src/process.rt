@@ -3,8 +3,10 @@ ghost use Rattle.std.specs.Io.KnownBytes.{Appends};
 ghost use Rattle.std.specs.Prelude.{◌≡◌, ◌⊎◌, OnErr, OnOk, map, string_bytes};
 ghost use Rattle.zb_base.specs.Outside.{HasCause, Rose, Unrisen};
 ghost use Rattle.zb_command.specs.Process.{held_back, store_path};
-ghost use Rattle.zb_command.specs.Statuses.{line_of, text_of};
+ghost use Rattle.zb_command.specs.Exits.{exit_text};
+ghost use Rattle.zb_command.specs.Statuses.{line_of};
 
+use crate::exit::{ExitStatus, exit_after};
 use crate::program::run;
 use crate::status::Status;
 use std::env;
@@ -12,18 +14,27 @@ use std::io::{self, BufWriter, Write};
 use std::rt::Env;
 use std::thread::Threads;
 use zb_base::{Failed, Sink, StdSink, StdSource};
-use zb_disk::{FileDisk, StoreFiles};
+use zb_disk::{FileDisk, FileFault, StoreFiles};
 
 /// How many bytes of output are held back, but for those of `admin`.
 const HELD_BACK: usize = 65_536;
 
+/// How the process ended, and what it knows of the store's file for the people who read standard error.
+#[derive(Clone, Copy, Debug)]
+pub struct Ending {
+    /// How it ended.
+    pub status: ExitStatus,
+    /// What failed first on the store's file, if anything did.
+    pub first_fault: Option<FileFault>,
+}
+
 /// Runs the command that the words of the process are, over its standard input and output.
 ///
-/// Where it didn't end well it says so on standard output. What standard output holds back is handed on at the end,
-/// and fails as a write does. Of `admin` it holds back nothing.
+/// If it didn't end well, it says so on standard output. What standard output holds back is handed on at the end, and
+/// fails as a write does. Of `admin` it holds back nothing.
 pub fn run_process<H: Env + Input + Print + StoreFiles + AllocGlobal + Threads + Sync + Drop>(
     rt: &H,
-) -> Status {
+) -> Ending {
     let words = match words_after_name(rt) {
         Ok(words) => words,
         Err(error) => return end_at_once(rt, without_words(&error)),
@@ -33,25 +44,31 @@ pub fn run_process<H: Env + Input + Print + StoreFiles + AllocGlobal + Threads +
         return end_at_once(rt, Status::NoMemory);
     };
     let mut output = StdSink::new(writer);
-    let status = run_words(rt, words.as_slice(), &mut output);
-    ended(status, &mut output)
+    let Ending {
+        status,
+        first_fault,
+    } = run_words(rt, words.as_slice(), &mut output);
+    Ending {
+        status: ended(status, &mut output),
+        first_fault,
+    }
 }
 
 /// Returns the status of the process.
 ///
-/// It is that of the command, unless telling it failed, or handing on what is held back.
-fn ended<W: Write>(status: Status, output: &mut StdSink<W>) -> Status
+/// It is that of the command, unless its text can't be written, or what is held back can't be handed on.
+fn ended<W: Write>(status: ExitStatus, output: &mut StdSink<W>) -> ExitStatus
     ensures { ((result ≡ status) × Unrisen output.old output.new)
-        ⊎ ((result ≡ Status.WriteFault) × Rose output.old output.new) }
+        ⊎ ((result ≡ ExitStatus.Run Status.WriteFault) × Rose output.old output.new) }
 {
     match finish(&status, output) {
         Ok(()) => status,
-        Err(_) => Status::WriteFault,
+        Err(_) => ExitStatus::Run(Status::WriteFault),
     }
 }
 
-/// Writes how a run ended, and hands on what is held back.
-fn finish<W: Write>(status: &Status, output: &mut StdSink<W>) -> Result<(), Failed>
+/// Writes how the process ended, and hands on what is held back.
+fn finish<W: Write>(status: &ExitStatus, output: &mut StdSink<W>) -> Result<(), Failed>
     ensures unrisen { OnOk result (Unrisen output.old output.new) }
     ensures failed { OnErr result (Rose output.old output.new) }
 {
@@ -79,13 +96,23 @@ fn room_for(words: &[String]) -> usize
     }
 }
 
-/// Returns how a run ended before it wrote anything, and holds nothing back.
-fn end_at_once<H: Print>(rt: &H, status: Status) -> Status
-    ensures { (result ≡ status) ⊎ (result ≡ Status.WriteFault) }
+/// Returns how a process ended before it wrote anything, and holds nothing back.
+fn end_at_once<H: Print>(rt: &H, status: Status) -> Ending
+    ensures { (result.status ≡ ExitStatus.Run status) ⊎ (result.status ≡ ExitStatus.Run Status.WriteFault) }
 {
-    match tell(&status, &mut StdSink::new(io::writer(rt))) {
-        Ok(()) => status,
-        Err(_) => Status::WriteFault,
+    match tell(&ExitStatus::Run(status), &mut StdSink::new(io::writer(rt))) {
+        Ok(()) => without_store(status),
+        Err(_) => without_store(Status::WriteFault),
+    }
+}
+
+/// Returns how a process ends that opened no store.
+fn without_store(status: Status) -> Ending
+    ensures { result.status ≡ ExitStatus.Run status }
+{
+    Ending {
+        status: ExitStatus::Run(status),
+        first_fault: None,
     }
 }
 
@@ -94,15 +121,19 @@ fn run_words<H: Input + StoreFiles + AllocGlobal + Threads + Sync + Drop, W: Wri
     rt: &H,
     words: &[String],
     output: &mut StdSink<W>,
-) -> Status {
+) -> Ending {
     let Ok(mut store) = FileDisk::new(rt, path_in(words)) else {
-        return Status::NoMemory;
+        return without_store(Status::NoMemory);
     };
     let mut input = StdSource::new(rt.reader());
-    run(rt, rt.alloc(), words, &mut input, output, &mut store)
+    let status = run(rt, rt.alloc(), words, &mut input, output, &mut store);
+    Ending {
+        status: exit_after(status, store.first_fault),
+        first_fault: store.first_fault,
+    }
 }
 
-/// Returns the status where the words can't be had. A word that isn't UTF-8 is none of a command.
+/// Returns the status if the words can't be read. A word that isn't UTF-8 is no word of a command.
 fn without_words(error: &io::Error) -> Status {
     if error.kind() == io::ErrorKind::InvalidData {
         Status::Usage
@@ -131,8 +162,8 @@ fn words_after_name<H: Env + AllocGlobal>(rt: &H) -> io::Result<Vec<String>> {
 }
 
 /// Writes the text of a status, with a line feed, but for those of which nothing is said.
-fn tell<W: Sink>(status: &Status, output: &mut W) -> Result<(), Failed>
-    ensures told { OnOk result (Appends (W.taken output.old) (W.taken output.new) (line_of (text_of status.now))) }
+fn tell<W: Sink>(status: &ExitStatus, output: &mut W) -> Result<(), Failed>
+    ensures told { OnOk result (Appends (W.taken output.old) (W.taken output.new) (line_of (exit_text status.now))) }
     ensures cause { HasCause (W.faults output.old) (W.faults output.new) result }
 {
     let text = status.text();

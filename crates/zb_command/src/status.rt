@@ -310,7 +310,7 @@ impl Cause {
 }
 
 /// Makes a text of some words.
-fn word(words: &str) -> ArrayString<64>
+pub(crate) fn word(words: &str) -> ArrayString<64>
     requires { length words.now ≤ 20 }
     ensures bytes { result.bytes ≡ words.now }
     ensures len { array_string_len result ≡ length words.now }

@@ -1,3 +1,4 @@
+pub mod Answering
 mod Opening
 pub mod Storing
 mod Parts

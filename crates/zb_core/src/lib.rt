@@ -10,4 +10,5 @@ mod policy;
 pub use law::{an_answer_can_be_stored, an_answer_leads_to_the_state_that_the_policy_says};
 pub use node::NodeCore;
 pub use policy::{Policy, PolicyCore};
+pub use zb_event::NodeEvent;
 pub use zb_plan::{plan_own, plan_say};

@@ -1,5 +1,6 @@
 //! The core of a node, over the policy of its role: the one part in which the roles differ.
 ghost use Rattle.std.specs.Prelude.{◌≡◌};
+ghost use Rattle.zb_event.specs.Events.{task_of};
 ghost use Rattle.zb_core.specs.PlanLaws.{core_plan_adds, core_plan_idle, core_plan_keeps, core_plan_short};
 ghost use Rattle.zb_core.specs.CorePlans.{IsCoreAfter, IsCorePlan};
 ghost use Rattle.zb_model.specs.Answer.{answer};
@@ -16,6 +17,7 @@ use crate::node::NodeCore;
 use std::alloc::Global;
 use std::marker::{Model, PhantomData};
 use zb_base::{Config, OrMemory, Role};
+use zb_event::NodeEvent;
 use zb_host::{Core, Outcome, Plan};
 use zb_node_types::{Changes, KeyError, Refusal};
 use zb_seal::Term;
@@ -23,30 +25,20 @@ use zb_stored_tables::change_bytes;
 
 /// Plans what a node of one role does at its events.
 pub trait Policy {
-    /// The type of the node's events.
-    type Event;
-
     /// The role.
     ghost of: { model.Role };
-
-    /// The tasks of the model that an event represents.
-    ghost stands_for: { Self.Event → model.Task → Type 0 };
 
     /// Returns the role.
     fn role() -> Role
         ensures { model_role result ≡ of };
 
-    /// Plans an event, and overwrites the plan that was there. The node must be of the role.
-    fn plan(node: &NodeCore, event: &Self::Event, plan: &mut Plan<Outcome<Term, Refusal>>)
+    /// Writes the plan of an event in place of the plan that was there. Requires a node of the role.
+    fn plan(node: &NodeCore, event: &NodeEvent, plan: &mut Plan<Outcome<Term, Refusal>>)
         requires { node.now.setting.me.role ≡ of }
-        ensures { (task : model.Task) → stands_for event.now task
-            → IsAnswer plan.new (answer real node.now.setting node.now.tables task) };
-
-    /// Each event represents a task.
-    ghost some: { (e : Self.Event) → (task : model.Task) × stands_for e task };
+        ensures { IsAnswer plan.new (answer real node.now.setting node.now.tables (task_of event.now)) };
 }
 
-/// Decides what a node does with the policy of its role.
+/// Decides what a node does by the policy of its role.
 ///
 /// A contract sees it as its setting and its tables.
 #[derive(Drop)]
@@ -67,13 +59,13 @@ impl<P: Policy> Model for PolicyCore<P> {
 }
 
 impl<P: Policy> Core for PolicyCore<P> {
-    type Event = P::Event;
+    type Event = NodeEvent;
 
     type Out = Outcome<Term, Refusal>;
 
     ghost recorded = { λ c. record_of c.tables };
 
-    ghost is_plan = { IsCorePlan P.of P.stands_for };
+    ghost is_plan = { IsCorePlan P.of };
 
     ghost is_after = { IsCoreAfter };
 
@@ -85,7 +77,7 @@ impl<P: Policy> Core for PolicyCore<P> {
 
     ghost is_booted = { IsBooted P.of };
 
-    fn plan(&self, event: &P::Event, plan: &mut Plan<Outcome<Term, Refusal>>) {
+    fn plan(&self, event: &NodeEvent, plan: &mut Plan<Outcome<Term, Refusal>>) {
         P::plan(&self.node, event, plan);
         self.node.keep(plan);
     }
@@ -115,15 +107,15 @@ impl<P: Policy> Core for PolicyCore<P> {
         })
     }
 
-    ghost short = { core_plan_short P.of P.stands_for };
+    ghost short = { core_plan_short P.of };
 
-    ghost adds = { core_plan_adds P.of P.stands_for };
+    ghost adds = { core_plan_adds P.of };
 
-    ghost keeps = { core_plan_keeps P.of P.stands_for };
+    ghost keeps = { core_plan_keeps P.of };
 
     ghost newest = { value_newest };
 
-    ghost idle = { core_plan_idle P.of P.stands_for };
+    ghost idle = { core_plan_idle P.of };
 }
 
 impl<P: Policy> PolicyCore<P> {

@@ -5,11 +5,13 @@ use Rattle.zb_counter.specs.declared.receiving.Floor.{Floor}
 use Rattle.zb_counter.specs.declared.receiving.Judge.{Judge}
 use Rattle.zb_counter.specs.declared.receiving.Judge.TheVariants.{Fresh, Stale, Max}
 
--- what is to be stored before the number is accepted: nothing below the stored floor, else a block further on
+-- what must be stored before the number is accepted: nothing if it is below the stored floor, else a floor one block
+-- above
 abbrev pub store_to_of : Floor → ℕ → ℕ → Option ℕ
 store_to_of f counter block = if nat_lt counter f.stored then None else Some (block_beyond counter block)
 
--- how a received number is judged: the last number never, then those below the floor, then the fresh ones
+-- how a received number is checked: the last number is never taken; then come those below the floor, then the fresh
+-- ones
 abbrev pub judge_of : Floor → ℕ → ℕ → Judge
 judge_of f counter block = if counter == last_counter then Max
     else (if nat_lt counter f.kept then Stale f.kept else Fresh (store_to_of f counter block))

@@ -6,16 +6,16 @@ ghost use Rattle.std.specs.Prelude.{◌≡◌, ◌<◌, ◌≤◌, ◌+◌};
 pub struct Floor {
     /// The least number that is taken now.
     pub kept: u32,
-    /// The least number that is taken after a boot. It is the stored one.
+    /// The least number that is taken after a boot. This is the stored floor.
     pub stored: u32,
 }
 
 /// The answer to a received number.
 #[derive(Clone, Copy, Debug, PartialEq, Eq)]
 pub enum Judge {
-    /// It may be accepted, once `store_to` has been stored as the floor, if it is there.
+    /// It may be accepted. If `store_to` is present, it must be stored as the floor first.
     Fresh {
-        /// The floor to be stored first, where the number isn't below the stored floor.
+        /// The floor to be stored first, if the number isn't below the stored floor.
         store_to: Option<u32>,
     },
     /// It is below the floor, which is shown.
@@ -43,9 +43,9 @@ impl Floor {
         }
     }
 
-    /// Judges a received number.
+    /// Checks a received number.
     ///
-    /// A new stored floor lies `block` above the number.
+    /// A new stored floor is `block` above the number.
     pub fn judge(&self, counter: u32, block: u32) -> Judge
         ensures { result ≡ judge_of self.now counter block }
     {
@@ -62,9 +62,9 @@ impl Floor {
         Judge::Fresh { store_to }
     }
 
-    /// Takes a number: it and those below are refused from now on.
+    /// Takes a number: this number and those below it are refused from now on.
     ///
-    /// Requires that the number was judged fresh. Call it once the floor that the judgement names is stored.
+    /// Requires that `judge` found the number fresh. Call it once the floor that `judge` returned is stored.
     pub fn accepted(&mut self, counter: u32)
         requires below_last { counter < last_counter }
         requires not_stale { self.old.kept ≤ counter }

@@ -3,12 +3,12 @@ ghost use Rattle.std.specs.Prelude.{◌≡◌, ◌≤◌};
 
 /// An outgoing frame counter.
 ///
-/// The numbers from `next` up to, but not with, `limit` are reserved.
+/// The numbers from `next` up to `limit`, without `limit` itself, are reserved.
 #[derive(Clone, Copy, Debug, PartialEq, Eq)]
 pub struct Outgoing {
     /// The number of the next frame.
     pub next: u32,
-    /// The first number that is not reserved. It is the stored one.
+    /// The first number that isn't reserved. This is the stored limit.
     pub limit: u32,
     /// How many numbers a reservation takes.
     pub block: u32,
@@ -31,7 +31,7 @@ pub enum Draw {
 impl Outgoing {
     ghost use Rattle.zb_counter.specs.Outgoing.{draw_of, after_draw};
 
-    /// Makes a counter as a boot finds it: it goes on from the stored limit.
+    /// Makes a counter as a boot finds it: it continues from the stored limit.
     ///
     /// Any number below may have been used.
     pub fn after_boot(limit: u32, block: u32) -> Outgoing
@@ -65,7 +65,7 @@ impl Outgoing {
 
     /// Raises the limit to one that has been stored.
     ///
-    /// Requires that it is not below the limit so far.
+    /// Requires that it isn't below the limit so far.
     pub fn reserved(&mut self, limit: u32)
         requires { self.old.limit ≤ limit }
         ensures { self.new ≡ record self.old { limit = limit } }

@@ -1,4 +1,4 @@
--- How a reading ends on bytes, whatever follows them: they run out, are wrong, or spell a field.
+-- How a reading ends, whatever bytes follow: the bytes run out, are wrong, or spell a field.
 use Rattle.std.proofs.Common.{◌≡◌, ℕ, zero, suc, ◌-◌, ◌^◌, ◌<◌, Bool, true, false, ltb, List, [], ◌∷◌, ◌++◌, length, take, drop, Option, Some, None, Result, Ok, Err, refl, sym, ap, subst, ◌∙◌, append_assoc, arith, inl, inr, length-append}
 use Rattle.std.specs.Prelude.{replicate, is_some, IfSome}
 use Rattle.std.specs.List.{flat_map, AllByRecursion}
@@ -30,7 +30,7 @@ pub record HasText {A : Type 0} (Spelt : List ℕ → A → Type 0) : Type 0 whe
   pub value : A
   pub spelt : Spelt text value
 
--- what holds whatever follows holds where nothing does
+-- what holds for all bytes that may follow holds if none follows
 pub read_now : {E A : Type 0} (read : Reading E A) (cut : E) (bytes rest : List ℕ) (x : A)
     → ((more : List ℕ) → read cut (bytes ++ more) ≡ Ok (x, rest ++ more)) → read cut bytes ≡ Ok (x, rest)
 read_now read cut bytes rest x h = ap (read cut) (sym (append-nil bytes)) ∙ h [] ∙ ap (λ (r : List ℕ). Ok (x, r))
@@ -162,7 +162,7 @@ bytes_text n =
       spelt = (refl, length-replicate {A = ℕ} n 0, zeros_are_bytes n);
     }
 
--- a reading that is another one, seen otherwise
+-- a reading that equals another one, seen in another way
 pub same_outcome : {E A : Type 0} (read other : Reading E A) (Spelt : List ℕ → A → Type 0)
     (Wrong : List ℕ → E → Type 0) → ((cut : E) (bytes : List ℕ) → read cut bytes ≡ other cut bytes) → (bytes : List ℕ)
     → Outcome other Spelt Wrong bytes → Outcome read Spelt Wrong bytes
@@ -298,7 +298,7 @@ key_outcome Wrong bytes fits =
 pub key_text : HasText (Field key (λ k. length k.0 ≡ 16))
 key_text = record { text = replicate 16 0; value = record { 0 = replicate 16 0 }; spelt = (refl, refl) }
 
--- a field that is there exactly where it is to be
+-- a field that is present exactly when it should be
 abbrev pub OptionalField : {A : Type 0} → Bool → (A → List ℕ) → (A → Type 0) → List ℕ → Option A → Type 0
 OptionalField present spell Fits text o = (text ≡ optional spell o) × (is_some o ≡ present) × IfSome o Fits
 
@@ -319,7 +319,7 @@ optional_text spell Fits false one = record { text = []; value = None; spelt = (
 optional_text spell Fits true one =
     record { text = one.text; value = Some one.value; spelt = (one.spelt.0, refl, one.spelt.1) }
 
--- so many fields
+-- that many fields
 abbrev pub Fields : {A : Type 0} → ℕ → (A → List ℕ) → (A → Type 0) → List ℕ → List A → Type 0
 Fields n spell Fits text xs = (text ≡ flat_map spell xs) × (length xs ≡ n) × AllByRecursion Fits xs
 
@@ -365,7 +365,7 @@ times_outcome spell Fits read one text (suc n) Wrong bytes fits =
     let t = times_text spell Fits text n in
     record { text = t.text ++ []; value = x ∷ t.value; spelt = one_more spell Fits n x t.value t0 t.text s0 t.spelt })
 
--- ---- readings whose endings are known on all bytes
+-- ---- readings with known endings on all bytes
 
 pub record Ends {E A : Type 0} (read : Reading E A) (Spelt : List ℕ → A → Type 0) (Wrong : List ℕ → E → Type 0) : Type
     0 where

@@ -1,7 +1,7 @@
--- Pieces that are put one after the other.
+-- Pieces that are appended one after the other.
 use Rattle.std.proofs.Common.{◌≡◌, ℕ, ◌+◌, ◌≤◌, List, ◌++◌, length, ap, append_assoc, arith, length-append}
 
--- the piece stands at the end, and all of it fits
+-- the piece is at the end, and all of it fits
 abbrev pub Puts : List ℕ → List ℕ → List ℕ → Type 0
 Puts old piece new = (new ≡ old ++ piece) × (length old + length piece ≤ 127)
 

@@ -1,4 +1,4 @@
--- What the loop that reads short addresses keeps.
+-- The invariants of the loop that reads short addresses.
 use Rattle.std.proofs.Common.{◌≡◌, ℕ, ◌+◌, ◌-◌, ◌*◌, ◌^◌, ◌<◌, ◌≤◌, List, [], ◌∷◌, ◌++◌, length, take, Ok, refl, sym, ap, ◌∙◌, append_assoc, arith, length-append}
 use Rattle.std.specs.List.{flat_map, AllByRecursion}
 use Rattle.zb_base.specs.declared.address.Short.{Short}
@@ -60,7 +60,7 @@ length-shorts (s ∷ shorts) =
       length-shorts shorts,
     )
 
--- an address that does not fit leaves no room for all of them
+-- if an address doesn't fit, they don't all fit
 pub put_none : (old : List ℕ) (shorts : List Short) (i : ℕ) (now : List ℕ) → PutSoFar old shorts i now → i
     < length shorts → 127 < length now + 2 → 127 < length old + length (flat_map short shorts)
 put_none old shorts i now so_far lt long =

@@ -1,4 +1,4 @@
--- Reading fields from the start of bytes. A reading is handed the fault that a missing byte gives.
+-- Reading fields from the start of bytes. A reading is given the fault that it returns for a missing byte.
 use Rattle.std.specs.Prelude.{◌≡◌, ℕ, zero, suc, ◌-◌, Bool, true, false, List, [], ◌∷◌, length, take, drop, Option, Some, None, Result, Ok, Err, nat_lt, if◌then◌else◌}
 use Rattle.std.specs.Int.{Width, w16, w64, byte_len, from_le_bytes}
 use Rattle.zb_base.specs.declared.address.Eui.{Eui}
@@ -9,7 +9,7 @@ use Rattle.zb_base.specs.declared.key.Key.{Key}
 abbrev pub Reading : Type 0 → Type 0 → Type 0
 Reading E A = E → List ℕ → Result (A × List ℕ) E
 
--- goes on with what was read
+-- continues with what was read
 abbrev pub follow : {E A B : Type 0} → Result (A × List ℕ) E → (A → List ℕ → Result (B × List ℕ) E)
     → Result (B × List ℕ) E
 follow (Ok x) next = next x.0 x.1
@@ -28,7 +28,7 @@ abbrev pub ◌>>◌ : {E A B : Type 0} → Reading E A → Reading E B → Readi
 abbrev pub give : {E A : Type 0} → A → Reading E A
 give x cut bytes = Ok (x, bytes)
 
--- no byte is read, and a test that fails is this fault
+-- no byte is read; if the test fails, the result is this fault
 abbrev pub insist : {E : Type 0} → Bool → E → Reading E (Unit {0})
 insist test fault cut bytes = if test then Ok (tt, bytes) else Err fault
 
@@ -62,23 +62,23 @@ eui_at cut bytes = follow (number_at w64 cut bytes) (λ n rest. Ok (record { 0 =
 unfoldable pub key_at : {E : Type 0} → Reading E Key
 key_at cut bytes = follow (bytes_at 16 cut bytes) (λ xs rest. Ok (record { 0 = xs }, rest))
 
--- a field that is read only where it is present
+-- a field that is read only if it is present
 abbrev pub optional_at : {E A : Type 0} → Bool → Reading E A → Reading E (Option A)
 optional_at false read cut bytes = Ok (None, bytes)
 optional_at true read cut bytes = follow (read cut bytes) (λ x rest. Ok (Some x, rest))
 
--- a number of fields one after the other
+-- that many fields, one after the other
 unfoldable pub times_at : {E A : Type 0} → Reading E A → ℕ → Reading E (List A)
 times_at read zero cut bytes = Ok ([], bytes)
 times_at read (suc n) cut bytes =
     follow (read cut bytes) (λ x rest. follow (times_at read n cut rest) (λ xs end. Ok (x ∷ xs, end)))
 
--- What a call returned and left in its reader is what reading gives.
+-- What a call returned and left in its reader is the result of the reading.
 abbrev pub Gives : {E A : Type 0} → Result A E → List ℕ → Result (A × List ℕ) E → Type 0
 Gives (Ok x) rest read = read ≡ Ok (x, rest)
 Gives (Err e) rest read = read ≡ Err e
 
--- The same of a result that is seen by view.
+-- The same for a result that is seen by view.
 abbrev pub GivesBy : {E A B : Type 0} → (A → B) → Result A E → List ℕ → Result (B × List ℕ) E → Type 0
 GivesBy view (Ok x) rest read = read ≡ Ok (view x, rest)
 GivesBy view (Err e) rest read = read ≡ Err e
@@ -88,6 +88,6 @@ abbrev pub read_into : {E A : Type 0} → Result Unit E → A → Result A E
 read_into (Ok done) place = Ok place
 read_into (Err e) place = Err e
 
--- nothing that stands here is a field
+-- nothing here is a field
 abbrev pub refuse : {E A : Type 0} → E → Reading E A
 refuse fault cut bytes = Err fault

@@ -1,4 +1,4 @@
--- How a field is spelled as bytes. A field of several bytes stands least significant byte first (05-3474-21, 1.2.1.3).
+-- How a field is spelled as bytes. A field of several bytes is least significant byte first (05-3474-21, 1.2.1.3).
 use Rattle.std.specs.Prelude.{ℕ, List, [], ◌∷◌, Option, Some, None, Bool, ◌==◌, ◌<◌, ◌^◌, slice_index}
 use Rattle.std.specs.Int.{Width, w16, w64, to_le_bytes, bit_at}
 use Rattle.zb_base.specs.declared.address.Eui.{Eui}
@@ -18,11 +18,11 @@ short s = number w16 s.0
 abbrev pub eui : Eui → List ℕ
 eui e = number w64 e.0
 
--- a key stands in the order of its bytes
+-- a key is in the order of its bytes
 abbrev pub key : Key → List ℕ
 key k = k.0
 
--- a field that may be absent is spelled by nothing where it is
+-- an absent field has no bytes
 abbrev pub optional : {A : Type 0} → (A → List ℕ) → Option A → List ℕ
 optional spell None = []
 optional spell (Some x) = spell x
@@ -31,6 +31,6 @@ optional spell (Some x) = spell x
 abbrev pub bit : ℕ → ℕ → Bool
 bit n place = bit_at n place == 1
 
--- each of them is a byte
+-- each item is a byte
 abbrev pub IsBytes : List ℕ → Type 0
 IsBytes bytes = (i : ℕ) → slice_index bytes i < 2 ^ 8

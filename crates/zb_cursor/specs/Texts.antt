@@ -1,4 +1,4 @@
--- How a frame without room is printed.
+-- How the fault of a frame that is too long is printed.
 use Rattle.std.specs.Prelude.{List, ℕ, codes}
 
 abbrev pub too_long_text : List ℕ

@@ -2,7 +2,7 @@
 use Rattle.std.specs.Prelude.{◌≡◌, ℕ, ◌+◌, ◌<◌, ◌≤◌, List, ◌++◌, length, Result, Ok, Err}
 use Rattle.zb_base.specs.Limits.{longest_frame}
 
--- The piece stands at the end where it fits; it is refused exactly where it does not, and then the frame stays.
+-- The piece is appended if it fits. Otherwise it is refused, and the frame doesn't change.
 abbrev pub Appends : {E : Type 0} → List ℕ → List ℕ → List ℕ → Result (Unit {0}) E → Type 0
 Appends old piece new (Ok _) = (new ≡ old ++ piece) × (length old + length piece ≤ longest_frame)
 Appends old piece new (Err _) = longest_frame < length old + length piece

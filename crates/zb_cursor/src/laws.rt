@@ -1,4 +1,5 @@
-//! Laws of the fields: what is spelled is read, whatever follows. Each function here says laws and does nothing.
+//! Laws of the fields: what is written is read back, whatever follows. Each function here states laws and has an empty
+//! body.
 ghost use Rattle.std.specs.Prelude.{◌≡◌, ℕ, ◌<◌, ◌^◌, List, ◌++◌, length, Bool, Option, Ok, IfSome, is_some};
 ghost use Rattle.std.specs.Int.{w16, w32, w64};
 ghost use Rattle.std.specs.List.{flat_map, AllByRecursion};
@@ -8,7 +9,7 @@ ghost use Rattle.zb_base.specs.declared.key.Key.{Key};
 ghost use Rattle.zb_cursor.specs.Spelling.{number, short, eui, key, optional};
 ghost use Rattle.zb_cursor.specs.Reading.{number_at, short_at, eui_at, key_at, optional_at, times_at};
 
-/// States that each field that fits its width is read from its spelling, to its last byte and no further.
+/// States that each field that fits its width is read back from its spelling, exactly to its last byte.
 pub fn spelled_is_read<E>()
     ensures number16 { (cut : E) (n : ℕ) (rest : List ℕ) → n < 2 ^ 16
         → number_at w16 cut (number w16 n ++ rest) ≡ Ok (n, rest) }

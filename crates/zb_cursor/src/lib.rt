@@ -1,7 +1,7 @@
-//! Fields of bytes both ways: a `Reader` that takes fields from the start of bytes, and writing at the end of a
-//! frame of 127 bytes.
+//! Fields of bytes, read and written: a `Reader` that takes fields from the start of bytes, and writing at the end of
+//! a frame of 127 bytes.
 //!
-//! Numbers stand least significant byte first.
+//! Numbers are least significant byte first.
 #![tactic(auto)]
 
 mod bits;

@@ -1,4 +1,4 @@
-//! Reading fields from the start of bytes: a `Reader` stands at a place and moves on field by field.
+//! Reading fields from the start of bytes: a `Reader` is at a place in them and moves forward field by field.
 ghost use Rattle.std.specs.Prelude.{◌≡◌, [], ◌+◌, ◌*◌, ◌<◌, ◌≤◌, ◌^◌, ◌++◌, length, IfOk, OnOk, OnErr, IfSome, is_some};
 ghost use Rattle.std.specs.Int.{w16, w32, w64};
 ghost use Rattle.zb_cursor.specs.Spelling.{byte, number, short, eui, key, optional};
@@ -12,15 +12,15 @@ use zb_base::{Eui, Frame, Key, Short};
 
 /// A place in bytes that are read field by field from the start.
 ///
-/// Each method returns the next field and moves after it.
+/// Each method returns the next field and moves to its end.
 ///
 /// # Errors
-/// `cut` where the bytes run out; the place then stays as it was, but for `shorts`.
+/// `cut` if the bytes run out; the place then stays as it was, except for `shorts`.
 #[derive(Drop)]
 pub struct Reader<'a, E> {
     /// The bytes that are still to be read.
     pub rest: &'a [u8],
-    /// The fault that a field gives whose bytes are not all there.
+    /// The fault at a field whose bytes are not all there.
     pub cut: E,
 }
 
@@ -28,7 +28,7 @@ impl<'a, E: Copy + Drop> Reader<'a, E> {
     /// Reads one byte.
     ///
     /// # Errors
-    /// `cut` where the bytes run out.
+    /// `cut` if the bytes run out.
     pub fn byte(&mut self) -> Result<u8, E>
         ensures exact { Gives result self.new.rest.now (byte_at self.old.cut self.old.rest.now) }
         ensures spelled { IfOk result (λ x. self.old.rest.now ≡ byte x ++ self.new.rest.now) }
@@ -46,10 +46,10 @@ impl<'a, E: Copy + Drop> Reader<'a, E> {
         }
     }
 
-    /// Reads the next `count` bytes, as they stand.
+    /// Reads the next `count` bytes, as they are.
     ///
     /// # Errors
-    /// `cut` where the bytes run out.
+    /// `cut` if the bytes run out.
     #[tactic(auto, unfolding(crate::specs::Reading::bytes_at))]
     pub fn bytes(&mut self, count: usize) -> Result<&'a [u8], E>
         ensures exact { GivesBy (λ xs. xs.now) result self.new.rest.now
@@ -84,7 +84,7 @@ impl<'a, E: Copy + Drop> Reader<'a, E> {
     /// Requires at most 127 bytes to be left.
     ///
     /// # Errors
-    /// `cut` where fewer than 4 bytes are left.
+    /// `cut` if fewer than 4 bytes are left.
     #[tactic(auto, unfolding(crate::specs::Reading::body_and_mic_at))]
     pub fn body_and_mic_into(&mut self, body: &mut Frame, mic: &mut [u8; 4]) -> Result<(), E>
         requires { length self.old.rest.now ≤ longest_frame }
@@ -107,7 +107,7 @@ impl<'a, E: Copy + Drop> Reader<'a, E> {
     /// Reads a number of 2 bytes.
     ///
     /// # Errors
-    /// `cut` where the bytes run out.
+    /// `cut` if the bytes run out.
     #[tactic(auto, unfolding(crate::specs::Reading::number_at))]
     pub fn number16(&mut self) -> Result<u16, E>
         ensures exact { Gives result self.new.rest.now (number_at w16 self.old.cut self.old.rest.now) }
@@ -128,7 +128,7 @@ impl<'a, E: Copy + Drop> Reader<'a, E> {
     /// Reads a number of 4 bytes.
     ///
     /// # Errors
-    /// `cut` where the bytes run out.
+    /// `cut` if the bytes run out.
     #[tactic(auto, unfolding(crate::specs::Reading::number_at))]
     pub fn number32(&mut self) -> Result<u32, E>
         ensures exact { Gives result self.new.rest.now (number_at w32 self.old.cut self.old.rest.now) }
@@ -149,7 +149,7 @@ impl<'a, E: Copy + Drop> Reader<'a, E> {
     /// Reads a number of 8 bytes.
     ///
     /// # Errors
-    /// `cut` where the bytes run out.
+    /// `cut` if the bytes run out.
     #[tactic(auto, unfolding(crate::specs::Reading::number_at))]
     pub fn number64(&mut self) -> Result<u64, E>
         ensures exact { Gives result self.new.rest.now (number_at w64 self.old.cut self.old.rest.now) }
@@ -172,7 +172,7 @@ impl<'a, E: Copy + Drop> Reader<'a, E> {
     /// Reads a short address.
     ///
     /// # Errors
-    /// `cut` where the bytes run out.
+    /// `cut` if the bytes run out.
     #[tactic(auto, unfolding(crate::specs::Reading::short_at))]
     pub fn short(&mut self) -> Result<Short, E>
         ensures exact { Gives result self.new.rest.now (short_at self.old.cut self.old.rest.now) }
@@ -189,7 +189,7 @@ impl<'a, E: Copy + Drop> Reader<'a, E> {
     /// Reads an EUI.
     ///
     /// # Errors
-    /// `cut` where the bytes run out.
+    /// `cut` if the bytes run out.
     #[tactic(auto, unfolding(crate::specs::Reading::eui_at))]
     pub fn eui(&mut self) -> Result<Eui, E>
         ensures exact { Gives result self.new.rest.now (eui_at self.old.cut self.old.rest.now) }
@@ -206,7 +206,7 @@ impl<'a, E: Copy + Drop> Reader<'a, E> {
     /// Reads a key, in the order of its bytes.
     ///
     /// # Errors
-    /// `cut` where the bytes run out.
+    /// `cut` if the bytes run out.
     #[tactic(auto, unfolding(crate::specs::Reading::key_at))]
     pub fn key(&mut self) -> Result<Key, E>
         ensures exact { Gives result self.new.rest.now (key_at self.old.cut self.old.rest.now) }
@@ -222,10 +222,10 @@ impl<'a, E: Copy + Drop> Reader<'a, E> {
         Ok(Key(key))
     }
 
-    /// Reads one byte, where it is present.
+    /// Reads one byte, if it is present.
     ///
     /// # Errors
-    /// `cut` where the bytes run out.
+    /// `cut` if the bytes run out.
     pub fn optional_byte(&mut self, present: bool) -> Result<Option<u8>, E>
         ensures exact { Gives result self.new.rest.now (optional_at present byte_at self.old.cut self.old.rest.now) }
         ensures spelled { IfOk result (λ o. self.old.rest.now ≡ optional byte o ++ self.new.rest.now) }
@@ -242,10 +242,10 @@ impl<'a, E: Copy + Drop> Reader<'a, E> {
         Ok(Some(field))
     }
 
-    /// Reads a number of 2 bytes, where it is present.
+    /// Reads a number of 2 bytes, if it is present.
     ///
     /// # Errors
-    /// `cut` where the bytes run out.
+    /// `cut` if the bytes run out.
     pub fn optional_number16(&mut self, present: bool) -> Result<Option<u16>, E>
         ensures exact { Gives result self.new.rest.now
             (optional_at present (number_at w16) self.old.cut self.old.rest.now) }
@@ -263,10 +263,10 @@ impl<'a, E: Copy + Drop> Reader<'a, E> {
         Ok(Some(field))
     }
 
-    /// Reads an EUI, where it is present.
+    /// Reads an EUI, if it is present.
     ///
     /// # Errors
-    /// `cut` where the bytes run out.
+    /// `cut` if the bytes run out.
     pub fn optional_eui(&mut self, present: bool) -> Result<Option<Eui>, E>
         ensures exact { Gives result self.new.rest.now (optional_at present eui_at self.old.cut self.old.rest.now) }
         ensures spelled { IfOk result (λ o. self.old.rest.now ≡ optional eui o ++ self.new.rest.now) }
@@ -288,7 +288,7 @@ impl<'a, E: Copy + Drop> Reader<'a, E> {
     /// Requires that the array has room for all that the bytes to come can hold.
     ///
     /// # Errors
-    /// `cut` where the bytes run out; the reader then stands after the last address that is whole.
+    /// `cut` if the bytes run out; the reader is then after the last whole address.
     pub fn shorts<const N: usize>(&mut self, count: u8) -> Result<ArrayVec<Short, N>, E>
         requires { length self.old.rest.now ≤ 2 * N + 1 }
         ensures exact { GivesBy (λ v. v.items) result self.new.rest.now

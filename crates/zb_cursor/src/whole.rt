@@ -1,4 +1,4 @@
-//! Reading what all of the bytes are.
+//! Reading a value that must take all of the bytes.
 ghost use Rattle.std.specs.Prelude.{◌<◌, ◌≤◌, ◌^◌, length};
 ghost use Rattle.std.specs.Fn.{FnOnceReturnsAtMut};
 ghost use Rattle.zb_cursor.specs.Whole.{IsWhole};
@@ -6,12 +6,13 @@ ghost use Rattle.zb_cursor.specs.declared.reader.Reader.{Reader};
 
 use crate::reader::Reader;
 
-/// Reads what all of the bytes are: `read` reads it from their start, and then no byte may be left.
+/// Reads a value that must take all of the bytes.
 ///
-/// Requires fewer than 2^32 bytes, of which `read` leaves no more than there were.
+/// `read` reads it from their start, and then no byte may be left. Requires fewer than 2^32
+/// bytes. `read` must leave no more bytes than there were.
 ///
 /// # Errors
-/// The fault of `read`. Else, where bytes are left, the fault that `left` returns for their number.
+/// The fault of `read`. If `read` succeeds and bytes are left, the fault that `left` returns for their number.
 pub fn read_whole<'a, T, E, R, L>(bytes: &'a [u8], cut: E, read: R, left: L) -> Result<T, E>
 where
     T: Drop,

@@ -11,7 +11,7 @@ use std::error::Error;
 use std::fmt;
 use zb_base::{Eui, Frame, Key, Short};
 
-/// The fault of bytes that have no room in a frame of 127.
+/// The fault of bytes that don't fit in a frame of 127.
 #[derive(Clone, Copy, Debug, PartialEq, Eq)]
 pub struct TooLong;
 
@@ -31,7 +31,7 @@ impl Error for TooLong {}
 /// Puts the bytes at the end of the frame.
 ///
 /// # Errors
-/// `TooLong` where they don't fit; the frame then stays as it was.
+/// `TooLong` if they don't fit; the frame then stays as it was.
 pub fn put(out: &mut Frame, piece: &[u8]) -> Result<(), TooLong>
     ensures appends { Appends out.old.items piece.now out.new.items result }
     ensures stays { OnErr result (out.new.items ≡ out.old.items) }
@@ -54,7 +54,7 @@ pub fn frame_from(bytes: &[u8]) -> Frame
     frame
 }
 
-/// Puts these bytes in place of those that stand in the frame.
+/// Replaces the bytes of the frame with these.
 ///
 /// Requires at most 127 of them.
 pub fn fill(frame: &mut Frame, bytes: &[u8])
@@ -68,7 +68,7 @@ pub fn fill(frame: &mut Frame, bytes: &[u8])
 /// Puts one byte at the end of the frame.
 ///
 /// # Errors
-/// `TooLong` where it doesn't fit.
+/// `TooLong` if it doesn't fit.
 pub fn put_byte(out: &mut Frame, value: u8) -> Result<(), TooLong>
     ensures { Appends out.old.items (byte value) out.new.items result }
 {
@@ -79,7 +79,7 @@ pub fn put_byte(out: &mut Frame, value: u8) -> Result<(), TooLong>
 /// Puts a number of 2 bytes at the end of the frame.
 ///
 /// # Errors
-/// `TooLong` where it doesn't fit.
+/// `TooLong` if it doesn't fit.
 pub fn put_number16(out: &mut Frame, value: u16) -> Result<(), TooLong>
     ensures { Appends out.old.items (number w16 value) out.new.items result }
 {
@@ -90,7 +90,7 @@ pub fn put_number16(out: &mut Frame, value: u16) -> Result<(), TooLong>
 /// Puts a number of 4 bytes at the end of the frame.
 ///
 /// # Errors
-/// `TooLong` where it doesn't fit.
+/// `TooLong` if it doesn't fit.
 pub fn put_number32(out: &mut Frame, value: u32) -> Result<(), TooLong>
     ensures { Appends out.old.items (number w32 value) out.new.items result }
 {
@@ -101,7 +101,7 @@ pub fn put_number32(out: &mut Frame, value: u32) -> Result<(), TooLong>
 /// Puts a short address at the end of the frame.
 ///
 /// # Errors
-/// `TooLong` where it doesn't fit.
+/// `TooLong` if it doesn't fit.
 pub fn put_short(out: &mut Frame, value: Short) -> Result<(), TooLong>
     ensures { Appends out.old.items (short value) out.new.items result }
 {
@@ -112,7 +112,7 @@ pub fn put_short(out: &mut Frame, value: Short) -> Result<(), TooLong>
 /// Puts an EUI at the end of the frame.
 ///
 /// # Errors
-/// `TooLong` where it doesn't fit.
+/// `TooLong` if it doesn't fit.
 pub fn put_eui(out: &mut Frame, value: Eui) -> Result<(), TooLong>
     ensures { Appends out.old.items (eui value) out.new.items result }
 {
@@ -123,7 +123,7 @@ pub fn put_eui(out: &mut Frame, value: Eui) -> Result<(), TooLong>
 /// Puts a key at the end of the frame, in the order of its bytes.
 ///
 /// # Errors
-/// `TooLong` where it doesn't fit.
+/// `TooLong` if it doesn't fit.
 pub fn put_key(out: &mut Frame, value: &Key) -> Result<(), TooLong>
     ensures { Appends out.old.items (key value.now) out.new.items result }
 {
@@ -131,10 +131,10 @@ pub fn put_key(out: &mut Frame, value: &Key) -> Result<(), TooLong>
     Ok(())
 }
 
-/// Puts a byte at the end of the frame, where there is one.
+/// Puts a byte at the end of the frame, if there is one.
 ///
 /// # Errors
-/// `TooLong` where it doesn't fit.
+/// `TooLong` if it doesn't fit.
 pub fn put_optional_byte(out: &mut Frame, value: Option<u8>) -> Result<(), TooLong>
     ensures { Appends out.old.items (optional byte value) out.new.items result }
 {
@@ -145,10 +145,10 @@ pub fn put_optional_byte(out: &mut Frame, value: Option<u8>) -> Result<(), TooLo
     Ok(())
 }
 
-/// Puts a number of 2 bytes at the end of the frame, where there is one.
+/// Puts a number of 2 bytes at the end of the frame, if there is one.
 ///
 /// # Errors
-/// `TooLong` where it doesn't fit.
+/// `TooLong` if it doesn't fit.
 pub fn put_optional_number16(out: &mut Frame, value: Option<u16>) -> Result<(), TooLong>
     ensures { Appends out.old.items (optional (number w16) value) out.new.items result }
 {
@@ -159,10 +159,10 @@ pub fn put_optional_number16(out: &mut Frame, value: Option<u16>) -> Result<(), 
     Ok(())
 }
 
-/// Puts an EUI at the end of the frame, where there is one.
+/// Puts an EUI at the end of the frame, if there is one.
 ///
 /// # Errors
-/// `TooLong` where it doesn't fit.
+/// `TooLong` if it doesn't fit.
 pub fn put_optional_eui(out: &mut Frame, value: Option<Eui>) -> Result<(), TooLong>
     ensures { Appends out.old.items (optional eui value) out.new.items result }
 {
@@ -176,7 +176,7 @@ pub fn put_optional_eui(out: &mut Frame, value: Option<Eui>) -> Result<(), TooLo
 /// Puts the addresses at the end of the frame, one after the other.
 ///
 /// # Errors
-/// `TooLong` where they don't all fit; some of them may then stand.
+/// `TooLong` if they don't all fit; some of them may then have been written.
 pub fn put_shorts(out: &mut Frame, shorts: &[Short]) -> Result<(), TooLong>
     ensures { Appends out.old.items (flat_map short shorts.now) out.new.items result }
 {

@@ -1,9 +1,8 @@
 -- What judging accepts is of its layer: the NWK term at NWK, the APS term at APS.
-use Rattle.std.proofs.Common.{◌≡◌, Bool, true, false, not, ◌&&◌, refl, ap, sym, subst, Option, Some, None, option_map, Ok, Err}
+use Rattle.std.proofs.Common.{◌≡◌, Bool, true, false, not, ◌&&◌, refl, ap, sym, subst, Option, Some, None, option_map, Ok}
 use Rattle.std.specs.Prelude.{⊤}
 use Rattle.zb_aps.specs.Reading.{frame_of}
 use Rattle.zb_aps.specs.declared.auxiliary.ApsAux.{ApsAux}
-use Rattle.zb_aps.specs.declared.fault.ApsError.{ApsError}
 use Rattle.zb_aps.specs.declared.frame.ApsFrame.{ApsFrame}
 use Rattle.zb_base.specs.declared.label.Layer.TheVariants as layer
 use Rattle.zb_base.specs.declared.label.Layer.{Layer}
@@ -135,10 +134,6 @@ pub read_is : (bytes : Bytes) (part : ApsFrame) → frame_of bytes ≡ Ok part �
     ≡ Some (aps_frame_shown part)
 unfolding real
 read_is bytes part e = rw e refl
-
-pub unread_is : (bytes : Bytes) (fault : ApsError) → frame_of bytes ≡ Err fault → real.read_aps bytes ≡ None
-unfolding real
-unread_is bytes fault e = rw e refl
 
 aps_layer : (c : Setting) (s : NodeState) (f : NwkShown) (bytes : Bytes) (part : ApsFrame) (aux : ApsAux)
     → frame_of bytes ≡ Ok part → part.aux ≡ Some aux → OnGood (λ (u : judging.Unsealed). u.term.layer ≡ Aps)

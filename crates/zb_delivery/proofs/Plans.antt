@@ -207,24 +207,6 @@ sealed_passed c s d f nwk part aux u source label from named e =
     ∙ ap (λ (v : Verdict judging.Unsealed). sealed_part real c s d (option_map model_term nwk) (aps_frame_shown part)
     (auxiliary aux) v) e
 
-pub clear_passed : (c : Setting) (s : NodeState) (d : Option Bytes) (f : NwkShown) (nwk aps : Option Term)
-    (t : Term) (part : ApsFrame) → nwk ≡ Some t → aps ≡ None → part.aux ≡ None
-    → part_plan c s d (terms nwk aps) part aps (Ok (Clear t.source))
-    ≡ by_security real c s d f (option_map model_term nwk) (aps_frame_shown part) (option_map auxiliary part.aux)
-clear_passed c s d f nwk aps t part n none plain =
-    subst (λ (o : Option ApsAux). part_plan c s d (terms nwk aps) part aps (Ok (Clear t.source))
-    ≡ by_security real c s d f (option_map model_term nwk) (aps_frame_shown part) (option_map auxiliary o)) (sym plain)
-    (rw (none, n) refl)
-
-pub sealed_is : (c : Setting) (s : NodeState) (d : Option Bytes) (f : NwkShown) (nwk : Option Term) (part : ApsFrame)
-    (aux : ApsAux) (plan : Plan) → part.aux ≡ Some aux
-    → plan ≡ by_security real c s d f (option_map model_term nwk) (aps_frame_shown part) (Some (auxiliary aux))
-    → plan ≡ by_security real c s d f (option_map model_term nwk) (aps_frame_shown part)
-    (option_map auxiliary part.aux)
-sealed_is c s d f nwk part aux plan is e =
-    subst (λ (o : Option ApsAux). plan ≡ by_security real c s d f (option_map model_term nwk) (aps_frame_shown part)
-    (option_map auxiliary o)) (sym is) e
-
 -- the whole frame
 
 pub frame_refused : (c : Setting) (s : NodeState) (d : Option Bytes) (bytes : Bytes) (nwk aps : Option Term)

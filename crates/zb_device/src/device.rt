@@ -1,5 +1,4 @@
 //! The core of a device: the policy of its role.
-ghost use Rattle.zb_device.specs.Tasks.{IsTaskOf, some_task};
 ghost use Rattle.zb_model.specs.Data as model;
 
 use crate::event::DeviceEvent;
@@ -14,11 +13,7 @@ use zb_seal::Term;
 pub struct DevicePolicy;
 
 impl Policy for DevicePolicy {
-    type Event = DeviceEvent;
-
     ghost of = { model.Device };
-
-    ghost stands_for = { IsTaskOf };
 
     fn role() -> Role {
         Role::Device
@@ -27,8 +22,6 @@ impl Policy for DevicePolicy {
     fn plan(node: &NodeCore, event: &DeviceEvent, plan: &mut Plan<Outcome<Term, Refusal>>) {
         plan_member(node, event, plan);
     }
-
-    ghost some = { some_task };
 }
 
 /// Decides what a device does.

@@ -8,6 +8,4 @@ mod member;
 pub use device::{Device, DevicePolicy};
 pub use event::DeviceEvent;
 pub use member::plan_member;
-pub use zb_core::{NodeCore, Policy, PolicyCore};
-pub use zb_delivery::child_of_router;
-pub use zb_plan::plan_own;
+pub use zb_core::{NodeCore, NodeEvent, Policy, PolicyCore};

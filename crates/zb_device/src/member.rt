@@ -1,9 +1,8 @@
 //! The plan of a router or device for each of its own events.
 ghost use Rattle.std.specs.Prelude.{◌≡◌, false};
 ghost use Rattle.zb_base.specs.declared.place.Place.TheVariants.{Event};
-ghost use Rattle.zb_device.specs.Tasks.{IsTaskOf, own_task};
+ghost use Rattle.zb_core.specs.Events.{task_of};
 ghost use Rattle.zb_model.specs.Answer.{answer};
-ghost use Rattle.zb_model.specs.Data.{Task};
 ghost use Rattle.zb_model.specs.OwnEvents.{own_at_member};
 ghost use Rattle.zb_model.specs.State.{is_centre};
 ghost use Rattle.zb_model_real.specs.Real.{real};
@@ -14,7 +13,9 @@ ghost use Rattle.zb_delivery.specs.Outcomes.{Keeps, decided, told};
 use crate::event::DeviceEvent;
 use zb_base::Place;
 use zb_core::NodeCore;
-use zb_delivery::{Effect, ask, knock, member_timer, plan_received, rejoin, say, tell};
+use zb_delivery::{
+    Effect, ask, child_of_router, knock, member_timer, plan_received, rejoin, say, tell,
+};
 use zb_host::{Outcome, Plan};
 use zb_keys::Tables;
 use zb_node_types::Refusal;
@@ -23,30 +24,38 @@ use zb_seal::{KeyMemo, Term};
 use zb_send::copied;
 use zb_setting::Network;
 
-// Decides an event of the node's own by its rule. A delivery is not such an event. Each arm returns its value, so
-// that it is copied once.
+// Decides an event of the node's own by its rule, and refuses those of the centre. Each arm returns its value, so that
+// it is copied once.
 fn decide(network: &Network, tables: &Tables, event: &DeviceEvent) -> Result<Effect, Refusal>
-    ensures rule { decided result ≡ told (own_at_member real network.now tables.now (own_task event.now)) }
+    ensures rule { decided result ≡ told (own_at_member real network.now tables.now (task_of event.now)) }
     ensures keeps { Keeps Event result }
 {
     match event {
-        DeviceEvent::Knock => return knock(network, tables),
-        DeviceEvent::Rejoin => return rejoin(tables),
-        DeviceEvent::Deliver { .. } => {}
-        DeviceEvent::Timer => return member_timer(network, tables),
         DeviceEvent::Say { to, bytes } => return say(tables, *to, copied(bytes)),
-        DeviceEvent::Ask { partner } => return ask(network, tables, *partner),
         DeviceEvent::Tell { partner, bytes } => {
             return tell(network, tables, *partner, copied(bytes));
         }
+        DeviceEvent::Ask { partner } => return ask(network, tables, *partner),
+        DeviceEvent::Knock => return knock(network, tables),
+        DeviceEvent::Rejoin => return rejoin(tables),
+        DeviceEvent::Timer => return member_timer(network, tables),
+        DeviceEvent::Child { device, rejoin } => {
+            return child_of_router(network, tables, *device, *rejoin);
+        }
+        DeviceEvent::Provision { .. }
+        | DeviceEvent::Remove { .. }
+        | DeviceEvent::Roll { .. }
+        | DeviceEvent::Switch
+        | DeviceEvent::Again { .. }
+        | DeviceEvent::Share { .. }
+        | DeviceEvent::Deliver { .. } => {}
     }
     Err(Refusal::Policy {
         place: Place::Event,
     })
 }
 
-// Plans an event of the node's own by its rule. The decision is a local of this function, so that a delivery doesn't
-// pay for clearing it.
+// Plans an event of the node's own by its rule. The decision has its place here, so that others clear none.
 fn plan_by_rule(
     network: &Network,
     tables: &Tables,
@@ -55,14 +64,14 @@ fn plan_by_rule(
     plan: &mut Plan<Outcome<Term, Refusal>>,
 )
     ensures { IsAnswer plan.new (answer_to real network.now tables.now
-        (own_plan (own_at_member real network.now tables.now (own_task event.now)))) }
+        (own_plan (own_at_member real network.now tables.now (task_of event.now)))) }
 {
     plan_own(network, tables, memo, &decide(network, tables, event), plan);
 }
 
-/// Plans an event by its rule, from the node's network, tables and base keys.
+/// Plans an event by its rule, from what the node knows of its network, its tables and its base keys.
 ///
-/// The node must not be the centre.
+/// Requires a node that isn't the centre.
 fn plan_event(
     network: &Network,
     tables: &Tables,
@@ -71,15 +80,15 @@ fn plan_event(
     plan: &mut Plan<Outcome<Term, Refusal>>,
 )
     requires { is_centre network.now.me.role ≡ false }
-    ensures { (task : Task) → IsTaskOf event.now task → IsAnswer plan.new (answer real network.now tables.now task) }
+    ensures { IsAnswer plan.new (answer real network.now tables.now (task_of event.now)) }
 {
     match event {
-        DeviceEvent::Deliver { bytes } => plan_received(
+        DeviceEvent::Deliver { bytes, draw } => plan_received(
             network,
             tables,
             memo,
             bytes.as_slice(),
-            None,
+            *draw,
             plan,
         ),
         DeviceEvent::Say { to, bytes } => plan_say(network, tables, memo, *to, bytes, plan),
@@ -89,11 +98,10 @@ fn plan_event(
 
 /// Plans an event of a router or device, by the rule of the event.
 ///
-/// The node must not be the centre.
+/// Requires a node that isn't the centre.
 pub fn plan_member(node: &NodeCore, event: &DeviceEvent, plan: &mut Plan<Outcome<Term, Refusal>>)
     requires { is_centre node.now.setting.me.role ≡ false }
-    ensures { (task : Task) → IsTaskOf event.now task
-        → IsAnswer plan.new (answer real node.now.setting node.now.tables task) }
+    ensures { IsAnswer plan.new (answer real node.now.setting node.now.tables (task_of event.now)) }
 {
     plan_event(node.network(), node.tables(), node.memo(), event, plan);
 }

@@ -1,5 +1,5 @@
 -- What commits make of a host.
-use Rattle.std.proofs.Common.{◌≡◌, ◌≢◌, ◌≤◌, ◌⊎◌, ◌++◌, inl, inr, List, [], ◌∷◌, ℕ, length, get_or, Bool, true, false, Option, Some, None, Result, Ok, Err, IfErr, IsTrue, refl, sym, ◌∙◌, ap, subst, arith, append_assoc, append-nil}
+use Rattle.std.proofs.Common.{◌≡◌, ◌≢◌, ◌≤◌, ◌++◌, inl, inr, List, [], ◌∷◌, ℕ, length, get_or, Bool, true, false, Option, Some, None, Result, Ok, Err, IfErr, IsTrue, refl, sym, ◌∙◌, ap, subst, arith, append_assoc, append-nil}
 use Rattle.std.specs.List.{concat}
 use Rattle.std.proofs.lemmas.Bool.{or_parts}
 use Rattle.zb_disk.specs.View.{Telling, View, IsStill, LeavesOnly}
@@ -9,13 +9,10 @@ use Rattle.zb_store.specs.declared.fault.StoreFault.TheVariants.{Disk, NoRecord,
 use Rattle.zb_store.specs.Layout.{Standing}
 use Rattle.zb_store.specs.Store.{Place, place_of, IsReady, IsWholeEither}
 use Rattle.zb_store.specs.Faults.{IsPutFault, IsAppendFault}
-use Rattle.zb_node_types.specs.declared.change.Change.{Change}
-use Rattle.zb_host.specs.declared.fault.CommitFault.{CommitFault}
-use Rattle.zb_host.specs.declared.fault.CommitFault.TheVariants as commit
-use Rattle.zb_host.specs.declared.fault.HostFault.TheVariants.{Disk as disk_of, Worn as worn_out}
-use Rattle.arrayvec.specs.declared.array_vec.ArrayVec.{ArrayVec}
+use Rattle.zb_host.specs.declared.fault.RecordFault.{RecordFault}
+use Rattle.zb_host.specs.declared.fault.RecordFault.TheVariants as host
 use Rattle.zb_host.specs.Plans.{gives}
-use Rattle.zb_host.specs.HostFaults.{IsUnstored, commit_fault, told_fault}
+use Rattle.zb_host.specs.HostFaults.{IsOfCommit, IsUnstored}
 use Rattle.zb_host.specs.Hosts.{Restoring, Gives, StandsForEither, Hosted, IsCurrent, is_full, writes_whole, next_standing, IsCommitFault, IsCommit, CommitStop, IsWorn}
 
 -- a record that fits makes no fault of its size
@@ -209,46 +206,44 @@ disk_not_worn tells host store content payload old new f is disk commit worn =
     (ap (λ (p : Place). p.generation) (some_is store worn.1.0 host.store is worn.1.1) ∙ worn.1.2)) tt
 
 -- why changes weren't stored, by the fault of the store
-abbrev IsDisks : CommitFault → Type 0
-IsDisks commit.Disk = Unit {0}
-IsDisks commit.Worn = ⊥
+abbrev IsDisks : RecordFault → Type 0
+IsDisks host.Disk = Unit {0}
+IsDisks host.NoRecord = ⊥
+IsDisks (host.BadRecord at) = ⊥
+IsDisks host.Worn = ⊥
 
-pub of_disk : (f : StoreFault) → commit_fault f ≡ commit.Disk → f ≡ Disk
-of_disk Disk e = refl
-of_disk NoRecord e = absurd (subst IsDisks (sym e) tt)
-of_disk (TooLarge len) e = absurd (subst IsDisks (sym e) tt)
-of_disk NoMemory e = absurd (subst IsDisks (sym e) tt)
-of_disk Worn e = absurd (subst IsDisks (sym e) tt)
+pub of_disk : (f : StoreFault) (g : RecordFault) → IsOfCommit f g → g ≡ host.Disk → f ≡ Disk
+of_disk Disk g of is = refl
+of_disk NoRecord g of is = absurd of
+of_disk (TooLarge len) g of is = absurd of
+of_disk NoMemory g of is = absurd of
+of_disk Worn g of is = absurd (subst IsDisks (sym is ∙ of) tt)
 
-pub of_worn : (whole : Bool) (store : Place) (old new : View) (f : StoreFault) → commit_fault f ≡ commit.Worn
-    → IsCommitFault whole store old new f → f ≡ Worn
-of_worn whole store old new Disk is fault = absurd (subst IsDisks is tt)
-of_worn whole store old new NoRecord is fault = absurd fault
-of_worn whole store old new (TooLarge len) is fault = absurd fault
-of_worn whole store old new NoMemory is fault = absurd fault
-of_worn whole store old new Worn is fault = refl
+pub of_worn : (f : StoreFault) (g : RecordFault) → IsOfCommit f g → g ≡ host.Worn → f ≡ Worn
+of_worn Disk g of is = absurd (subst IsDisks (sym of ∙ is) tt)
+of_worn NoRecord g of is = absurd of
+of_worn (TooLarge len) g of is = absurd of
+of_worn NoMemory g of is = absurd of
+of_worn Worn g of is = refl
 
-pub unstored : (whole : Bool) (store : Place) (o : Option Place) (old new : View) (f : StoreFault) → o ≡ Some store
-    → IsCommitFault whole store old new f → IsUnstored whole o old new (commit_fault f)
-unstored whole store o old new Disk is fault = fault
-unstored whole store o old new NoRecord is fault = absurd fault
-unstored whole store o old new (TooLarge len) is fault = absurd fault
-unstored whole store o old new NoMemory is fault = absurd fault
-unstored whole store o old new Worn is fault = (fault.0, (store, is, fault.1), fault.2)
+pub unstored : (whole : Bool) (store : Place) (o : Option Place) (old new : View) (f : StoreFault) (g : RecordFault)
+    → IsOfCommit f g → o ≡ Some store
+    → IsCommitFault whole store old new f → IsUnstored whole o old new g
+unstored whole store o old new Disk g of is fault = subst (IsUnstored whole o old new) (sym of) fault
+unstored whole store o old new NoRecord g of is fault = absurd fault
+unstored whole store o old new (TooLarge len) g of is fault = absurd fault
+unstored whole store o old new NoMemory g of is fault = absurd fault
+unstored whole store o old new Worn g of is fault =
+    subst (IsUnstored whole o old new) (sym of) (fault.0, (store, is, fault.1), fault.2)
 
--- the fault as it is told
-pub named : (f : CommitFault) (changes : ArrayVec Change 16 (Unit {0})) → (told_fault f changes ≡ disk_of changes)
-    ⊎ (told_fault f changes ≡ worn_out)
-named commit.Disk changes = inl refl
-named commit.Worn changes = inr refl
-
+-- a fault in its place
 abbrev Ended : Type 0
-Ended = Result (Unit {0}) CommitFault
+Ended = Result (Unit {0}) RecordFault
 
-fault_in : CommitFault → Ended → CommitFault
+fault_in : RecordFault → Ended → RecordFault
 fault_in d (Ok u) = d
 fault_in d (Err f) = f
 
-pub same_fault : (f g : CommitFault) (r s : Ended) → r ≡ Err f → s ≡ Err g → r ≡ s → f ≡ g
+pub same_fault : (f g : RecordFault) (r s : Ended) → r ≡ Err f → s ≡ Err g → r ≡ s → f ≡ g
 unfolding fault_in
 same_fault f g r s first second same = sym (ap (fault_in f) first) ∙ ap (fault_in f) same ∙ ap (fault_in f) second

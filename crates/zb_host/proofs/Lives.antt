@@ -5,8 +5,10 @@ use Rattle.zb_disk.specs.View.{View}
 use Rattle.zb_store.specs.Layout.{Standing, IsWhole, stands}
 use Rattle.zb_store.specs.Store.{AllWhole, WasThere}
 use Rattle.zb_node_types.specs.declared.change.Change.{Change}
-use Rattle.zb_host.specs.declared.fault.HostFault.{HostFault}
-use Rattle.zb_host.specs.declared.fault.HostFault.TheVariants.{Disk, NoMemory, NoRecord, BadRecord, Worn}
+use Rattle.zb_base.specs.declared.fault.OrMemory.{OrMemory}
+use Rattle.zb_base.specs.declared.fault.OrMemory.TheVariants.{Fault, NoMemory}
+use Rattle.zb_host.specs.declared.fault.RecordFault.{RecordFault}
+use Rattle.zb_host.specs.declared.fault.RecordFault.TheVariants.{Disk, NoRecord, BadRecord, Worn}
 use Rattle.zb_host.specs.Plans.{Restored, gives, bad}
 use Rattle.zb_host.specs.HostFaults.{IsBootFault}
 use Rattle.zb_host.specs.Hosts.{Restoring, Gives, StandsFor, StandsForEither, Hosted, IsCurrent}
@@ -143,18 +145,18 @@ not_bad : (restored : Restoring) (s r : Standing) (w : List ℕ) (at : ℕ) → 
 not_bad restored s r w at same is isnt =
     subst IsGiven (sym is ∙ ap (λ (t : Standing). restored t.content (concat t.payloads)) same ∙ isnt) tt
 
-spared : {C D : Type 0} (words : Words C D) (booted : List ℕ) (es : List Event) (old new : D) (fault : HostFault)
-    → IsTrue words.tells.content
+spared : {C D : Type 0} (words : Words C D) (booted : List ℕ) (es : List Event) (old new : D)
+    (fault : OrMemory RecordFault) → IsTrue words.tells.content
     → Left words.restored booted es (words.state old).seen → IsBootFault words.tells words.restored (words.state old)
     (words.state new) fault → IsSpared fault
-spared words booted es old new (Disk changes) told left is = tt
-spared words booted es old new NoMemory told left is = tt
-spared words booted es old new NoRecord told left is = subst IsSome (sym left.1.1.stands ∙ is.0 told) tt
-spared words booted es old new (BadRecord at) told left is =
+spared words booted es old new (Fault Disk) told left is = tt
+spared words booted es old new (Fault NoRecord) told left is = subst IsSome (sym left.1.1.stands ∙ is.0 told) tt
+spared words booted es old new (Fault (BadRecord at)) told left is =
     let found = is.0 told in
     not_bad words.restored left.1.0 found.0 left.0 at
     (same_standing left.1.0 found.0 (words.state old).seen left.1.1.stands found.1) left.1.2 found.2
-spared words booted es old new Worn told left is = is
+spared words booted es old new (Fault Worn) told left is = is
+spared words booted es old new NoMemory told left is = tt
 
 -- the record of a boot that answers
 answered : {C D : Type 0} (words : Words C D) (booted : List ℕ) (es : List Event) (old new : D) (host : Hosted C)

@@ -5,11 +5,11 @@ use Rattle.zb_node_types.specs.declared.change.Change.{Change}
 use Rattle.zb_disk.specs.View.{Telling, View, LeavesOnly}
 use Rattle.zb_store.specs.Layout.{Standing, stands}
 use Rattle.zb_store.specs.Store.{place_of, AllWhole, WasThere}
-use Rattle.zb_host.specs.declared.fault.CommitFault.{CommitFault}
-use Rattle.zb_host.specs.declared.fault.HostFault.{HostFault}
+use Rattle.zb_base.specs.declared.fault.OrMemory.{OrMemory}
+use Rattle.zb_host.specs.declared.fault.RecordFault.{RecordFault}
 use Rattle.zb_host.specs.declared.plan.Plan.{Plan}
 use Rattle.zb_host.specs.Hosts.{Restoring, Gives, StandsForEither, Hosted, IsCurrent, writes_whole, next_standing}
-use Rattle.zb_host.specs.HostFaults.{IsBootFault, told_fault}
+use Rattle.zb_host.specs.HostFaults.{IsBootFault}
 
 -- what a law on calls has of a core and of a disk: their ghost members
 pub record Words (C D : Type 0) : Type 1 where
@@ -25,17 +25,17 @@ abbrev pub words_of : {C D : Type 0} → Telling → (D → View) → Restoring 
 words_of tells state restored recorded payload =
     record { tells = tells; state = state; restored = restored; recorded = recorded; payload = payload }
 
--- what `handle` returns: the changes and what goes out, or why not
-abbrev pub Handled : Type 0 → Type 0
-Handled O = Result (ArrayVec Change 16 (Unit {0}) × O) HostFault
+-- what a call for an event returns: the changes and what goes out, or why not
+abbrev pub Handled : Type 0 → Type 0 → Type 0
+Handled F O = Result (ArrayVec Change 16 (Unit {0}) × O) F
 
 -- the same of `handle_into`, from what it returns and the plan that it writes
-abbrev pub handled : {O : Type 0} → Result (Unit {0}) CommitFault → Plan O → Handled O
+abbrev pub handled : {F O : Type 0} → Result (Unit {0}) F → Plan O → Handled F O
 handled (Ok u) p = Ok (p.changes, p.out)
-handled (Err fault) p = Err (told_fault fault p.changes)
+handled (Err fault) p = Err fault
 
--- a call of `handle`
-pub record IsHandled {C D O : Type 0} (words : Words C D) (before : Hosted C) (old : D) (result : Handled O)
+-- a call for an event
+pub record IsHandled {C D F O : Type 0} (words : Words C D) (before : Hosted C) (old : D) (result : Handled F O)
     (after : Hosted C) (new : D) : Type 0 where
   -- a crash at any moment leaves the old record's core or the new one's
   pub moments : (s : Standing) → IsCurrent words.restored words.recorded s before (words.state old)
@@ -57,8 +57,8 @@ pub record IsHandled {C D O : Type 0} (words : Words C D) (before : Hosted C) (o
   pub down : OnErr result (after.store ≡ None)
 
 -- a call of `boot`
-pub record IsBooted {C D : Type 0} (words : Words C D) (old : D) (result : Result (Hosted C) HostFault) (new : D) :
-    Type 0 where
+pub record IsBooted {C D : Type 0} (words : Words C D) (old : D) (result : Result (Hosted C) (OrMemory RecordFault))
+    (new : D) : Type 0 where
   -- its core is that of the record and the entries that the disk as it reads represents
   pub answer : IfOk result (λ h. IsTrue words.tells.content → (s : Standing) × (stands (words.state old).seen ≡ Some s)
       × Gives words.restored s (words.recorded h.core) × (h.store ≡ Some (place_of s))

@@ -1,14 +1,17 @@
 -- What a node lives through: calls of its host, and crashes at any moment of them and between them.
 use Rattle.std.specs.Prelude.{ℕ, ◌≡◌, ◌++◌, List, [], ◌∷◌, Bool, true, false, Option, Some, None, Result, Ok, Err, is_some, IsTrue}
+use Rattle.zb_base.specs.declared.fault.OrMemory.{OrMemory}
+use Rattle.zb_base.specs.declared.fault.OrMemory.TheVariants.{Fault, NoMemory}
 use Rattle.zb_host.specs.declared.fault.HostFault.{HostFault}
-use Rattle.zb_host.specs.declared.fault.HostFault.TheVariants.{Disk, NoMemory, NoRecord, BadRecord, Worn}
+use Rattle.zb_host.specs.declared.fault.RecordFault.{RecordFault}
+use Rattle.zb_host.specs.declared.fault.RecordFault.TheVariants.{Disk, NoRecord, BadRecord, Worn}
 use Rattle.zb_host.specs.Hosts.{Hosted}
 use Rattle.zb_host.specs.Calls.{Words, Handled, IsHandled, IsBooted}
 
 -- a call: its answer, with the host that it leaves or makes, and the disk that it leaves
 pub data Call (C D O : Type 0) : Type 0 where
-  handle : Handled O → Hosted C → D → Call C D O
-  boot : Result (Hosted C) HostFault → D → Call C D O
+  handle : Handled HostFault O → Hosted C → D → Call C D O
+  boot : Result (Hosted C) (OrMemory RecordFault) → D → Call C D O
 
 abbrev pub host_after : {C D O : Type 0} → Call C D O → Option (Hosted C)
 host_after (handle result after disk) = Some after
@@ -69,12 +72,12 @@ pub record IsAfterFirst (before : List ℕ) (es : List Event) (booted : List ℕ
   pub none_out : NoneOut others
 
 -- a boot failed by a fault of the disk or out of memory: the record isn't lost
-abbrev pub IsSpared : HostFault → Type 0
-IsSpared (Disk changes) = Unit {0}
+abbrev pub IsSpared : OrMemory RecordFault → Type 0
+IsSpared (Fault Disk) = Unit {0}
+IsSpared (Fault NoRecord) = ⊥
+IsSpared (Fault (BadRecord at)) = ⊥
+IsSpared (Fault Worn) = ⊥
 IsSpared NoMemory = Unit {0}
-IsSpared NoRecord = ⊥
-IsSpared (BadRecord at) = ⊥
-IsSpared Worn = ⊥
 
 -- After a boot whose core has this record, and these events since: each boot restores the record after some prefix of
 -- the events since the boot before it. Nothing was handed out from the other events.

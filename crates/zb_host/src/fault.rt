@@ -1,36 +1,53 @@
-//! Why a host's call failed.
+//! Why a node's record can't be used, and why a host stored no changes.
 use std::error::Error;
 use std::fmt;
 use zb_node_types::Changes;
 
-/// Why a host's call failed. After a failed `handle` the host is down, and the node boots again from its disk.
-#[derive(Debug, Drop, PartialEq, Eq)]
-pub enum HostFault {
-    /// The disk failed. What is committed shows at the next boot.
-    Disk {
-        /// The changes that were to be stored: none in `boot`.
-        changes: Changes,
-    },
-    /// There was no memory left. It comes from `boot` alone.
-    NoMemory,
-    /// No slot of the disk stands open. It comes from `boot` alone.
+/// Why a node's record can't be read from its disk, or can't be stored there.
+///
+/// The boot of a host has the first three, its events the first and the last. After a failed event the host is down,
+/// and the node boots again from its disk.
+#[derive(Clone, Copy, Debug, Drop, PartialEq, Eq)]
+pub enum RecordFault {
+    /// The disk failed. The next boot shows what is committed.
+    Disk,
+    /// No slot of the disk is open.
     NoRecord,
-    /// What stands is no record of such a node, or an entry after it doesn't fit. It comes from `boot` alone.
+    /// The disk has no record of such a node, or an entry that doesn't fit its record.
     BadRecord {
-        /// The place of the fault, in bytes from 0; in the entries it counts on from the record's length.
+        /// The place of the fault, in bytes from 0. In the entries it counts from the record's length on.
         at: u32,
     },
-    /// The whole record was to be written, and the last generation of the store is used up. Nothing was written.
+    /// The whole record had to be written, and the store's last generation is used up. Nothing was written.
     Worn,
 }
 
-/// Why the changes of an event weren't stored. The host is down, and the node boots again from its disk.
-#[derive(Clone, Copy, Debug, PartialEq, Eq)]
-pub enum CommitFault {
-    /// The disk failed. What is committed shows at the next boot.
-    Disk,
-    /// The whole record was to be written, and the last generation of the store is used up. Nothing was written.
+/// Why `handle` stored no changes. The host is down, and the node boots again from its disk.
+#[derive(Debug, Drop, PartialEq, Eq)]
+pub enum HostFault {
+    /// The disk failed. The next boot shows what is committed.
+    Disk {
+        /// The changes that were to be stored.
+        changes: Changes,
+    },
+    /// The whole record had to be written, and the store's last generation is used up. Nothing was written.
     Worn,
+}
+
+impl fmt::Display for RecordFault {
+    ghost use Rattle.std.specs.Prelude.{Some};
+    ghost use Rattle.zb_host.specs.Texts.{record_text};
+
+    ghost output = { λ fault. Some (record_text fault) };
+
+    fn fmt<W: fmt::Write>(&self, f: &mut fmt::Formatter<W>) -> fmt::Result {
+        match self {
+            RecordFault::Disk => f.write_str("the disk failed"),
+            RecordFault::NoRecord => f.write_str("no record stands on the disk"),
+            RecordFault::BadRecord { at } => write!(f, "no record of this node, at byte {at}"),
+            RecordFault::Worn => f.write_str("the last generation is used up"),
+        }
+    }
 }
 
 impl fmt::Display for HostFault {
@@ -42,12 +59,11 @@ impl fmt::Display for HostFault {
     fn fmt<W: fmt::Write>(&self, f: &mut fmt::Formatter<W>) -> fmt::Result {
         match self {
             HostFault::Disk { .. } => f.write_str("the disk failed"),
-            HostFault::NoMemory => f.write_str("no memory"),
-            HostFault::NoRecord => f.write_str("no record stands on the disk"),
-            HostFault::BadRecord { at } => write!(f, "no record of this node, at byte {at}"),
             HostFault::Worn => f.write_str("the last generation is used up"),
         }
     }
 }
+
+impl Error for RecordFault {}
 
 impl Error for HostFault {}

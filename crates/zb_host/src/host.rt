@@ -9,11 +9,11 @@ ghost use Rattle.std.specs.List.{concat};
 ghost use Rattle.zb_store.specs.Store.{IsHeld, AllWhole, open_calls, OpenStop};
 ghost use Rattle.zb_host.specs.declared.plan.Plan.{Plan as APlan};
 ghost use Rattle.zb_host.specs.Hosts.{IsCurrent, writes_whole, commit_calls, HasStopped, IsWorn};
-ghost use Rattle.zb_host.specs.HostFaults.{IsHandleFault, IsUnstored, commit_fault, told_fault};
+ghost use Rattle.zb_host.specs.HostFaults.{IsHandleFault, IsOfCommit, IsUnstored};
 ghost use Rattle.zb_host.specs.Calls.{words_of, handled, IsHandled, IsBooted};
 
 use crate::commit::{commit, make_room};
-use crate::{CommitFault, Core, HostFault, Plan};
+use crate::{Core, HostFault, Plan, RecordFault};
 use std::alloc::Global;
 use std::marker::Model;
 use zb_base::{Config, OrMemory};
@@ -25,11 +25,11 @@ use zb_store::{Store, StoreFault};
 #[derive(Drop)]
 pub struct Host<C: Core> {
     core: C,
-    // Whether the next commit writes the whole record: what stands is of the first version.
+    // Whether the next commit writes the whole record, since the stored one is of the first version.
     whole: bool,
     // It is there while the host is up.
     store: Option<Store>,
-    // Room for an entry. It has the memory for a record, and is filled up where the whole record is written.
+    // Room for an entry. It has the memory for a record, and is filled up when the whole record is written.
     room: Vec<u8>,
 }
 
@@ -47,8 +47,8 @@ impl<C: Core> Model for Host<C> {
 impl<C: Core> Host<C> {
     /// Handles an event, and returns its changes and what goes out once they are stored.
     ///
-    /// They are stored by one entry, or by the whole record where no entry more fits. It takes no memory. Requires a
-    /// host that is up. After a fault the host is down.
+    /// One entry stores them, or the whole record if no further entry fits. It takes no memory. Requires a host that
+    /// is up. After a fault the host is down.
     ///
     /// # Errors
     /// `Disk`, with the changes; `Worn`.
@@ -59,7 +59,7 @@ impl<C: Core> Host<C> {
     ) -> Result<(Changes, C::Out), HostFault>
         requires up { IsTrue (is_some self.old.store) }
 
-        // The changes and what goes out are those of a plan of the core, and the core is the one after it. Where they
+        // The changes and what goes out are those of a plan of the core, and the core is the one after it. If they
         // weren't stored, the plan had changes.
         ensures planned { (p : APlan C.Out) × C.is_plan self.old.core event.now p
             × C.is_after self.old.core p self.new.core × IfOk result (λ r. (r.0 ≡ p.changes) × (r.1 ≡ p.out))
@@ -106,14 +106,19 @@ impl<C: Core> Host<C> {
         let mut plan = Plan::new();
         match self.handle_into(disk, event, &mut plan) {
             Ok(()) => Ok((plan.changes, plan.out)),
-            Err(fault) => Err(told(fault, plan.changes)),
+            Err(RecordFault::Disk) => Err(HostFault::Disk {
+                changes: plan.changes,
+            }),
+            Err(RecordFault::Worn) => Err(HostFault::Worn),
+            // These are faults of a boot.
+            Err(RecordFault::NoRecord | RecordFault::BadRecord { .. }) => unreachable!(),
         }
     }
 
     /// Handles an event as `handle` does, and writes its changes and what goes out into `plan`.
     ///
-    /// What stood in `plan` is gone. Requires a host that is up. After a fault the host is down, and `plan` has the
-    /// changes that were to be stored, and nothing that goes out.
+    /// It overwrites `plan`. Requires a host that is up. After a fault the host is down, and `plan` has the changes
+    /// that were to be stored, and nothing that goes out.
     ///
     /// # Errors
     /// `Disk`; `Worn`.
@@ -122,7 +127,7 @@ impl<C: Core> Host<C> {
         disk: &mut D,
         event: &C::Event,
         plan: &mut Plan<C::Out>,
-    ) -> Result<(), CommitFault>
+    ) -> Result<(), RecordFault>
         requires up { IsTrue (is_some self.old.store) }
 
         // What is written is a plan of the core, and the core is the one after it.
@@ -148,7 +153,7 @@ impl<C: Core> Host<C> {
 
         // Where the disk failed, it stopped at one of the calls, and an image in which the gate is open represents the
         // new.
-        ensures stopped { IsErrOf result CommitFault.Disk
+        ensures stopped { IsErrOf result RecordFault.Disk
             → (s : Standing) → IsCurrent C.restored C.recorded s self.old (D.state disk.old)
             → IsTrue D.tells.content → IsTrue D.tells.steady
             → HasStopped D.tells C.restored (writes_whole self.old) s
@@ -161,8 +166,8 @@ impl<C: Core> Host<C> {
         // generation more than there are, nothing is stored, and the disk is left as it was.
         ensures entry_next { OnOk result (plan.new.changes.items ≢ [] → self.new.whole ≡ false) }
         ensures not_worn { OnOk result (plan.new.changes.items ≢ [] → IsWorn self.old → ⊥) }
-        ensures worn { IsErrOf result CommitFault.Worn → IsStill (D.state disk.old) (D.state disk.new) }
-        ensures not_worn_disk { IsErrOf result CommitFault.Disk → IsWorn self.old → ⊥ }
+        ensures worn { IsErrOf result RecordFault.Worn → IsStill (D.state disk.old) (D.state disk.new) }
+        ensures not_worn_disk { IsErrOf result RecordFault.Disk → IsWorn self.old → ⊥ }
 
         ensures up { OnOk result (IsTrue (is_some self.new.store)) }
         ensures faults { IfErr result
@@ -197,14 +202,18 @@ impl<C: Core> Host<C> {
         }
     }
 
-    /// Makes the host of the node whose record and entries stand on the disk.
+    /// Makes the host of the node whose record and entries are on the disk.
     ///
-    /// It makes the device calls of `Store::open`: one, or three where the gates of both slots are open. Requires a
+    /// It makes the device calls of `Store::open`: one, or three if the gates of both slots are open. Requires a
     /// configuration of a node of the core's role.
     ///
     /// # Errors
-    /// `Disk`; `NoMemory`; `NoRecord`; `BadRecord`, with the place of the fault.
-    pub fn boot<D: Disk>(alloc: Global, config: &Config, disk: &mut D) -> Result<Host<C>, HostFault>
+    /// `Disk`; `NoRecord`; `BadRecord`, with the place of the fault; out of memory.
+    pub fn boot<D: Disk>(
+        alloc: Global,
+        config: &Config,
+        disk: &mut D,
+    ) -> Result<Host<C>, OrMemory<RecordFault>>
         requires config { IsConfig config.now }
         requires role { C.is_of_role config.now }
 
@@ -223,15 +232,16 @@ impl<C: Core> Host<C> {
         ensures configured { IfOk result (λ h. (content : List ℕ) × (payloads : List ℕ)
             × C.is_booted config.now content payloads h.core) }
 
-        // Where no slot stands open the disk is left as it was. Where what stands gives no core the calls are made.
-        ensures no_record { IfErr result (λ e. e ≡ HostFault.NoRecord
+        // If no slot is open, the disk is left as it was. If its bytes give no core, the calls are made.
+        ensures no_record { IfErr result (λ e. e ≡ OrMemory.Fault RecordFault.NoRecord
             → IsStill (D.state disk.old) (D.state disk.new)) }
-        ensures bad_record { IfErr result (λ e. (at : ℕ) → e ≡ HostFault.BadRecord at → IsTrue D.tells.content
+        ensures bad_record { IfErr result (λ e. (at : ℕ) → e ≡ OrMemory.Fault (RecordFault.BadRecord at)
+            → IsTrue D.tells.content
             → WentThrough D.tells (open_calls (D.state disk.old).seen) (D.state disk.old) (D.state disk.new)) }
-        ensures bad_record_held { IfErr result (λ e. (at : ℕ) → e ≡ HostFault.BadRecord at
+        ensures bad_record_held { IfErr result (λ e. (at : ℕ) → e ≡ OrMemory.Fault (RecordFault.BadRecord at)
             → AllWhole (D.state disk.old) → IsTrue D.tells.content
             → (s : Standing) → stands (D.state disk.old).seen ≡ Some s → IsHeld s (D.state disk.new)) }
-        ensures stopped { IfErr result (λ e. (changes : _) → e ≡ HostFault.Disk changes → AllWhole (D.state disk.old)
+        ensures stopped { IfErr result (λ e. e ≡ OrMemory.Fault RecordFault.Disk → AllWhole (D.state disk.old)
             → IsTrue D.tells.content → IsTrue D.tells.steady
             → (s : Standing) → stands (D.state disk.old).seen ≡ Some s
             → OpenStop D.tells s (D.state disk.old) (D.state disk.new)) }
@@ -240,20 +250,14 @@ impl<C: Core> Host<C> {
         ensures unrisen { OnOk result (Unrisen (D.state disk.old).faults (D.state disk.new).faults) }
         ensures asked { WasAsked D.tells (D.state disk.old) (D.state disk.new) }
     {
-        let room = match make_room(alloc) {
-            Ok(room) => room,
-            Err(_) => return Err(HostFault::NoMemory),
-        };
+        let room = make_room(alloc)?;
         let (store, record, payloads) = match Store::open(alloc, disk) {
             Ok(opened) => opened,
-            Err(StoreFault::Disk) => {
-                return Err(HostFault::Disk {
-                    changes: Changes::new(),
-                });
-            }
-            Err(StoreFault::NoRecord) => return Err(HostFault::NoRecord),
-            // It has no other fault but out of memory.
-            Err(_) => return Err(HostFault::NoMemory),
+            Err(StoreFault::Disk) => return Err(OrMemory::Fault(RecordFault::Disk)),
+            Err(StoreFault::NoRecord) => return Err(OrMemory::Fault(RecordFault::NoRecord)),
+            Err(StoreFault::NoMemory) => return Err(OrMemory::NoMemory),
+            // These are faults of a write.
+            Err(StoreFault::TooLarge { .. } | StoreFault::Worn) => unreachable!(),
         };
         match C::restore(alloc, config, &record, &payloads) {
             Ok(core) => Ok(Host {
@@ -262,9 +266,12 @@ impl<C: Core> Host<C> {
                 store: Some(store),
                 room,
             }),
-            Err(OrMemory::Fault(KeyError::BadRecord { at })) => Err(HostFault::BadRecord { at }),
-            // Nor has this.
-            Err(_) => Err(HostFault::NoMemory),
+            Err(OrMemory::NoMemory) => Err(OrMemory::NoMemory),
+            Err(OrMemory::Fault(KeyError::BadRecord { at })) => {
+                Err(OrMemory::Fault(RecordFault::BadRecord { at }))
+            }
+            // These are faults of a change of keys.
+            Err(OrMemory::Fault(_)) => unreachable!(),
         }
     }
 
@@ -284,25 +291,14 @@ impl<C: Core> Host<C> {
     }
 }
 
-// Why the changes of an event weren't stored. A commit has no faults but these two.
-fn fault_of(fault: StoreFault) -> CommitFault
-    ensures { result ≡ commit_fault fault }
+// Returns why a commit failed. It reads nothing and takes no memory, and what it writes fits.
+fn fault_of(fault: StoreFault) -> RecordFault
+    requires { (of : RecordFault) × IsOfCommit fault of }
+    ensures { IsOfCommit fault result }
 {
     match fault {
-        StoreFault::Disk => CommitFault::Disk,
-        StoreFault::NoRecord
-        | StoreFault::TooLarge { .. }
-        | StoreFault::NoMemory
-        | StoreFault::Worn => CommitFault::Worn,
-    }
-}
-
-// The fault as it is told, with the changes that were to be stored.
-fn told(fault: CommitFault, changes: Changes) -> HostFault
-    ensures { result ≡ told_fault fault changes }
-{
-    match fault {
-        CommitFault::Disk => HostFault::Disk { changes },
-        CommitFault::Worn => HostFault::Worn,
+        StoreFault::Disk => RecordFault::Disk,
+        StoreFault::Worn => RecordFault::Worn,
+        StoreFault::NoRecord | StoreFault::TooLarge { .. } | StoreFault::NoMemory => unreachable!(),
     }
 }

@@ -8,7 +8,7 @@ mod law;
 mod outcome;
 mod plan;
 
-pub use crate::fault::{CommitFault, HostFault};
+pub use crate::fault::{HostFault, RecordFault};
 pub use crate::host::Host;
 pub use crate::law::{each_boot_goes_on, fallen_events, stopped_events};
 pub use crate::outcome::Outcome;

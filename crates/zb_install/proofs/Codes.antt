@@ -1,4 +1,4 @@
--- What is wrong with bytes that are no install code.
+-- What is wrong with bytes that aren't an install code.
 use Rattle.std.proofs.Common.{◌≡◌, ℕ, Bool, true, false, List, Ok, Err, ◌∙◌, refl, sym, length, eq-eqb, ne_eqb}
 use Rattle.zb_install.specs.Code.{code_of, code_part, crc_part, is_code_length}
 use Rattle.zb_install.specs.Crc.{crc}

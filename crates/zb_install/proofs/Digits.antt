@@ -31,7 +31,7 @@ none_found : (b : Bool) (i : ℕ) → cond b (Some i) None ≡ None → b ≡ fa
 none_found true i h = absurd (cc)
 none_found false i h = refl
 
--- Where no character is none, each is a digit.
+-- If no character fails the test, each is a digit.
 all_digits : (cs : List ℕ) → position is_no_digit cs ≡ None
     → (k d : ℕ) → k < length cs → not (is_no_digit (get_or cs k d)) ≡ true
 all_digits cs h = within (λ c. not (is_no_digit c)) cs (ltb-false _ _ (none_found _ _ h))
@@ -98,7 +98,7 @@ text_digits text count e even p =
     let test = ne_eqb (length (chars text) % 2) 1 (λ o. even (ap (λ n. n % 2) e ∙ o)) in
     rw (test, p) refl
 
--- Digits whose bytes are no code for their number.
+-- Digits that spell a number of bytes that no code has.
 pub digits_wrong : (text : List ℕ) (n : ℕ) → IsUtf8 text → position is_no_digit (chars text) ≡ None
     → length (chars text) ≡ 2 * n → is_code_length n ≡ false
     → code_of (result_unwrap_or (decode_of text) []) ≡ Err (Length n)

@@ -1,4 +1,4 @@
--- The register is what the division has still to add.
+-- The register is what the division still has to add.
 use Rattle.std.proofs.Common.{◌≡◌, ℕ, zero, suc, ◌+◌, ◌-◌, ◌*◌, ◌/◌, ◌%◌, ◌^◌, ◌==◌, ◌<◌, true, false, List, [], ◌∷◌, ◌++◌, ◌∙◌, if◌then◌else◌, refl, sym, ap, length, map, replicate, get_or, drop, bit_xor, arith, add-one, append_assoc, drop-cons, div-one, eq-eqb, ne_eqb, pow-suc}
 use Rattle.std.proofs.lemmas.List.{drop_all}
 use Rattle.std.proofs.lemmas.Nat.{shr-shr, xor_comm, xor_mod, xor_shr}
@@ -131,7 +131,7 @@ message_end whole bytes register i e p =
     ∙ zeros_added 16 (bits_from 16 register) refl in
     sym (p ∙ last)
 
--- A number is that of its bits.
+-- A number is the one with its bits.
 pub number_of-bits : (n x : ℕ) → x < 2 ^ n → number_of (bits_from n x) ≡ x
 number_of-bits zero x h = omega arith
 number_of-bits (suc n) x h =

@@ -1,4 +1,4 @@
--- Ones added to the remainder are the number with all bits turned.
+-- Adding ones to the remainder inverts all bits of the number.
 use Rattle.std.proofs.Common.{◌≡◌, ℕ, ◌^◌, ◌<◌, List, ◌∙◌, sym, ap, bit_xor, replicate, arith}
 use Rattle.std.proofs.lemmas.Nat.{xor_lt}
 use Rattle.zb_install.specs.Division.{added, bits_from, number_of, remainder}

@@ -8,7 +8,7 @@ use Rattle.zb_install.specs.Division.{added, bits_from, divided}
 use Rattle.zb_install.specs.declared.remainders.TheConstants.{REMAINDERS}
 use Rattle.zb_install.proofs.Division.{odd_step, even_step, bits-half}
 
--- A register's half, to which the divisor is added where the bit was 1; and a step without a bit of the message.
+-- The half of a register, with the divisor added if the bit was 1; and a step without a bit of the message.
 unfoldable turned : ℕ → ℕ → ℕ
 turned bit half = if bit == 1 then bit_xor half 0x8408 else half
 
@@ -43,7 +43,7 @@ unfolding after
 after-xor zero a b = refl
 after-xor (suc k) a b = ap (after k) (next-xor a b) ∙ after-xor k (next a) (next b)
 
--- A step of what is even halves it.
+-- A step halves an even register.
 next-even : (x y : ℕ) → x ≡ 2 * y → next x ≡ y
 unfolding next turned
 next-even x y e =
@@ -76,7 +76,7 @@ eight x =
     ∙ ap (λ a. bit_xor a (after 8 (x % 256))) (after-high 8 (x / 256))
     ∙ ap (bit_xor (x / 256)) (sym (remainder-at (x % 256) (omega arith)))
 
--- A step that takes a bit of the message in is one on the register with that bit added.
+-- A step that takes in a bit of the message is a step on the register with that bit added.
 one-bit : (register bit n : ℕ) (rest : List ℕ) → register < 2 ^ 16 → bit < 2
     → divided (n + 1) (added (bit ∷ rest) (bits_from 16 register))
     ≡ divided n (added rest (bits_from 16 (next (bit_xor register bit))))
@@ -106,7 +106,7 @@ next-fits register h = by-parity (register % 2) (omega arith)
     by-parity (suc zero) l = xor_lt 16 (register / 2) 0x8408 (omega arith) (omega arith)
     by-parity (suc (suc p)) l = absurd (omega arith)
 
--- The bit first and the others then are the whole number.
+-- The first bit and then the others are the whole number.
 joined : (register byte : ℕ) → bit_xor (next (bit_xor register (byte % 2))) (byte / 2) ≡ next (bit_xor register byte)
 joined register byte =
     let whole : bit_xor (byte / 2 * 2 ^ 1) (byte % 2) ≡ byte = xor_shifted (byte / 2) 1 (byte % 2) (omega arith) ∙
@@ -118,7 +118,7 @@ joined register byte =
     (xor_assoc register (byte % 2) (byte / 2 * 2 ^ 1) ∙ ap (bit_xor register)
     (xor_comm (byte % 2) (byte / 2 * 2 ^ 1) ∙ whole))
 
--- The bits of a number that are taken in are as if it had been added to the register.
+-- Taking in the bits of a number has the same effect as adding it to the register.
 taken : (k byte register n : ℕ) (rest : List ℕ) → byte < 2 ^ k → register < 2 ^ 16
     → divided (n + k) (added (bits_from k byte ++ rest) (bits_from 16 register))
     ≡ divided n (added rest (bits_from 16 (after k (bit_xor register byte))))

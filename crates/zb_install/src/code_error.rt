@@ -1,20 +1,20 @@
-//! Why a text or some bytes are no install code.
+//! Why a text or some bytes aren't an install code.
 
-/// What is wrong with an install code, in the order in which it is tried.
+/// What is wrong with an install code, in the order of the checks.
 #[derive(Clone, Copy, Debug, PartialEq, Eq)]
 pub enum CodeError {
-    /// The number of characters is odd, and `at` is that number. Or the character at the place `at` is the first that
-    /// is no hexadecimal digit.
+    /// If the number of characters is odd, `at` is that number. Otherwise the character at the place `at` is the first
+    /// that isn't a hexadecimal digit.
     NotHex {
         /// That number, or that place, from 0.
         at: u32,
     },
-    /// Code and CRC have together none of the lengths 8, 10, 14 and 18.
+    /// The total length of code and CRC is none of 8, 10, 14 and 18.
     Length {
-        /// How many bytes they have.
+        /// How many bytes code and CRC have.
         len: u32,
     },
-    /// The last two bytes, the low one first, are `kept`, and the CRC of the others is `found`.
+    /// The last two bytes, least significant byte first, are `kept`, but the CRC of the others is `found`.
     Crc {
         /// The last two bytes.
         kept: u16,

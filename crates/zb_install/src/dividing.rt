@@ -1,10 +1,10 @@
-//! The division, byte by byte.
+//! The polynomial division, byte by byte.
 ghost use Rattle.std.specs.Prelude.{◌≡◌, ℕ, ◌+◌, List, ◌++◌};
 ghost use Rattle.zb_install.specs.Division.{added, bits_from, divided, number_of, remainder};
 
 use crate::remainders::REMAINDERS;
 
-/// Makes eight steps of the division: the register takes in the bits of a byte, from the lowest on.
+/// Makes eight steps of the division: the register takes in the bits of a byte, lowest bit first.
 fn after_byte(register: u16, byte: u8) -> u16
     ensures { (n : ℕ) (rest : List ℕ) → divided (n + 8) (added (bits_from 8 byte ++ rest) (bits_from 16 register))
         ≡ divided n (added rest (bits_from 16 result)) }
@@ -15,7 +15,7 @@ fn after_byte(register: u16, byte: u8) -> u16
 
 /// Divides the bytes of a message, and returns the remainder.
 ///
-/// The lowest bit of the number is that of the highest power. The division begins with the bits of `start` added to
+/// The lowest bit of the number is that of the highest power. The division starts with the bits of `start` added to
 /// the highest powers.
 pub fn divide(start: u16, bytes: &[u8]) -> u16
     ensures bits { bits_from 16 result ≡ remainder start bytes.now }

@@ -1,4 +1,4 @@
-//! A code with its CRC, taken from digits or bytes, and its link key.
+//! A code with its CRC, made from digits or bytes, and its link key.
 
 ghost use Rattle.std.specs.Prelude.{◌≡◌, ◌<◌, ◌≤◌, ◌-◌, ◌*◌, ◌^◌, [], IsTrue, length, None};
 ghost use Rattle.hex.specs.Hex.{decode_of};
@@ -14,7 +14,7 @@ use std::marker::Model;
 use zb_base::Key;
 use zb_mmo::hash;
 
-/// A code of 6, 8, 12 or 16 bytes and its CRC, with the link key that they give.
+/// A code of 6, 8, 12 or 16 bytes and its CRC, with the link key that results from them.
 ///
 /// A contract sees it as code and CRC together.
 #[derive(Drop)]
@@ -35,7 +35,7 @@ impl Model for InstallCode {
         × (length code.bytes.items ≤ longest_code) × (code.link.0 ≡ code_key code.bytes.items) };
 }
 
-// Returns whether a code and its CRC have this length together.
+// Returns whether a code and its CRC can have this total length.
 fn is_code_length(len: usize) -> bool
     ensures value { result ≡ is_code_length len }
     ensures bounds { IsTrue result → (8 ≤ len) × (len ≤ longest_code) }
@@ -43,7 +43,7 @@ fn is_code_length(len: usize) -> bool
     len == 8 || len == 10 || len == 14 || len == 18
 }
 
-// Copies the bytes into an array that holds the longest code.
+// Copies the bytes into an array with room for the longest code.
 fn array_of(bytes: &[u8]) -> ArrayVec<u8, 18>
     requires { length bytes.now ≤ longest_code }
     ensures { result.items ≡ bytes.now }
@@ -63,14 +63,14 @@ fn count_characters(text: &str) -> usize
     text.chars().count()
 }
 
-// Finds the place of the first character that is no hexadecimal digit.
+// Finds the place of the first character that isn't a hexadecimal digit.
 fn find_no_digit(text: &str) -> Option<usize>
     ensures { result ≡ position is_no_digit (chars text.now) }
 {
     text.chars().position(|c| !c.is_ascii_hexdigit())
 }
 
-// Takes the code that the digits of a text spell, by way of as many bytes.
+// Makes the code that the digits of a text spell, with `bytes` as the room for their bytes.
 fn spelled(text: &str, bytes: &mut [u8]) -> Result<InstallCode, CodeError>
     requires digits { position is_no_digit (chars text.now) ≡ None }
     requires pairs { length (chars text.now) ≡ 2 * length bytes.old }
@@ -82,12 +82,12 @@ fn spelled(text: &str, bytes: &mut [u8]) -> Result<InstallCode, CodeError>
 }
 
 impl InstallCode {
-    /// Takes a code and its CRC as hexadecimal digits, in either case.
+    /// Makes a code and its CRC from hexadecimal digits, in either case.
     ///
     /// Requires fewer than 2^32 - 1 bytes of text.
     ///
     /// # Errors
-    /// A `CodeError`, the first of its kinds that holds.
+    /// A `CodeError`: the first of its kinds that applies.
     pub fn from_hex(text: &str) -> Result<InstallCode, CodeError>
         requires { length text.now < 2 ^ 32 - 1 }
         ensures { result ≡ code_of_text text.now }
@@ -107,12 +107,12 @@ impl InstallCode {
         spelled(text, &mut bytes[..len])
     }
 
-    /// Takes a code and its CRC as bytes.
+    /// Makes a code and its CRC from bytes.
     ///
     /// Requires fewer than 2^32 - 1 of them.
     ///
     /// # Errors
-    /// A `CodeError`, the first of its kinds that holds, but for `NotHex`.
+    /// A `CodeError`: the first of its kinds that applies, except for `NotHex`.
     pub fn from_bytes(bytes: &[u8]) -> Result<InstallCode, CodeError>
         requires { length bytes.now < 2 ^ 32 - 1 }
         ensures { result ≡ code_of bytes.now }
@@ -133,14 +133,14 @@ impl InstallCode {
         })
     }
 
-    /// Returns code and CRC together, as they were taken.
+    /// Returns code and CRC together, as they were given.
     pub fn bytes(&self) -> &[u8]
         ensures { result.now ≡ self.now }
     {
         self.bytes.as_slice()
     }
 
-    /// Returns the link key that the code gives: the hash of code and CRC together.
+    /// Returns the link key of the code: the hash of code and CRC together.
     pub fn link_key(&self) -> Key
         ensures { result.0 ≡ code_key self.now }
     {

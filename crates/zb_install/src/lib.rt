@@ -1,5 +1,5 @@
-//! Install codes (Base Device Behavior): the code that is printed on a device, with its CRC, and the link key that it
-//! gives.
+//! Install codes (Base Device Behavior): the code that is printed on a device, with its CRC, and the link key that
+//! results from it.
 #![tactic(auto)]
 
 pub use check::crc;

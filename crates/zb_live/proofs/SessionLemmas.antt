@@ -28,7 +28,8 @@ use Rattle.zb_live.specs.Shown.{Prints, event_lines, shown_text}
 use Rattle.zb_live.specs.declared.session.Session.{Session}
 use Rattle.zb_live.specs.Answers.{ok_text, refused_text}
 use Rattle.zb_live.specs.Grammar.{meaning_of}
-use Rattle.zb_live.specs.Said.{Event, Sentence, Quiet, Opens, Happens}
+use Rattle.zb_script.specs.Resolving.{SaidTask}
+use Rattle.zb_live.specs.Said.{Sentence, Quiet, Opens, Happens}
 use Rattle.zb_live.specs.declared.cause.Cause.{Cause}
 use Rattle.zb_live.specs.declared.cause.Cause.TheVariants as cause
 use Rattle.zb_live.specs.declared.line.Log.{Log}
@@ -363,7 +364,7 @@ happening_fault tells says session old new host Write is h stores = absurd (h no
 happening_fault tells says session old new host NoMemory is h stores = h
 
 -- an event at which the store is worn has something to store
-pub event_stores : (session : Session) (event : Event) (task : Task) (host : Hosted CoreValue) (f : AdminFault)
+pub event_stores : (session : Session) (event : SaidTask) (task : Task) (host : Hosted CoreValue) (f : AdminFault)
     → session.centre ≡ Some host → task_for session.network.stations event ≡ Ok task
     → host.core.setting ≡ setting_of session.network
     → (f ≡ Worn → (c : Setting) (s : NodeState) → host.core ≡ record { setting = c; tables = s }
@@ -385,7 +386,7 @@ pub short_unworn : {T : Type 0} (P : Type 0) (r : Result T AdminFault) → IsSho
 short_unworn P (Ok x) short = tt
 short_unworn P (Err f) short = λ is. let no : NoMemory ≡ Worn = sym short ∙ is in absurd (cc no)
 
-module _ (number : ℕ) (found : Found) (old : Session) (event : Event) (task : Task) (host host2 : Hosted CoreValue)
+module _ (number : ℕ) (found : Found) (old : Session) (event : SaidTask) (task : Task) (host host2 : Hosted CoreValue)
     (is_up : old.centre ≡ Some host) (stands_for : task_for old.network.stations event ≡ Ok task)
     (before after : View) (alive : IsAlive found old before) where
   abbrev pub c2 : Setting
@@ -625,7 +626,7 @@ lines_answered tells c s task log event frame me host after old new p (Ok sends)
 lines_answered tells c s task log event frame me host after old new p (Err f) before page core h prints is called
     centre = record { core = tt; prints = tt; sends = tt }
 
-module _ (number : ℕ) (old : Session) (event : Event) (task : Task) (host host2 : Hosted CoreValue)
+module _ (number : ℕ) (old : Session) (event : SaidTask) (task : Task) (host host2 : Hosted CoreValue)
     (is_up : old.centre ≡ Some host) (stands_for : task_for old.network.stations event ≡ Ok task) where
   abbrev pub c3 : Setting
   c3 = setting_of old.network

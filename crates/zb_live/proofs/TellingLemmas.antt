@@ -1,38 +1,25 @@
 -- What is printed of the lines of an event, one line after the other.
-use Rattle.std.proofs.Common.{◌≡◌, ℕ, ◌+◌, ◌<◌, Bool, true, false, List, [], ◌∷◌, ◌++◌, Option, Some, None, Result, Ok, Err, OnOk, zero, suc, refl, sym, ap, ◌∙◌, map, filter, length, take, get_or, append_assoc, append-nil, arith}
-use Rattle.std.specs.Prelude.{◌==◌}
-use Rattle.std.specs.List.{AllByRecursion}
-use Rattle.std.specs.Option.{option_map, option_to_list}
-use Rattle.std.proofs.lemmas.Bool.{false≢true}
-use Rattle.std.proofs.lemmas.Bool.Decides.{nat_tests}
-use Rattle.std.proofs.lemmas.List.{map-append, take_more}
-use Rattle.std.proofs.lemmas.List.Elements.{filter-append}
-use Rattle.arrayvec.specs.ArrayString.{ArrayString}
-use Rattle.arrayvec.specs.ArrayVec.{ArrayVec}
+use Rattle.std.proofs.Common.{◌≡◌, ℕ, true, false, List, [], ◌∷◌, ◌++◌, Option, Some, None, Result, Ok, Err, OnOk, refl, sym, ap, ◌∙◌, map, append-nil}
+use Rattle.std.specs.Option.{option_map}
 use Rattle.zb_core.specs.CorePlans.{CorePlan}
-use Rattle.zb_host.specs.declared.outcome.Outcome.{Outcome}
-use Rattle.zb_live.specs.Lines.{AreOfCentre, frame_bytes, outcome_lines, refused_lines}
-use Rattle.zb_live.specs.Shown.{Prints, event_lines, has_key, is_shown, is_written, shown_text}
+use Rattle.zb_trace_model.specs.AnswerLines.{AreOfCentre, IsSaid, answer_lines, frame_bytes, line_has_key, lines_of_edits, outcome_lines, refused_lines, terms}
+use Rattle.zb_live.specs.Shown.{Prints, event_lines, is_shown, is_written, shown_text}
 use Rattle.zb_live.specs.declared.line.Log.{Log}
-use Rattle.zb_live.specs.declared.line.Log.TheVariants.{All, NoKeys}
 use Rattle.zb_model.specs.Answer.{Answer}
 use Rattle.zb_model.specs.Data as model
 use Rattle.zb_model.specs.Data.{Bytes, Edit, Reserve, Floor, Start, Moved, Draw, DropNet, DropLink, Install, Active, Row, Pair, Became, Live, Removed, Roll, Told, Untold, Station}
-use Rattle.zb_model.specs.Lines.{Line, Accept, Changed, Refuse, Seal, Send}
-use Rattle.zb_model.specs.Play.{change_lines, commit_lines, refuse_lines, send_lines, stored_lines, told_lines}
-use Rattle.zb_model_real.specs.Terms.{model_term}
-use Rattle.zb_node_types.specs.Changes.{edit, edits, reason}
+use Rattle.zb_model.specs.Lines.{Line, Accept, Refuse, Seal}
+use Rattle.zb_model.specs.Play.{refuse_lines, send_lines, stored_lines, told_lines}
+use Rattle.zb_node_types.specs.Changes.{edit, reason}
 use Rattle.zb_node_types.specs.declared.change.Change.{Change}
 use Rattle.zb_node_types.specs.declared.refusal.Refusal.{Refusal}
-use Rattle.zb_plan.specs.Answers.{IsAnswer, IsAt, terms}
+use Rattle.zb_plan.specs.Answers as plan
+use Rattle.zb_plan.specs.Answers.{IsAnswer, IsAt}
 use Rattle.zb_seal.specs.declared.term.Term.{Term}
-use Rattle.zb_trace.specs.Text.{line_of, text, words}
+use Rattle.zb_trace.specs.Text.{text}
 use Rattle.zb_trace.specs.Views.{the_centre}
 use Rattle.zb_trace.specs.declared.line.Line.{Line as Printed}
-use Rattle.zb_trace.specs.declared.line.Line.TheVariants as line
-use Rattle.zb_trace_model.specs.Naming.{IsCalled}
-use Rattle.zb_trace_model.specs.Said.{IsLineOf, IsOfCentre, line_for, line_text, name_in, text_of}
-use Rattle.zb_trace_model.proofs.Texts.{text_append}
+use Rattle.zb_trace_model.specs.Said.{IsOfCentre, line_text, text_of}
 
 pub on_ok : {T E P Q : Type 0} (r : Result T E) → (P → Q) → OnOk r P → OnOk r Q
 on_ok (Ok x) f p = f p
@@ -50,113 +37,24 @@ hidden_one : (log : Log) (known : List Station) (m : Line) → is_shown log m �
 unfolding shown_text text_of
 hidden_one log known m is = rw is refl
 
-pub one_printed : (log : Log) (secret : Bool) (l : Printed) (before after : List ℕ) → after ≡ before ++ text l
-    → is_written log secret ≡ true
-    → (known : List Station) (m : Line) → IsLineOf known l m → secret ≡ has_key m
-    → Prints log known (m ∷ []) before after
-one_printed log secret l before after prints written known m says same =
+pub one_printed : (log : Log) (l : Printed) (before after : List ℕ) → after ≡ before ++ text l
+    → is_written log (line_has_key l) ≡ true
+    → (known : List Station) (m : Line) → IsSaid false known l m → Prints log known (m ∷ []) before after
+one_printed log l before after prints written known m says =
     prints ∙ ap (λ t. before ++ t)
-    (says.text_is ∙ sym (shown_one log known m (ap (is_written log) (sym same) ∙ written)))
+    (says.text_is ∙ sym (shown_one log known m (ap (is_written log) (sym says.key_is) ∙ written)))
 
-pub none_hidden : (log : Log) (secret : Bool) (before : List ℕ) → is_written log secret ≡ false
-    → (known : List Station) (m : Line) → secret ≡ has_key m → Prints log known (m ∷ []) before before
-none_hidden log secret before hidden known m same =
+pub none_hidden : (log : Log) (l : Printed) (before : List ℕ) → is_written log (line_has_key l) ≡ false
+    → (known : List Station) (m : Line) → IsSaid false known l m → Prints log known (m ∷ []) before before
+none_hidden log l before hidden known m says =
     sym (append-nil before) ∙ ap (λ t. before ++ t)
-    (sym (hidden_one log known m (ap (is_written log) (sym same) ∙ hidden)))
+    (sym (hidden_one log known m (ap (is_written log) (sym says.key_is) ∙ hidden)))
 
--- a frame that is sent has no key
-plain : (log : Log) → is_written log false ≡ true
-plain All = refl
-plain NoKeys = refl
+-- ---- the whole, if it is the policy's answer
 
-pub sent_says : (event frame : ℕ) (node : ArrayString) (bytes : ArrayVec ℕ) (known : List Station) (n : ℕ)
-    → IsCalled known n node.bytes
-    → text (line.Send event node frame bytes) ≡ line_text known (Send event (Some n) frame bytes.items)
-unfolding text line_text line_for
-sent_says event frame node bytes known n it =
-    ap (λ name. line_of (words (line.Send event (name_in name) frame bytes))) (sym it.name_is)
-
-pub frame_printed : (log : Log) (known : List Station) (event n frame : ℕ) (bytes : Bytes) (before after t : List ℕ)
-    → after ≡ before ++ t → t ≡ line_text known (Send event (Some n) frame bytes)
-    → Prints log known (send_lines event (Some n) frame (Some bytes)) before after
-frame_printed log known event n frame bytes before after t prints is =
-    prints ∙ ap (λ x. before ++ x) (is ∙ sym (shown_one log known (Send event (Some n) frame bytes) (plain log)))
-
--- ---- lines one after the other
-
-shown_append : (log : Log) (known : List Station) (some more : List Line) → shown_text log known (some ++ more)
-    ≡ shown_text log known some ++ shown_text log known more
-unfolding shown_text
-shown_append log known some more = ap (text_of known) (filter-append (is_shown log) some more) ∙ text_append known
-    (filter (is_shown log) some) (filter (is_shown log) more)
-
-pub printed_in_turn : (log : Log) (known : List Station) (some more : List Line) (before page after : List ℕ)
-    → Prints log known some before page → Prints log known more page after
-    → Prints log known (some ++ more) before after
-printed_in_turn log known some more before page after first second =
-    second ∙ ap (λ p. p ++ shown_text log known more) first ∙ append_assoc before (shown_text log known some)
-    (shown_text log known more)
-    ∙ ap (λ t. before ++ t) (sym (shown_append log known some more))
-
-pub none_printed : (log : Log) (known : List Station) (page : List ℕ) → Prints log known [] page page
-unfolding shown_text text_of
-none_printed log known page = sym (append-nil page)
-
--- ---- changes
-
-pub all_at : {A : Type 0} (P : A → Type 0) (xs : List A) (i : ℕ) (d : A) → i < length xs → AllByRecursion P xs
-    → P (get_or xs i d)
-all_at P [] i d within all = absurd (omega (arith, within))
-all_at P (x ∷ xs) zero d within all = all.0
-all_at P (x ∷ xs) (suc i) d within all = all_at P xs i d (omega (arith, within)) all.1
-
-pub change_more : (event n : ℕ) (changes : List Change) (i : ℕ) (d : Change) → i < length changes
-    → change_lines event n (edits (take (i + 1) changes)) ≡ change_lines event n (edits (take i changes))
-    ++ Changed event n (edit (get_or changes i d)) ∷ []
-change_more event n changes i d within =
-    ap (λ (cs : List Change). map (Changed event n) (map edit cs)) (take_more changes i d within)
-    ∙ ap (map (Changed event n)) (map-append edit (take i changes) (get_or changes i d ∷ []))
-    ∙ map-append (Changed event n) (map edit (take i changes)) (edit (get_or changes i d) ∷ [])
-
-pub no_commit : (event n : ℕ) (changes : List Change) → (length changes == 0) ≡ true
-    → commit_lines event n (edits changes) ≡ []
-no_commit event n [] none = refl
-no_commit event n (c ∷ changes) none = let some : (length (c ∷ changes) == 0) ≡ false =
-    grind (arith, nat_tests) in absurd (false≢true (sym some ∙ none))
-
--- ---- what goes out
-
-abbrev pub listed : Option Term → List model.Term
-listed term = option_to_list (option_map model_term term)
-
-terms_apart : (f : model.Term → Line) (first second : Option Term) → map f (terms first second) ≡ map f (listed first)
-    ++ map f (listed second)
-terms_apart f None None = refl
-terms_apart f (Some a) None = refl
-terms_apart f None (Some b) = refl
-terms_apart f (Some a) (Some b) = refl
-
-pub outcome_printed : (log : Log) (known : List Station) (event n frame : ℕ) (out : Outcome Term Refusal)
-    (p0 p1 p2 p3 p4 p5 p6 : List ℕ)
-    → Prints log known (map (Accept event n) (listed out.accepted_nwk)) p0 p1
-    → Prints log known (map (Accept event n) (listed out.accepted_aps)) p1 p2
-    → Prints log known (refused_lines event n out.refused) p2 p3
-    → Prints log known (map (Seal event n) (listed out.sealed_aps)) p3 p4
-    → Prints log known (map (Seal event n) (listed out.sealed_nwk)) p4 p5
-    → Prints log known (send_lines event (Some n) frame (frame_bytes out.frame)) p5 p6
-    → Prints log known (outcome_lines event n frame out) p0 p6
-unfolding outcome_lines
-outcome_printed log known event n frame out p0 p1 p2 p3 p4 p5 p6 one two three four five six =
-    rw (
-      terms_apart (Accept event n) out.accepted_nwk out.accepted_aps,
-      terms_apart (Seal event n) out.sealed_aps
-          out.sealed_nwk,
-    )
-    (printed_in_turn log known _ _ p0 p2 p6 (printed_in_turn log known _ _ p0 p1 p2 one two)
-    (printed_in_turn log known _ _ p2 p3 p6 three
-    (printed_in_turn log known _ _ p3 p5 p6 (printed_in_turn log known _ _ p3 p4 p5 four five) six)))
-
--- ---- the whole, where it is the policy's answer
+terms_same : (first second : Option Term) → terms first second ≡ plan.terms first second
+terms_same first None = refl
+terms_same first (Some t) = refl
 
 refusals_as : (number n : ℕ) (place : model.Place) (o : Option Refusal) (found : Option model.Reason)
     → option_map reason o ≡ found → IsAt place o → refused_lines number n o ≡ refuse_lines number n place found
@@ -185,21 +83,16 @@ outcome_is number n frame p a is =
     four number n frame (terms p.out.accepted_nwk p.out.accepted_aps) a.accepts
     (terms p.out.sealed_aps p.out.sealed_nwk) a.seals (refused_lines number n p.out.refused)
     (refuse_lines number n a.place a.refusal)
-    (frame_bytes p.out.frame) a.frame is.accepts
-    (refusals_as number n a.place p.out.refused a.refusal is.refusal is.place) is.seals is.frame
+    (frame_bytes p.out.frame) a.frame (terms_same p.out.accepted_nwk p.out.accepted_aps ∙ is.accepts)
+    (refusals_as number n a.place p.out.refused a.refusal is.refusal is.place)
+    (terms_same p.out.sealed_aps p.out.sealed_nwk ∙ is.seals) is.frame
 
-pub event_printed : (log : Log) (known : List Station) (number n frame : ℕ) (p : CorePlan) (a : Answer)
-    (before page after : List ℕ) → IsAnswer p a
-    → Prints log known
-    (change_lines number n (edits p.changes.items) ++ commit_lines number n (edits p.changes.items)) before page
-    → Prints log known (outcome_lines number n frame p.out) page after
-    → Prints log known (event_lines number n frame a) before after
-unfolding event_lines stored_lines shown_text text_of told_lines
-event_printed log known number n frame p a before page after is stored out =
-    rw (sym is.changes, sym (outcome_is number n frame p a is))
-    (printed_in_turn log known
-    (change_lines number n (edits p.changes.items) ++ commit_lines number n (edits p.changes.items))
-    (outcome_lines number n frame p.out) before page after stored out)
+pub answer_is : (number n frame : ℕ) (p : CorePlan) (a : Answer) → IsAnswer p a → answer_lines number n frame p
+    ≡ event_lines number n frame a
+unfolding event_lines stored_lines
+answer_is number n frame p a is =
+    ap (λ (es : List Edit). lines_of_edits number n es ++ outcome_lines number n frame p.out) is.changes
+    ∙ ap (λ (ls : List Line). lines_of_edits number n a.edits ++ ls) (outcome_is number n frame p a is)
 
 -- ---- whose changes they are
 

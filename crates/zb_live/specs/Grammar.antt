@@ -6,11 +6,13 @@ use Rattle.zb_text.specs.Fields.{name_of, short_of, key_of}
 use Rattle.zb_text.specs.Hexadecimal.{bytes_of}
 use Rattle.zb_text.specs.Words.{words, first_of, field, nothing}
 use Rattle.zb_sched_line.specs.Grammar.{◌>>=◌, is_quiet, name_alone, or_else, rejoin_of, two_names}
+use Rattle.zb_model.specs.Data.{SayTo, DoTimer, HasChild, DoProvision, DoRemove, DoRoll, DoSwitch, DoAgain, DoShare, Received}
 use Rattle.zb_script.specs.Grammar as script
+use Rattle.zb_script.specs.Resolving.{SaidTask}
 use Rattle.zb_script.specs.Said as said
 use Rattle.zb_live.specs.declared.line.Log.TheVariants.{All, NoKeys}
 use Rattle.zb_live.specs.declared.question.Question.TheVariants as question
-use Rattle.zb_live.specs.Said.{Bytes, Event, Delivers, Adopts, Ticks, Says, Provisions, Removes, Rolls, Switches, Repeats, Shares, Sentence, Quiet, Founds, Introduces, Logs, Opens, Happens, Asks}
+use Rattle.zb_live.specs.Said.{Bytes, Sentence, Quiet, Founds, Introduces, Logs, Opens, Happens, Asks}
 use Rattle.zb_base.specs.Limits.{longest_frame, longest_content}
 
 -- ---- events, after their first word
@@ -20,53 +22,53 @@ abbrev pub draw_of : List ℕ → Option (Option Bytes)
 draw_of word = if bytes_eq word (codes "-") then Some None else option_map Some (key_of word)
 
 -- HEX DRAW: a frame has at most 127 bytes
-abbrev pub deliver_of : List (List ℕ) → Option Event
+abbrev pub deliver_of : List (List ℕ) → Option SaidTask
 deliver_of ws = do
   bytes ← field (bytes_of longest_frame) ws
   draw ← field draw_of bytes.1
   end ← nothing draw.1
-  Some (Delivers bytes.0 draw.0)
+  Some (Received bytes.0 draw.0)
 
 -- NAME join or NAME rejoin
-abbrev pub child_of : List (List ℕ) → Option Event
+abbrev pub child_of : List (List ℕ) → Option SaidTask
 child_of ws = do
   name ← field name_of ws
   rejoin ← field rejoin_of name.1
   end ← nothing rejoin.1
-  Some (Adopts name.0 rejoin.0)
+  Some (HasChild name.0 rejoin.0)
 
 -- SHORT HEX: at most 64 bytes
-abbrev pub say_of : List (List ℕ) → Option Event
+abbrev pub say_of : List (List ℕ) → Option SaidTask
 say_of ws = do
   to ← field short_of ws
   bytes ← field (bytes_of longest_content) to.1
   end ← nothing bytes.1
-  Some (Says to.0 bytes.0)
+  Some (SayTo to.0 bytes.0)
 
 -- DRAW
-abbrev pub roll_of : List (List ℕ) → Option Event
+abbrev pub roll_of : List (List ℕ) → Option SaidTask
 roll_of ws = do
   draw ← field draw_of ws
   end ← nothing draw.1
-  Some (Rolls draw.0)
+  Some (DoRoll draw.0)
 
 -- NAME
-abbrev pub again_of : List (List ℕ) → Option Event
-again_of ws = option_map Repeats (name_alone ws)
+abbrev pub again_of : List (List ℕ) → Option SaidTask
+again_of ws = option_map DoAgain (name_alone ws)
 
 -- NAME PARTNER
-abbrev pub share_of : List (List ℕ) → Option Event
-share_of ws = option_map (λ names. Shares names.0 names.1) (two_names ws)
+abbrev pub share_of : List (List ℕ) → Option SaidTask
+share_of ws = option_map (λ names. DoShare names.0 names.1) (two_names ws)
 
 -- the events that no script has
-abbrev pub event_at : List ℕ → List (List ℕ) → Option Event
+abbrev pub event_at : List ℕ → List (List ℕ) → Option SaidTask
 event_at word ws =
     if bytes_eq word (codes "deliver") then deliver_of ws
     else if bytes_eq word (codes "child") then child_of ws
-    else if bytes_eq word (codes "timer") then option_map (λ end. Ticks) (nothing ws)
+    else if bytes_eq word (codes "timer") then option_map (λ end. DoTimer) (nothing ws)
     else if bytes_eq word (codes "say") then say_of ws
     else if bytes_eq word (codes "roll") then roll_of ws
-    else if bytes_eq word (codes "switch") then option_map (λ end. Switches) (nothing ws)
+    else if bytes_eq word (codes "switch") then option_map (λ end. DoSwitch) (nothing ws)
     else if bytes_eq word (codes "again") then again_of ws
     else if bytes_eq word (codes "share") then share_of ws
     else None
@@ -102,8 +104,8 @@ scripted said.Quiet = None
 scripted (said.Founds name eui out_block in_block) = Some (Founds name eui out_block in_block)
 scripted (said.Introduces name role eui short) = Some (Introduces name role eui short)
 scripted (said.Begins key) = None
-scripted (said.Provisions name code) = Some (Happens (Provisions name code))
-scripted (said.Removes name parent) = Some (Happens (Removes name parent))
+scripted (said.Provisions name code) = Some (Happens (DoProvision name code))
+scripted (said.Removes name parent) = Some (Happens (DoRemove name parent))
 scripted said.Lists = Some (Asks question.List)
 scripted said.BacksUp = Some (Asks question.Backup)
 scripted (said.Restores skip json) = None

@@ -1,6 +1,6 @@
 pub mod Events
 pub mod Shown
-pub mod Lines
+pub mod Printing
 pub mod Living
 pub mod Alive
 pub mod Happening

@@ -7,7 +7,7 @@ use Rattle.zb_live.specs.Shown.{event_lines, shown_text}
 use Rattle.zb_live.specs.Answers.{ok_text, refused_text}
 use Rattle.zb_live.specs.Grammar.{meaning_of}
 use Rattle.zb_live.specs.Questions.{question_text}
-use Rattle.zb_live.specs.Said.{Event, Sentence, Quiet, Founds, Introduces, Logs, Opens, Happens, Asks}
+use Rattle.zb_live.specs.Said.{Sentence, Quiet, Founds, Introduces, Logs, Opens, Happens, Asks}
 use Rattle.zb_live.specs.declared.cause.Cause.{Cause}
 use Rattle.zb_live.specs.declared.cause.Cause.TheVariants as cause
 use Rattle.zb_live.specs.declared.line.Log.{Log}
@@ -19,6 +19,7 @@ use Rattle.zb_model.specs.Rules.{Setting}
 use Rattle.zb_model.specs.State.{NodeState}
 use Rattle.zb_model_real.specs.Real.{real}
 use Rattle.zb_node_types.specs.Changes.{model_role}
+use Rattle.zb_script.specs.Resolving.{SaidTask}
 use Rattle.zb_script.specs.Judge.{after_centre, after_peer, has_centre}
 use Rattle.zb_script.specs.Reading.{start}
 use Rattle.zb_script.specs.Scripts as script
@@ -190,7 +191,7 @@ served found (line ∷ more) v =
 
 -- A line has something to store: it is an event of an open session, and the policy's answer to it has changes.
 pub record HasChanges (says : Option Sentence) (v : Living) : Type 0 where
-  pub event : Event
+  pub event : SaidTask
   pub is_event : says ≡ Some (Happens event)
   pub found : NodeState
   pub is_open : v.tables ≡ Some found

@@ -1,34 +1,14 @@
 -- What the lines of a session say. Names, keys and other strings of bytes are lists of numbers below 256; addresses
 -- and numbers are numbers.
-use Rattle.std.specs.Prelude.{◌≡◌, ℕ, List, Bool, true, Option, ⊤}
+use Rattle.std.specs.Prelude.{◌≡◌, ℕ, List, true, ⊤}
 use Rattle.zb_base.specs.declared.node.Role.{Role}
 use Rattle.zb_script.specs.Grammar.{is_joiner}
+use Rattle.zb_script.specs.Resolving.{SaidTask}
 use Rattle.zb_live.specs.declared.line.Log.{Log}
 use Rattle.zb_live.specs.declared.question.Question.{Question}
 
 abbrev pub Bytes : Type 0
 Bytes = List ℕ
-
--- What happens to the centre.
-pub data Event : Type 0 where
-  -- a frame came, with a key that may be drawn, if there is one
-  Delivers : (bytes : Bytes) (draw : Option Bytes) → Event
-  -- it hears a node that joins or rejoins
-  Adopts : (name : Bytes) (rejoin : Bool) → Event
-  -- its timer
-  Ticks : Event
-  -- it sends application bytes
-  Says : (to : ℕ) (bytes : Bytes) → Event
-  -- a node's install code is entered (None where the bytes are no install code), and a node is removed by way of a
-  -- parent
-  Provisions : (name : Bytes) (code : Option Bytes) → Event
-  Removes : (name : Bytes) (parent : Bytes) → Event
-  -- a new network key, the switch to it, and a node that is sent it again
-  Rolls : (draw : Option Bytes) → Event
-  Switches : Event
-  Repeats : (name : Bytes) → Event
-  -- the key of two nodes goes to the first of them
-  Shares : (name : Bytes) (partner : Bytes) → Event
 
 -- A line.
 pub data Sentence : Type 0 where
@@ -40,7 +20,7 @@ pub data Sentence : Type 0 where
   Logs : (log : Log) → Sentence
   Opens : Sentence
   -- an event of the centre, and a question, which changes nothing
-  Happens : (event : Event) → Sentence
+  Happens : (event : SaidTask) → Sentence
   Asks : (question : Question) → Sentence
 
 -- A peer is a router or a device.

@@ -20,7 +20,6 @@ pub use answer::{put_ok, put_refused};
 pub use cause::Cause;
 pub use fault::LiveFault;
 pub use line::{Line, Log, read_line};
-pub use line_event::Event;
 pub use question::Question;
 pub use serving::live;
 pub use session::Session;

@@ -10,10 +10,10 @@ ghost use Rattle.zb_script.specs.SoFar.{Joins as ScriptJoins};
 ghost use Rattle.zb_script.specs.Views.{sentence_of as script_sentence};
 ghost use Rattle.zb_sched_line.specs.Grammar.{is_quiet};
 
-use crate::line_event::{Event, read_event};
+use crate::line_event::read_event;
 use crate::question::Question;
 use zb_base::{Eui, Name, Peer};
-use zb_script::{Line as ScriptLine, read_line as read_script_line};
+use zb_script::{Line as ScriptLine, Said, read_line as read_script_line};
 use zb_text::words::Words;
 
 /// What a line says.
@@ -47,7 +47,7 @@ pub enum Line {
     /// Any event of the centre.
     Event {
         /// The event.
-        event: Event,
+        event: Said,
     },
     /// A question: something of the tables is shown.
     Show {
@@ -61,11 +61,11 @@ pub enum Line {
 pub enum Log {
     /// All lines.
     All,
-    /// Those in which no key stands.
+    /// Those that show no key.
     NoKeys,
 }
 
-/// Reads a line, or returns None where it is no line of a session.
+/// Reads a line, or returns None if it isn't a line of a session.
 pub fn read_line(line: &[u8]) -> Option<Line>
     ensures value { Shows sentence_of result (meaning_of line.now) }
     ensures joins { IfSome result (λ line. Joins (sentence_of line)) }
@@ -160,10 +160,16 @@ fn shared_line(line: ScriptLine) -> Option<Line>
         }),
         ScriptLine::Peer { peer } => Some(Line::Peer { peer }),
         ScriptLine::Provision { name, code } => Some(Line::Event {
-            event: Event::Provision { name, code },
+            event: Said::Provision {
+                device: name,
+                key: code,
+            },
         }),
         ScriptLine::Remove { name, parent } => Some(Line::Event {
-            event: Event::Remove { name, parent },
+            event: Said::Remove {
+                device: name,
+                via: parent,
+            },
         }),
         ScriptLine::List => Some(Line::Show {
             question: Question::List,

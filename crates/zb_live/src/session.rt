@@ -1,7 +1,7 @@
 //! A session: what each line does to it.
 ghost use Rattle.std.specs.Prelude.{◌≡◌, ◌≢◌, ◌≤◌, ◌++◌, [], ℕ, List, None, Some, Ok, Err, is_some, true, IsTrue, OnOk, IfErr, IfOk};
 ghost use Rattle.zb_base.specs.Outside.{Unrisen};
-ghost use Rattle.zb_centre_store.specs.Tasks.{task_of};
+ghost use Rattle.zb_centre_store.specs.Events.{task_of};
 ghost use Rattle.zb_centre_store.specs.Calls.{IsShort};
 ghost use Rattle.zb_centre_store.specs.Standing.{IsUp};
 ghost use Rattle.zb_disk.specs.View.{IsStill};
@@ -13,7 +13,8 @@ ghost use Rattle.zb_live.specs.Answers.{ok_text, refused_text};
 ghost use Rattle.zb_live.specs.Grammar.{meaning_of};
 ghost use Rattle.zb_live.specs.Questions.{question_text};
 ghost use Rattle.zb_live.specs.Said.{Founds, Introduces, Logs, Opens, Happens, Asks, Joins};
-ghost use Rattle.zb_live.specs.Views.{event_of, sentence_of};
+ghost use Rattle.zb_live.specs.Views.{sentence_of};
+ghost use Rattle.zb_script.specs.Resolving.{said_of};
 ghost use Rattle.zb_model.specs.Answer.{Answer, answer};
 ghost use Rattle.zb_model.specs.Data.{Station};
 ghost use Rattle.zb_model.specs.Rules.{Setting};
@@ -27,8 +28,8 @@ ghost use Rattle.zb_trace_model.specs.Naming.{IsCalled};
 
 use crate::event::event_for;
 use crate::question::{Question, put_asked};
-use crate::telling::{Place, put_event};
-use crate::{Cause, Event, Line, Log, put_ok, put_refused, read_line};
+use crate::telling::{Entry, put_event};
+use crate::{Cause, Line, Log, put_ok, put_refused, read_line};
 use std::alloc::Global;
 use zb_base::{Eui, Name, OrMemory, Peer};
 use zb_centre_store::{AdminFault, Centre, CentreEvent, centre_tables, handle, judge};
@@ -36,8 +37,9 @@ use zb_disk::Disk;
 use zb_host::{Host, Outcome, Plan};
 use zb_keys::Tables;
 use zb_node_types::Refusal;
-use zb_script::{Draft, ScriptCause};
+use zb_script::{Draft, Said, ScriptCause};
 use zb_seal::Term;
+use zb_trace_model::Group;
 
 /// A session with a centre: its network, and once it is open the centre.
 #[derive(Drop)]
@@ -127,39 +129,44 @@ fn tell_declared(
 }
 
 // Prints the lines of an event, and returns whether a frame goes out.
-fn tell(
+fn put_answer(
+    alloc: Global,
     page: &mut Vec<u8>,
-    place: &Place,
+    entry: &Entry,
     plan: Plan<Outcome<Term, Refusal>>,
 ) -> Result<bool, AdminFault>
-    ensures prints { OnOk result ((known : List Station) (n : ℕ) (a : Answer) → IsCalled known n place.now.me.bytes
+    ensures prints { OnOk result ((known : List Station) (n : ℕ) (a : Answer) → IsCalled known n
+        entry.now.group.node.bytes
         → the_centre known ≡ n → IsAnswer plan a
-        → Prints place.now.log known (event_lines place.now.event n place.now.frame a) page.old.items
+        → Prints entry.now.log known (event_lines entry.now.group.event n entry.now.group.frame a) page.old.items
         page.new.items) }
     ensures sends { IfOk result (λ sends. sends ≡ is_some plan.out.frame) }
     ensures short { IsShort result }
 {
     let sends = plan.out.frame.is_some();
-    put_event(page, place, plan)?;
+    put_event(alloc, page, entry, &plan)?;
     Ok(sends)
 }
 
 // Lets the centre handle an event, and prints its lines. It returns whether a frame goes out.
 fn happen<D: Disk>(
+    alloc: Global,
     host: &mut Host<Centre>,
     disk: &mut D,
     event: &CentreEvent,
-    place: &Place,
+    entry: &Entry,
     page: &mut Vec<u8>,
 ) -> Result<bool, AdminFault>
     requires { IsTrue (is_some host.old.store) }
     ensures happened { IsTrue D.tells.content → (c : Setting) (s : NodeState) → IsUp c s host.old (D.state disk.old)
-        → IsCalled c.stations c.me.eui place.now.me.bytes → the_centre c.stations ≡ c.me.eui
-        → HasHappened c s (task_of event.now) place.now.log place.now.event place.now.frame (D.state disk.old)
+        → IsCalled c.stations c.me.eui entry.now.group.node.bytes → the_centre c.stations ≡ c.me.eui
+        → HasHappened c s (task_of event.now) entry.now.log entry.now.group.event entry.now.group.frame (D.state
+        disk.old)
         page.old.items result host.new (D.state disk.new) page.new.items }
     ensures answered { (c : Setting) (s : NodeState) → host.old.core ≡ record { setting = c; tables = s }
-        → IsCalled c.stations c.me.eui place.now.me.bytes → the_centre c.stations ≡ c.me.eui
-        → HasAnswered c s (task_of event.now) place.now.log place.now.event place.now.frame page.old.items result
+        → IsCalled c.stations c.me.eui entry.now.group.node.bytes → the_centre c.stations ≡ c.me.eui
+        → HasAnswered c s (task_of event.now) entry.now.log entry.now.group.event entry.now.group.frame
+        page.old.items result
         host.new page.new.items }
     ensures store { OnOk result (is_some host.new.store ≡ true) }
     ensures configured { OnOk result (host.new.core.setting ≡ host.old.core.setting) }
@@ -171,7 +178,7 @@ fn happen<D: Disk>(
         → Unrisen (D.state disk.old).faults (D.state disk.new).faults }
 {
     match handle(host, disk, event) {
-        Ok(plan) => tell(page, place, plan),
+        Ok(plan) => put_answer(alloc, page, entry, plan),
         Err(fault) => Err(fault),
     }
 }
@@ -298,22 +305,23 @@ impl Session {
     // Takes an event of the centre.
     fn take_event<D: Disk>(
         &mut self,
+        alloc: Global,
         disk: &mut D,
         number: u32,
-        event: Event,
+        event: Said,
         page: &mut Vec<u8>,
     ) -> Result<(), AdminFault>
         requires { CanGoOn self.old }
         ensures taken { IsTrue D.tells.content → (found : Found)
             → IsAlive found self.old (D.state disk.old)
-            → HasTaken found self.old (done_by number found (Happens (event_of event)) self.old)
+            → HasTaken found self.old (done_by number found (Happens (said_of event)) self.old)
             (D.state disk.old) page.old.items result self.new (D.state disk.new) page.new.items }
-        ensures follows { OnOk result (HasFollowed (λ found. done_by number found (Happens (event_of event)) self.old)
+        ensures follows { OnOk result (HasFollowed (λ found. done_by number found (Happens (said_of event)) self.old)
             page.old.items self.new page.new.items) }
         ensures store { OnOk result (CanGoOn self.new) }
         ensures waits { OnOk result (self.new.centre ≡ None
             → (self.old.centre ≡ None) × IsStill (D.state disk.old) (D.state disk.new)) }
-        ensures faults { IfErr result (IsLineFault D.tells (Some (Happens (event_of event))) self.old
+        ensures faults { IfErr result (IsLineFault D.tells (Some (Happens (said_of event))) self.old
             (D.state disk.old) (D.state disk.new)) }
         ensures count { (D.state disk.old).faults ≤ (D.state disk.new).faults }
         ensures unrisen { result ≢ Err AdminFault.Disk
@@ -324,16 +332,21 @@ impl Session {
         };
         match event_for(&self.network, event) {
             Ok(event) => {
-                let place = Place {
-                    event: next_number(self.events),
-                    frame: next_number(self.frames),
-                    me: centre_name(&self.network),
+                let next_event = next_number(self.events);
+                let next_frame = next_number(self.frames);
+                let group = Group {
+                    event: next_event,
+                    frame: next_frame,
+                    node: centre_name(&self.network),
+                };
+                let entry = Entry {
+                    group,
                     log: self.log,
                 };
-                let sends = happen(host, disk, &event, &place, page)?;
-                self.events = place.event;
+                let sends = happen(alloc, host, disk, &event, &entry, page)?;
+                self.events = next_event;
                 if sends {
-                    self.frames = place.frame;
+                    self.frames = next_frame;
                 }
                 confirm(page, number)
             }
@@ -396,7 +409,7 @@ impl Session {
             Line::Peer { peer } => self.take_peer(number, peer, page),
             Line::Log { log } => self.choose_log(number, log, page),
             Line::Open => self.open(alloc, disk, number, page),
-            Line::Event { event } => self.take_event(disk, number, event, page),
+            Line::Event { event } => self.take_event(alloc, disk, number, event, page),
             Line::Show { question } => self.take_question(alloc, number, question, page),
         }
     }

@@ -13,7 +13,7 @@ use Rattle.std.specs.Prelude.{filter}
 use Rattle.zb_model.proofs.Toy.{x, toy}
 use Rattle.zb_model.proofs.Small.{node, k, net_at, link_of, bare, keyed_node}
 
--- A device 2 beside a centre 1.
+-- A device 2 and a centre 1.
 abbrev device : Setting
 device = record { me = node Device 2 258; stations = node Centre 1 0 ∷ node Device 2 258 ∷ [] }
 
@@ -23,7 +23,7 @@ own_row = link_of 1 5 Verified true
 abbrev from_centre : Heard
 from_centre = record { sender = 1; label = Some ForTransport; row = Some own_row; nwk_source = Some 1 }
 
--- a boot takes the floors back to what was stored, of link keys too
+-- a boot restores the floors that were stored, of link keys too
 booted_link_floors : map (λ (r : LinkKey). r.kept)
     (after_boot (keyed_node Device Joined (record own_row { kept = 5; stored = 9 } ∷ []))).links ≡ 9 ∷ []
 unfolding after_boot
@@ -63,7 +63,7 @@ second_knock : filter (changes (keyed_node Device State.Knocked (link_of 1 5 Pro
     (Row 1 (k 5) Provisional ∷ Became State.Knocked ∷ []) ≡ []
 second_knock = refl
 
--- application data that spells a Transport-Key carries no key; a command does
+-- application data that has the bytes of a Transport-Key carries no key; a command does
 data_term : ℕ → Term
 data_term control =
     record {
@@ -86,7 +86,7 @@ command_carries : carried toy (data_term 33) ≡ Some (x "303132333435363738393A
 unfolding carried toy data_term
 command_carries = refl
 
--- a row of the centre is its partner's too from where the centre is declared on, and no row of an undeclared node is
+-- a row of the centre is its partner's too once the centre is declared, and no row of an undeclared node is
 late_centre : List Line
 late_centre = Changed 1 1 (Moved (Row 2 (k 5) Provisional)) ∷ Declared (node Centre 1 0)
     ∷ Changed 2 1 (Moved (Row 2 (k 6) Provisional)) ∷ []

@@ -1,4 +1,4 @@
--- What rules do and definitions say where no worked run tells: one small case each, computed.
+-- What rules do and definitions say in cases that no worked run shows: one small case each, computed.
 use Rattle.std.specs.Prelude.{◌≡◌, ℕ, true, false, List, [], ◌∷◌, map, Option, Some, None, refl}
 use Rattle.zb_model.specs.Data.{Bytes, Role, Centre, Device, State, Joined, Offered, Confirmed, Rejoining, Provisional, Unverified, Verified, Label, ForData, ForNetwork, ForTransport, ForLoad, Layer, Nwk, Aps, Station, Term, Draw, DropNet, DropLink, Active, Row, Pair, Became, Untold, Floor, Moved, WrongState, TransportNet, TransportApp, TransportLink, ConfirmKey}
 use Rattle.zb_model.specs.Lines.{Line, Declared, GivenLink, Changed, Seal, Forge}
@@ -267,7 +267,7 @@ carrier base key =
       content = toy.spelled (TransportLink key 2 1);
     }
 
--- in the first round a term opens nothing whose base key comes out only after it
+-- in the first round a term opens nothing if its base key comes out only after it
 two_rounds : exposed toy (Seal 1 1 (carrier (k 6) (k 7)) ∷ Forge 2 (carrier (k 5) (k 6)) ∷ []) (k 5 ∷ []) ≡ k 5 ∷ k 6
     ∷ k 7 ∷ []
 unfolding toy exposed rounds a_round terms_of carried

@@ -50,7 +50,7 @@ full_links n s = record s { links = s.links ++ replicate n (link_of 77 9 Verifie
 abbrev full_pairs : NodeState → NodeState
 full_pairs s = record s { pairs = replicate 256 (record { first = 70; second = 71; key = k 9 }) }
 
--- A command as it comes from the centre, or from a node, sealed with a label under a row, or in clear.
+-- A command as it comes from the centre, or from a node, sealed with a label under a row, or not sealed.
 abbrev sealed_from : ℕ → Label → LinkKey → Heard
 sealed_from sender label row = record { sender = sender; label = Some label; row = Some row; nwk_source = Some sender }
 
@@ -656,7 +656,7 @@ leave_policy_options : take_leave device
 unfolding centre_of take_leave refuse_if
 leave_policy_options = refl
 
--- Judging the NWK layer
+-- Verifying the NWK layer
 
 nwk_malformed : judge_nwk toy device (keyed_node Device Joined []) (x "00") ≡ Not AtNwk Malformed
 unfolding is_known is_live judge_net judge_nwk need reject sender_floor station_of toy usable_nets usable_of
@@ -725,7 +725,7 @@ nwk_rows_full : judge_nwk toy device
 unfolding is_known is_live judge_net judge_nwk need reject sender_floor station_of toy usable_nets usable_of
 nwk_rows_full = refl
 
--- Judging the APS part, and the payload of commands
+-- Verifying the APS part, and the payload of commands
 
 aps_malformed :
     (plan_of toy device (keyed_node Device Joined [])

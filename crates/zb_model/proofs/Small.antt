@@ -9,7 +9,7 @@ node role eui short = record { name = []; eui = eui; short = short; role = role;
 abbrev pub k : ℕ → Bytes
 k n = replicate 16 n
 
--- a network row that goes on from a counter, live or dropped
+-- a network row that continues from a counter, live or dropped
 abbrev pub net_at : ℕ → Bool → ℕ → NetKey
 net_at n live next =
     record { key = k n; sequence = n; live = live; started = true; limit = next; next = next; floors = [] }

@@ -1,5 +1,5 @@
--- Tools for computing the model: real frames and commands, and a toy cipher. It leaves the content as it is and takes
--- four bytes of the sealing key as its tag, so that frames open under their own key alone.
+-- Tools for computing the model: real frames and commands, and a toy cipher. The cipher leaves the content as it is
+-- and takes four bytes of the sealing key as its tag, so frames open under their own key alone.
 use Rattle.std.specs.Prelude.{ℕ, ◌+◌, ◌-◌, ◌*◌, ◌/◌, ◌%◌, Bool, true, false, not, if◌then◌else◌, ◌&&◌, ◌||◌, List, [], ◌∷◌, ◌++◌, length, get_or, take, drop, set, Option, Some, None, nat_eq, nat_lt, nat_le, codes}
 use Prim.Native.String.{String}
 use Rattle.zb_model.specs.Data.{Bytes, Label, ForData, ForNetwork, ForTransport, ForLoad, Layer, Nwk, Aps, Term, Command, TransportNet, TransportApp, TransportLink, UpdateDevice, RemoveDevice, RequestApp, RequestLink, SwitchKey, Tunnel, VerifyKey, ConfirmKey}
@@ -53,7 +53,7 @@ without_level layer header = set header (control_place layer (length header))
 abbrev wire_of : Term → Bytes
 wire_of t = without_level t.layer t.header ++ (t.content ++ tag t.label t.base)
 
--- NWK frames, with their optional fields; an auxiliary header has 14 bytes and stands before the payload
+-- NWK frames, with their optional fields; an auxiliary header has 14 bytes and comes before the payload
 abbrev bit : ℕ → ℕ → ℕ
 bit worth n = (n / worth) % 2
 

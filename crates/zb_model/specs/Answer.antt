@@ -1,5 +1,5 @@
--- The answer of one node to one event: the rule that holds, and then its counters. What it says is determined, so it
--- is a function; where only the policy is meant, the counters are a parameter (`Counting`).
+-- The answer of one node to one event: the rule that applies, and then the node's counters. The answer is determined,
+-- so it is a function; where only the policy is meant, the counters are a parameter (`Counting`).
 use Rattle.std.specs.Prelude.{ℕ, ◌+◌, min, Bool, true, false, not, if◌then◌else◌, ◌&&◌, ◌||◌, List, [], ◌∷◌, ◌++◌, filter, find, Option, Some, None, nat_eq, nat_le, flat_map, option_map, option_to_list, is_some}
 use Rattle.std.specs.List.{list_any}
 use Rattle.zb_model.specs.Data.{Bytes, Layer, Nwk, Aps, ForTransport, ForData, Term, Move, Active, Row, Became, Edit, Reserve, Floor, Start, Moved, Place, AtNwk, AtAps, AtEvent, Reason, Malformed, Policy, Tunnel, Task, Received, nobody}
@@ -21,14 +21,14 @@ stopped_at accepts place reason = record { accepts = accepts; place = place; out
 abbrev pub comes_to : List Term → Place → Outcome → Plan
 comes_to accepts place outcome = record { accepts = accepts; place = place; outcome = outcome }
 
--- a NWK command: a Leave, or none that is taken
+-- a NWK command: a Leave, or one that no node takes
 abbrev pub nwk_command : Setting → Term → LeaveShown → Plan
 nwk_command c term (Leave options) = comes_to (term ∷ []) AtNwk (take_leave c term options)
 nwk_command c term Other = stopped_at (term ∷ []) AtNwk Policy
 nwk_command c term NoCommand = stopped_at (term ∷ []) AtNwk Malformed
 
--- the source of the NWK term. The number in place of none decides nothing: only a command that is sealed at APS passes
--- without NWK security.
+-- The source of the NWK term. The default number has no effect: only a command that is sealed at APS passes without
+-- NWK security.
 abbrev pub source_or : ℕ → Option Term → ℕ
 source_or other None = other
 source_or other (Some t) = t.source
@@ -51,13 +51,13 @@ heard_sealed nwk aux u =
       nwk_source = option_map (λ (t : Term). t.source) nwk;
     }
 
--- an APS command: one that is known by its rule; an unknown one is not taken, and other bytes are none
+-- An APS command: a known one has its rule, an unknown one isn't taken, and other bytes aren't a command.
 abbrev pub aps_command : Tools → Setting → NodeState → Option Bytes → List Term → Heard → CommandShown → Plan
 aps_command tools c s draw accepts m (Known command) = comes_to accepts AtAps (take_command tools c s draw m command)
 aps_command tools c s draw accepts m Unknown = stopped_at accepts AtAps Policy
 aps_command tools c s draw accepts m Broken = stopped_at accepts AtAps Malformed
 
--- Data and acknowledgements are done with once they are accepted; what they say is for the application.
+-- Data and acknowledgements need nothing more once they are accepted; their content is for the application.
 abbrev pub clear_part : Tools → Setting → NodeState → Option Bytes → Option Term → ApsShown → Plan
 clear_part tools c s draw nwk a =
     if a.is_command then aps_command tools c s draw (option_to_list nwk) (heard_clear nwk) (tools.read_command a.body)
@@ -169,15 +169,16 @@ abbrev pub plain_out : Setting → ℕ → Part → Outgoing
 plain_out c to part =
     record { seals = part.seals; frame = Some (nwk_header plain_frame to c.me.short 0 ++ part.bytes) }
 
--- A secured frame without an active row is none. That decides nothing: `may_seal` asked for the row before.
+-- A secured frame without an active row isn't sent. This case has no effect: `may_seal` has already checked that
+-- there is a row.
 abbrev pub framed : Tools → Setting → ℕ → ℕ → Bool → Option NetKey → Part → Outgoing
 framed tools c to nwk false row part = plain_out c to part
 framed tools c to nwk true None part = nothing_out
 framed tools c to nwk true (Some row) part = secured_out tools c to nwk row part
 
--- A node never seals without a counter: at NWK it has an active row that isn't at its end, at APS its counter isn't.
--- The rules have refused before wherever this would not hold, so in no run it decides. A row that was never started
--- may seal: the reserve that comes first starts it.
+-- A node never seals without a counter: at NWK it has an active row whose counter isn't at its end, at APS the counter
+-- isn't at its end. The rules have already refused every event for which this would fail, so it decides nothing in a
+-- run. A row that was never started may seal: the reserve before the frame starts it.
 unfoldable pub may_seal : NodeState → Option Sending → Bool
 may_seal s send =
     (not (seals_at Nwk send) || (is_some (active_row s) && not (spent Nwk s)))
@@ -211,7 +212,7 @@ row_is_started (Some r) = r.started
 abbrev pub is_started_key : NodeState → Bytes → Bool
 is_started_key s key = row_is_started (net_of key s)
 
--- the first counter of a key stands right after the change that makes it active
+-- the first counter of a key comes right after the change that makes the key active
 abbrev pub start_edit : Bytes → Option ℕ → List Edit
 start_edit key None = []
 start_edit key (Some value) = Start key value ∷ []
@@ -268,8 +269,8 @@ answer_by tools c s k p = let out = out_of tools c s k (sending_of p.outcome) in
 
 -- The counters that a node takes
 
--- A limit is reserved where the frame is sealed at the layer and the counter has reached its limit: a block of its
--- own.
+-- A limit is reserved if the frame is sealed at the layer and the counter has reached its limit. The new limit is one
+-- block above the counter.
 unfoldable pub reserve_of : Setting → NodeState → Option Sending → Layer → Option ℕ
 reserve_of c s send layer =
     if seals_at layer send && (may_seal s send && nat_eq (next_counter layer s) (stored_limit layer s))
@@ -283,7 +284,8 @@ stored_at Aps t s = link_stored (find (is_link t.source t.base) s.links)
 unfoldable pub stored_floor : Term → NodeState → ℕ
 stored_floor t s = stored_at t.layer t s
 
--- A floor is stored where the accepted counter isn't below the stored one: a block above it.
+-- A floor is stored if the accepted counter isn't below the stored floor. The new floor is one block above the
+-- counter.
 abbrev pub floor_for : Setting → NodeState → Term → Option ℕ
 floor_for c s t = if nat_le (stored_floor t s) t.counter then Some (min (t.counter + c.me.in_block) greatest_counter)
     else None
@@ -292,8 +294,8 @@ unfoldable pub floor_of : Setting → NodeState → List Term → Layer → Opti
 floor_of c s [] layer = None
 floor_of c s (t ∷ ts) layer = if same_layer t.layer layer then floor_for c s t else floor_of c s ts layer
 
--- A key that becomes active for the first time starts at 0 where the counter has passed half of its range, else where
--- the counter stands.
+-- A key that becomes active for the first time starts at 0 if the counter has passed half of its range, else at the
+-- counter's present value.
 abbrev pub half : ℕ
 half = 2147483648
 

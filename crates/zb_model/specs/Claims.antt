@@ -1,5 +1,5 @@
--- What is claimed of whole runs, as relations between lines. Each is by recursion on the list of lines, with the lines
--- before where a claim speaks of them.
+-- What we claim about whole runs, as relations between lines. Each claim is by recursion on the list of lines, with
+-- the earlier lines as a parameter if the claim mentions them.
 use Rattle.std.specs.Prelude.{ℕ, ◌≡◌, ◌<◌, ◌≤◌, ◌+◌, min, ◌⊎◌, Bool, true, false, if◌then◌else◌, List, [], ◌∷◌, ◌++◌, length, fold, filter, Option, Some, None, nat_eq, flat_map, ⊤}
 use Rattle.std.specs.List.{AllByRecursion, Any}
 use Rattle.zb_model.specs.Data.{Bytes, Nwk, Aps, Verified, Term, Draw, DropLink, Install, Row, Live, Removed, Moved, ConfirmKey}
@@ -59,14 +59,14 @@ Once (l ∷ ls) = OnceFrom l ls × Once ls
 
 -- Confirmed keys
 
--- the change takes the verified link row of a partner and a key away: a drop, or another attribute
+-- the change takes away the verified link row of a partner and a key: a drop, or another attribute
 abbrev pub Unsettles : ℕ → ℕ → Bytes → Line → Type 0
 Unsettles c d b (Changed e n (Moved (DropLink partner key))) = (n ≡ c) × (partner ≡ d) × (key ≡ b)
 Unsettles c d b (Changed e n (Moved (Row partner key attribute))) = (n ≡ c) × (partner ≡ d) × (key ≡ b)
     × (attribute ≡ Verified → ⊥)
 Unsettles c d b _ = ⊥
 
--- The centre stored the key as verified before, and nothing has unsettled it since.
+-- The centre stored the key as verified before, and no later change took that away.
 pub record StoredVerified (h : List Line) (c d : ℕ) (b : Bytes) : Type 0 where
   pub before : List Line
   pub between : List Line
@@ -96,7 +96,7 @@ Confirms tools lines = Each (ConfirmLine tools (centre_in lines)) [] lines
 
 -- Which lines a schedule gives
 
--- A group answers an event, with some counters: of these the policy says nothing.
+-- A group answers an event, with some counters: the policy says nothing about these.
 abbrev pub Answers : Tools → Schedule → List Line → List Disk → ℕ → Event → Step → Type 0
 Answers tools w h disks number event g = (k : Counting) × (g ≡ step_by tools (λ c s p. k) w h disks number event)
 
@@ -106,8 +106,8 @@ LawfulFrom tools w h disks number (event ∷ events) rest =
     (g : Step) × (more : List Line) × (rest ≡ g.lines ++ more) × Answers tools w h disks number event g
     × LawfulFrom tools w (h ++ g.lines) g.disks (number + 1) events more
 
--- The lines are the start lines, then one group for each event in order, each an answer to the lines before it or cut
--- by a stop or failure, then the end line.
+-- The lines are the start lines, then one group for each event in order, then the end line. Each group is an answer to
+-- the lines before it, or is cut by a stop or failure.
 abbrev pub Lawful : Tools → Schedule → List Line → Type 0
 Lawful tools w lines =
     (groups : List Line) × (lines ≡ (start w ++ groups) ++ end_line tools (length w.events) (start w ++ groups) ∷ [])
@@ -161,7 +161,7 @@ event_of (Rattle.zb_model.specs.Lines.Line.Boot e n) = e
 event_of (Rattle.zb_model.specs.Lines.Line.Dump e n bytes) = e
 event_of _ = 0
 
--- the lines before a group: those of other events than its own
+-- the lines before a group: those of events other than its own
 unfoldable pub before_group : ℕ → List Line → List Line
 before_group event h = filter (λ l. Rattle.std.specs.Prelude.not (nat_eq (event_of l) event)) h
 
@@ -177,8 +177,8 @@ seals_of d _ = []
 abbrev pub HasTerm : List Term → Term → Type 0
 HasTerm terms t = Any (λ u. u ≡ t) terms
 
--- `h` are the lines up to the removal, `since` those after it and before this one. So a term counts that the device
--- sealed between its removal and this acceptance; what it seals later is on no air yet.
+-- `h` are the lines up to the removal, `since` those after it and before this one. So a term counts if the device
+-- sealed it between its removal and this acceptance; what the device seals later isn't on the air yet.
 abbrev pub RefusesLine : Tools → ℕ → List Line → List Line → Line → Type 0
 RefusesLine tools d h since (Accept e n t) =
     t.layer ≡ Nwk → HoldsNoneKnown tools (before_group e (h ++ since)) n

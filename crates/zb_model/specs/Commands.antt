@@ -1,13 +1,13 @@
 -- The commands that a node receives, one rule each: which node takes it, in which form (any other form is `policy`),
--- what it is refused for, and what it does. This project's profile of Zigbee 05-3474-21, 4.4.
+-- why it is refused, and what it does. This project's profile of Zigbee 05-3474-21, 4.4.
 use Rattle.std.specs.Prelude.{ℕ, ◌+◌, ◌%◌, ◌/◌, Bool, true, false, not, if◌then◌else◌, ◌&&◌, ◌||◌, List, [], ◌∷◌, ◌++◌, find, Option, Some, None, nat_eq, nat_lt, nat_le, is_some, is_none}
 use Rattle.zb_model.specs.Data.{Bytes, Nwk, State, Joined, Offered, Confirmed, Gone, Unverified, Verified, Label, ForData, ForTransport, ForLoad, Term, Move, Draw, Install, Active, Row, Pair, Became, NoKey, NotMember, WrongState, KeyOld, KeysFull, RowsFull, KeyInUse, NoDraw, CounterSpent, WrongHash, Policy, Command, TransportNet, TransportApp, TransportLink, UpdateDevice, RemoveDevice, RequestApp, RequestLink, SwitchKey, Tunnel, VerifyKey, ConfirmKey, nobody}
 use Rattle.zb_model.specs.State.{NetKey, LinkKey, PairKey, NodeState, same_key, is_centre, is_verified, is_live_of, has_net, has_link, active_row, live_of, current, offered, is_live, other_user, pair_of, same_label}
 use Rattle.zb_model.specs.Tools.{Tools, verify_hash}
 use Rattle.zb_model.specs.Rules.{Secret, Tunnelled, Leaving, Relayed, Outcome, Stop, Does, Setting, refuse_if, refuse_unless, found_or, choose, sends, centre_of, short_of, is_declared, acts_as_router, from_centre, is_router, spent, both_spent, in_rejoining, waits_for_key, nets_full, links_full, pairs_full, unless_held, drop_row, drop_partner, drop_old}
 
--- A command as it came. `sender` is the source of the sealed layer: that of the APS term where the command was sealed,
--- else that of the NWK term. `label` and `row` are what opened it; `nwk_source` is the source of the NWK term.
+-- A received command. `sender` is the source of the sealed layer: that of the APS term if the command was sealed, else
+-- that of the NWK term. `label` and `row` are what opened it; `nwk_source` is the source of the NWK term.
 pub record Heard : Type 0 where
   pub sender : ℕ
   pub label : Option Label
@@ -56,11 +56,11 @@ abbrev pub refuse_if_old : NodeState → Bytes → Option ℕ → Outcome → Ou
 refuse_if_old s key None rest = rest
 refuse_if_old s key (Some place) rest = Stop (KeyOld place)
 
--- A network key that is taken in becomes active in a node that waits for one, and where none was active.
+-- A network key that is installed becomes active in a node that waits for one, and in a node without an active key.
 abbrev pub activates : NodeState → Bool
 activates s = waits_for_key s.state || is_none s.active
 
--- in such a node the state goes on from the link rows of the centre
+-- in such a node the new state follows from the link rows of the centre
 abbrev pub joined_state : Setting → NodeState → State
 joined_state c s =
     if is_some (offered s (centre_of c.stations)) then Offered
@@ -82,7 +82,7 @@ take_net_key c s m key sequence destination source =
     (refuse_if (nets_full s) KeysFull (
     Does (drop_old s ++ (Install key sequence ∷ activate c s key)) None))))
 
--- a link key is taken in: its row is new, or it is one of that partner's dropped ones
+-- a link key is installed: its row is new, or is a dropped row of that partner
 abbrev pub refuse_if_used : Option LinkKey → Outcome → Outcome
 refuse_if_used None rest = rest
 refuse_if_used (Some other) rest = Stop (KeyInUse other.partner)
@@ -97,7 +97,7 @@ abbrev pub has_key : Bytes → Option LinkKey → Bool
 has_key key None = false
 has_key key (Some r) = same_key r.key key
 
--- Transport-Key, type 4: a link key with the centre, which is to be proved
+-- Transport-Key, type 4: a link key with the centre, which the device then has to prove
 unfoldable pub take_link_key : Setting → NodeState → Heard → Bytes → ℕ → ℕ → Outcome
 take_link_key c s m key destination source =
     refuse_unless (is_member c && (nwk_secured m && (labelled ForLoad m.label && (from_centre c m.sender
@@ -127,14 +127,14 @@ take_switch c s m sequence =
     found_or (live_of s sequence) WrongState (λ row.
     Does (Active row.key ∷ []) None))
 
--- Confirm-Key: the offered key was proved, and takes the place of the current one
+-- Confirm-Key: the offered key was proved and replaces the current one
 unfoldable pub take_confirm : Setting → NodeState → Heard → ℕ → ℕ → ℕ → Outcome
 take_confirm c s m status kind destination =
     refuse_unless (is_member c && (labelled ForData m.label && (from_centre c m.sender
     && (nat_eq status 0 && (nat_eq kind 4 && nat_eq destination c.me.eui))))) Policy (
     refuse_if (in_rejoining s.state) WrongState (
     refuse_unless (row_is m.row (offered s (centre_of c.stations))) WrongState (
-    -- decides nothing: the row that opened the command is the offered one, so there is one
+    -- this never refuses: the row that opened the command is the offered one, so there is one
     found_or (offered s (centre_of c.stations)) WrongState (λ row.
     Does (drop_row (current s (centre_of c.stations)) ++ (Row row.partner row.key Verified ∷ Became Confirmed ∷ []))
     None))))
@@ -159,12 +159,13 @@ take_tunnel c s m destination inner =
 
 -- Taken by the centre
 
--- the number in place of no source decides nothing: the centre takes no frame without NWK security
+-- the default source has no effect: the centre takes no frame without NWK security
 abbrev pub eui_of : Option ℕ → ℕ
 eui_of None = nobody
 eui_of (Some eui) = eui
 
--- Update-Device: a router reports a child that joins (1) or rejoins (3). The network key goes to it through a Tunnel.
+-- Update-Device: a router reports a child that joins (1) or rejoins (3). The centre sends it the network key through a
+-- Tunnel.
 unfoldable pub take_update : Setting → NodeState → Heard → ℕ → ℕ → Outcome
 take_update c s m device status =
     refuse_unless (is_centre c.me.role && (clear_or_data m && (acts_as_router c m.sender && nat_le status 3))) Policy (
@@ -199,7 +200,7 @@ answer_request c s device draw row None =
 unfoldable pub take_request : Setting → NodeState → Heard → Option Bytes → Outcome
 take_request c s m draw =
     refuse_unless (is_centre c.me.role && under_current s m) Policy (
-    -- decides nothing: the row that opened the request is the current one, so there is one
+    -- this never refuses: the row that opened the request is the current one, so there is one
     found_or (current s m.sender) Policy (λ row.
     answer_request c s m.sender draw row (offered s m.sender)))
 
@@ -232,12 +233,12 @@ take_app_request c s m draw partner =
     Policy (
     refuse_unless (is_live s partner) NotMember (
     refuse_unless (is_verified_row (current s m.sender) && is_verified_row (current s partner)) WrongState (
-    -- decides nothing: the current row was verified above, so there is one
+    -- this never refuses: the current row was verified above, so there is one
     found_or (current s m.sender) Policy (λ row.
     answer_pair c s m.sender partner draw row (pair_of s m.sender partner)))))
 
--- Verify-Key: where the proof is of the offered key, that key takes the place of the current one. Then, or where it is
--- of the verified current key, the device is told (Confirm-Key) under that key.
+-- Verify-Key: if it proves the offered key, that key replaces the current one. Then, or if it proves the verified
+-- current key, the centre confirms this to the device (Confirm-Key) under that key.
 abbrev pub send_confirm : Setting → ℕ → Bytes → List Move → Outcome
 send_confirm c device key moves =
     Does moves (sends (short_of c device) true (Secret ForData key (ConfirmKey 0 4 device)))
@@ -259,7 +260,7 @@ take_verify tools c s m kind device hash =
     refuse_unless (is_live s device) NotMember (
     refuse_if (is_none (offered s device) && is_none (verified_current s device)) WrongState (
     refuse_if (both_spent s) CounterSpent (
-    -- neither refusal of `found_or` decides: a row of which the proof is is there
+    -- neither `found_or` refuses: a row with that proof exists
     choose (proves tools hash (offered s device))
     (found_or (offered s device) WrongHash (λ row.
     send_confirm c device row.key (drop_row (current s device) ++ (Row device row.key Verified ∷ []))))
@@ -282,7 +283,7 @@ take_command tools c s draw m (Tunnel destination inner) = take_tunnel c s m des
 take_command tools c s draw m (VerifyKey kind source hash) = take_verify tools c s m kind source hash
 take_command tools c s draw m (ConfirmKey status kind destination) = take_confirm c s m status kind destination
 
--- A NWK command: a Leave from the centre or a router, whose bit 6 asks the node itself to go.
+-- A NWK command: a Leave from the centre or a router, whose bit 6 asks the node itself to leave.
 abbrev pub asks_to_go : ℕ → Bool
 asks_to_go options = nat_eq ((options / 64) % 2) 1
 

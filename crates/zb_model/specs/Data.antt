@@ -6,8 +6,8 @@ use Rattle.std.specs.Prelude.{ℕ, List, Bool, Option}
 abbrev pub Bytes : Type 0
 Bytes = List ℕ
 
--- No node's EUI: the name of a node that a line names without having declared it. It decides nothing in a run, whose
--- lines name declared nodes.
+-- No node's EUI: it is used if a line names a node that it hasn't declared. It decides nothing in a run, whose lines
+-- name declared nodes.
 abbrev pub nobody : ℕ
 nobody = 18446744073709551616
 
@@ -67,7 +67,7 @@ pub record Term : Type 0 where
   pub header : Bytes
   pub content : Bytes
 
--- A change that a rule of the policy makes of a node's stable state.
+-- A change that a rule of the policy makes to a node's stable state.
 pub data Move : Type 0 where
   Draw : (key : Bytes) → Move
   DropNet : (key : Bytes) → Move
@@ -83,21 +83,21 @@ pub data Move : Type 0 where
   Told : (device : ℕ) → Move
   Untold : (device : ℕ) → Move
 
--- A change of a node's stable state: of a counter's limit, of a floor, of a network key's first counter, or one
--- of the policy's own.
+-- A change to a node's stable state: to a counter's limit, a floor or a network key's first counter, or one of the
+-- policy's own.
 pub data Edit : Type 0 where
   Reserve : (layer : Layer) (limit : ℕ) → Edit
   Floor : (layer : Layer) (key : Bytes) (sender : ℕ) (value : ℕ) → Edit
   Start : (key : Bytes) (value : ℕ) → Edit
   Moved : (move : Move) → Edit
 
--- Where an event was refused: as a NWK frame, as its APS part, or before either.
+-- Where an event was refused: as a NWK frame, in its APS part, or before either.
 pub data Place : Type 0 where
   AtNwk : Place
   AtAps : Place
   AtEvent : Place
 
--- Why an event was refused, in the order in which the reasons are tried (but NoFrame, which follows Down). Stale
+-- Why an event was refused, in the order in which the reasons are tried (except NoFrame, which follows Down). Stale
 -- shows the floor, KeyOld the place of the dropped row, KeyInUse whose key it is.
 pub data Reason : Type 0 where
   Down : Reason
@@ -120,7 +120,7 @@ pub data Reason : Type 0 where
   WrongHash : Reason
   NoFrame : Reason
 
--- An APS command (05-3474-21, 4.4.11), with its fields in the order in which they are spelled.
+-- An APS command (05-3474-21, 4.4.11), with its fields in the order in which they are written.
 pub data Command : Type 0 where
   TransportNet : (key : Bytes) (sequence : ℕ) (destination : ℕ) (source : ℕ) → Command
   TransportApp : (key : Bytes) (partner : ℕ) (initiator : ℕ) → Command
@@ -134,8 +134,8 @@ pub data Command : Type 0 where
   VerifyKey : (kind : ℕ) (source : ℕ) (hash : Bytes) → Command
   ConfirmKey : (status : ℕ) (kind : ℕ) (destination : ℕ) → Command
 
--- What an event asks of one node: its own events, and a delivered frame with the next key of the supply, which the
--- centre may need. N is how nodes are named, and K what admits a device.
+-- What an event asks of one node: its own events, and a delivered frame together with the next key of the supply,
+-- which the centre may need. N is how nodes are named, and K is what admits a device.
 pub data TaskOf (N K : Type 0) : Type 0 where
   SayTo : (to : ℕ) (bytes : Bytes) → TaskOf N K
   TellTo : (partner : N) (bytes : Bytes) → TaskOf N K

@@ -1,5 +1,5 @@
--- The rules that every stored state keeps, and when a change fits a state: what a rule of the policy never breaks, and
--- what a journal that is read back may not break.
+-- The rules that every stored state keeps, and when a change fits a state. No rule of the policy breaks them, and a
+-- journal that is read back must not break them.
 use Rattle.std.specs.Prelude.{ℕ, ◌≡◌, Bool, true, false, not, if◌then◌else◌, ◌&&◌, ◌||◌, List, [], ◌∷◌, find, length, Option, Some, None, nat_eq, nat_lt, nat_le, is_some, is_none}
 use Rattle.std.specs.List.{list_any, list_all}
 use Rattle.zb_model.specs.Data.{Bytes, Role, State, Fresh, Nwk, Aps, Move, Draw, DropNet, DropLink, Install, Active, Row, Pair, Became, Live, Removed, Roll, Told, Untold, Edit, Reserve, Floor, Start, Moved}
@@ -25,7 +25,7 @@ most_pairs = 256
 abbrev pub most_senders : ℕ
 most_senders = 64
 
--- no two items for which the test holds
+-- no two items satisfy the test
 abbrev pub all_apart : {X : Type 0} → (X → X → Bool) → List X → Bool
 all_apart alike [] = true
 all_apart alike (x ∷ xs) = not (list_any (alike x) xs) && all_apart alike xs
@@ -72,7 +72,7 @@ links_are_marked s =
     (λ (r : LinkKey). (not r.told || (r.live && is_centre s.role)) && (not (is_provisional r.attribute) || r.code))
     s.links
 
--- stored floors aren't 0, and stand by ascending sender
+-- stored floors aren't 0, and are in ascending order of sender
 abbrev pub senders_ascend : List SenderFloor → Bool
 senders_ascend [] = true
 senders_ascend (f ∷ fs) = list_all (λ (g : SenderFloor). nat_lt f.sender g.sender) fs && senders_ascend fs
@@ -90,7 +90,7 @@ abbrev pub is_fresh : State → Bool
 is_fresh Fresh = true
 is_fresh _ = false
 
--- The centre has no state of a joining node; pairs and a rollover are the centre's alone.
+-- The centre has no state of a joining node; only the centre has pairs and a rollover.
 unfoldable pub role_is_kept : NodeState → Bool
 role_is_kept s = if is_centre s.role then is_fresh s.state else not s.sending && nat_eq (length s.pairs) 0
 
@@ -98,14 +98,14 @@ unfoldable pub pairs_are_kept : NodeState → Bool
 pairs_are_kept s = list_all (λ (p : PairKey). nat_lt p.first p.second) s.pairs
     && all_apart (λ (a b : PairKey). nat_eq a.first b.first && nat_eq a.second b.second) s.pairs
 
--- the rules for records, all of them
+-- all rules for records
 unfoldable pub keeps_rules : NodeState → Bool
 keeps_rules s =
     rows_have_room s
     && (keys_differ s && (at_most_two_live s && (active_is_live s && (partners_agree s && (links_are_marked s
     && (floors_are_kept s && (limits_are_started s && (role_is_kept s && pairs_are_kept s))))))))
 
--- What a change needs of the state before it
+-- What a change requires of the state before it
 
 abbrev pub live_net : Bytes → NodeState → Bool
 live_net key s = row_is_live (net_of key s)
@@ -125,51 +125,51 @@ abbrev pub net_limit : Option NetKey → ℕ
 net_limit None = 0
 net_limit (Some r) = r.limit
 
--- Whether a change that a rule makes may be made of a state.
+-- Whether a rule may make this change to a state.
 abbrev pub may_move : Move → NodeState → Bool
--- a draw asks for nothing
+-- a draw requires nothing
 may_move (Draw key) s = true
--- a drop asks for a live row
+-- a drop requires a live row
 may_move (DropNet key) s = live_net key s
 may_move (DropLink partner key) s = live_link partner key s
--- an install asks that the key has no row yet
+-- an install requires that the key has no row yet
 may_move (Install key sequence) s = not (has_net key s.nets)
--- a switch of the active key asks for a live row
+-- a switch of the active key requires a live row
 may_move (Active key) s = live_net key s
--- a link key asks for nothing
+-- a link key requires nothing
 may_move (Row partner key attribute) s = true
--- a pair asks that the two have none yet
+-- a pair requires that the two have none yet
 may_move (Pair first second key) s = is_none (pair_of s first second)
--- a state asks for nothing
+-- a state requires nothing
 may_move (Became state) s = true
--- a live device asks for a live row of it, at the centre alone
+-- a live device requires a live row of it, at the centre alone
 may_move (Live device) s = is_centre s.role && is_live s device
--- a removed device asks that it has no live row, at the centre alone
+-- a removed device requires that it has no live row, at the centre alone
 may_move (Removed device) s = is_centre s.role && not (is_live s device)
--- a rollover asks for nothing
+-- a rollover requires nothing
 may_move (Roll sending) s = true
--- a told or untold device asks for a live row of it, at the centre alone
+-- a told or untold device requires a live row of it, at the centre alone
 may_move (Told device) s = is_centre s.role && is_live s device
 may_move (Untold device) s = is_centre s.role && is_live s device
 
--- Whether a change may be made of a state.
+-- Whether this change may be made to a state.
 abbrev pub may_change : Edit → NodeState → Bool
--- a reserve at NWK asks for an active row, and isn't below the one that it replaces
+-- a reserve at NWK requires an active row, and isn't below the one that it replaces
 may_change (Reserve Nwk limit) s = is_some (active_row s) && nat_le (stored_limit Nwk s) limit
 -- a reserve at APS isn't below the one that it replaces
 may_change (Reserve Aps limit) s = nat_le s.aps_limit limit
--- a floor at NWK asks for a live network key, and isn't below the one that it replaces
+-- a floor at NWK requires a live network key, and isn't below the one that it replaces
 may_change (Floor Nwk key sender value) s = live_net key s && nat_le (net_stored sender (net_of key s)) value
--- a floor at APS asks for a live link key, and isn't below the one that it replaces
+-- a floor at APS requires a live link key, and isn't below the one that it replaces
 may_change (Floor Aps key sender value) s = live_link sender key s
     && nat_le (link_stored (find (is_link sender key) s.links)) value
--- a start asks for a row of its key, and isn't below its limit
+-- a start requires a row of its key, and isn't below its limit
 may_change (Start key value) s = has_net key s.nets && nat_le (net_limit (net_of key s)) value
--- what a rule changes asks for what is said above
+-- a change by a rule requires what is stated above
 may_change (Moved move) s = may_move move s
 
--- A change fits where it may be made and the state after it keeps the rules; changes fit where each fits the state
--- after those before it. A draw changes nothing and always fits.
+-- A change fits if it may be made and the state after it keeps the rules; changes fit if each one fits the state after
+-- those before it. A draw changes nothing and always fits.
 unfoldable pub fits : Edit → NodeState → Bool
 fits (Moved (Draw key)) s = true
 fits e s = may_change e s && keeps_rules (applied e s)

@@ -1,5 +1,5 @@
 -- The frames that a node sends, by their fields: headers with their auxiliary headers (05-3474-21, chapters 2 to 4),
--- in the values that this project's profile gives them. Fields are least significant byte first.
+-- with the values of this project's profile. Fields are least significant byte first.
 use Rattle.std.specs.Prelude.{ℕ, ◌%◌, if◌then◌else◌, [], ◌∷◌, ◌++◌, nat_le}
 use Rattle.zb_model.specs.Data.{Bytes, Label, ForData, ForNetwork, ForTransport, ForLoad, Nwk, Aps, Term}
 use Rattle.zb_model.specs.Record.{two_bytes, four_bytes, eight_bytes}
@@ -7,7 +7,7 @@ use Rattle.zb_model.specs.Record.{two_bytes, four_bytes, eight_bytes}
 abbrev pub low_byte : ℕ → ℕ
 low_byte n = n % 256
 
--- NWK frame control: a data frame, version 2; with bit 9 secured; a command (Leave) has type 1
+-- NWK frame control: a data frame, version 2; bit 9 is set if it is secured; a command (Leave) has type 1
 abbrev pub plain_frame : ℕ
 plain_frame = 0x0008
 
@@ -88,7 +88,7 @@ data_control to = if nat_le 0xfff8 to then 0x08 else 0x00
 abbrev pub sealed_data : ℕ
 sealed_data = 0x20
 
--- the payload of a Leave that asks a node to go: options 40
+-- the payload of a Leave that asks a node to leave: options 40
 abbrev pub leave_payload : Bytes
 leave_payload = 0x04 ∷ 0x40 ∷ []
 

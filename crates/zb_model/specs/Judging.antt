@@ -1,5 +1,5 @@
--- How a delivered frame is judged: its NWK layer, then its APS part. Each reason is tried in its order; the first that
--- holds is the answer. A layer that passes gives the term that was accepted.
+-- How a delivered frame is verified: its NWK layer, then its APS part. The reasons are tried in order; the first that
+-- applies is the answer. A layer that passes gives the term that was accepted.
 use Rattle.std.specs.Prelude.{ℕ, Bool, true, false, not, if◌then◌else◌, ◌&&◌, ◌||◌, List, [], ◌∷◌, filter, find, reverse, length, Option, Some, None, nat_eq, nat_lt, nat_le, is_some}
 use Rattle.zb_model.specs.Data.{Bytes, Role, Centre, Router, Device, State, Fresh, Knocked, Joined, Offered, Confirmed, Rejoining, Gone, Label, Station, Term, Place, AtNwk, AtAps, Reason, Malformed, NotForMe, Unsecured, NoKey, CounterMax, Stale, BadMic, NotMember, RowsFull, Task}
 use Rattle.zb_model.specs.State.{greatest_counter, SenderFloor, NetKey, LinkKey, NodeState, is_centre, is_live_of, usable_of, sender_floor, is_live, is_known}
@@ -7,7 +7,7 @@ use Rattle.zb_model.specs.Fits.{most_senders}
 use Rattle.zb_model.specs.Tools.{Tools, NwkShown, NwkAuxiliary, ApsShown, ApsAuxiliary}
 use Rattle.zb_model.specs.Rules.{Setting, station_at, is_declared, waits_for_key}
 
--- What judging finds: a reason, at a layer, or something good. Tests are chained as in the rules.
+-- What the verification gives: a reason, at a layer, or a value. Tests are chained as in the rules.
 pub data Verdict (A : Type 0) : Type 0 where
   Not : (place : Place) (reason : Reason) → Verdict A
   Good : (it : A) → Verdict A
@@ -48,7 +48,7 @@ may_pass_unsecured tools c s f =
     not (is_centre c.me.role)
     && (waits_for_key s.state && (not f.is_command && sealed_for_transport (tools.read_aps f.body)))
 
--- a floor has to be stored for a source, and there are floors of 64 others
+-- a floor must be stored for a source, and 64 others already have floors
 abbrev pub senders_full : ℕ → ℕ → NetKey → Bool
 senders_full source counter row =
     nat_le (sender_floor source row).stored counter
@@ -67,7 +67,7 @@ judge_net tools c s bytes aux =
     reject (senders_full aux.source aux.counter row) AtNwk RowsFull (
     Good term)))))))
 
--- What stands at the NWK layer once it passed: what the frame shows, and the accepted term where it is secured.
+-- What a NWK layer that passed gives: what the frame shows, and the accepted term if it is secured.
 pub record Carrier : Type 0 where
   pub frame : NwkShown
   pub term : Option Term
@@ -87,7 +87,7 @@ judge_nwk tools c s bytes =
     reject (nat_eq f.source c.me.short || not (hears c f.destination)) AtNwk NotForMe (
     judge_security tools c s bytes f f.auxiliary))
 
--- the payload of the frame: what the term opens to, or what stands there in clear
+-- the payload of the frame: what the term opens to, or the unsecured payload
 abbrev pub payload_of : NwkShown → Option Term → Bytes
 payload_of f None = f.body
 payload_of f (Some term) = term.content

@@ -1,5 +1,5 @@
--- The lines of a transcript. A line's node is its EUI, or `nobody` where a line of a foreign transcript names a
--- node that it never declared; the text shows the name that the node's own line gives.
+-- The lines of a transcript. A line's node is its EUI, or `nobody` if a line of a foreign transcript names a node that
+-- it never declared; the text shows the name from the node's own line.
 use Rattle.std.specs.Prelude.{ℕ, Bool, Option}
 use Rattle.zb_model.specs.Data.{Bytes, Layer, Station, Term, Edit, Place, Reason}
 

@@ -1,5 +1,5 @@
--- The events of a node's own, one rule each: what they are refused for, in order, and what they do. This project's
--- profile of Zigbee 05-3474-21, chapter 4.
+-- The events of a node's own, one rule each: why they are refused, in order, and what they do. This project's profile
+-- of Zigbee 05-3474-21, chapter 4.
 use Rattle.std.specs.Prelude.{ℕ, ◌+◌, ◌%◌, min, Bool, true, false, not, if◌then◌else◌, ◌&&◌, ◌||◌, List, [], ◌∷◌, ◌++◌, filter, Option, Some, None, nat_eq, is_some, find, fold}
 use Rattle.zb_model.specs.Data.{Bytes, Nwk, Aps, State, Knocked, Joined, Offered, Rejoining, Provisional, ForData, ForTransport, ForLoad, Move, Draw, Install, Active, Row, Became, Live, Removed, Roll, Told, Untold, NoKey, NotMember, WrongState, KeysFull, RowsFull, KeyInUse, NoDraw, CounterSpent, Policy, TransportNet, TransportApp, UpdateDevice, RemoveDevice, RequestApp, RequestLink, SwitchKey, VerifyKey, Task, SayTo, TellTo, DoKnock, DoRejoin, DoTimer, AskFor, HasChild, DoProvision, DoRemove, DoRoll, DoSwitch, DoAgain, DoShare}
 use Rattle.zb_model.specs.State.{NetKey, LinkKey, NodeState, is_centre, is_live_of, has_link, active_row, usable_active, newest, current, offered, is_live, is_told, code_row, other_user, pair_of}
@@ -19,26 +19,26 @@ say s to bytes =
 
 -- Of routers and devices
 
--- knock: a device asks to be let in. Its code's row is its only live one of the centre, and provisional again.
+-- knock: a device asks to join. Its code's row is its only live row of the centre, and provisional again.
 unfoldable pub knock : Setting → NodeState → Outcome
 knock c s =
     found_or (code_row s (centre_of c.stations)) NoKey (λ row.
     Does (drop_others s row.partner row.key ++ (Row row.partner row.key Provisional ∷ Became Knocked ∷ [])) None)
 
--- rejoin: a member that lost the network key's changes asks again
+-- rejoin: a member that missed changes of the network key asks to rejoin
 unfoldable pub rejoin : NodeState → Outcome
 rejoin s =
     refuse_unless (has_joined s.state) WrongState (
     Does (Became Rejoining ∷ []) None)
 
--- timer, joined: a link key of its own is asked for (Request-Key, type 4)
+-- timer, joined: the device asks for a link key of its own (Request-Key, type 4)
 unfoldable pub request_key : Setting → NodeState → Outcome
 request_key c s =
     found_or (current s (centre_of c.stations)) NoKey (λ row.
     refuse_if (both_spent s) CounterSpent (
     Does [] (sends 0 true (Secret ForData row.key RequestLink))))
 
--- timer, offered: the offered key is proved (Verify-Key)
+-- timer, offered: the device proves the offered key (Verify-Key)
 unfoldable pub verify_key : Tools → Setting → NodeState → Outcome
 verify_key tools c s =
     -- decides nothing in a run: a node in Offered has an offered row
@@ -57,7 +57,7 @@ member_timer tools c s =
     found_or (usable_active s) NoKey (λ net.
     timer_in s.state tools c s)
 
--- ask: the centre is asked for a key with a partner (Request-Key, type 2)
+-- ask: the node asks the centre for a key with a partner (Request-Key, type 2)
 unfoldable pub ask : Setting → NodeState → ℕ → Outcome
 ask c s partner =
     found_or (usable_active s) NoKey (λ net.
@@ -81,7 +81,7 @@ tell c s partner bytes =
 abbrev pub child_status : Bool → ℕ
 child_status rejoin = if rejoin then 3 else 1
 
--- sealed under the current link row, or without APS security where there is none
+-- sealed under the current link row, or without APS security if there is none
 abbrev pub report_child : Setting → NodeState → ℕ → Bool → Option LinkKey → Outcome
 report_child c s child rejoin None =
     refuse_if (spent Nwk s) CounterSpent (
@@ -90,7 +90,7 @@ report_child c s child rejoin (Some row) =
     refuse_if (both_spent s) CounterSpent (
     Does [] (sends 0 true (Secret ForData row.key (UpdateDevice child (short_of c child) (child_status rejoin)))))
 
--- child, at a router: the centre is told of it (Update-Device)
+-- child, at a router: the router reports it to the centre (Update-Device)
 unfoldable pub child_of_router : Setting → NodeState → ℕ → Bool → Outcome
 child_of_router c s child rejoin =
     found_or (usable_active s) NoKey (λ net.
@@ -130,7 +130,8 @@ centre_timer c s =
     found_or (active_row s) NoKey (λ net.
     refuse_unless s.sending WrongState (
     found_or (next_member s) WrongState (λ device.
-    -- neither decides in a run: the active row is live, so there is a newest; and each live device has a current row
+    -- neither decides in a run: the active row is live, so there is a newest row; and each live device has a current
+    -- row
     found_or (newest s) NoKey (λ new.
     found_or (current s device) WrongState (λ row.
     refuse_if (both_spent s) CounterSpent (
@@ -138,7 +139,7 @@ centre_timer c s =
     (sends (short_of c device) true
     (Secret ForTransport row.key (TransportNet new.key new.sequence device c.me.eui)))))))))
 
--- provision: a device's code is entered, and the device is live
+-- provision: a device's code is entered, and the device becomes live
 abbrev pub provision_new : NodeState → ℕ → Bytes → Option LinkKey → Outcome
 provision_new s device key (Some other) = Stop (KeyInUse other.partner)
 provision_new s device key None = Does (Row device key Provisional ∷ Live device ∷ []) None
@@ -149,7 +150,7 @@ provision s device key =
     refuse_if (not (has_link device key s.links) && links_full s) RowsFull (
     provision_new s device key (other_user s device key)))
 
--- remove: a device's rows are dropped, and it or its parent is told where that can be sealed
+-- remove: a device's rows are dropped, and the device or its parent gets a command, if one can be sealed
 abbrev pub tell_leave : Setting → NodeState → ℕ → Option Sending
 tell_leave c s device = if is_some (active_row s) && not (spent Nwk s) then sends (short_of c device) true Leaving
     else None
@@ -165,7 +166,7 @@ remove_device c s device via =
     Does (drop_partner s device ++ Removed device ∷ [])
     (if nat_eq via c.me.eui then tell_leave c s device else tell_parent c s device via (current s via)))
 
--- roll: a new network key is drawn, and is to be sent to each member
+-- roll: a new network key is drawn, which is then sent to each member
 unfoldable pub roll : NodeState → Option Bytes → Outcome
 roll s draw =
     found_or (active_row s) NoKey (λ net.
@@ -174,8 +175,8 @@ roll s draw =
     found_or (unless_held s draw) NoDraw (λ key.
     Does (Draw key ∷ drop_old s ++ (Install key ((net.sequence + 1) % 256) ∷ Roll true ∷ [])) None))))
 
--- switch: the new network key becomes active once every member was sent it, and all are told to switch. It is sealed
--- under the row that was active before.
+-- switch: the new network key becomes active once it was sent to every member, and all nodes get a Switch-Key. It is
+-- sealed under the row that was active before.
 abbrev pub switch_to : NetKey → List Move → Outcome
 switch_to net moves = Does moves (sends to_all true (Clear clear_broadcast (SwitchKey net.sequence)))
 
@@ -185,11 +186,11 @@ switch_over s =
     refuse_if (is_unfinished s) WrongState (
     refuse_if (spent Nwk s) CounterSpent (
     choose s.sending
-    -- decides nothing in a run: the active row is live, so there is a newest
+    -- decides nothing in a run: the active row is live, so there is a newest row
     (found_or (newest s) NoKey (λ new. switch_to new (Active new.key ∷ Roll false ∷ [])))
     (switch_to net []))))
 
--- again: the new network key is to be sent to a member once more
+-- again: the new network key is to be sent to a member again
 unfoldable pub again : NodeState → ℕ → Outcome
 again s device =
     refuse_unless (is_live s device) NotMember (
@@ -207,8 +208,8 @@ share c s device partner =
     refuse_if (both_spent s) CounterSpent (
     Does [] (sends (short_of c device) true (Secret ForLoad row.key (TransportApp pair.key partner 0))))))))
 
--- The rule of each event of a node's own; an event that isn't for a node of its role is refused. That decides nothing
--- in a run: a schedule has none.
+-- The rule of each event of a node's own; an event that isn't for a node of its role is refused. This decides nothing
+-- in a run: no schedule has one.
 
 abbrev pub own_at_centre : Setting → NodeState → Task → Outcome
 own_at_centre c s (SayTo to bytes) = say s to bytes

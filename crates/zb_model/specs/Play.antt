@@ -22,7 +22,7 @@ pub record Node : Type 0 where
   pub start_nwk : ℕ
   pub start_aps : ℕ
 
--- An event. The first ones are of one node, the others of the outside.
+-- An event. The first ones are of one node, the others come from outside.
 pub data Event : Type 0 where
   -- what the node does itself
   Own : (node : ℕ) (task : Task) → Event
@@ -39,10 +39,10 @@ pub data Event : Type 0 where
   InjectBytes : (bytes : Bytes) → Event
   -- a NWK frame is forged under known keys
   ForgeNet : (to : ℕ) (from : ℕ) (source : ℕ) (key : Bytes) (sequence : ℕ) (counter : ℕ) (content : Bytes) → Event
-  -- a NWK frame with an APS command sealed in it is forged so
+  -- a NWK frame with an APS command sealed in it is forged in the same way
   ForgeNetAps : (to : ℕ) (from : ℕ) (source : ℕ) (key : Bytes) (sequence : ℕ) (counter : ℕ) (label : Label)
       (base : Bytes) (aps_counter : ℕ) (command : Bytes) → Event
-  -- an unsecured NWK frame with an APS command sealed in it is forged so
+  -- an unsecured NWK frame with an APS command sealed in it is forged in the same way
   ForgeOpen : (to : ℕ) (from : ℕ) (source : ℕ) (label : Label) (base : Bytes) (aps_counter : ℕ) (command : Bytes)
       → Event
 
@@ -76,7 +76,7 @@ start w =
     ++ flat_map (λ (m : Node). limit_line m.station.eui Nwk m.start_nwk ++ limit_line m.station.eui Aps m.start_aps)
     w.nodes))
 
--- The disks: what is armed, and whether both slots of the store stand open. A node's entry is added when it is needed.
+-- The disks: what is armed, and whether both slots of the store are open. A node's entry is added when it is needed.
 
 pub data Armed : Type 0 where
   NotArmed : Armed
@@ -105,7 +105,7 @@ unfoldable pub with_disk : List Disk → ℕ → DiskState → List Disk
 with_disk disks n state = record { owner = n; state = state } ∷ filter (λ (d : Disk). not (nat_eq d.owner n)) disks
 
 -- The device calls of a commit: an entry of the journal makes four, and each 33rd commit writes the whole record, in
--- six. A boot makes three where two slots stand open, else one.
+-- six. A boot makes three if two slots are open, else one.
 pub data Calls : Type 0 where
   NoCalls : Calls
   EntryCalls : Calls
@@ -118,7 +118,7 @@ count_of EntryCalls = 4
 count_of RecordCalls = 6
 count_of (BootCalls both) = if both then 3 else 1
 
--- After this number of commits a node writes its whole record anew: 32 entries, and the record.
+-- After this number of commits a node writes its whole record again: 32 entries, and the record.
 abbrev pub commits_of_record : ℕ
 commits_of_record = 33
 
@@ -131,7 +131,7 @@ falls NotArmed calls = false
 falls (StopAfter n torn) calls = nat_lt n (count_of calls)
 falls (FailAt n) calls = nat_le n (count_of calls)
 
--- A gate that was written and not synced reads open where the torn bytes leave it as it was or begin with A5.
+-- A gate that was written and not synced reads as open if there are no torn bytes, or if they begin with A5.
 abbrev pub is_gate : Bytes → Bool
 is_gate [] = false
 is_gate (b ∷ bytes) = nat_eq b 0xa5
@@ -140,8 +140,9 @@ abbrev pub gate_opens : Bytes → Bool
 gate_opens [] = true
 gate_opens (b ∷ bytes) = nat_eq b 0xa5
 
--- Whether the commit on which it falls stands. An entry: from call 3, which opens its gate, where that gate reads open
--- after a stop, and after a failure of call 4, the sync. A whole record: likewise, and from call 4 in every case.
+-- Whether the commit that is cut remains stored. An entry remains from call 3 on, which opens its gate, if that gate
+-- reads as open after a stop, or after a failure of call 4, the sync. A whole record likewise, and from call 4 on in
+-- every case.
 unfoldable pub stands : Armed → Calls → Bool
 stands (StopAfter n torn) EntryCalls = nat_eq n 3 && gate_opens torn
 stands (FailAt n) EntryCalls = nat_eq n 4
@@ -149,8 +150,8 @@ stands (StopAfter n torn) RecordCalls = (nat_eq n 3 && gate_opens torn) || nat_l
 stands (FailAt n) RecordCalls = nat_le 4 n
 stands _ _ = false
 
--- Whether two slots stand open afterwards: after a whole record until the old slot's gate is closed; after a boot as
--- before until it has closed the other gate.
+-- Whether two slots are open afterwards. After a whole record: until the old slot's gate is closed. After a boot: as
+-- before, until the boot has closed the other gate.
 unfoldable pub leaves_both : Armed → Calls → Bool
 leaves_both (StopAfter n torn) RecordCalls = (nat_eq n 3 && gate_opens torn)
     || (nat_eq n 4 || (nat_eq n 5 && is_gate torn))
@@ -203,7 +204,7 @@ calls_for h n (e ∷ es) = commit_calls (commits_of h n)
 unfoldable pub group_of : List Line → ℕ → ℕ → Answer → List Line
 group_of h number n a = stored_lines number n a ++ told_lines number n (length (air h) + 1) a
 
--- what stands of the group where a stop or a failure falls on its commit
+-- what remains of the group if a stop or a failure cuts its commit
 unfoldable pub cut_of : Armed → Calls → ℕ → ℕ → Answer → List Line
 cut_of armed calls number n a = (if stands armed calls then stored_lines number n a else [])
     ++ fallen_line armed number n
@@ -237,7 +238,7 @@ boot_step disks number n =
 abbrev pub refused_step : List Disk → ℕ → ℕ → Reason → Step
 refused_step disks number n reason = record { lines = Refuse number n AtEvent reason ∷ []; disks = disks }
 
--- A station in place of a node that isn't declared. It decides nothing in a run: a schedule's events are of declared
+-- The station that is used if a node isn't declared. It decides nothing in a run: a schedule's events are of declared
 -- nodes.
 abbrev pub no_station : Station
 no_station =
@@ -258,7 +259,7 @@ station_or (Some p) = p
 abbrev pub without_blocks : Station → Station
 without_blocks p = record p { out_block = 0; in_block = 0 }
 
--- What a node of the schedule knows of the network: all of itself, and of each declared node what others know of it.
+-- What a node of the schedule knows of the network: all about itself, and about each declared node what others know.
 unfoldable pub setting_of : Schedule → ℕ → Setting
 setting_of w n = record { me = station_or (station_of (stations w) n); stations = map without_blocks (stations w) }
 

@@ -1,5 +1,4 @@
--- What a list of transcript lines says. Each reading is a fold over the lines, so what a list says is changed by the
--- lines that follow it one by one.
+-- What a list of transcript lines says. Each reading is a fold over the lines, so each later line changes it in turn.
 use Rattle.std.specs.Prelude.{ℕ, ◌+◌, Bool, true, false, if◌then◌else◌, List, [], ◌∷◌, ◌++◌, fold, nat_eq}
 use Rattle.zb_model.specs.Data.{Bytes, nobody, Device, Station, Draw, Moved}
 use Rattle.zb_model.specs.Lines.{Line, Declared, GivenNet, GivenLink, Counter, Changed, Commit, Accept, Refuse, Seal, Forge, Send, Inject, Stopped, DownReset, DownDisk, Boot, Dump, End}
@@ -45,7 +44,7 @@ heard_line n s l = if nat_eq (speaker l) n then after l s else s
 unfoldable pub state_of : List Line → ℕ → NodeState
 state_of h n = fold (heard_line n) (new_node Device) h
 
--- whether a node has power: it starts with it, and a boot gives it again
+-- whether a node has power: it has power at the start, and a boot gives it power again
 abbrev pub power : Line → Bool → Bool
 power (Stopped e n) up = false
 power (DownReset e n) up = false

@@ -37,11 +37,11 @@ abbrev pub layer_byte : Layer → ℕ
 layer_byte Nwk = 0
 layer_byte Aps = 1
 
--- a bit of a flags byte: its worth where it is set
+-- a bit of a flags byte: its value if it is set
 abbrev pub worth : ℕ → Bool → ℕ
 worth n b = if b then n else 0
 
--- what is written as the place of the active row where there is none: FFFF
+-- what is written as the place of the active row if there is none: FFFF
 abbrev pub no_place : ℕ
 no_place = 65535
 
@@ -93,7 +93,7 @@ record_of s =
     ++ (two_bytes (length s.links) ++ (flat_map link_bytes s.links
     ++ (two_bytes (length s.pairs) ++ flat_map pair_bytes s.pairs))))))))))
 
--- The payload of a journal entry: the number of changes 1, then each change but a draw, as its kind and its fields.
+-- The payload of a journal entry: the number of changes 1, then each change except draws, as its kind and fields.
 abbrev pub move_bytes : Move → Bytes
 move_bytes (Draw key) = []
 move_bytes (DropNet key) = 0x03 ∷ key

@@ -32,7 +32,7 @@ pub data Outcome : Type 0 where
   Stop : (reason : Reason) → Outcome
   Does : (moves : List Move) (sending : Option Sending) → Outcome
 
--- What an event comes to: the terms that were accepted, NWK before APS, and an outcome; a refusal is shown at `place`.
+-- The result of an event: the accepted terms, NWK before APS, and an outcome; a refusal is shown at `place`.
 pub record Plan : Type 0 where
   pub accepts : List Term
   pub place : Place
@@ -72,8 +72,8 @@ station_of stations eui = find (λ (p : Station). nat_eq p.eui eui) stations
 unfoldable pub station_at : List Station → ℕ → Option Station
 station_at stations short = find (λ (p : Station). nat_eq p.short short) stations
 
--- The EUI or short address of a node that isn't declared, where a number must stand: no node has it. It decides
--- nothing in a run: each schedule has a centre, and what rules send is for declared nodes.
+-- The EUI or short address that is used if a node isn't declared: no node has it. It decides nothing in a run: each
+-- schedule has a centre, and the rules send to declared nodes.
 abbrev pub eui_or : ℕ → Option Station → ℕ
 eui_or other None = other
 eui_or other (Some p) = p.eui
@@ -85,7 +85,7 @@ short_or other (Some p) = p.short
 unfoldable pub centre_of : List Station → ℕ
 centre_of stations = eui_or nobody (find (λ (p : Station). is_centre p.role) stations)
 
--- the declared short of a node that is declared
+-- the declared short address of a declared node
 unfoldable pub short_of : Setting → ℕ → ℕ
 short_of c eui = short_or 0xffff (station_of c.stations eui)
 
@@ -100,7 +100,7 @@ from_centre c source = nat_eq source (centre_of c.stations)
 
 -- Tests on the state
 
--- the counter of the layer stands at its end
+-- the counter of the layer is at its end
 unfoldable pub spent : Layer → NodeState → Bool
 spent layer s = nat_le greatest_counter (next_counter layer s)
 
@@ -121,7 +121,7 @@ has_joined Offered = true
 has_joined Confirmed = true
 has_joined _ = false
 
--- a network key that is taken now becomes active at once
+-- a network key that is installed now becomes active at once
 abbrev pub waits_for_key : State → Bool
 waits_for_key Knocked = true
 waits_for_key Rejoining = true
@@ -161,8 +161,8 @@ abbrev pub drop_row : Option LinkKey → List Move
 drop_row None = []
 drop_row (Some r) = drop_link r ∷ []
 
--- Two network keys are live at most: before a third comes, the one that isn't active is dropped, or the first of them
--- where none is.
+-- At most two network keys are live: before a third is added, the one that isn't active is dropped, or the first of
+-- them if none is active.
 abbrev pub first_drop : List NetKey → List Move
 first_drop [] = []
 first_drop (r ∷ rs) = DropNet r.key ∷ []

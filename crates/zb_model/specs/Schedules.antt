@@ -1,4 +1,4 @@
--- What every schedule keeps that is read from a text: the premises of the laws about runs.
+-- What holds for every schedule that is read from a text: the premises of the laws about runs.
 use Rattle.std.specs.Prelude.{ℕ, ◌≡◌, ◌<◌, ◌≤◌, ◌^◌, Bool, true, false, not, length, is_some, ⊤}
 use Rattle.std.specs.List.{AllByRecursion}
 use Rattle.zb_model.specs.Data.{Task, SayTo, TellTo, DoKnock, DoRejoin, DoTimer, AskFor, HasChild, Received}
@@ -36,18 +36,18 @@ CountsCalls _ = ⊤
 
 -- Whether an event of a node's own is for its role.
 abbrev pub is_for_role : Bool → Task → Bool
--- `say`, `timer` and `child` are of all roles
+-- `say`, `timer` and `child` are for all roles
 is_for_role centre (SayTo to bytes) = true
 is_for_role centre DoTimer = true
 is_for_role centre (HasChild child rejoin) = true
--- `knock`, `rejoin`, `ask` and `tell` are of routers and devices
+-- `knock`, `rejoin`, `ask` and `tell` are for routers and devices
 is_for_role centre DoKnock = not centre
 is_for_role centre DoRejoin = not centre
 is_for_role centre (AskFor partner) = not centre
 is_for_role centre (TellTo partner bytes) = not centre
--- a delivered frame is no event of a node's own
+-- a delivered frame isn't an event of a node's own
 is_for_role centre (Received bytes draw) = false
--- `provision`, `remove`, `roll`, `switch`, `again` and `share` are of the centre
+-- `provision`, `remove`, `roll`, `switch`, `again` and `share` are for the centre
 is_for_role centre _ = centre
 
 abbrev pub SuitsRole : Schedule → Event → Type 0

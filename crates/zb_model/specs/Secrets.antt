@@ -1,4 +1,4 @@
--- What keys stand in a transcript, who came to know them, and the two words of its end line.
+-- Which keys appear in a transcript, who learned them, and the two words of its end line.
 use Rattle.std.specs.Prelude.{ℕ, ◌%◌, Bool, true, false, not, if◌then◌else◌, ◌&&◌, ◌||◌, List, [], ◌∷◌, ◌++◌, map, length, get_or, fold, filter, find, Option, Some, None, nat_eq, nat_lt, is_some, flat_map, filter_map, option_to_list, bytes_eq}
 use Rattle.std.specs.List.{list_any, list_all}
 use Rattle.zb_model.specs.Data.{Bytes, Role, Centre, Router, Device, Layer, Nwk, Aps, Provisional, Station, Term, Move, Draw, Install, Row, Pair, Removed, Moved, Command, TransportNet, TransportApp, TransportLink}
@@ -20,8 +20,8 @@ abbrev pub holds_some : List Bytes → Option Bytes → Bool
 holds_some keys None = false
 holds_some keys (Some key) = holds keys key
 
--- What a term carries: the key of a Transport-Key that is its content, sealed at APS as a command, or standing
--- unsealed in a NWK frame.
+-- What a term carries: the key of a Transport-Key that is its content. The Transport-Key is a command sealed at APS,
+-- or is in a NWK frame without APS security.
 
 abbrev pub key_in : Command → Option Bytes
 key_in (TransportNet key sequence destination source) = Some key
@@ -62,8 +62,8 @@ terms_in _ = []
 unfoldable pub terms_of : List Line → List Term
 terms_of h = flat_map terms_in h
 
--- The keys that come out for somebody who holds the start: in each round, those that a term carries whose base key is
--- among them. There are as many rounds as lines.
+-- The keys that come out for somebody who holds the keys `from`: each round adds the keys that a term carries
+-- whose base key is among them. There are as many rounds as lines.
 
 abbrev pub opened_by : Tools → List Bytes → Term → List Bytes
 opened_by tools keys t = if holds keys t.base then fold with_key keys (option_to_list (carried tools t)) else keys
@@ -79,7 +79,7 @@ unfoldable pub exposed : Tools → List Line → List Bytes → List Bytes
 exposed tools h from = rounds (length h) tools (terms_of h) from
 
 -- The keys that a node ever held: those of its given, install and row lines, of the centre's rows with it, and of its
--- pairs. Who the centre is, a line knows from the lines before it: it is the first node that they declare as one.
+-- pairs. The earlier lines show who the centre is: the first node that they declare as one.
 
 abbrev pub is_the_centre : List Station → ℕ → Bool
 is_the_centre known n = is_eui (find (λ (p : Station). is_centre p.role) known)
@@ -193,8 +193,8 @@ joins h n = joined (station_of (stations_of h) n)
         is_member Router = true
         is_member Device = true
 
--- An accepted term was sealed or forged before; a key that a router or device took in is its code's, or came in an
--- earlier term under one of its keys. The second matters where a stop cut the acceptance off.
+-- An accepted term was sealed or forged before; a key that a router or device installed is its code's, or came in an
+-- earlier term under one of its keys. The second matters if a stop cut off the acceptance.
 unfoldable pub ideal_line : Tools → List Line → Line → Bool
 ideal_line tools h (Accept e n t) = list_any (same_term t) (terms_of h)
 ideal_line tools h (Changed e n (Moved (Install key sequence))) = not (joins h n) || came_by tools h n key

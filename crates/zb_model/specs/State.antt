@@ -1,6 +1,6 @@
--- The state of one node: what it keeps over a reset, and beside it the next counters and the floors in memory.
--- Everything that a line of a transcript does to it is here. Each change is safe by itself: limits and floors never
--- fall, a key that has a row gets no second one. Where a change fits the state (`Fits`), it does just what it says.
+-- The state of one node: what it keeps over a reset, and also the next counters and the floors in memory. This file
+-- has everything that a line of a transcript does to it. Each change is safe by itself: limits and floors never fall,
+-- and a key that has a row gets no second one. If a change fits the state (`Fits`), it does exactly what it says.
 use Rattle.std.specs.Prelude.{ℕ, ◌+◌, min, max, Bool, true, false, not, if◌then◌else◌, ◌&&◌, ◌||◌, List, [], ◌∷◌, ◌++◌, map, filter, find, reverse, Option, Some, None, nat_eq, nat_lt, bytes_eq}
 use Rattle.std.specs.List.{list_any}
 use Rattle.zb_model.specs.Data.{Bytes, Role, Centre, Router, Device, Layer, Nwk, Aps, Label, ForData, ForNetwork, ForTransport, ForLoad, State, Fresh, Knocked, Joined, Gone, Attribute, Provisional, Unverified, Verified, Term, Move, Draw, DropNet, DropLink, Install, Active, Row, Pair, Became, Live, Removed, Roll, Told, Untold, Edit, Reserve, Floor, Start, Moved}
@@ -15,9 +15,9 @@ pub record SenderFloor : Type 0 where
   pub kept : ℕ
   pub stored : ℕ
 
--- A network key. It is started where it was ever active. Its outgoing NWK counter goes on from `next`, and is stored
--- up to `limit`. Its floors are of those heard under it, by ascending EUI. A dropped row keeps its floors here;
--- nothing asks for them.
+-- A network key. It is started if it was ever active. Its outgoing NWK counter continues from `next`, and is stored up
+-- to `limit`. Its floors are of the senders heard under it, by ascending EUI. A dropped row keeps its floors here, but
+-- nothing reads them.
 pub record NetKey : Type 0 where
   pub key : Bytes
   pub sequence : ℕ
@@ -28,7 +28,7 @@ pub record NetKey : Type 0 where
   pub floors : List SenderFloor
 
 -- A link key shared with a partner. `code`: it is from an install code. `told`: at the centre, the partner was sent
--- the new network key. Its floor stays when it is dropped, because the key may come again.
+-- the new network key. Its floor stays when it is dropped, because the key may be used again.
 pub record LinkKey : Type 0 where
   pub partner : ℕ
   pub key : Bytes
@@ -39,7 +39,7 @@ pub record LinkKey : Type 0 where
   pub kept : ℕ
   pub stored : ℕ
 
--- At the centre: the key that it gave two devices for one another, `first` the smaller EUI.
+-- At the centre: the key that it gave two devices for use with each other. `first` is the smaller EUI.
 pub record PairKey : Type 0 where
   pub first : ℕ
   pub second : ℕ
@@ -148,8 +148,8 @@ net_of_active (Some key) s = net_of key s
 unfoldable pub active_row : NodeState → Option NetKey
 active_row s = net_of_active s.active s
 
--- The network rows that a node may use: its live ones, but none in a router or device that has left, or that
--- knocks and so waits for the network key.
+-- The network rows that a node may use: its live ones, but none if a router or device has left, or knocks and so waits
+-- for the network key.
 abbrev pub may_use : NodeState → Bool
 may_use s = state_may_use s.state
   where
@@ -165,7 +165,7 @@ live_nets s = filter (λ (r : NetKey). r.live) s.nets
 unfoldable pub usable_nets : NodeState → List NetKey
 usable_nets s = if may_use s then live_nets s else []
 
--- the active row, where it may be used
+-- the active row, if it may be used
 unfoldable pub usable_active : NodeState → Option NetKey
 usable_active s = if may_use s then active_row s else None
 
@@ -190,7 +190,7 @@ current s partner = find (λ (r : LinkKey). is_live_of partner r && not (is_unve
 unfoldable pub offered : NodeState → ℕ → Option LinkKey
 offered s partner = find (λ (r : LinkKey). is_live_of partner r && is_unverified r.attribute) s.links
 
--- A device is live at the centre where the centre has a live row for it.
+-- A device is live at the centre if the centre has a live row for it.
 unfoldable pub is_live : NodeState → ℕ → Bool
 is_live s partner = list_any (is_live_of partner) s.links
 
@@ -228,7 +228,7 @@ unfoldable pub stored_limit : Layer → NodeState → ℕ
 stored_limit Nwk s = limit_of s.declared (active_row s)
 stored_limit Aps s = s.aps_limit
 
--- the floor of a sender: 0 and 0 where none was stored
+-- the floor of a sender: 0 and 0 if none was stored
 abbrev pub floor_of_sender : ℕ → Option SenderFloor → SenderFloor
 floor_of_sender sender None = record { sender = sender; kept = 0; stored = 0 }
 floor_of_sender sender (Some f) = f
@@ -271,7 +271,7 @@ dropped_net r = record r { live = false }
 abbrev pub dropped_link : LinkKey → LinkKey
 dropped_link r = record r { live = false; told = false }
 
--- A floor is stored: a sender's place is that of its EUI.
+-- A floor is stored: the senders are in the order of their EUIs.
 abbrev pub floor_stored : ℕ → ℕ → List SenderFloor → List SenderFloor
 floor_stored sender value [] = record { sender = sender; kept = 0; stored = value } ∷ []
 floor_stored sender value (f ∷ fs) =
@@ -359,7 +359,7 @@ applied_all (e ∷ es) s = applied_all es (applied e s)
 abbrev pub next_at : ℕ → NetKey → NetKey
 next_at next r = record r { next = next }
 
--- a term was sealed: the counter goes on from it
+-- a term was sealed: the counter continues from it
 abbrev pub sealed_at : Layer → Term → NodeState → NodeState
 sealed_at Nwk t s = record s { nets = at_net t.base (next_at (t.counter + 1)) s.nets }
 sealed_at Aps t s = record s { aps_next = t.counter + 1 }
@@ -390,7 +390,7 @@ after_hearing Aps key sender counter s = record s { links = at_link sender key (
 unfoldable pub after_accepting : Term → NodeState → NodeState
 after_accepting t s = after_hearing t.layer t.base t.source t.counter s
 
--- After a boot the counters go on from their limits, and the floors are those that were stored.
+-- After a boot the counters continue from their limits, and the floors are those that were stored.
 abbrev pub booted_floor : SenderFloor → SenderFloor
 booted_floor f = record f { kept = f.stored }
 
@@ -403,7 +403,7 @@ booted_link r = record r { kept = r.stored }
 unfoldable pub after_boot : NodeState → NodeState
 after_boot s = record s { aps_next = s.aps_limit; nets = map booted_net s.nets; links = map booted_link s.links }
 
--- What a node's tables show of its state: they forget the floors of a dropped network key, for which nothing asks.
+-- What a node's tables show of its state: they leave out the floors of a dropped network key, which nothing reads.
 abbrev pub shown_net : NetKey → NetKey
 shown_net r = record r { floors = if r.live then r.floors else [] }
 

@@ -1,5 +1,5 @@
--- What the policy takes from below, as one record: sealing and opening, hashing, and how frames and commands are read
--- and spelled. The rules use these as they are; no law looks inside.
+-- What the policy takes from the layers below, as one record: sealing and opening, hashing, and how frames and
+-- commands are read and written. The rules use these as they are; no law depends on their definitions.
 use Rattle.std.specs.Prelude.{ℕ, Bool, Option}
 use Rattle.zb_model.specs.Data.{Bytes, Label, ForData, ForNetwork, ForTransport, ForLoad, Term, Command}
 
@@ -9,8 +9,8 @@ pub record NwkAuxiliary : Type 0 where
   pub source : ℕ
   pub sequence : ℕ
 
--- What a NWK frame shows before it is opened: whether it is a command, its short addresses, its auxiliary header where
--- it is secured, and its payload where it isn't.
+-- What a NWK frame shows before it is opened: whether it is a command, its short addresses, its auxiliary header if it
+-- is secured, and its payload if it isn't.
 pub record NwkShown : Type 0 where
   pub is_command : Bool
   pub destination : ℕ
@@ -18,20 +18,20 @@ pub record NwkShown : Type 0 where
   pub auxiliary : Option NwkAuxiliary
   pub body : Bytes
 
--- The auxiliary header of a secured APS frame: its label, its frame counter, and its source's EUI if that is there.
+-- The auxiliary header of a secured APS frame: its label, its frame counter, and its source's EUI if it has one.
 pub record ApsAuxiliary : Type 0 where
   pub label : Label
   pub counter : ℕ
   pub source : Option ℕ
 
--- What an APS frame shows: whether it is a command (else data or an acknowledgement), its auxiliary header where it is
--- secured, and its payload where it isn't.
+-- What an APS frame shows: whether it is a command (else data or an acknowledgement), its auxiliary header if it is
+-- secured, and its payload if it isn't.
 pub record ApsShown : Type 0 where
   pub is_command : Bool
   pub auxiliary : Option ApsAuxiliary
   pub body : Bytes
 
--- What bytes are as an APS command: one that is known; one whose identifier or key type isn't; or none.
+-- What bytes are as an APS command: a known one; one whose identifier or key type is unknown; or none.
 pub data CommandShown : Type 0 where
   Known : (command : Command) → CommandShown
   Unknown : CommandShown

@@ -1,4 +1,4 @@
-//! The model of a Zigbee trust centre: what a transcript is, what a node's state is, what each node answers to
-//! each event, and what is claimed of whole runs. It is a crate of definitions (`specs/`) alone; the crates `law_*`
-//! carry the laws that hold of them.
+//! The model of a Zigbee trust centre: what a transcript is, what a node's state is, what each node answers to each
+//! event, and what we claim about whole runs. The crate has definitions (`specs/`) alone; the crates `law_*` have the
+//! laws that hold for them.
 #![tactic(auto)]

@@ -1,4 +1,4 @@
--- The tools are the program's: a term or command of the program, made the model's and back, is itself.
+-- The tools are the program's: a term or command of the program, converted to the model's and back, is the same.
 use Rattle.std.proofs.Common.{◌≡◌, ℕ, List, refl, ap, ◌∙◌}
 use Rattle.zb_base.specs.declared.label.Label.{Label}
 use Rattle.zb_base.specs.declared.label.Label.TheVariants as label

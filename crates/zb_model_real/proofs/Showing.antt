@@ -1,4 +1,4 @@
--- What a frame opens to is what it shows.
+-- What a frame opens to agrees with what it shows.
 use Rattle.std.proofs.Common.{◌≡◌, ℕ, List, ◌++◌, Option, Some, None, option_map, Result, Ok, Err, sym, ap, ◌∙◌, subst}
 use Rattle.std.specs.Prelude.{unwrap_or}
 use Rattle.zb_aps.specs.Reading as aps

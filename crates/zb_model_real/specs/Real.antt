@@ -1,5 +1,5 @@
--- What the model takes from below, filled: frames and commands as this program's crates read and spell them, sealing
--- and opening by CCM* over AES-128, the keyed hash of 05-3474-21, annex B.
+-- The tools of the model, defined: frames and commands as this program's crates read and write them, sealing and
+-- opening by CCM* over AES-128, the keyed hash of 05-3474-21, annex B.
 use Rattle.std.specs.Prelude.{[], ◌∷◌, Option, Some, None, Result, Ok, Err}
 use Rattle.zb_aps.specs.Reading as aps
 use Rattle.zb_cmd.specs.Reading.{command_of, leave_of}
@@ -21,7 +21,7 @@ abbrev pub opened : Result Term OpenError → Option model.Term
 opened (Ok t) = Some (model_term t)
 opened (Err e) = None
 
--- a command of the model as the program's
+-- a command of the model as the program's command
 abbrev pub command_for : model.Command → Command
 command_for (model.TransportNet key sequence destination source) = cmd.TransportNetwork (key_of key) sequence
     (eui_of destination) (eui_of source)

@@ -1,4 +1,4 @@
--- A term of the program as the model's, and back.
+-- A term of the program as the model's term, and back.
 use Rattle.std.specs.Prelude.{ℕ}
 use Rattle.zb_base.specs.declared.address.Eui.{Eui}
 use Rattle.zb_base.specs.declared.key.Key.{Key}
@@ -17,7 +17,7 @@ model_label label.Network = model.ForNetwork
 model_label label.Transport = model.ForTransport
 model_label label.Load = model.ForLoad
 
--- what a term says in the model
+-- the fields of a term in the model
 abbrev pub model_term : Term → model.Term
 model_term t = record {
   layer = model_layer t.layer;
@@ -46,7 +46,7 @@ eui_of n = record { 0 = n }
 abbrev pub key_of : Bytes → Key
 key_of bytes = record { 0 = bytes }
 
--- a term of the model as the program's
+-- a term of the model as the program's term
 abbrev pub term_of : model.Term → Term
 term_of t = record {
   layer = layer_of t.layer;

@@ -1,5 +1,5 @@
-//! The model's tools, filled by this program's crates: frames, commands, sealing. A law is the contract of a
-//! function with an empty body.
+//! The model's tools, defined by this program's crates: frames, commands, sealing. A law is the contract of a function
+//! with an empty body.
 #![tactic(auto)]
 
 ghost use Rattle.std.specs.Prelude.{◌≡◌, ℕ, List, Some, unwrap_or};
@@ -16,17 +16,17 @@ ghost use Rattle.zb_model_real.specs.Readers.{model_command};
 ghost use Rattle.zb_model_real.specs.Real.{real};
 ghost use Rattle.zb_model_real.specs.Terms.{model_label, model_term};
 
-/// States that the model's words for what is sealed are the program's.
+/// States that the model's definitions of what is sealed agree with the program's.
 ///
-/// A term goes on the air in the bytes of zb_seal, under the key that zb_seal derives from its base key. A command is
-/// in the bytes of zb_cmd.
+/// A term is sent on the air as the bytes of zb_seal, under the key that zb_seal derives from its base key. A command
+/// has the bytes of zb_cmd.
 pub fn terms_go_out_as_they_are_sealed()
     ensures wire { (t : Term) → real.wire (model_term t) ≡ wire t }
     ensures keys { (label : Label) (base : List ℕ) → model_key real (model_label label) base ≡ sealing_key label base }
     ensures commands { (c : Command) → real.spelled (model_command c) ≡ command c }
 {}
 
-/// States that what a real frame opens to has its layer and the base key that opened it.
+/// States that what a real frame opens to has the frame's layer and the base key that opened it.
 ///
 /// It has the source and counter that the frame shows.
 pub fn frames_open_as_they_show()

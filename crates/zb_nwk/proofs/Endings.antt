@@ -1,5 +1,5 @@
--- How the reading of a NWK frame ends on any bytes: they are cut and can go on, have a fault that stays, or are a
--- frame.
+-- How the reading of a NWK frame ends on any bytes: they are cut and can be continued, have a fault that remains, or
+-- are a frame.
 use Rattle.std.proofs.Common.{◌≡◌, ◌≢◌, ℕ, ◌-◌, ◌^◌, ◌<◌, ◌≤◌, Bool, true, false, eqb, List, [], ◌∷◌, ◌++◌, length, take, drop, Some, None, Ok, Err, refl, sym, ap, subst, ◌∙◌, append_assoc, arith, inl, inr, ◌⊎◌, length-append}
 use Rattle.std.specs.Prelude.{replicate}
 use Rattle.std.specs.Int.{w16, w32}
@@ -133,7 +133,7 @@ not_cut : (bytes : List ℕ) → 2 ≤ length bytes → number_at w16 error.TooL
 unfolding number_at
 not_cut bytes le e = let f = rw (le-ltb _ _ le) at e in cc
 
--- a header, where at least the control word is whole
+-- a header, if at least the control word is whole
 pub header_end : (bytes : List ℕ) → IsBytes bytes → 2 ≤ length bytes → Outcome header_at HeaderText Explains bytes
 header_end bytes fits le =
     elim (number_outcome {E = NwkError} (λ r e. ⊥) w16 (2 ^ 16) number16 bytes fits) [
@@ -247,7 +247,7 @@ join_whole : (bytes hd rest au end body mic : List ℕ) → bytes ≡ hd ++ rest
     → bytes ≡ hd ++ ((au ++ body) ++ mic)
 join_whole bytes hd rest au end body mic p q r = rw (p, q, r) (simp append_assoc)
 
--- after any header there can be a content
+-- any header can be followed by a content
 content_text : (h : NwkHeader) → IsHeader h → HeaderInRange h → (b : Bool) → bit h.control 9 ≡ b → CanGoOn (header h)
 content_text h shaped fits false e = (
   [],

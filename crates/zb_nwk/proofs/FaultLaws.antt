@@ -1,4 +1,4 @@
--- The first fault of the walk is the fault that the bytes have.
+-- The first fault on the walk is the fault that the bytes have.
 use Rattle.std.proofs.Common.{◌≡◌, ℕ, ◌^◌, ◌<◌, ◌≤◌, false, eqb, List, ◌∷◌, ◌++◌, length, Result, Ok, Err, refl, sym, ap, subst, ◌∙◌, arith, inl, inr, ◌⊎◌}
 use Rattle.std.specs.Int.{w16}
 use Rattle.std.proofs.lemmas.Bool.{cases_lt, le-ltb, lt-ltb, eq-eqb, ne_eqb}
@@ -71,7 +71,7 @@ fault_found bytes fits e given =
           ]
     ]
 
--- bytes that can go on have no fault that stays
+-- bytes that can be continued have no fault that remains
 stays_not : (bytes : List ℕ) (e : NwkError)
     → ((cut : NwkError) (more : List ℕ) → frame_at cut (bytes ++ more) ≡ Err e) → (length bytes < 2) ⊎ CanGoOn bytes
     → ⊥

@@ -1,4 +1,4 @@
--- When bytes have each fault, said of the bytes and of the frames that there are, and not of any order of reading.
+-- When bytes have each fault, in terms of the bytes and all possible frames, without any order of reading.
 use Rattle.std.specs.Prelude.{◌≡◌, ◌≢◌, ℕ, ◌^◌, ◌<◌, ◌≤◌, ◌⊎◌, true, false, List, ◌∷◌, ◌++◌, length}
 use Rattle.std.specs.Int.{w16}
 use Rattle.zb_cursor.specs.Spelling.{number, bit}
@@ -10,11 +10,11 @@ use Rattle.zb_nwk.specs.Spelling.{header}
 use Rattle.zb_nwk.specs.Shape.{kind, version, key_id, IsHeader, HeaderInRange, IsFrame}
 use Rattle.zb_base.specs.Limits.{longest_frame}
 
--- Some longer bytes that begin so are a frame, be they more than 127.
+-- Some longer bytes with this prefix are a frame, possibly longer than 127.
 abbrev pub CanGoOn : List ℕ → Type 0
 CanGoOn bytes = (more : List ℕ) × (f : NwkFrame) × IsFrame (bytes ++ more) f
 
--- The bytes ran out: they are no frame, and either not even their control word is whole or longer bytes can be one.
+-- The bytes ran out: they aren't a frame, and either their control word isn't whole or longer bytes can be a frame.
 pub record IsCut (bytes : List ℕ) : Type 0 where
   pub no_frame : (f : NwkFrame) → ¬ IsFrame bytes f
   pub goes_on : (length bytes < 2) ⊎ CanGoOn bytes
@@ -31,7 +31,7 @@ pub record IsSecuredBy (bytes : List ℕ) (control : ℕ) (h : NwkHeader) (rest 
   pub secured : bit h.control 9 ≡ true
   pub parts : bytes ≡ header h ++ (control ∷ rest)
 
--- what a fault of at most 127 bytes says of them
+-- what a fault of at most 127 bytes means for them
 abbrev pub Explains : List ℕ → NwkError → Type 0
 Explains bytes TooLong = ⊥
 Explains bytes (Short place) = (place ≡ length bytes) × IsCut bytes

@@ -1,4 +1,4 @@
--- Which values are NWK frames: what the control bits say is there, and nothing else.
+-- Which values are NWK frames: the optional parts are exactly those that the control bits name.
 use Rattle.std.specs.Prelude.{◌≡◌, ℕ, ◌/◌, ◌%◌, ◌^◌, ◌<◌, ◌≤◌, true, List, [], ◌∷◌, length, is_some, IfSome, IfNone}
 use Rattle.std.specs.List.{AllByRecursion}
 use Rattle.zb_cursor.specs.Spelling.{bit}
@@ -79,7 +79,7 @@ pub record IsFrame (bytes : List ℕ) (f : NwkFrame) : Type 0 where
   pub shaped : IsShaped f
   pub text : bytes ≡ frame f
 
--- The bytes spell the frame: they are it, and they are at most 127.
+-- The bytes spell the frame: they are the frame, and they are at most 127.
 pub record Spells (bytes : List ℕ) (f : NwkFrame) : Type 0 where
   pub is_frame : IsFrame bytes f
   pub fits : length bytes ≤ longest_frame

@@ -8,7 +8,7 @@ use Rattle.zb_nwk.specs.declared.header.NwkHeader.{NwkHeader}
 use Rattle.zb_nwk.specs.declared.auxiliary.NwkAux.{NwkAux}
 use Rattle.zb_nwk.specs.declared.frame.NwkFrame.{NwkFrame}
 
--- a source route: how many relays, the place among them, the relays
+-- a source route: the number of relays, the place among them, the relays
 abbrev pub route : Route → List ℕ
 route r = byte (length r.relays.items) ++ byte r.index ++ flat_map short r.relays.items
 
@@ -24,7 +24,8 @@ header h =
 abbrev pub aux : NwkAux → List ℕ
 aux a = byte a.control ++ number w32 a.counter ++ eui a.source ++ byte a.key_sequence
 
--- what stands after the header: the body, and where it is secured an auxiliary header before it and the MIC after it
+-- what comes after the header: the body; if the frame is secured, also an auxiliary header before it and the MIC after
+-- it
 abbrev pub content : Option NwkAux → List ℕ → List ℕ → List ℕ
 content None body mic = body
 content (Some a) body mic = aux a ++ body ++ mic

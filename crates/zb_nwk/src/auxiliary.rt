@@ -16,16 +16,16 @@ use zb_cursor::{Reader, TooLong, has_bit, put_byte, put_eui, put_number32};
 pub struct NwkAux {
     /// The byte as on the air. Bits 0 to 2: level; 3 and 4: key identifier; 5: extended nonce; the others are free.
     pub control: u8,
-    /// The frame counter of the node that sealed.
+    /// The frame counter of the node that sealed the frame.
     pub counter: u32,
-    /// The EUI of the node that sealed.
+    /// The EUI of the node that sealed the frame.
     pub source: Eui,
-    /// The sequence number of the network key that seals.
+    /// The sequence number of the network key that seals it.
     pub key_sequence: u8,
 }
 
 impl NwkAux {
-    /// Returns whether the reader takes the control byte: the network key, with the extended nonce.
+    /// Returns whether the reader accepts the control byte: the network key, with the extended nonce.
     pub fn shape_ok(&self) -> bool
         ensures { IsTrue result ↔ IsAuxControl self.now.control }
     {
@@ -84,7 +84,7 @@ pub(crate) fn read_aux(reader: &mut Reader<NwkError>) -> Result<NwkAux, NwkError
 ///
 /// # Errors
 ///
-/// `TooLong` where the bytes have no room.
+/// `TooLong` if there is no room for the bytes.
 pub(crate) fn put_aux(out: &mut Frame, value: &NwkAux) -> Result<(), TooLong>
     ensures { Appends out.old.items (aux value.now) out.new.items result }
 {

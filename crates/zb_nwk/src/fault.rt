@@ -1,35 +1,36 @@
-//! Why bytes are no NWK frame.
+//! Why bytes aren't a NWK frame.
 use std::error::Error;
 use std::fmt;
 
-/// The first fault of bytes that are no NWK frame.
+/// The first fault of bytes that aren't a NWK frame.
 ///
-/// `TooLong` comes before all others. Then the first counts that is met as the fields are walked from the start.
+/// `TooLong` comes before all others. Among these, the fault is the first one on a walk over the fields from the
+/// start.
 #[derive(Clone, Copy, Debug, PartialEq, Eq)]
 pub enum NwkError {
     /// More than 127 bytes.
     TooLong,
-    /// A field is not whole.
+    /// A field isn't whole.
     Short {
         /// The number of all bytes.
         at: u32,
     },
     /// The frame type is neither data (0) nor command (1); an inter-PAN frame is 3.
     FrameType {
-        /// The type that stands there.
+        /// The type of the frame.
         found: u8,
     },
-    /// The version of the protocol is not 2.
+    /// The version of the protocol isn't 2.
     Version {
-        /// The version that stands there.
+        /// The version of the frame.
         found: u8,
     },
-    /// The auxiliary header does not name the network key (1).
+    /// The auxiliary header doesn't name the network key (1).
     KeyId {
-        /// The key identifier that stands there.
+        /// The key identifier of the header.
         found: u8,
     },
-    /// The auxiliary header has no source address, as its extended nonce bit is 0.
+    /// The auxiliary header has no source address, because its extended nonce bit is 0.
     NoSource,
 }
 

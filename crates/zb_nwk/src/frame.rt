@@ -23,18 +23,18 @@ use zb_cursor::{Reader, TooLong, fill, has_bit, put};
 pub struct NwkFrame {
     /// The header, which is never encrypted.
     pub header: NwkHeader,
-    /// The auxiliary header, there exactly where bit 9 of the control word is 1.
+    /// The auxiliary header, present exactly if bit 9 of the control word is 1.
     pub aux: Option<NwkAux>,
-    /// The payload, or its cipher text where the frame is secured.
+    /// The payload, or its cipher text if the frame is secured.
     pub body: Frame,
-    /// The MIC, which is zero in a frame that is not secured.
+    /// The MIC, which is zero if the frame isn't secured.
     pub mic: [u8; 4],
 }
 
 impl NwkFrame {
-    /// Makes a frame that others may be read into.
+    /// Makes a frame into which others may be read.
     ///
-    /// Nothing is promised of its fields: where `read_into` succeeds, it has written them all.
+    /// Its fields have no particular values: if `read_into` succeeds, it has written them all.
     pub fn blank() -> NwkFrame {
         NwkFrame {
             header: NwkHeader::blank(),
@@ -46,8 +46,8 @@ impl NwkFrame {
 
     /// Returns whether this value is a frame that the reader can return.
     ///
-    /// The reader takes the type, the version and the auxiliary control, the options agree with the control word, and
-    /// the MIC is zero where there is no security.
+    /// The reader accepts the type, the version and the auxiliary control, the options agree with the control word,
+    /// and the MIC is zero if there is no security.
     pub fn shape_ok(&self) -> bool
         ensures { IsTrue result ↔ IsShaped self.now }
     {
@@ -60,7 +60,7 @@ impl NwkFrame {
     }
 }
 
-/// Reads what stands after a header, which has its place, into the other places of the frame.
+/// Reads what comes after a header that was already read, into the other fields of the frame.
 #[tactic(auto, unfolding(crate::specs::Reading::secured_at, crate::specs::Reading::unsecured_at))]
 fn read_content(reader: &mut Reader<NwkError>, frame: &mut NwkFrame) -> Result<(), NwkError>
     requires fits { length reader.old.rest.now ≤ longest_frame }
@@ -94,11 +94,11 @@ fn read_frame(reader: &mut Reader<NwkError>, frame: &mut NwkFrame) -> Result<(),
     Ok(())
 }
 
-/// Reads the NWK frame that all of the bytes are into the place of one.
+/// Reads a NWK frame that must take all of the bytes into an existing one.
 ///
 /// # Errors
 ///
-/// The first fault of the bytes, where they are no frame. What stands in the place then means nothing.
+/// The first fault of the bytes, if they aren't a frame. The fields of the existing one then mean nothing.
 #[tactic(auto, unfolding(crate::specs::Reading::frame_of))]
 pub fn read_into(bytes: &[u8], frame: &mut NwkFrame) -> Result<(), NwkError>
     ensures found { OnOk result (Spells bytes.now frame.new) }
@@ -126,16 +126,16 @@ fn read_into_blank(bytes: &[u8]) -> Result<NwkFrame, NwkError>
     Ok(frame)
 }
 
-/// Reads the NWK frame that all of the bytes are.
+/// Reads a NWK frame that must take all of the bytes.
 ///
 /// # Errors
 ///
-/// The first fault of the bytes, where they are no frame.
+/// The first fault of the bytes, if they aren't a frame.
 pub fn read(bytes: &[u8]) -> Result<NwkFrame, NwkError>
-    // What is read is spelled so, and what is spelled so is read.
+    // A frame that is read has these bytes as its spelling, and a spelled frame is read.
     ensures found { IfOk result (λ f. Spells bytes.now f) }
     ensures only { (f : NwkFrame) → Spells bytes.now f → result ≡ Ok f }
-    // Which fault it is, by a walk over the fields, and by the bytes and the frames that there are.
+    // The fault, defined by a walk over the fields, and also by the bytes and all possible frames.
     ensures exact { result ≡ frame_of bytes.now }
     ensures fault { (e : NwkError) → (result ≡ Err e) ↔ HasFault bytes.now e }
 {
@@ -156,11 +156,11 @@ fn put_content(out: &mut Frame, value: &NwkFrame) -> Result<(), TooLong>
     Ok(())
 }
 
-/// Writes the one spelling of a frame. Requires that the value is one, as `shape_ok` tells.
+/// Writes the one spelling of a frame. Requires a valid value, as `shape_ok` checks.
 ///
 /// # Errors
 ///
-/// `TooLong` where the spelling has more than 127 bytes.
+/// `TooLong` if the spelling has more than 127 bytes.
 pub fn write(value: &NwkFrame) -> Result<Frame, TooLong>
     requires { IsShaped value.now }
     ensures text { IfOk result (λ bytes. bytes.items ≡ frame value.now) }

@@ -26,7 +26,7 @@ pub struct Route {
     pub relays: ArrayVec<Short, 60>,
 }
 
-/// The header of a NWK frame (05-3474-21, 3.3.1). The control word says which of the last four fields are there.
+/// The header of a NWK frame (05-3474-21, 3.3.1). The control word says which of the last four fields are present.
 #[derive(Debug, Drop, PartialEq, Eq)]
 pub struct NwkHeader {
     /// The control word. The bits that aren't in this list are free.
@@ -37,8 +37,8 @@ pub struct NwkHeader {
     /// - 8: multicast
     /// - 9: security
     /// - 10: source route
-    /// - 11: the EUI of the destination is there
-    /// - 12: the EUI of the source is there
+    /// - 11: the EUI of the destination is present
+    /// - 12: the EUI of the source is present
     /// - 13: end device initiator
     pub control: u16,
     /// The short address that the frame goes to.
@@ -47,7 +47,7 @@ pub struct NwkHeader {
     pub source: Short,
     /// How many hops are left.
     pub radius: u8,
-    /// The sequence number that the source gave the frame.
+    /// The sequence number that the source gave to the frame.
     pub sequence: u8,
     /// The EUI of the destination.
     pub destination_eui: Option<Eui>,
@@ -60,7 +60,7 @@ pub struct NwkHeader {
 }
 
 impl NwkHeader {
-    /// Makes a header that others may be read into.
+    /// Makes a header into which others may be read.
     pub(crate) fn blank() -> NwkHeader {
         NwkHeader {
             control: 0,
@@ -75,7 +75,7 @@ impl NwkHeader {
         }
     }
 
-    /// Returns whether the reader takes type and version, and the options are those of the control word.
+    /// Returns whether the reader accepts type and version, and the options are those of the control word.
     pub fn shape_ok(&self) -> bool
         ensures { IsTrue result ↔ IsHeader self.now }
     {
@@ -126,7 +126,7 @@ fn read_route(reader: &mut Reader<NwkError>) -> Result<Route, NwkError>
     Ok(Route { index, relays })
 }
 
-// Reads a source route into the place of one that may be there.
+// Reads a source route into an optional existing one.
 fn read_some_route(reader: &mut Reader<NwkError>, route: &mut Option<Route>) -> Result<(), NwkError>
     requires { length reader.old.rest.now + 4 ≤ longest_frame }
     ensures exact { Gives (read_into result route.new) reader.new.rest.now
@@ -142,7 +142,7 @@ fn read_some_route(reader: &mut Reader<NwkError>, route: &mut Option<Route>) -> 
     Ok(())
 }
 
-// Takes a source route away, if there is one.
+// Removes a source route, if there is one.
 fn forget_route(route: &mut Option<Route>)
     ensures { route.new ≡ None }
 {
@@ -173,7 +173,7 @@ fn read_optional_route(
     Ok(())
 }
 
-/// Reads the fields after a control word into the place of a header.
+/// Reads the fields after a control word into an existing header.
 #[tactic(auto, unfolding(crate::specs::Reading::fields_at))]
 fn read_fields(
     reader: &mut Reader<NwkError>,
@@ -204,11 +204,11 @@ fn read_fields(
     Ok(())
 }
 
-/// Reads a header into its place.
+/// Reads a header into an existing one.
 ///
 /// # Errors
 ///
-/// The first fault of the bytes. What stands in the place then means nothing.
+/// The first fault of the bytes. The fields of the existing header then mean nothing.
 #[tactic(auto, unfolding(crate::specs::Reading::header_at))]
 pub(crate) fn read_header(
     reader: &mut Reader<NwkError>,
@@ -263,7 +263,7 @@ fn put_addresses(out: &mut Frame, value: &NwkHeader) -> Result<(), TooLong>
 ///
 /// # Errors
 ///
-/// `TooLong` where the bytes have no room.
+/// `TooLong` if there is no room for the bytes.
 pub(crate) fn put_header(out: &mut Frame, value: &NwkHeader) -> Result<(), TooLong>
     ensures { Appends out.old.items (header_of value.now) out.new.items result }
 {

@@ -1,5 +1,5 @@
-//! NWK frames both ways (05-3474-21, 3.3.1 and 4.5.1). A frame has at most 127 bytes. The reader makes a value of
-//! bytes, or finds their first fault. The writer makes the one spelling of a value.
+//! NWK frames, read and written (05-3474-21, 3.3.1 and 4.5.1). A frame has at most 127 bytes. The reader makes a value
+//! from bytes, or finds their first fault. The writer makes the one spelling of a value.
 #![tactic(auto)]
 
 mod auxiliary;

@@ -3,7 +3,7 @@ use Rattle.std.proofs.Common.{◌≡◌, ℕ, zero, suc, ◌+◌, ◌-◌, ◌*�
 use Rattle.zb_parallel.specs.Shares.{AreShares}
 use Rattle.zb_parallel.specs.declared.share.Share.{Share}
 
--- some items are given to each job
+-- each job gets at least one item
 pub some_size : (n size jobs : ℕ) → n ≤ size * jobs → 0 < n → 0 < size
 some_size n zero jobs most some = absurd (omega arith)
 some_size n (suc size) jobs most some = omega arith
@@ -13,7 +13,7 @@ abbrev pub AreSharesSoFar : ℕ → ℕ → ℕ → ℕ → ℕ → List Share �
 AreSharesSoFar size total number first left shares =
     (more : List Share) → AreShares size number first left more → AreShares size 0 0 total (shares ++ more)
 
--- a share more
+-- one more share
 pub share_more : (size total number first left next rest : ℕ) (old new : List Share) (s : Share)
     → AreSharesSoFar size total number first left old
     → new ≡ old ++ s ∷ [] → s.number ≡ number → s.first ≡ first → 0 < left → s.count ≡ min size left → next
@@ -26,14 +26,14 @@ share_more size total number first left next rest old new s so_far items numbere
     subst P (sym (ap (λ ss. ss ++ more) items ∙ append_assoc old (s ∷ []) more))
     (so_far (s ∷ more) (numbered, place, some, count, subst S is (subst Q after cut)))
 
--- no share more
+-- no more shares
 pub share_end : (size total number first left : ℕ) (shares : List Share)
     → AreSharesSoFar size total number first left shares → left ≡ 0
     → AreShares size 0 0 total shares
 share_end size total number first left shares so_far none =
     let P : List Share → Type 0 = λ ss. AreShares size 0 0 total ss in subst P (append-nil shares) (so_far [] none)
 
--- there are no more shares than jobs
+-- the number of shares is at most that of the jobs
 pub few_shares : (size number first left jobs : ℕ) (shares : List Share) → AreShares size number first left shares
     → left ≤ size * jobs
     → length shares ≤ jobs

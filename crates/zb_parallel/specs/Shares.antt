@@ -2,8 +2,8 @@
 use Rattle.std.specs.Prelude.{◌≡◌, ℕ, ◌+◌, ◌-◌, ◌<◌, min, List, [], ◌∷◌}
 use Rattle.zb_parallel.specs.declared.share.Share.{Share}
 
--- Shares, numbered from `number` on, of the items that are left, from the place `first` on. Each has `size` of them,
--- and the last one has what is left by then. Where no item is left there is no share.
+-- The shares of the remaining items, numbered from `number`, with places from `first`. Each has `size` items, except
+-- the last, which has the remainder. If no items remain there are no shares.
 abbrev pub AreShares : ℕ → ℕ → ℕ → ℕ → List Share → Type 0
 AreShares size number first left [] = left ≡ 0
 AreShares size number first left (share ∷ more) =

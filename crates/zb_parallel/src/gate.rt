@@ -1,14 +1,14 @@
 //! Gates, which shares of work pass.
 
-/// A gate before the shares of each phase of work, which pass it once.
+/// A gate before the shares of each phase of work. Each share passes it once per phase.
 ///
-/// Nothing that is worked out depends on it. A test may hold a share there until another one has come.
+/// No result depends on it. A test may hold a share there until another one has arrived.
 pub trait Gate: Sync {
     /// Lets the share of this number, from 0, pass.
     fn pass(&self, share: u32);
 }
 
-/// A gate that is open: every share passes at once.
+/// An open gate: every share passes at once.
 #[derive(Clone, Copy, Debug, Default, PartialEq, Eq)]
 pub struct NoGate;
 

@@ -8,7 +8,7 @@ use zb_base::NoMemory;
 ///
 /// # Errors
 ///
-/// `NoMemory` where one of the jobs ran out of memory, or this call does.
+/// `NoMemory` if one of the jobs, or this call, ran out of memory.
 pub fn gather<T: Drop>(alloc: Global, made: Vec<Result<T, NoMemory>>) -> Result<Vec<T>, NoMemory>
     ensures { IfOk result (λ v. made.items ≡ map (λ value. Ok value) v.items) }
 {

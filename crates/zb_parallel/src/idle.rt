@@ -1,19 +1,19 @@
-//! A thread that has nothing to do, which is started before those that work.
+//! A thread that has nothing to do, which is started before the threads that work.
 
 use std::thread::{JoinHandle, Threads, spawn};
 
 /// A thread that ends at once.
 ///
-/// Where a thread that is busy starts another, Linux may keep both on one processor for some milliseconds, which is
-/// long beside the work on a capture. The second one that it starts runs on another processor at once. So several jobs
-/// begin after an idle one.
+/// If a busy thread starts another, Linux may keep both on one processor for some milliseconds, which is long compared
+/// with the work on a capture. A second thread that it starts runs on another processor at once. So several jobs start
+/// after an idle one.
 #[derive(Drop)]
 pub struct IdleThread {
     handle: Option<JoinHandle<()>>,
 }
 
 impl IdleThread {
-    /// Starts it before this number of jobs. Where one works alone, or no thread can be made, there is none.
+    /// Starts it before this number of jobs. There is none if one job works alone, or if no thread can be made.
     pub fn start<T: Threads>(rt: &T, jobs: usize) -> IdleThread {
         let handle = if jobs < 2 {
             None
@@ -23,7 +23,7 @@ impl IdleThread {
         IdleThread { handle }
     }
 
-    /// Waits until it has ended.
+    /// Waits until the thread has ended.
     pub fn end<T: Threads>(self, rt: &T) {
         let IdleThread { handle } = self;
         if let Some(handle) = handle {

@@ -1,5 +1,5 @@
-//! Work that several jobs do side by side: how it is cut into shares, where the shares meet, how the jobs
-//! begin, and how what they made is gathered.
+//! Work that several jobs do in parallel: how it is cut into shares, where the shares meet, how the jobs start, and
+//! how their results are gathered.
 #![tactic(auto)]
 
 mod gate;

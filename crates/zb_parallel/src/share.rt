@@ -19,7 +19,7 @@ pub struct Share {
 
 /// Cuts `total` items into consecutive shares, at most one for each job.
 ///
-/// Requires at least one job. Each share but the last has as many items as there are for a job, rounded up.
+/// Requires at least one job. Each share except the last has the number of items per job, rounded up.
 ///
 /// # Errors
 /// `NoMemory`.

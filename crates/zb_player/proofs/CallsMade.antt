@@ -8,14 +8,15 @@ use Rattle.zb_base.specs.Outside.{risen}
 use Rattle.zb_base.specs.declared.key.Key.{Key}
 use Rattle.zb_disk.specs.Memory.{Medium}
 use Rattle.zb_player_events.proofs.FewCalls.{few_in_run}
-use Rattle.zb_player_events.specs.Acts.{IsFor, act_for}
+use Rattle.zb_player_events.specs.Acts.{act_for}
 use Rattle.zb_player_events.specs.Calls.{calls_of, event_calls, run_calls}
 use Rattle.zb_player_events.specs.Told.{Before, Calls, counted_on}
 use Rattle.zb_player_events.specs.declared.acts.Act.{Act}
 use Rattle.zb_player_events.specs.declared.acts.Act.TheVariants as act
 use Rattle.zb_player_events.specs.declared.ledger.Ledger.{Ledger}
-use Rattle.zb_model.specs.Data.{Role, Station}
+use Rattle.zb_model.specs.Data.{Station}
 use Rattle.zb_model.specs.Lines.{Line}
+use Rattle.zb_model.specs.Schedules.{CountsCalls}
 use Rattle.zb_model.specs.Play as play
 use Rattle.zb_model.specs.Play.{Disk, Event, Schedule, groups, start, stations, step}
 use Rattle.law_run.proofs.Basics.{nat_eq-refl}
@@ -23,11 +24,11 @@ use Rattle.zb_model_real.specs.Real.{real}
 use Rattle.law_schedules.specs.Schedules.{event_for, schedule_of, stations_for}
 use Rattle.law_run_steps.specs.Conditions.{Condition, condition_of}
 use Rattle.law_run_steps.specs.Steps.{is_of}
-use Rattle.zb_player_events.specs.Nodes.{NodeValue, model_task}
+use Rattle.zb_player_events.specs.Nodes.{NodeValue, task_of}
 use Rattle.zb_player.specs.Playing.{AreCalled, AreCalledBy, FitsRun, IsEventAt, RunStands}
 use Rattle.zb_player.specs.Runs.{AreMade, Answers, HaveMade, IsPlayed, acts_of, disks_after, lines_of}
 use Rattle.zb_player.specs.declared.run.Run.{Run}
-use Rattle.zb_player.proofs.Goings.{before_here, role_here}
+use Rattle.zb_player.proofs.Goings.{before_here}
 use Rattle.zb_player.proofs.Looping.{mapped_at}
 use Rattle.zb_player.proofs.Named.{of_others}
 use Rattle.zb_player.proofs.RunSteps.{fits_at}
@@ -115,7 +116,7 @@ one_called f (q ∷ qs) (m ∷ ms) (suc i) d x m' bound many apart none made = (
 -- ---- one event
 
 own_event : (n : ℕ) (a : Act) (event : play.Event) → act_for n a ≡ Some event → is_of n event ≡ true
-own_event n (act.Own task) event e = let same : play.Own n (model_task task) ≡ event =
+own_event n (act.Own task) event e = let same : play.Own n (task_of task) ≡ event =
     cc in subst (λ (x : play.Event). is_of n x ≡ true) same (nat_eq-refl n)
 own_event n act.Roll event e = let same : play.RollOver n ≡ event = cc in subst (λ (x : play.Event). is_of n x ≡ true)
     same (nat_eq-refl n)
@@ -147,7 +148,7 @@ other_calls w h ds n event is = ap (λ b. cond b (event_calls real w h (conditio
 abbrev pub NodeCalls : Act → ℕ → List Key → Ledger → NodeValue → Medium → Medium → Type 0
 NodeCalls a number draws old node m m' =
     (w : Schedule) (h : List Line) (x : Condition) (latest n : ℕ) (event : Event) → Before w h x latest n old node m
-    → map (λ (k : Key). k.0) draws ≡ w.draws → act_for n a ≡ Some event → IsFor x.setting.me.role event
+    → map (λ (k : Key). k.0) draws ≡ w.draws → act_for n a ≡ Some event → CountsCalls event
     → Calls (event_calls real w h x event) m m'
 
 -- an event of the node at a place
@@ -167,9 +168,7 @@ went_calls p h ds number place q a event old disks disks' node m m' few is stand
     let before = before_here p h xs number place q a event old disks node m (omega (arith, few)) is stands at same_node
     same_disk in
     let made : Calls (event_calls real w h (xs q.eui) event) m m' =
-    goes w h (xs q.eui) number q.eui event before stands.draws at.event_is
-    (subst (λ (r : Role). IsFor r event) (sym (role_here p xs place q is stands.settings at.bound at.station))
-    at.role) in
+    goes w h (xs q.eui) number q.eui event before stands.draws at.event_is at.calls in
     let f : ℕ → ℕ = λ n. calls_of real w h ds n event in
     let own : Calls (f q.eui) m m' =
     made ∙ ap (counted_on m.calls) (own_calls w h ds q.eui event (own_event q.eui a event at.event_is)) in

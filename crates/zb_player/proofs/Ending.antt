@@ -29,7 +29,7 @@ use Rattle.zb_trace.specs.declared.line.Line.{Line as Printed}
 -- the run of a schedule at its start
 pub started : (schedule : CodeSchedule) (declared : List CodeNode) (run : Run) (disks : List Medium) → declared
     ≡ schedule.nodes
-    → Kept (start (schedule_of (sched.schedule_of schedule))) run.ledger.scribe
+    → Kept (start (schedule_of (sched.schedule_of schedule))) run.ledger.transcript.scribe
     → AllStand (schedule_of (sched.schedule_of schedule)) (start (schedule_of (sched.schedule_of schedule))) [] 1
     (stations (schedule_of (sched.schedule_of schedule))) run.nodes.items disks
     → AreSeats run.seats (map station_for (map node_of declared)) → run.draws.now ≡ schedule.draws

@@ -1,174 +1,30 @@
 -- The event of a node at its place.
-use Rattle.std.proofs.Common.{◌≡◌, ℕ, zero, suc, ◌+◌, ◌<◌, Bool, true, false, cond, List, [], ◌∷◌, map, find, length, get_or, Option, Some, None, bytes_eq, refl, sym, ap, ◌∙◌, subst, arith}
+use Rattle.std.proofs.Common.{◌≡◌, ℕ, zero, suc, ◌+◌, ◌<◌, Bool, true, false, List, [], ◌∷◌, map, length, get_or, Option, Some, None, refl, sym, ap, ◌∙◌, subst, arith}
 use Rattle.std.specs.Prelude.{◌||◌, if◌then◌else◌, is_some}
 use Rattle.std.specs.List.{list_any}
-use Rattle.std.specs.Option.{option_map}
 use Rattle.std.proofs.lemmas.Bool.{false≢true}
 use Rattle.zb_base.specs.declared.node.Role.{Role as role}
 use Rattle.zb_base.specs.declared.node.Role.TheVariants.{Centre, Router, Device}
-use Rattle.zb_player_events.specs.Acts.{IsFor, act_for, seat_for}
+use Rattle.zb_player_events.specs.Acts.{act_for, seat_for}
 use Rattle.zb_player_events.specs.Outside.{is_outside}
 use Rattle.zb_player_events.specs.Seats.{first_seat, has_name, is_the_centre}
 use Rattle.zb_player_events.specs.declared.acts.Act.{Act}
-use Rattle.zb_player_events.specs.declared.acts.Act.TheVariants as act
 use Rattle.zb_player_events.specs.declared.seats.Seat.{Seat}
-use Rattle.zb_model.specs.Data.{Bytes, Role, Station, Task, SayTo, TellTo, DoKnock, DoRejoin, DoTimer, AskFor, HasChild, DoProvision, DoRemove, DoRoll, DoSwitch, DoAgain, DoShare, Received}
-use Rattle.zb_model.specs.Play as play
-use Rattle.zb_model.specs.Play.{Schedule, setting_of, stations}
-use Rattle.zb_model.specs.Schedules.{CountsCalls, SuitsRole, is_for_role}
+use Rattle.zb_model.specs.Data.{Bytes, Station}
+use Rattle.zb_model.specs.Play.{stations}
 use Rattle.zb_model.specs.State.{is_centre}
 use Rattle.law_schedules.specs.Schedules.{event_for, schedule_of, station_for, stations_for}
-use Rattle.law_schedules.proofs.Meets.{same_stations}
-use Rattle.zb_player_events.specs.Nodes.{has_children, model_task, suits}
 use Rattle.zb_node_types.specs.Changes.{model_role}
 use Rattle.zb_player.specs.Playing.{FitsRun, IsEventAt}
 use Rattle.law_run_steps.specs.Steps.{is_of}
 use Rattle.law_run_steps.specs.Swaps.{node_of}
 use Rattle.zb_player.proofs.Named.{adopts, found_at, joins, named_from, of_family, of_partners}
-use Rattle.zb_player.proofs.Seating.{setting_at, stations_differ}
-use Rattle.zb_sched.specs.Judge as judge
 use Rattle.zb_sched.specs.Judge.{has_its_nodes, is_joiner, is_parent, role_named}
 use Rattle.zb_sched.specs.Reading.{is_centre as is_centre_role}
 use Rattle.zb_sched.specs.Schedules as sched
 use Rattle.zb_sched.specs.Valid.{IsSchedule, seated}
 use Rattle.zb_sched_line.specs.Said as said
 use Rattle.zb_sched_line.specs.Said.{Event}
-
--- whose the event is
-abbrev node_in : play.Event → ℕ
-node_in (play.Own n task) = n
-node_in (play.RollOver n) = n
-node_in (play.Deliver frame n) = n
-node_in (play.Reset n) = n
-node_in (play.PowerOn n) = n
-node_in (play.ShowRecord n) = n
-node_in (play.ArmStop n calls torn) = n
-node_in (play.ArmFail n call) = n
-node_in _ = 0
-
-none_some : (event : play.Event) → None ≡ Some event → ⊥
-none_some event e = cc
-
-same_event : (x event : play.Event) → Some x ≡ Some event → x ≡ event
-same_event x event e = cc
-
-node_is : (n : ℕ) (a : Act) (event : play.Event) → act_for n a ≡ Some event → node_in event ≡ n
-node_is n (act.Own task) event e = ap node_in (sym (same_event (play.Own n (model_task task)) event e))
-node_is n act.Roll event e = ap node_in (sym (same_event (play.RollOver n) event e))
-node_is n (act.Deliver frame) event e = ap node_in (sym (same_event (play.Deliver frame n) event e))
-node_is n act.Reset event e = ap node_in (sym (same_event (play.Reset n) event e))
-node_is n act.Boot event e = ap node_in (sym (same_event (play.PowerOn n) event e))
-node_is n act.Dump event e = ap node_in (sym (same_event (play.ShowRecord n) event e))
-node_is n (act.Stop calls torn) event e = ap node_in (sym (same_event (play.ArmStop n calls torn.items) event e))
-node_is n (act.Fail call) event e = ap node_in (sym (same_event (play.ArmFail n call) event e))
-node_is n act.Outside event e = absurd (none_some event e)
-
--- a node that has children may have them
-abbrev ChildFits : Role → play.Event → Type 0
-ChildFits r (play.Own n (HasChild child rejoin)) = has_children r ≡ true
-ChildFits r _ = Unit {0}
-
-role_at : (w : Schedule) (n : ℕ) (q : Station) → n ≡ q.eui → (setting_of w q.eui).me ≡ q → (setting_of w n).me.role
-    ≡ q.role
-role_at w n q same here = ap (λ m. (setting_of w m).me.role) same ∙ ap (λ (s : Station). s.role) here
-
-own_is : (w : Schedule) (n : ℕ) (q : Station) (task : Task) → (setting_of w n).me.role ≡ q.role
-    → SuitsRole w (play.Own n task) → is_for_role (is_centre q.role) task ≡ true
-own_is w n q task r fits = subst (λ (x : Role). is_for_role (is_centre x) task ≡ true) r fits
-
-suits_own : (w : Schedule) (n : ℕ) (q : Station) (task : Task) → (setting_of w n).me.role ≡ q.role
-    → SuitsRole w (play.Own n task) → ChildFits q.role (play.Own n task)
-    → suits q.role task ≡ true
-suits_own w n q (SayTo to bytes) r fits child = refl
-suits_own w n q (TellTo partner bytes) r fits child = own_is w n q (TellTo partner bytes) r fits
-suits_own w n q DoKnock r fits child = own_is w n q DoKnock r fits
-suits_own w n q DoRejoin r fits child = own_is w n q DoRejoin r fits
-suits_own w n q DoTimer r fits child = refl
-suits_own w n q (AskFor partner) r fits child = own_is w n q (AskFor partner) r fits
-suits_own w n q (HasChild c rejoin) r fits child = child
-suits_own w n q (DoProvision device key) r fits child = own_is w n q (DoProvision device key) r fits
-suits_own w n q (DoRemove device via) r fits child = own_is w n q (DoRemove device via) r fits
-suits_own w n q (DoRoll draw) r fits child = own_is w n q (DoRoll draw) r fits
-suits_own w n q DoSwitch r fits child = own_is w n q DoSwitch r fits
-suits_own w n q (DoAgain device) r fits child = own_is w n q (DoAgain device) r fits
-suits_own w n q (DoShare device partner) r fits child = own_is w n q (DoShare device partner) r fits
-suits_own w n q (Received bytes draw) r fits child = refl
-
-for_role : (w : Schedule) (q : Station) (event : play.Event) → node_in event ≡ q.eui → (setting_of w q.eui).me ≡ q
-    → SuitsRole w event → CountsCalls event
-    → ChildFits q.role event → IsFor q.role event
-for_role w q (play.Own n task) same here fits counts child = suits_own w n q task (role_at w n q same here) fits child
-for_role w q (play.RollOver n) same here fits counts child = subst (λ (x : Role). is_centre x ≡ true)
-    (role_at w n q same here) fits
-for_role w q (play.Deliver frame n) same here fits counts child = tt
-for_role w q (play.Reset n) same here fits counts child = tt
-for_role w q (play.PowerOn n) same here fits counts child = tt
-for_role w q (play.ShowRecord n) same here fits counts child = tt
-for_role w q (play.ArmStop n calls torn) same here fits counts child = tt
-for_role w q (play.ArmFail n call) same here fits counts child = counts
-for_role w q (play.InjectBytes bytes) same here fits counts child = tt
-for_role w q (play.ForgeNet to from source key sequence counter content) same here fits counts child = tt
-for_role w q (play.ForgeNetAps to from source key sequence counter label base aps_counter command) same here fits
-    counts child = tt
-for_role w q (play.ForgeOpen to from source label base aps_counter command) same here fits counts child = tt
-
--- a parent has children
-
-parent_has : (r : role) → is_parent (Some r) ≡ true → has_children (model_role r) ≡ true
-parent_has Centre e = refl
-parent_has Router e = refl
-parent_has Device e = absurd (false≢true e)
-
-found_parent_by : (m : sched.Node) (q : Station) (o : Option Station) (roles : Option judge.Seat) (b : Bool)
-    → (o ≡ Some q → is_parent (option_map (λ (seat : judge.Seat). seat.node.role) roles) ≡ true → has_children q.role
-    ≡ true)
-    → cond b (Some (station_for m)) o ≡ Some q
-    → is_parent (option_map (λ (seat : judge.Seat). seat.node.role) (cond b (Some (seated m)) roles)) ≡ true
-    → has_children q.role ≡ true
-found_parent_by m q o roles true more found parent =
-    let same : station_for m ≡ q = cc in subst (λ (s : Station). has_children s.role ≡ true) same
-    (parent_has m.role parent)
-found_parent_by m q o roles false more found parent = more found parent
-
-found_parent : (name : Bytes) (q : Station) (ms : List sched.Node) → find (has_name name) (map station_for ms) ≡ Some q
-    → is_parent (role_named name (map seated ms)) ≡ true → has_children q.role ≡ true
-found_parent name q [] found parent = absurd (false≢true parent)
-found_parent name q (m ∷ ms) found parent =
-    found_parent_by m q (find (has_name name) (map station_for ms))
-    (find (λ seat. judge.has_name name seat) (map seated ms)) (bytes_eq m.name name)
-    (found_parent name q ms) found parent
-
-child_fits : (ms : List sched.Node) (e : Event) (q : Station) (it : Seat) → has_its_nodes e (map seated ms) ≡ true
-    → seat_for (map station_for ms) e ≡ Some it
-    → ((test : Station → Bool) → first_seat test 0 (map station_for ms) ≡ Some it → find test (map station_for ms)
-    ≡ Some q)
-    → ChildFits q.role (event_for (map station_for ms) e)
-unfolding event_for
-child_fits ms (said.Says name to bytes) q it fits found at = tt
-child_fits ms (said.Delivers frame name) q it fits found at = tt
-child_fits ms (said.Ticks name) q it fits found at = tt
-child_fits ms (said.Knocks name) q it fits found at = tt
-child_fits ms (said.Rejoins name) q it fits found at = tt
-child_fits ms (said.Adopts parent name rejoin) q it fits found at =
-    found_parent parent q ms (at (has_name parent) found) (of_family ms name parent fits).1
-child_fits ms (said.Provisions name code) q it fits found at = tt
-child_fits ms (said.Repeats name) q it fits found at = tt
-child_fits ms said.Rolls q it fits found at = tt
-child_fits ms said.Switches q it fits found at = tt
-child_fits ms (said.Removes name parent) q it fits found at = tt
-child_fits ms (said.Resets name) q it fits found at = tt
-child_fits ms (said.Boots name) q it fits found at = tt
-child_fits ms (said.Dumps name) q it fits found at = tt
-child_fits ms (said.Stops name calls torn) q it fits found at = tt
-child_fits ms (said.Fails name call) q it fits found at = tt
-child_fits ms (said.Injects bytes) q it fits found at = tt
-child_fits ms (said.ForgesNet to from source key sequence counter content) q it fits found at = tt
-child_fits ms (said.ForgesBoth to from source key sequence counter label base aps_counter command) q it fits found
-    at = tt
-child_fits ms (said.ForgesOpen to from source label base aps_counter command) q it fits found at = tt
-child_fits ms (said.Asks name partner) q it fits found at = tt
-child_fits ms (said.Shares name partner) q it fits found at = tt
-child_fits ms (said.Tells name partner bytes) q it fits found at = tt
 
 -- The seat of an event is one of a test.
 
@@ -213,14 +69,6 @@ again (x ∷ xs) (suc i) d bound = again xs i d (omega arith)
 pub same_index : (place index : ℕ) → place ≡ 0 + index → place ≡ index
 same_index place index e = omega (arith, e)
 
--- what is found by one test at a seat is the node there
-there : (known : List Station) (it : Seat) (d : Station) (i : ℕ) → it.place ≡ i → (test : Station → Bool)
-    → first_seat test 0 known ≡ Some it
-    → find test known ≡ Some (get_or known i d)
-there known it d i place test e =
-    let f = found_at test 0 known it d e in
-    f.found ∙ ap (λ n. Some (get_or known n d)) (sym (same_index it.place f.index f.place) ∙ place)
-
 pub event_at : (p : sched.Schedule) (number : ℕ) (e : Event) (it : Seat) (a : Act) (d : Station) → IsSchedule p
     → FitsRun p number e
     → seat_for (stations (schedule_of p)) e ≡ Some it → act_for it.eui.0 a ≡ Some (event_for (stations_for p) e)
@@ -234,19 +82,11 @@ event_at p number e it a d is fits found acts =
     let bound : it.place < length known = subst (λ n. n < length known) (sym here) f.bound in
     let q = get_or known it.place d in
     let eui : it.eui.0 ≡ q.eui = sym f.eui ∙ ap (λ n. (get_or known n d).eui) (sym here) in
-    let event = event_for (stations_for p) e in
-    let found' : seat_for (stations_for p) e ≡ Some it = subst (λ ps. seat_for ps e ≡ Some it) (same_stations p) found
-    in
     record {
       bound = bound;
       station = again known it.place d bound;
       event_is = ap (λ n. act_for n a) (sym eui) ∙ acts;
-      role = for_role w q event (node_is it.eui.0 a event acts ∙ eui)
-          (setting_at w it.place d bound (stations_differ p is)) fits.roles fits.calls
-          (child_fits p.nodes e q it fits.fits.1 found'
-          (λ test first. subst (λ ps. find test ps ≡ Some q) (same_stations p)
-          (there known it d it.place refl test
-          (subst (λ ps. first_seat test 0 ps ≡ Some it) (sym (same_stations p)) first))));
+      calls = fits.calls;
     }
 
 -- An event without a seat is of the outside.

@@ -108,7 +108,7 @@ fits_from latest later (Some s) (Some m) xs (Some n) from fit =
 -- no event yet
 pub none_given : (p : sched.Schedule) (gifts : ℕ → Option Stood) (h : List Line) (xs : ℕ → Condition) (latest : ℕ)
     (events : List said.Event) (run : Run) (disks : List Medium) (before : Option Bytes)
-    → RunIn p h xs latest run disks → IsFor run.ledger.page before
+    → RunIn p h xs latest run disks → IsFor run.ledger.transcript.page before
     → IsAnswered p gifts h xs latest events 0 run disks before before
 unfolding swapped_groups nodes_after text_of
 none_given p gifts h xs latest events run disks before stands fit =
@@ -165,8 +165,8 @@ pub one_given : (p : sched.Schedule) (gifts : ℕ → Option Stood) (h : List Li
     (events : List said.Event) (i : ℕ) (d : said.Event) (now new other : Run) (dnow dnew : List Medium)
     (before middle after : Option Bytes)
     → IsNext p gifts h xs latest events i d now new dnow dnew before middle
-    → IsClear now.ledger.page → Takes new.ledger.page middle after → IsSameRun new other
-    → other.ledger.page ≡ cleared new.ledger.page
+    → IsClear now.ledger.transcript.page → Takes new.ledger.transcript.page middle after → IsSameRun new other
+    → other.ledger.transcript.page ≡ cleared new.ledger.transcript.page
     → IsAnswered p gifts h xs latest events (i + 1) other dnew before after
 one_given p gifts h xs latest events i d now new other dnow dnew before middle after next clear took same empty =
     let done = swapped_in p gifts h xs (take i events) in
@@ -174,7 +174,8 @@ one_given p gifts h xs latest events i d now new other dnow dnew before middle a
     let so_far = next.so_far in
     let goes = next.passes in
     let later : latest + i + 1 ≡ latest + (i + 1) = omega arith in
-    let out : Appends middle after (text_in p g.lines) = handed now.ledger.page new.ledger.page (text_in p g.lines)
+    let out : Appends middle after (text_in p g.lines) = handed now.ledger.transcript.page new.ledger.transcript.page
+    (text_in p g.lines)
     middle after goes.page clear so_far.page took in
     record {
       stands = paged_in p (h ++ swapped_in p gifts h xs (take (i + 1) events))
@@ -190,7 +191,8 @@ one_given p gifts h xs latest events i d now new other dnow dnew before middle a
           (sym (text_append (stations (schedule_of p)) done g.lines)
           ∙ ap (text_in p) (sym (lines_more p gifts h xs events i d next.bound)))
           (Appends-trans before middle after (text_in p done) (text_in p g.lines) so_far.taken out);
-      page = still_for now.ledger.page new.ledger.page other.ledger.page (text_in p g.lines) middle after goes.page
+      page = still_for now.ledger.transcript.page new.ledger.transcript.page other.ledger.transcript.page (text_in p
+          g.lines) middle after goes.page
           empty so_far.page took;
     }
 
@@ -211,14 +213,15 @@ pub given_cut : (p : sched.Schedule) (gifts : ℕ → Option Stood) (h : List Li
     (events : List said.Event) (i : ℕ) (d : said.Event) (now new : Run) (dnow dnew : List Medium)
     (before middle after : Option Bytes)
     → IsNext p gifts h xs latest events i d now new dnow dnew before middle
-    → IsClear now.ledger.page → TakesFront new.ledger.page middle after
+    → IsClear now.ledger.transcript.page → TakesFront new.ledger.transcript.page middle after
     → AppendsFront before after (text_in p (swapped_in p gifts h xs events))
 given_cut p gifts h xs latest events i d now new dnow dnew before middle after next clear took =
     let known = stations (schedule_of p) in
     let done = swapped_in p gifts h xs (take i events) in
     let g = next_in p gifts h xs events i d in
     let page = text_in p g.lines in
-    let out : AppendsFront middle after page = handed_front now.ledger.page new.ledger.page page middle after
+    let out : AppendsFront middle after page = handed_front now.ledger.transcript.page new.ledger.transcript.page
+    page middle after
     next.passes.page clear took in
     let r = swapped_rest (schedule_of p) gifts (event_for (stations_for p)) h xs 1 events (i + 1) in
     let whole : text_in p (swapped_in p gifts h xs events) ≡ text_in p done ++ (page ++ text_in p r.0) =
@@ -281,7 +284,7 @@ is_next p gifts given h xs latest events i e gives a b old now new disks dnow dn
     }
 
 pub no_given : (events : List CodeEvent) (run : Run) (disks : List Medium) (gave : Option (ℕ → Option Medium))
-    (before : Option Bytes) → IsFor run.ledger.page before
+    (before : Option Bytes) → IsFor run.ledger.transcript.page before
     → AnswersGiven run disks (map event_of events) gave 0 run disks before before
 no_given events run disks gave before fit = λ p gifts given h xs latest it agrees.
     none_given p gifts h xs latest (map event_of events) run disks before it.stands fit
@@ -301,11 +304,12 @@ told_before p gifts given h xs latest events i e gives a b old now disks same it
 pub more_given : (events : List CodeEvent) (i : ℕ) (e : CodeEvent) (gives : ℕ → ℕ → Option Medium)
     (a b : Option (ℕ → Option Medium)) (old now new other : Run)
     (disks dnow dnew : List Medium) (before middle after : Option Bytes)
-    → i < length events → e ≡ get_or events i e → now.seats ≡ old.seats → IsClear now.ledger.page
+    → i < length events → e ≡ get_or events i e → now.seats ≡ old.seats → IsClear now.ledger.transcript.page
     → AnswersGiven old disks (map event_of events) a i now dnow before middle
     → GaveFor now.seats (i + 1) (event_of e) gives a b
     → EventPasses (i + 1) (event_of e) gives now dnow new dnew
-    → Takes new.ledger.page middle after → IsSameRun new other → other.ledger.page ≡ cleared new.ledger.page
+    → Takes new.ledger.transcript.page middle after → IsSameRun new other → other.ledger.transcript.page ≡ cleared
+    new.ledger.transcript.page
     → AnswersGiven old disks (map event_of events) b (i + 1) other dnew before after
 more_given events i e gives a b old now new other disks dnow dnew before middle after bound is seats clear so_far gave
     goes took same empty = λ p gifts given h xs latest it agrees.
@@ -319,11 +323,11 @@ more_given events i e gives a b old now new other disks dnow dnew before middle 
 pub cut_given : (events : List CodeEvent) (i : ℕ) (e : CodeEvent) (gives : ℕ → ℕ → Option Medium)
     (a b : Option (ℕ → Option Medium)) (old now new : Run)
     (disks dnow dnew : List Medium) (before middle after : Option Bytes)
-    → i < length events → e ≡ get_or events i e → now.seats ≡ old.seats → IsClear now.ledger.page
+    → i < length events → e ≡ get_or events i e → now.seats ≡ old.seats → IsClear now.ledger.transcript.page
     → AnswersGiven old disks (map event_of events) a i now dnow before middle
     → GaveFor now.seats (i + 1) (event_of e) gives a b
     → EventPasses (i + 1) (event_of e) gives now dnow new dnew
-    → TakesFront new.ledger.page middle after
+    → TakesFront new.ledger.transcript.page middle after
     → PrintsGiven old disks (map event_of events) b before after
 cut_given events i e gives a b old now new disks dnow dnew before middle after bound is seats clear so_far gave goes
     took = λ p gifts given h xs latest it all_agree.

@@ -126,8 +126,8 @@ given_part p gifts given gave run disks events before mid after told fits played
 pub record GivenEnded (p : sched.Schedule) (gifts : ℕ → Option Stood) (run : Run) (before after : Option Bytes) : Type
     0 where
   pub taken : Appends before after (text_in p (begin p) ++ text_in p (given_middle p gifts))
-  pub page : IsFor run.ledger.page after
-  pub kept : Kept (begin p ++ given_middle p gifts) run.ledger.scribe
+  pub page : IsFor run.ledger.transcript.page after
+  pub kept : Kept (begin p ++ given_middle p gifts) run.ledger.transcript.scribe
 
 pub all_given : (p : sched.Schedule) (gifts : ℕ → Option Stood) (given : ℕ → Option Medium)
     (gave : Option (ℕ → Option Medium)) (old new : Run) (disks disks' : List Medium) (events : List said.Event) (n : ℕ)
@@ -147,7 +147,7 @@ all_given p gifts given gave old new disks disks' events n before mid after told
           (text_in p (swapped_in p gifts (begin p) xs (take n events))) out a.taken);
       page = a.page;
       kept =
-          subst (λ es. Kept (begin p ++ swapped_in p gifts (begin p) xs es) new.ledger.scribe) whole
+          subst (λ es. Kept (begin p ++ swapped_in p gifts (begin p) xs es) new.ledger.transcript.scribe) whole
           a.stands.told.kept;
     }
 
@@ -188,7 +188,7 @@ given_whole p gifts run before mid after e out =
 -- what a scribe sums up are the words of the last line
 pub sums_given : (p : sched.Schedule) (gifts : ℕ → Option Stood) (run : Run) (before after : Option Bytes)
     (s : Summary) (events : ℕ) → GivenEnded p gifts run before after → events ≡ length p.events
-    → ((h : List Line) → Kept h run.ledger.scribe → last_line s ≡ end_line real events h)
+    → ((h : List Line) → Kept h run.ledger.transcript.scribe → last_line s ≡ end_line real events h)
     → last_line s ≡ given_last p gifts
 sums_given p gifts run before after s events e many of =
     of (begin p ++ given_middle p gifts) e.kept

@@ -5,16 +5,16 @@ use Rattle.std.proofs.lemmas.Bool.Decides.{nat_tests}
 use Rattle.std.specs.Io.KnownBytes.{append_known}
 use Rattle.zb_base.specs.declared.key.Key.{Key}
 use Rattle.zb_disk.specs.Memory.{Medium}
-use Rattle.zb_player_events.specs.Acts.{IsFor, act_for}
+use Rattle.zb_player_events.specs.Acts.{act_for}
 use Rattle.zb_player_events.specs.Told.{Adds, Before, Goes}
 use Rattle.zb_player_events.specs.declared.acts.Act.{Act}
 use Rattle.zb_player_events.specs.declared.ledger.Ledger.{Ledger}
 use Rattle.zb_player_events.specs.declared.seats.Seats.{Seats}
 use Rattle.zb_player_events.specs.Seats.{AreSeats}
-use Rattle.zb_model.specs.Data.{Role, Station}
+use Rattle.zb_model.specs.Data.{Station}
 use Rattle.zb_model.specs.Lines.{Line}
+use Rattle.zb_model.specs.Schedules.{CountsCalls}
 use Rattle.zb_model.specs.Play.{Disk, Event, Schedule, setting_of, stations}
-use Rattle.zb_model.specs.Rules.{Setting}
 use Rattle.zb_model_real.specs.Real.{real}
 use Rattle.law_schedules.specs.Schedules.{schedule_of}
 use Rattle.law_run.proofs.Basics.{nat_eq-refl}
@@ -27,7 +27,7 @@ use Rattle.zb_player_events.specs.Nodes.{AllIn, IsIn, IsSeat, NodeValue}
 use Rattle.zb_player.specs.Playing.{AreSettings, IsEventAt, RunGoes, RunIn, RunPasses, passed_by, step_of}
 use Rattle.zb_player.specs.declared.run.Run.{Run}
 use Rattle.zb_player.proofs.Named.{of_node}
-use Rattle.zb_player.proofs.Seating.{euis_differ, seated_at, setting_at, stations_differ}
+use Rattle.zb_player.proofs.Seating.{euis_differ, seated_at}
 use Rattle.zb_player.proofs.Stand.{Spares, StandsAt, all_as, as_many, at_place, put_back}
 use Rattle.zb_sched.specs.Schedules as sched
 use Rattle.zb_sched.specs.Valid.{IsSchedule}
@@ -65,7 +65,7 @@ abbrev pub NodeGoes : Act → ℕ → List Key → Ledger → NodeValue → Medi
 NodeGoes act number draws old node m new node' m' =
     (w : Schedule) (h : List Line) (x : Condition) (latest n : ℕ) (event : Event)
     → Before w h x latest n old node m → map (λ (k : Key). k.0) draws ≡ w.draws
-    → act_for n act ≡ Some event → IsFor x.setting.me.role event
+    → act_for n act ≡ Some event → CountsCalls event
     → Goes w (event_turn real w h x number event) h latest old new node' m'
 
 seat_again : (p : Station) (node node' : NodeValue) → node'.peer ≡ node.peer → IsSeat p node → IsSeat p node'
@@ -85,16 +85,6 @@ here w xs number place q nodes disks node m bound station same_node same_disk al
     (subst (λ (x : NodeValue). StandsAt xs number q x (get_or disks place m)) same_node
     (subst (λ (x : Station). StandsAt xs number x (get_or nodes place node) (get_or disks place m)) station
     (at_place xs number (stations w) nodes disks place q node m bound all)))
-
--- the setting of the node at a place has its role
-pub role_here : (p : sched.Schedule) (xs : ℕ → Condition) (place : ℕ) (q : Station) → IsSchedule p
-    → AreSettings (schedule_of p) xs → place < length (stations (schedule_of p))
-    → get_or (stations (schedule_of p)) place q ≡ q → (xs q.eui).setting.me.role ≡ q.role
-role_here p xs place q is settings bound station =
-    let w = schedule_of p in
-    let me : (setting_of w q.eui).me ≡ q = subst (λ (x : Station). (setting_of w x.eui).me ≡ x) station
-    (setting_at w place q bound (stations_differ p is)) in
-    ap (λ (c : Setting). c.me.role) (settings q.eui) ∙ ap (λ (s : Station). s.role) me
 
 -- before an event of the node at a place
 pub before_here : (p : sched.Schedule) (h : List Line) (xs : ℕ → Condition) (latest place : ℕ) (q : Station)
@@ -138,9 +128,7 @@ went p h xs latest number place q act event old new disks disks' node node' m m'
     same_node same_disk stands.nodes in
     let before = before_here p h xs latest place q act event old disks node m few is stands at same_node same_disk in
     let went : Goes w t h latest old.ledger new.ledger node' m' =
-    goes w h (xs n) latest n event before stands.draws at.event_is
-    (subst (λ (r : Role). IsFor r event) (sym (role_here p xs place q is stands.settings at.bound at.station))
-    at.role) in
+    goes w h (xs n) latest n event before stands.draws at.event_is at.calls in
     let after : StandsAt ys (latest + 1) q node' m' = record {
       seat = seat_again q node node' peer found.seat;
       is_in = subst (λ (c : Condition). IsIn c (latest + 1) node' m') (sym (set_here xs n t.left)) went.is_in;
@@ -227,7 +215,8 @@ is_step p h ds number event old new disks passes =
     let moved : RunIn p (h ++ g.lines) one.nodes (number + 1) new disks =
     subst (λ (ls : List Line). RunIn p (h ++ ls) one.nodes (number + 1) new disks) same.lines_are passes.stands in
     record {
-      page = passes.page ∙ ap (λ (ls : List Line). append_known old.ledger.page (text_of known ls)) same.lines_are;
+      page = passes.page ∙ ap (λ (ls : List Line). append_known old.ledger.transcript.page (text_of known ls))
+          same.lines_are;
       stands = run_as p (h ++ g.lines) one.nodes (condition_of w (h ++ g.lines) g.disks) (number + 1) (number + 1) new
           disks (omega arith) (λ q. sym (same.nodes_are q)) moved;
     }

@@ -58,10 +58,11 @@ next p h ds events i e now new dnow dnew before middle bound is played so_far go
 
 pub more_answers : (events : List CodeEvent) (i : ℕ) (e : CodeEvent) (old now new other : Run)
     (disks dnow dnew : List Medium) (before middle after : Option (List ℕ))
-    → i < length events → e ≡ get_or events i e → IsClear now.ledger.page
+    → i < length events → e ≡ get_or events i e → IsClear now.ledger.transcript.page
     → Answers old disks (map event_of events) i now dnow before middle
     → EventGoes (i + 1) (event_of e) now dnow new dnew
-    → Takes new.ledger.page middle after → IsSameRun new other → other.ledger.page ≡ cleared new.ledger.page
+    → Takes new.ledger.transcript.page middle after → IsSameRun new other → other.ledger.transcript.page ≡ cleared
+    new.ledger.transcript.page
     → Answers old disks (map event_of events) (i + 1) other dnew before after
 more_answers events i e old now new other disks dnow dnew before middle after bound is clear so_far goes took same
     empty = λ p h ds played stands.
@@ -72,10 +73,10 @@ more_answers events i e old now new other disks dnow dnew before middle after bo
 
 pub cut_answers : (events : List CodeEvent) (i : ℕ) (e : CodeEvent) (old now new : Run)
     (disks dnow dnew : List Medium) (before middle after : Option (List ℕ))
-    → i < length events → e ≡ get_or events i e → IsClear now.ledger.page
+    → i < length events → e ≡ get_or events i e → IsClear now.ledger.transcript.page
     → Answers old disks (map event_of events) i now dnow before middle
     → EventGoes (i + 1) (event_of e) now dnow new dnew
-    → TakesFront new.ledger.page middle after
+    → TakesFront new.ledger.transcript.page middle after
     → PrintsAll old disks (map event_of events) before after
 cut_answers events i e old now new disks dnow dnew before middle after bound is clear so_far goes took =
     λ p h ds played stands.
@@ -92,6 +93,6 @@ stopped_answers events i old now disks dnow before after so_far = λ p h ds play
     stopped p h ds (map event_of events) i now dnow before after (so_far p h ds played stands)
 
 pub no_answers : (events : List CodeEvent) (run : Run) (disks : List Medium) (before : Option (List ℕ))
-    → IsFor run.ledger.page before → Answers run disks (map event_of events) 0 run disks before before
+    → IsFor run.ledger.transcript.page before → Answers run disks (map event_of events) 0 run disks before before
 no_answers events run disks before fit = λ p h ds played stands. none_yet p h ds (map event_of events) run disks
     before stands fit

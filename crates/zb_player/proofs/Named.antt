@@ -15,7 +15,7 @@ use Rattle.zb_model.specs.Play as play
 use Rattle.law_schedules.specs.Schedules.{station_for}
 use Rattle.law_run_steps.specs.Steps.{is_of}
 use Rattle.law_run_steps.specs.Swaps.{node_of}
-use Rattle.zb_player_events.specs.Nodes.{model_task}
+use Rattle.zb_player_events.specs.Nodes.{task_of}
 use Rattle.zb_sched.specs.Judge as judge
 use Rattle.zb_sched.specs.Judge.{are_child_and_parent, are_partners, has_its_nodes, is_joiner, is_parent, role_named}
 use Rattle.zb_sched.specs.Schedules.{Node}
@@ -69,7 +69,7 @@ none_some event e = cc
 
 pub of_others : (n q : ℕ) (a : Act) (event : play.Event) → act_for n a ≡ Some event → (q ≡ n → ⊥) → is_of q event
     ≡ false
-of_others n q (act.Own task) event e other = let same : play.Own n (model_task task) ≡ event =
+of_others n q (act.Own task) event e other = let same : play.Own n (task_of task) ≡ event =
     cc in subst (λ (x : play.Event). is_of q x ≡ false) same (not_of n q other)
 of_others n q act.Roll event e other = let same : play.RollOver n ≡ event =
     cc in subst (λ (x : play.Event). is_of q x ≡ false) same (not_of n q other)
@@ -89,7 +89,7 @@ of_others n q act.Outside event e other = absurd (none_some event e)
 
 -- it is of this one
 pub of_node : (n : ℕ) (a : Act) (event : play.Event) → act_for n a ≡ Some event → node_of event ≡ Some n
-of_node n (act.Own task) event e = let same : play.Own n (model_task task) ≡ event = cc in ap node_of (sym same)
+of_node n (act.Own task) event e = let same : play.Own n (task_of task) ≡ event = cc in ap node_of (sym same)
 of_node n act.Roll event e = let same : play.RollOver n ≡ event = cc in ap node_of (sym same)
 of_node n (act.Deliver frame) event e = let same : play.Deliver frame n ≡ event = cc in ap node_of (sym same)
 of_node n act.Reset event e = let same : play.Reset n ≡ event = cc in ap node_of (sym same)

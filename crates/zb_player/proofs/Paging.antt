@@ -65,7 +65,7 @@ pub record IsSameRun (one other : Run) : Type 0 where
   pub nodes : other.nodes ≡ one.nodes
   pub seats : other.seats ≡ one.seats
   pub draws : other.draws.now ≡ one.draws.now
-  pub scribe : other.ledger.scribe ≡ one.ledger.scribe
+  pub scribe : other.ledger.transcript.scribe ≡ one.ledger.transcript.scribe
 
 pub paged_in : (p : sched.Schedule) (h : List Line) (xs : ℕ → Condition) (latest : ℕ) (one other : Run)
     (disks : List Medium) → IsSameRun one other → RunIn p h xs latest one disks → RunIn p h xs latest other disks

@@ -8,7 +8,7 @@ use Rattle.zb_disk.specs.Memory.{Medium}
 use Rattle.zb_model.specs.Data.{Bytes}
 use Rattle.zb_model.specs.Lines.{Line}
 use Rattle.zb_model.specs.Play.{Disk, Step, groups, stations, step}
-use Rattle.zb_model.specs.Schedules.{CountsCalls, SuitsRole}
+use Rattle.zb_model.specs.Schedules.{CountsCalls}
 use Rattle.zb_model_real.specs.Real.{real}
 use Rattle.law_schedules.specs.Schedules.{event_for, schedule_of, stations_for}
 use Rattle.law_schedules.proofs.Meets.{is_schedule}
@@ -67,7 +67,6 @@ fits_at p i d is bound =
     record {
       early = omega (arith, bound, is.so_far.few_events);
       fits = all_get (FitsSchedule p) p.events i d bound is.so_far.events;
-      roles = mapped_get (SuitsRole (schedule_of p)) (event_for (stations_for p)) p.events i d bound w.roles;
       calls = mapped_get CountsCalls (event_for (stations_for p)) p.events i d bound w.calls;
     }
 
@@ -76,7 +75,8 @@ fits_at p i d is bound =
 -- no event yet
 pub none_yet : (p : sched.Schedule) (h : List Line) (ds : List Disk) (events : List said.Event) (run : Run)
     (disks : List Medium) (before : Option Bytes)
-    → RunStands p h ds 1 run disks → IsFor run.ledger.page before → Answered p h ds events 0 run disks before before
+    → RunStands p h ds 1 run disks → IsFor run.ledger.transcript.page before → Answered p h ds events 0 run disks
+    before before
 unfolding groups disks_after text_of
 none_yet p h ds events run disks before stands fit = record {
   stands = subst (λ (l : List Line). RunStands p l ds 1 run disks) (sym (append-nil h)) stands;
@@ -124,8 +124,9 @@ pub one_more : (p : sched.Schedule) (h : List Line) (ds : List Disk) (events : L
     (step_of p (h ++ lines_of p h ds (take i events))
     (disks_after (schedule_of p) h ds 1 (acts_of p (take i events))) (i + 1)
     (event_for (stations_for p) (get_or events i d))) (h ++ lines_of p h ds (take i events)) (i + 1) now new dnew
-    → IsClear now.ledger.page → Takes new.ledger.page middle after → (other : Run) → IsSameRun new other
-    → other.ledger.page ≡ cleared new.ledger.page
+    → IsClear now.ledger.transcript.page → Takes new.ledger.transcript.page middle after → (other : Run) → IsSameRun
+    new other
+    → other.ledger.transcript.page ≡ cleared new.ledger.transcript.page
     → Answered p h ds events (i + 1) other dnew before after
 one_more p h ds events i d now new dnow dnew before middle after bound so_far goes clear took other same empty =
     let w = schedule_of p in
@@ -133,7 +134,8 @@ one_more p h ds events i d now new dnow dnew before middle after bound so_far go
     let g = next_of p h ds events i d in
     let goes' : RunGoes p g (h ++ done) (i + 1) now new dnew =
     subst (λ (s : Step). RunGoes p s (h ++ done) (i + 1) now new dnew) (sym (next_is p h ds events i d)) goes in
-    let out : Appends middle after (text_in p g.lines) = handed now.ledger.page new.ledger.page (text_in p g.lines)
+    let out : Appends middle after (text_in p g.lines) = handed now.ledger.transcript.page new.ledger.transcript.page
+    (text_in p g.lines)
     middle after goes'.page clear so_far.page took in
     record {
       stands = paged p (h ++ lines_of p h ds (take (i + 1) events))
@@ -147,7 +149,8 @@ one_more p h ds events i d now new dnow dnew before middle after bound so_far go
           subst (Appends before after)
           (sym (text_append (stations w) done g.lines) ∙ ap (text_in p) (sym (lines_more p h ds events i d bound)))
           (Appends-trans before middle after (text_in p done) (text_in p g.lines) so_far.taken out);
-      page = still_for now.ledger.page new.ledger.page other.ledger.page (text_in p g.lines) middle after goes'.page
+      page = still_for now.ledger.transcript.page new.ledger.transcript.page other.ledger.transcript.page (text_in p
+          g.lines) middle after goes'.page
           empty so_far.page took;
     }
 
@@ -176,7 +179,7 @@ pub cut : (p : sched.Schedule) (h : List Line) (ds : List Disk) (events : List s
     (step_of p (h ++ lines_of p h ds (take i events))
     (disks_after (schedule_of p) h ds 1 (acts_of p (take i events))) (i + 1)
     (event_for (stations_for p) (get_or events i d))) (h ++ lines_of p h ds (take i events)) (i + 1) now new dnew
-    → IsClear now.ledger.page → TakesFront new.ledger.page middle after
+    → IsClear now.ledger.transcript.page → TakesFront new.ledger.transcript.page middle after
     → AppendsFront before after (text_in p (lines_of p h ds events))
 cut p h ds events i d now new dnow dnew before middle after bound so_far goes clear took =
     let w = schedule_of p in
@@ -185,7 +188,8 @@ cut p h ds events i d now new dnow dnew before middle after bound so_far goes cl
     let goes' : RunGoes p g (h ++ done) (i + 1) now new dnew =
     subst (λ (s : Step). RunGoes p s (h ++ done) (i + 1) now new dnew) (sym (next_is p h ds events i d)) goes in
     let page = text_in p g.lines in
-    let out : AppendsFront middle after page = handed_front now.ledger.page new.ledger.page page middle after
+    let out : AppendsFront middle after page = handed_front now.ledger.transcript.page new.ledger.transcript.page
+    page middle after
     goes'.page clear took in
     let r = rest_of p h ds events (i + 1) in
     let whole : text_in p (lines_of p h ds events) ≡ text_in p done ++ (page ++ text_in p r.0) =

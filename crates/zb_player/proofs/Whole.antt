@@ -78,7 +78,7 @@ front_middle p run disks events before mid after played stands out prints =
 -- all events are answered
 pub record Ended (p : sched.Schedule) (run : Run) (disks : List Medium) (before after : Option Bytes) : Type 0 where
   pub taken : Appends before after (text_in p (begin p) ++ text_in p (middle p))
-  pub page : IsFor run.ledger.page after
+  pub page : IsFor run.ledger.transcript.page after
   pub ds : List Disk
   pub stands : RunStands p (begin p ++ middle p) ds (length p.events + 1) run disks
 
@@ -152,7 +152,7 @@ played_disks p run disks before after e calls = record {
 pub sums_up : (p : sched.Schedule) (run : Run) (disks : List Medium) (before after : Option Bytes) (s : Summary)
     (events : ℕ) → Ended p run disks before after
     → events ≡ length p.events
-    → ((h : List Line) → Rattle.zb_player_scribe.specs.Kept.Kept h run.ledger.scribe → last_line s
+    → ((h : List Line) → Rattle.zb_player_scribe.specs.Kept.Kept h run.ledger.transcript.scribe → last_line s
     ≡ end_line real events h)
     → last_line s ≡ last p
 sums_up p run disks before after s events e many of =

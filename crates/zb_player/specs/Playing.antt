@@ -3,7 +3,7 @@ use Rattle.std.specs.Prelude.{◌^◌, ◌≡◌, ℕ, ◌+◌, ◌<◌, List, [
 use Rattle.std.specs.Io.KnownBytes.{append_known}
 use Rattle.zb_base.specs.declared.key.Key.{Key}
 use Rattle.zb_disk.specs.Memory.{Medium}
-use Rattle.zb_player_events.specs.Acts.{IsFor, act_for}
+use Rattle.zb_player_events.specs.Acts.{act_for}
 use Rattle.zb_player_events.specs.Seats.{AreSeats}
 use Rattle.zb_player_events.specs.declared.acts.Act.{Act}
 use Rattle.zb_player_events.specs.Calls.{calls_of}
@@ -12,7 +12,7 @@ use Rattle.zb_model.specs.Data.{Station}
 use Rattle.zb_model.specs.Lines.{Line}
 use Rattle.zb_model.specs.Play.{Disk, Schedule, Step, Event, setting_of, stations, step}
 use Rattle.zb_model_real.specs.Real.{real}
-use Rattle.zb_model.specs.Schedules.{CountsCalls, SuitsRole}
+use Rattle.zb_model.specs.Schedules.{CountsCalls}
 use Rattle.law_schedules.specs.Schedules.{event_for, schedule_of, stations_for}
 use Rattle.law_run_steps.specs.Conditions.{Condition, condition_of}
 use Rattle.law_run_steps.specs.Swaps.{Passed, node_of, passed}
@@ -44,7 +44,8 @@ RunStands p h ds number run disks = RunIn p h (condition_of (schedule_of p) h ds
 -- The run went on by a step.
 pub record RunGoes (p : sched.Schedule) (g : Step) (h : List Line) (number : ℕ) (old new : Run)
     (disks : List Medium) : Type 0 where
-  pub page : new.ledger.page ≡ append_known old.ledger.page (text_of (stations (schedule_of p)) g.lines)
+  pub page : new.ledger.transcript.page ≡ append_known old.ledger.transcript.page (text_of (stations (schedule_of p))
+      g.lines)
   pub stands : RunStands p (h ++ g.lines) g.disks (number + 1) new disks
 
 -- what comes of an event whose node is in one of these conditions
@@ -54,7 +55,8 @@ passed_by p h xs number event = passed real (schedule_of p) h xs number event (n
 -- The run went on by what passed.
 pub record RunPasses (p : sched.Schedule) (g : Passed) (h : List Line) (latest : ℕ) (old new : Run)
     (disks : List Medium) : Type 0 where
-  pub page : new.ledger.page ≡ append_known old.ledger.page (text_of (stations (schedule_of p)) g.lines)
+  pub page : new.ledger.transcript.page ≡ append_known old.ledger.transcript.page (text_of (stations (schedule_of p))
+      g.lines)
   pub stands : RunIn p (h ++ g.lines) g.nodes (latest + 1) new disks
 
 -- Each disk made the number of device calls that is said for the EUI of its node.
@@ -71,16 +73,15 @@ AreCalledBy p h ds event old new' =
 abbrev pub step_of : sched.Schedule → List Line → List Disk → ℕ → Event → Step
 step_of p h ds number act = step real (schedule_of p) h ds number act
 
--- The event is of the declared node at that place, and is one of its role.
+-- The event is of the declared node at that place, and counts device calls from 1.
 pub record IsEventAt (p : sched.Schedule) (place : ℕ) (q : Station) (act : Act) (event : Event) : Type 0 where
   pub bound : place < length (stations (schedule_of p))
   pub station : get_or (stations (schedule_of p)) place q ≡ q
   pub event_is : act_for q.eui act ≡ Some event
-  pub role : IsFor q.role event
+  pub calls : CountsCalls event
 
--- What an event asks of a schedule: it fits it, and the model's event is one of its node's role.
+-- What an event asks of a schedule: it fits it, and the model's event counts device calls from 1.
 pub record FitsRun (p : sched.Schedule) (number : ℕ) (e : said.Event) : Type 0 where
   pub early : number < 2 ^ 32
   pub fits : FitsSchedule p e
-  pub roles : SuitsRole (schedule_of p) (event_for (stations_for p) e)
   pub calls : CountsCalls (event_for (stations_for p) e)

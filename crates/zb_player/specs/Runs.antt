@@ -49,7 +49,7 @@ pub record Answered (p : sched.Schedule) (h : List Line) (ds : List Disk) (event
   pub stands : RunStands p (h ++ lines_of p h ds (take n events))
       (disks_after (schedule_of p) h ds 1 (acts_of p (take n events))) (n + 1) run disks
   pub taken : Appends before after (text_in p (lines_of p h ds (take n events)))
-  pub page : IsFor run.ledger.page after
+  pub page : IsFor run.ledger.transcript.page after
 
 abbrev pub Answers : Run → List Medium → List said.Event → ℕ → Run → List Medium → Option Bytes → Option Bytes → Type 0
 Answers old disks events n new disks' before after =

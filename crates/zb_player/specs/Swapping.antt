@@ -111,7 +111,7 @@ pub record IsAnswered (p : sched.Schedule) (gifts : ℕ → Option Stood) (h : L
   pub stands : RunIn p (h ++ swapped_in p gifts h xs (take n events)) (nodes_in p gifts h xs (take n events))
       (latest + n) run disks
   pub taken : Appends before after (text_in p (swapped_in p gifts h xs (take n events)))
-  pub page : IsFor run.ledger.page after
+  pub page : IsFor run.ledger.transcript.page after
 
 abbrev pub AnswersGiven : Run → List Medium → List said.Event → Option (ℕ → Option Medium) → ℕ → Run → List Medium
     → Option (List ℕ) → Option (List ℕ) → Type 0

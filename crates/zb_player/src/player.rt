@@ -135,11 +135,11 @@ fn play_onto<B: Bench, W: Sink>(
 {
     let events = schedule.events.as_slice();
     let mut run = Run::start(alloc, schedule, page, spare, disks)?;
-    run.ledger.page.hand_out(out)?;
+    run.ledger.transcript.page.hand_out(out)?;
     answer_all(&mut run, disks, bench, events, out)?;
-    let summary = Summary::of(&run.ledger.scribe, events.len() as u32);
-    run.ledger.page.print(&summary.line())?;
-    run.ledger.page.hand_out(out)?;
+    let summary = Summary::of(&run.ledger.transcript.scribe, events.len() as u32);
+    run.ledger.transcript.page.print(&summary.line())?;
+    run.ledger.transcript.page.hand_out(out)?;
     Ok(summary)
 }
 
@@ -151,11 +151,11 @@ fn answer_all<'a, B: Bench, W: Sink>(
     events: &[Event],
     out: &mut W,
 ) -> Result<(), PlayFault>
-    requires clear { IsClear run.old.ledger.page }
-    requires fit { IsFor run.old.ledger.page (W.taken out.old) }
+    requires clear { IsClear run.old.ledger.transcript.page }
+    requires fit { IsFor run.old.ledger.transcript.page (W.taken out.old) }
     requires few { length events.now ≤ most_events }
     requires room { lines_told run.old.ledger ≤ most_start_lines }
-    ensures clear { OnOk result (IsClear run.new.ledger.page) }
+    ensures clear { OnOk result (IsClear run.new.ledger.transcript.page) }
     ensures whole { OnOk result (B.still bench.old ≡ true → Answers run.old disks.old
         (map event_of events.now) (length events.now) run.new disks.new (W.taken out.old) (W.taken out.new)) }
     ensures swapped { OnOk result (AnswersGiven run.old disks.old (map event_of events.now) (B.gave bench.new)
@@ -174,7 +174,7 @@ fn answer_all<'a, B: Bench, W: Sink>(
 {
     for (index, event) in events.iter().enumerate() {
         run.answer(disks, bench, index as u32 + 1, event)?;
-        run.ledger.page.hand_out(out)?;
+        run.ledger.transcript.page.hand_out(out)?;
     }
     Ok(())
 }

@@ -28,7 +28,7 @@ use std::alloc::Global;
 use zb_base::{Key, NoMemory};
 use zb_disk::MemDisk;
 use zb_player_events::{Act, Ledger, Node, NodePlan, Seat, Seats};
-use zb_player_scribe::{Page, Scribe};
+use zb_player_scribe::{Page, Scribe, Transcript};
 use zb_player_start::{Spare, start_nodes, tell_start};
 use zb_sched::{Event, Schedule};
 
@@ -58,7 +58,7 @@ impl<'a> Run<'a> {
         requires none { disks.old.items ≡ [] }
         ensures stands { IfOk result (λ run. RunStands (sched.schedule_of schedule.now)
             (model.start (schedule_of (sched.schedule_of schedule.now))) [] 1 run disks.new.items) }
-        ensures page { IfOk result (λ run. run.ledger.page ≡ append_known page (text_in
+        ensures page { IfOk result (λ run. run.ledger.transcript.page ≡ append_known page (text_in
             (sched.schedule_of schedule.now) (model.start (schedule_of (sched.schedule_of schedule.now))))) }
         ensures few { IfOk result (λ run. lines_told run.ledger ≤ most_start_lines) }
         ensures calls { OnOk result (AllByRecursion (λ (m : medium). m.calls ≡ 6) disks.new.items) }
@@ -74,9 +74,11 @@ impl<'a> Run<'a> {
             seats,
             draws: schedule.draws.as_slice(),
             ledger: Ledger {
-                alloc,
-                scribe,
-                page,
+                transcript: Transcript {
+                    alloc,
+                    scribe,
+                    page,
+                },
                 plan: NodePlan::new(),
             },
         })

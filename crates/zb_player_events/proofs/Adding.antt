@@ -17,7 +17,7 @@ use Rattle.law_run_steps.specs.Steps.{outside_step}
 use Rattle.zb_trace_model.specs.Said.{text_of}
 use Rattle.zb_trace_model.proofs.Texts.{text_append}
 use Rattle.zb_player_scribe.specs.Kept.{Tells}
-use Rattle.zb_player_scribe.proofs.Telling.{append_twice}
+use Rattle.zb_player_scribe.specs.Turns.{append_twice}
 use Rattle.zb_player_events.specs.Outside.{IsSent}
 use Rattle.zb_player_events.specs.Told.{Adds, IsTold}
 use Rattle.zb_player_events.specs.declared.ledger.Ledger.{Ledger}
@@ -29,7 +29,8 @@ drawn draws used = sym (slice_get-map (λ (k : Key). k.0) draws used)
 
 -- what the scribe told
 pub told_adds : (w : Schedule) (h lines : List Line) (old new : Ledger)
-    → Tells (stations w) lines old.scribe old.page new.scribe new.page → IsTold w h old → Adds w h lines old new
+    → Tells (stations w) lines old.transcript.scribe old.transcript.page new.transcript.scribe new.transcript.page →
+    IsTold w h old → Adds w h lines old new
 told_adds w h lines old new tells before = record {
   page = tells.page;
   told = record { known = tells.nodes h before.known; kept = tells.kept h before.known before.kept };
@@ -39,19 +40,20 @@ told_adds w h lines old new tells before = record {
 pub adds_then : (w : Schedule) (h some more : List Line) (old between new : Ledger) → Adds w h some old between
     → Adds w (h ++ some) more between new → Adds w h (some ++ more) old new
 adds_then w h some more old between new first second = record {
-  page = second.page ∙ ap (λ p. append_known p (text_of (stations w) more)) first.page ∙ append_twice old.page
+  page = second.page ∙ ap (λ p. append_known p (text_of (stations w) more)) first.page ∙ append_twice
+      old.transcript.page
       (text_of (stations w) some) (text_of (stations w) more)
-      ∙ ap (append_known old.page) (sym (text_append (stations w) some more));
+      ∙ ap (append_known old.transcript.page) (sym (text_append (stations w) some more));
   told = subst (λ (lines : List Line). IsTold w lines new) (append_assoc h some more) second.told;
 }
 
 -- the number of the next frame
 pub next_number : (w : Schedule) (h : List Line) (k : Ledger) (frame : ℕ) → IsTold w h k → frame
-    ≡ length k.scribe.air + 1 → frame ≡ length (air h) + 1
+    ≡ length k.transcript.scribe.air + 1 → frame ≡ length (air h) + 1
 next_number w h k frame before e = e ∙ ap (λ (frames : List Bytes). length frames + 1) before.kept.air
 
 pub inject_adds : (w : Schedule) (h : List Line) (event frame : ℕ) (bytes items : Bytes) (old new : Ledger)
-    → IsTold w h old → frame ≡ length old.scribe.air + 1 → items ≡ bytes
+    → IsTold w h old → frame ≡ length old.transcript.scribe.air + 1 → items ≡ bytes
     → Adds w h (Inject event frame items ∷ []) old new → Adds w h (Inject event (length (air h) + 1) bytes ∷ []) old
     new
 inject_adds w h event frame bytes items old new before e same adds =
@@ -60,7 +62,7 @@ inject_adds w h event frame bytes items old new before e same adds =
     (λ (bs : Bytes). Inject event (length (air h) + 1) bs) same) adds
 
 pub send_adds : (w : Schedule) (h : List Line) (event frame : ℕ) (bytes : Bytes) (old new : Ledger) → IsTold w h old
-    → frame ≡ length old.scribe.air + 1
+    → frame ≡ length old.transcript.scribe.air + 1
     → Adds w h (Send event None frame bytes ∷ []) old new → Adds w h (Send event None (length (air h) + 1) bytes ∷ [])
     old new
 send_adds w h event frame bytes old new before e adds =

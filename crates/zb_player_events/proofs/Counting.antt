@@ -6,8 +6,7 @@ use Rattle.zb_base.specs.declared.key.Key.{Key}
 use Rattle.zb_disk.specs.Memory.{Medium}
 use Rattle.zb_armed_host.specs.Arms.{IsArming, calls_after, fallen_calls}
 use Rattle.zb_armed_host.specs.declared.fall.Fall.{Fall}
-use Rattle.zb_player_events.proofs.Going.{can_have, power_of}
-use Rattle.zb_player_events.specs.Acts.{IsFor}
+use Rattle.zb_player_events.proofs.Going.{power_of}
 use Rattle.zb_player_events.specs.Told.{Before, Calls, counted_on}
 use Rattle.zb_player_events.specs.declared.ledger.Ledger.{Ledger}
 use Rattle.zb_core.specs.CorePlans.{CorePlan}
@@ -20,7 +19,6 @@ use Rattle.zb_model_real.specs.Real.{real}
 use Rattle.zb_player_events.specs.Calls.{event_calls, fallen_call, frame_calls, made_of, task_calls}
 use Rattle.law_run_steps.specs.Conditions.{Condition, calls_by}
 use Rattle.zb_player_node.specs.Answers.{HasBooted, HasHandled}
-use Rattle.zb_player_node.specs.Tasks.{suits}
 use Rattle.zb_player_node.specs.Values.{NodeValue}
 use Rattle.zb_player_node.specs.declared.node.Handled.{Handled}
 use Rattle.zb_player_node.specs.declared.node.Handled.TheVariants.{Whole, Cut}
@@ -85,28 +83,28 @@ down_calls w h x latest n task k node m before off =
 
 pub whole_calls : (w : Schedule) (h : List Line) (x : Condition) (latest n : ℕ) (task : model.Task)
     (result : Option Handled) (p : CorePlan) (k : Ledger)
-    (node after : NodeValue) (m m' : Medium) → Before w h x latest n k node m → suits x.setting.me.role task
-    ≡ true → true ≡ is_some node.machine → result ≡ Some Whole
+    (node after : NodeValue) (m m' : Medium) → Before w h x latest n k node m → true ≡ is_some node.machine
+    → result ≡ Some Whole
     → HasHandled task node m result p after m' → Calls (task_calls real x task) m m'
-whole_calls w h x latest n task result p k node after m m' before is on made handled =
+whole_calls w h x latest n task result p k node after m m' before on made handled =
     let calls = calls_by x.commits (answer real x.setting x.state task).edits in
     let how : HasHandled task node m (Some Whole) p after m' =
     subst (λ (r : Option Handled). HasHandled task node m r p after m') made handled in
-    let was = how x latest before.is_in (can_have w h x latest n task k node m before is) in
+    let was = how x latest before.is_in before.few in
     while_up (x.up) (made_of x.disk.armed calls) m.calls m'.calls
     (power_of w h x latest n k node m true before on)
     (whole_counted x.disk.armed calls m.calls m'.calls was.missed was.calls)
 
 pub cut_calls : (w : Schedule) (h : List Line) (x : Condition) (latest n : ℕ) (task : model.Task)
     (result : Option Handled) (p : CorePlan) (fall : Fall) (k : Ledger)
-    (node after : NodeValue) (m m' : Medium) → Before w h x latest n k node m → suits x.setting.me.role task
-    ≡ true → true ≡ is_some node.machine → result ≡ Some (Cut fall)
+    (node after : NodeValue) (m m' : Medium) → Before w h x latest n k node m → true ≡ is_some node.machine
+    → result ≡ Some (Cut fall)
     → HasHandled task node m result p after m' → Calls (task_calls real x task) m m'
-cut_calls w h x latest n task result p fall k node after m m' before is on made handled =
+cut_calls w h x latest n task result p fall k node after m m' before on made handled =
     let calls = calls_by x.commits (answer real x.setting x.state task).edits in
     let how : HasHandled task node m (Some (Cut fall)) p after m' =
     subst (λ (r : Option Handled). HasHandled task node m r p after m') made handled in
-    let was = how x latest before.is_in (can_have w h x latest n task k node m before is) in
+    let was = how x latest before.is_in before.few in
     while_up (x.up) (made_of x.disk.armed calls) m.calls m'.calls
     (power_of w h x latest n k node m true before on)
     (cut_counted x.disk.armed calls m.calls m'.calls was.fell before.is_in.arming was.calls)
@@ -164,26 +162,19 @@ none_called w h x this event old new none same is = by_event_calls w h x this ev
     (is ∙ ap (counted_on old.calls) (sym none))
 
 pub own_calls : (w : Schedule) (h : List Line) (x : Condition) (n : ℕ) (task : model.Task) (event : play.Event)
-    (old new : Medium) → play.Own n task ≡ event → IsFor x.setting.me.role event
-    → (suits x.setting.me.role task ≡ true → Calls (task_calls real x task) old new)
+    (old new : Medium) → play.Own n task ≡ event → Calls (task_calls real x task) old new
     → Calls (event_calls real w h x event) old new
 unfolding event_calls
-own_calls w h x n task event old new same fits calls =
-    by_event_calls w h x (play.Own n task) event old new same
-    (calls (subst (λ (e : play.Event). IsFor x.setting.me.role e) (sym same) fits))
+own_calls w h x n task event old new same calls = by_event_calls w h x (play.Own n task) event old new same calls
 
 pub roll_calls : (w : Schedule) (h : List Line) (x : Condition) (n : ℕ) (draw : Option Key) (event : play.Event)
-    (old new : Medium) → play.RollOver n ≡ event → IsFor x.setting.me.role event
-    → option_map (λ (key : Key). key.0) draw ≡ supply w h
-    → (suits x.setting.me.role (model.DoRoll (option_map (λ (key : Key). key.0) draw)) ≡ true
-    → Calls (task_calls real x (model.DoRoll (option_map (λ (key : Key). key.0) draw))) old
-    new)
+    (old new : Medium) → play.RollOver n ≡ event → option_map (λ (key : Key). key.0) draw ≡ supply w h
+    → Calls (task_calls real x (model.DoRoll (option_map (λ (key : Key). key.0) draw))) old new
     → Calls (event_calls real w h x event) old new
 unfolding event_calls
-roll_calls w h x n draw event old new same fits is calls =
+roll_calls w h x n draw event old new same is calls =
     by_event_calls w h x (play.RollOver n) event old new same
-    (subst (λ (d : Option model.Bytes). Calls (task_calls real x (model.DoRoll d)) old new) is
-    (calls (subst (λ (e : play.Event). IsFor x.setting.me.role e) (sym same) fits)))
+    (subst (λ (d : Option model.Bytes). Calls (task_calls real x (model.DoRoll d)) old new) is calls)
 
 pub deliver_calls : (w : Schedule) (h : List Line) (x : Condition) (n frame : ℕ) (event : play.Event)
     (old new : Medium) → play.Deliver frame n ≡ event

@@ -7,21 +7,20 @@ use Rattle.zb_base.specs.declared.key.Key.{Key}
 use Rattle.zb_disk.specs.Memory.{Medium}
 use Rattle.zb_armed_host.specs.declared.fall.Fall.{Fall}
 use Rattle.zb_player_events.proofs.SeatLemmas.{same_some}
-use Rattle.zb_player_events.proofs.Adding.{adds_then, told_adds}
-use Rattle.zb_player_events.proofs.Telling.{air_stays, are_of_centre, fallen_is, kept_lines, none_kept, out_is}
-use Rattle.zb_player_events.specs.Acts.{IsFor, act_for}
+use Rattle.zb_player_events.proofs.Adding.{adds_then, next_number, told_adds}
+use Rattle.zb_player_events.proofs.Telling.{are_of_centre, fallen_is, kept_lines, none_kept, out_is}
+use Rattle.zb_model.specs.Schedules.{CountsCalls}
+use Rattle.zb_player_events.specs.Acts.{act_for}
 use Rattle.zb_player_events.specs.Told.{Adds, Before, Goes, IsTold, fall_line}
 use Rattle.zb_player_events.specs.declared.acts.Act.{Act}
 use Rattle.zb_player_events.specs.declared.ledger.Ledger.{Ledger}
 use Rattle.zb_core.specs.CorePlans.{CorePlan}
-use Rattle.zb_host.specs.declared.outcome.Outcome.{Outcome}
 use Rattle.zb_model.specs.Answer.{Answer, answer}
 use Rattle.zb_model.specs.Data as model
 use Rattle.zb_model.specs.Data.{AtEvent, Bytes, Down, Edit, NoFrame, Reason, WrongState}
 use Rattle.zb_model.specs.Lines.{Line, Boot, DownReset, Dump, Refuse}
 use Rattle.zb_model.specs.Play as play
 use Rattle.zb_model.specs.Play.{Event, FailAt, Own, PowerOn, Reset, Schedule, ShowRecord, ArmStop, ArmFail, StopAfter, fallen_line, frame_at, setting_of, stands, stations, supply, told_lines}
-use Rattle.zb_model.specs.Readings.{air}
 use Rattle.zb_model.specs.Record.{record_of}
 use Rattle.zb_model.specs.Rules.{Setting}
 use Rattle.zb_model.specs.State.{is_centre}
@@ -32,20 +31,17 @@ use Rattle.law_run_steps.specs.Steps.{cut_lines, is_of_the_centre, whole_lines}
 use Rattle.law_run_steps.proofs.Turns.{answer_cut, answer_whole, boot_by, boot_cut, boot_whole, reset_by, task_down, task_up}
 use Rattle.law_run_steps.specs.Turns.{Turn, deliver_turn, event_turn, refused_turn, task_turn, turn}
 use Rattle.zb_player_node.proofs.Conditions.{in_later, power_is}
-use Rattle.zb_player_node.specs.Answers.{CanHave, Changes, HasBooted, HasHandled}
+use Rattle.zb_player_node.specs.Answers.{Changes, HasBooted, HasHandled}
 use Rattle.zb_player_node.specs.Nodes.{IsIn}
-use Rattle.zb_player_node.specs.Tasks.{suits}
 use Rattle.zb_player_node.specs.Values.{NodeValue}
 use Rattle.zb_player_node.specs.declared.node.Handled.{Handled}
 use Rattle.zb_player_node.specs.declared.node.Handled.TheVariants.{Whole, Cut}
 use Rattle.zb_node_types.specs.Changes.{edits}
-use Rattle.zb_node_types.specs.declared.refusal.Refusal.{Refusal}
 use Rattle.zb_trace_model.specs.Naming.{IsCalled}
-use Rattle.zb_player_scribe.proofs.Telling.{none_told, told_in_turn}
+use Rattle.zb_player_scribe.specs.Turns.{none_told}
 use Rattle.zb_player_scribe.specs.Kept.{Tells}
-use Rattle.zb_player_scribe.specs.Outcomes.{AreOfCentre, lines_of_edits, out_lines}
-use Rattle.zb_player_scribe.specs.declared.scribe.Scribe.{Scribe}
-use Rattle.zb_seal.specs.declared.term.Term.{Term}
+use Rattle.zb_plan.specs.Answers.{IsAnswer}
+use Rattle.zb_trace_model.specs.AnswerLines.{AreOfCentre, answer_lines, lines_of_edits, outcome_lines}
 use Rattle.zb_text.specs.Fields.{is_name}
 
 -- where the turn is this one
@@ -109,11 +105,6 @@ down_goes w h x latest number n task old new node m before off adds =
     refusal_goes w (task_turn real h x number n task) h x latest number n Down old new node m
     (task_down real h x number n task (power_of w h x latest n old node m false before off)) before adds
 
-pub can_have : (w : Schedule) (h : List Line) (x : Condition) (latest n : ℕ) (task : model.Task) (k : Ledger)
-    (node : NodeValue) (m : Medium) → Before w h x latest n k node m → suits x.setting.me.role task ≡ true
-    → CanHave x latest task
-can_have w h x latest n task k node m before is = record { early = before.few; suits = is }
-
 -- the changes of a node that isn't the centre are none of the centre's
 centre_here : (w : Schedule) (h : List Line) (x : Condition) (latest n : ℕ) (k : Ledger) (node : NodeValue)
     (m : Medium) → Before w h x latest n k node m → is_centre x.setting.me.role ≡ true
@@ -121,55 +112,52 @@ centre_here : (w : Schedule) (h : List Line) (x : Condition) (latest n : ℕ) (k
 centre_here w h x latest n k node m before is =
     ap (λ (c : Setting). is_centre c.me.role) (sym before.setting) ∙ is
 
--- the changes that a scribe was told of a node of this name
-abbrev pub TellsChanges : Schedule → ℕ → ArrayString → Changes → Ledger → Scribe → Option (List ℕ) → Type 0
-TellsChanges w number name changes old scribe page =
+-- the changes that were told of a node of this name
+abbrev pub TellsChanges : Schedule → ℕ → ArrayString → Changes → Ledger → Ledger → Type 0
+TellsChanges w number name changes old new =
     (n : ℕ) → IsCalled (stations w) n name.bytes → AreOfCentre (stations w) n changes.items
-    → Tells (stations w) (lines_of_edits number n (edits changes.items)) old.scribe old.page scribe page
+    → Tells (stations w) (lines_of_edits number n (edits changes.items)) old.transcript.scribe old.transcript.page
+    new.transcript.scribe new.transcript.page
 
-abbrev pub TellsOut : Schedule → ℕ → ArrayString → Outcome Term Refusal → Scribe → Option (List ℕ) → Ledger → Type 0
-TellsOut w number name out scribe page new =
-    (n : ℕ) → IsCalled (stations w) n name.bytes → is_name name.bytes ≡ true
-    → Tells (stations w) (out_lines number n (length scribe.air + 1) out) scribe page new.scribe new.page
+-- its answer, whose frame has that number
+abbrev pub TellsAnswer : Schedule → ℕ → ℕ → ArrayString → CorePlan → Ledger → Ledger → Type 0
+TellsAnswer w number frame name p old new =
+    (n : ℕ) → IsCalled (stations w) n name.bytes → (true ≡ true → is_name name.bytes ≡ true)
+    → AreOfCentre (stations w) n p.changes.items
+    → Tells (stations w) (answer_lines number n frame p) old.transcript.scribe old.transcript.page
+    new.transcript.scribe new.transcript.page
 
 -- and the line of its fall, whatever the lines before it
 abbrev pub TellsFall : Schedule → ℕ → ArrayString → Fall → Ledger → Ledger → Type 0
 TellsFall w number name fall between new = (h : List Line) (n : ℕ) → IsTold w h between
     → IsCalled (stations w) n name.bytes → Adds w h (fall_line fall number n ∷ []) between new
 
-whole_adds : (w : Schedule) (h : List Line) (number n : ℕ) (a : Answer) (changes : Changes)
-    (out : Outcome Term Refusal) (old new : Ledger) (scribe : Scribe) (page : Option (List ℕ)) → IsTold w h old
-    → edits changes.items ≡ a.edits → ((frame : ℕ) → out_lines number n frame out ≡ told_lines number n frame a)
-    → Tells (stations w) (lines_of_edits number n (edits changes.items)) old.scribe old.page scribe page
-    → Tells (stations w) (out_lines number n (length scribe.air + 1) out) scribe page new.scribe new.page
-    → Adds w h (whole_lines h number n a) old new
-whole_adds w h number n a changes out old new scribe page told stored told_is first last =
-    let one : Tells (stations w) (lines_of_edits number n a.edits) old.scribe old.page scribe page =
-    subst (λ (es : List Edit). Tells (stations w) (lines_of_edits number n es) old.scribe old.page scribe page)
-    stored first in
-    let frames : scribe.air ≡ air h = (one.kept h told.known told.kept).air ∙ air_stays h number n a.edits in
-    let number_is : length scribe.air + 1 ≡ length (air h) + 1 = ap (λ (fs : List Bytes). length fs + 1) frames in
-    let lines_are : out_lines number n (length scribe.air + 1) out ≡ told_lines number n (length (air h) + 1) a =
-    told_is (length scribe.air + 1) ∙ ap (λ (k : ℕ). told_lines number n k a) number_is in
+whole_adds : (w : Schedule) (h : List Line) (number n frame : ℕ) (a : Answer) (p : CorePlan) (old new : Ledger)
+    → IsTold w h old → frame ≡ length old.transcript.scribe.air + 1 → IsAnswer p a
+    → Tells (stations w) (answer_lines number n frame p) old.transcript.scribe old.transcript.page
+    new.transcript.scribe new.transcript.page → Adds w h (whole_lines h number n a) old new
+whole_adds w h number n frame a p old new told numbered is tells =
     told_adds w h (whole_lines h number n a) old new
-    (told_in_turn (stations w) (lines_of_edits number n a.edits) (told_lines number n (length (air h) + 1) a)
-    old.scribe scribe new.scribe old.page page new.page one
-    (subst (λ (ls : List Line). Tells (stations w) ls scribe page new.scribe new.page) lines_are last)) told
+    (subst (λ (ls : List Line). Tells (stations w) ls old.transcript.scribe old.transcript.page new.transcript.scribe
+    new.transcript.page)
+    (ap (λ (es : List Edit). lines_of_edits number n es ++ outcome_lines number n frame p.out) is.changes
+    ∙ ap (λ (ls : List Line). lines_of_edits number n a.edits ++ ls)
+    (out_is number n frame p a is ∙ ap (λ (k : ℕ). told_lines number n k a)
+    (next_number w h old frame told numbered))) tells) told
 
 pub whole_goes : (w : Schedule) (h : List Line) (x : Condition) (latest number n : ℕ) (task : model.Task)
-    (name : ArrayString) (result : Option Handled) (p : CorePlan) (old new : Ledger) (scribe : Scribe)
-    (page : Option (List ℕ))
-    (node after : NodeValue) (m m' : Medium) → Before w h x latest n old node m → suits x.setting.me.role task
-    ≡ true → true ≡ is_some node.machine → name ≡ node.peer.name → result ≡ Some Whole
-    → HasHandled task node m result p after m' → TellsChanges w number name p.changes old scribe page
-    → TellsOut w number name p.out scribe page new
+    (frame : ℕ) (name : ArrayString) (result : Option Handled) (p : CorePlan) (old new : Ledger)
+    (node after : NodeValue) (m m' : Medium) → Before w h x latest n old node m → true ≡ is_some node.machine
+    → name ≡ node.peer.name → result ≡ Some Whole
+    → HasHandled task node m result p after m' → frame ≡ length old.transcript.scribe.air + 1
+    → TellsAnswer w number frame name p old new
     → Goes w (task_turn real h x number n task) h latest old new after m'
-whole_goes w h x latest number n task name result p old new scribe page node after m m' before is on named made
-    handled stored answered =
+whole_goes w h x latest number n task frame name result p old new node after m m' before on named made handled
+    numbered answered =
     let a = answer real x.setting x.state task in
     let how : HasHandled task node m (Some Whole) p after m' =
     subst (λ (r : Option Handled). HasHandled task node m r p after m') made handled in
-    let was = how x latest before.is_in (can_have w h x latest n task old node m before is) in
+    let was = how x latest before.is_in before.few in
     let called : IsCalled (stations w) n name.bytes = subst (λ (q : ArrayString). IsCalled (stations w) n q.bytes)
     (sym named) before.seat.called in
     let spelled : is_name name.bytes ≡ true = subst (λ (q : ArrayString). is_name q.bytes ≡ true) (sym named)
@@ -183,25 +171,25 @@ whole_goes w h x latest number n task name result p old new scribe page node aft
     (after_whole a x)
     (task_up real h x number n task (power_of w h x latest n old node m true before on)
     ∙ answer_whole h x number n a was.missed)
-    (whole_adds w h number n a p.changes p.out old new scribe page before.told was.answer_is.changes
-    (λ frame. out_is number n frame p a was.answer_is) (stored n called own) (answered n called spelled))
+    (whole_adds w h number n frame a p old new before.told numbered was.answer_is
+    (answered n called (λ _. spelled) own))
     was.leaves
 
 pub cut_goes : (w : Schedule) (h : List Line) (x : Condition) (latest number n : ℕ) (task : model.Task)
     (name : ArrayString) (result : Option Handled) (p : CorePlan) (fall : Fall) (old between new : Ledger)
-    (node after : NodeValue) (m m' : Medium) → Before w h x latest n old node m → suits x.setting.me.role task
-    ≡ true → true ≡ is_some node.machine → name ≡ node.peer.name → result ≡ Some (Cut fall)
-    → HasHandled task node m result p after m' → TellsChanges w number name p.changes old between.scribe between.page
+    (node after : NodeValue) (m m' : Medium) → Before w h x latest n old node m → true ≡ is_some node.machine
+    → name ≡ node.peer.name → result ≡ Some (Cut fall)
+    → HasHandled task node m result p after m' → TellsChanges w number name p.changes old between
     → TellsFall w number name fall between new
     → Goes w (task_turn real h x number n task) h latest old new after m'
-cut_goes w h x latest number n task name result p fall old between new node after m m' before is on named made
+cut_goes w h x latest number n task name result p fall old between new node after m m' before on named made
     handled stored fallen =
     let a = answer real x.setting x.state task in
     let b = stands x.disk.armed (calls_by x.commits a.edits) in
     let some : List Line = if b then lines_of_edits number n a.edits else [] in
     let how : HasHandled task node m (Some (Cut fall)) p after m' =
     subst (λ (r : Option Handled). HasHandled task node m r p after m') made handled in
-    let was = how x latest before.is_in (can_have w h x latest n task old node m before is) in
+    let was = how x latest before.is_in before.few in
     let called : IsCalled (stations w) n name.bytes = subst (λ (q : ArrayString). IsCalled (stations w) n q.bytes)
     (sym named) before.seat.called in
     let own : AreOfCentre (stations w) n p.changes.items = are_of_centre (stations w) n p.changes.items
@@ -211,7 +199,8 @@ cut_goes w h x latest number n task name result p fall old between new node afte
     (none-of-others real x.setting x.state task other)) in
     let one : Adds w h some old between =
     told_adds w h some old between
-    (subst (λ (ls : List Line). Tells (stations w) ls old.scribe old.page between.scribe between.page)
+    (subst (λ (ls : List Line). Tells (stations w) ls old.transcript.scribe old.transcript.page
+    between.transcript.scribe between.transcript.page)
     (kept_lines number n b a.edits (edits p.changes.items) was.stored_are) (stored n called own)) before.told in
     let last : Adds w (h ++ some) (fallen_line x.disk.armed number n) between new =
     subst (λ (ls : List Line). Adds w (h ++ some) ls between new)
@@ -227,15 +216,15 @@ cut_goes w h x latest number n task name result p fall old between new node afte
 
 pub draw_is : (w : Schedule) (h : List Line) (k : Ledger) (keys : List Key) (draw : Option Key) → IsTold w h k
     → map (λ (key : Key). key.0) keys ≡ w.draws
-    → option_map (λ (key : Key). key.0) draw ≡ slice_get (map (λ (key : Key). key.0) keys) k.scribe.used
+    → option_map (λ (key : Key). key.0) draw ≡ slice_get (map (λ (key : Key). key.0) keys) k.transcript.scribe.used
     → option_map (λ (key : Key). key.0) draw ≡ supply w h
 unfolding supply
 draw_is w h k keys draw told same e =
-    e ∙ (ap (λ (bs : List Bytes). slice_get bs k.scribe.used) same ∙ ap (λ (i : ℕ). slice_get w.draws i)
+    e ∙ (ap (λ (bs : List Bytes). slice_get bs k.transcript.scribe.used) same ∙ ap (λ (i : ℕ). slice_get w.draws i)
     told.kept.used)
 
 pub frame_is : (w : Schedule) (h : List Line) (k : Ledger) (number : ℕ) (found : Option Bytes) → IsTold w h k → found
-    ≡ (if nat_eq number 0 then None else slice_get k.scribe.air (number - 1)) → frame_at h number ≡ found
+    ≡ (if nat_eq number 0 then None else slice_get k.transcript.scribe.air (number - 1)) → frame_at h number ≡ found
 frame_is w h k number found told e =
     sym (e ∙ ap (λ (fs : List Bytes). if nat_eq number 0 then None else slice_get fs (number - 1)) told.kept.air)
 
@@ -323,7 +312,7 @@ pub stop_goes : (w : Schedule) (h : List Line) (x : Condition) (latest number n 
     after m') → Goes w (event_turn real w h x number (ArmStop n calls torn)) h latest k k after m
 unfolding event_turn
 stop_goes w h x latest number n calls torn k node after m before leaves = record {
-  adds = told_adds w h [] k k (none_told (stations w) k.scribe k.page) before.told;
+  adds = told_adds w h [] k k (none_told (stations w) k.transcript.scribe k.transcript.page) before.told;
   is_in = leaves x latest m before.is_in;
 }
 
@@ -333,7 +322,7 @@ pub failure_goes : (w : Schedule) (h : List Line) (x : Condition) (latest number
     m') → Goes w (event_turn real w h x number (ArmFail n call)) h latest k k after m
 unfolding event_turn
 failure_goes w h x latest number n call k node after m before leaves = record {
-  adds = told_adds w h [] k k (none_told (stations w) k.scribe k.page) before.told;
+  adds = told_adds w h [] k k (none_told (stations w) k.transcript.scribe k.transcript.page) before.told;
   is_in = leaves x latest m before.is_in;
 }
 
@@ -345,8 +334,8 @@ event_is n act made this event is one other = same_some this event (sym one ∙ 
 
 pub by_event : (w : Schedule) (h : List Line) (x : Condition) (latest number n : ℕ) (this event : Event)
     (old new : Ledger) (node : NodeValue) (m : Medium) → this ≡ event
-    → (IsFor x.setting.me.role this → Goes w (event_turn real w h x number this) h latest old new node m)
-    → IsFor x.setting.me.role event → Goes w (event_turn real w h x number event) h latest old new node m
+    → (CountsCalls this → Goes w (event_turn real w h x number this) h latest old new node m)
+    → CountsCalls event → Goes w (event_turn real w h x number event) h latest old new node m
 by_event w h x latest number n this event old new node m same goes =
-    subst (λ (e : Event). IsFor x.setting.me.role e → Goes w (event_turn real w h x number e) h latest old new
+    subst (λ (e : Event). CountsCalls e → Goes w (event_turn real w h x number e) h latest old new
     node m) same goes

@@ -1,7 +1,6 @@
 -- The lines of a refusal, of an answer and of a fall, as a scribe has them and as the model does.
-use Rattle.std.proofs.Common.{◌≡◌, ℕ, Bool, true, false, if◌then◌else◌, List, [], ◌∷◌, ◌++◌, map, fold, Option, Some, None, option_map, refl, sym, ap, ◌∙◌, subst, ◌||◌}
+use Rattle.std.proofs.Common.{◌≡◌, ℕ, Bool, true, false, if◌then◌else◌, List, [], ◌∷◌, ◌++◌, map, Option, Some, None, option_map, refl, sym, ap, ◌∙◌, subst, ◌||◌}
 use Rattle.std.proofs.lemmas.Bool.{false≢true}
-use Rattle.std.proofs.lemmas.List.Sums.{fold-append}
 use Rattle.std.specs.List.{list_any}
 use Rattle.zb_core.specs.CorePlans.{CorePlan}
 use Rattle.zb_armed_host.specs.Driven.{fall_of}
@@ -12,9 +11,8 @@ use Rattle.zb_player_events.specs.declared.ledger.Ledger.{Ledger}
 use Rattle.zb_model.specs.Answer.{Answer}
 use Rattle.zb_model.specs.Data as model
 use Rattle.zb_model.specs.Data.{AtEvent, Bytes, Edit, Moved, Reserve, Floor, Start, Draw, DropNet, DropLink, Install, Active, Row, Pair, Became, Live, Removed, Roll, Told, Untold, Station}
-use Rattle.zb_model.specs.Lines.{Line, Changed, Accept, Refuse, Seal}
-use Rattle.zb_model.specs.Play.{Schedule, Armed, NotArmed, StopAfter, FailAt, Calls, commit_lines, falls, fallen_line, refuse_lines, send_lines, told_lines}
-use Rattle.zb_model.specs.Readings.{air, air_line}
+use Rattle.zb_model.specs.Lines.{Line, Accept, Refuse, Seal}
+use Rattle.zb_model.specs.Play.{Schedule, Armed, NotArmed, StopAfter, FailAt, Calls, falls, fallen_line, refuse_lines, send_lines, told_lines}
 use Rattle.law_run_steps.specs.Steps.{is_of_the_centre}
 use Rattle.zb_node_types.specs.Changes.{edit, edits, model_place, place_of, reason}
 use Rattle.zb_node_types.specs.declared.change.Change.{Change}
@@ -22,8 +20,7 @@ use Rattle.zb_node_types.specs.declared.refusal.Refusal.{Refusal}
 use Rattle.zb_plan.specs.Answers as plan
 use Rattle.zb_plan.specs.Answers.{IsAnswer, IsAt}
 use Rattle.zb_trace_model.specs.Said.{IsOfCentre}
-use Rattle.zb_player_scribe.specs.Kept.{declares_node}
-use Rattle.zb_player_scribe.specs.Outcomes.{AreOfCentre, items_of, lines_of_edits, out_lines, refused_lines, terms}
+use Rattle.zb_trace_model.specs.AnswerLines.{AreOfCentre, declares_node, frame_bytes, lines_of_edits, outcome_lines, refused_lines, terms}
 use Rattle.zb_seal.specs.declared.term.Term.{Term}
 use Rattle.zb_trace.specs.Views.{the_centre}
 
@@ -63,28 +60,16 @@ four number n frame ts ts' ss ss' rs rs' f f' one two three last =
     ∙ ap (λ (z : Option Bytes). map (Accept number n) ts'
     ++ (rs' ++ (map (Seal number n) ss' ++ send_lines number (Some n) frame z))) last))
 
-pub out_is : (number n frame : ℕ) (p : CorePlan) (a : Answer) → IsAnswer p a → out_lines number n frame p.out
+pub out_is : (number n frame : ℕ) (p : CorePlan) (a : Answer) → IsAnswer p a → outcome_lines number n frame p.out
     ≡ told_lines number n frame a
-unfolding out_lines told_lines
+unfolding outcome_lines told_lines
 out_is number n frame p a is =
     four number n frame (terms p.out.accepted_nwk p.out.accepted_aps) a.accepts
     (terms p.out.sealed_aps p.out.sealed_nwk) a.seals (refused_lines number n p.out.refused)
     (refuse_lines number n a.place a.refusal)
-    (items_of p.out.frame) a.frame (terms_same p.out.accepted_nwk p.out.accepted_aps ∙ is.accepts)
+    (frame_bytes p.out.frame) a.frame (terms_same p.out.accepted_nwk p.out.accepted_aps ∙ is.accepts)
     (refusals_as number n a.place p.out.refused a.refusal is.refusal is.place)
     (terms_same p.out.sealed_aps p.out.sealed_nwk ∙ is.seals) is.frame
-
--- Changes put nothing on the air.
-stored_air : (number n : ℕ) (es rest : List Edit) (frames : List Bytes)
-    → fold air_line frames (map (Changed number n) es ++ commit_lines number n rest) ≡ frames
-stored_air number n [] [] frames = refl
-stored_air number n [] (e ∷ es) frames = refl
-stored_air number n (e ∷ es) rest frames = stored_air number n es rest frames
-
-pub air_stays : (h : List Line) (number n : ℕ) (es : List Edit) → air (h ++ lines_of_edits number n es) ≡ air h
-unfolding air
-air_stays h number n es = fold-append air_line [] h (lines_of_edits number n es) ∙ stored_air number n es es
-    (fold air_line [] h)
 
 -- ---- whose changes they are
 

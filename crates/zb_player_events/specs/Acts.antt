@@ -1,10 +1,9 @@
 -- What the events of a schedule are to the nodes, in the model's words.
-use Rattle.std.specs.Prelude.{◌≡◌, ℕ, ◌≤◌, List, Option, Some, None, is_some, true, ⊤}
+use Rattle.std.specs.Prelude.{◌≡◌, ℕ, List, Option, Some, None, is_some, true, ⊤}
 use Rattle.zb_model.specs.Data as model
-use Rattle.zb_model.specs.Data.{Bytes, Role, Station}
+use Rattle.zb_model.specs.Data.{Bytes, Station}
 use Rattle.zb_model.specs.Play as play
-use Rattle.zb_model.specs.State.{is_centre}
-use Rattle.zb_player_node.specs.Tasks.{model_task, suits}
+use Rattle.zb_player_node.specs.Events.{task_of}
 use Rattle.zb_player_events.specs.Seats.{first_seat, has_name, is_the_centre}
 use Rattle.zb_player_events.specs.declared.acts.Act.{Act}
 use Rattle.zb_player_events.specs.declared.acts.Act.TheVariants.{Own, Roll, Deliver, Reset, Boot, Dump, Stop, Fail, Outside}
@@ -14,7 +13,7 @@ use Rattle.zb_sched_line.specs.Said.{Event}
 
 -- what it is to the node of this EUI; none where it is of no node
 abbrev pub act_for : ℕ → Act → Option play.Event
-act_for n (Own task) = Some (play.Own n (model_task task))
+act_for n (Own what) = Some (play.Own n (task_of what))
 act_for n Roll = Some (play.RollOver n)
 act_for n (Deliver frame) = Some (play.Deliver frame n)
 act_for n Reset = Some (play.Reset n)
@@ -71,10 +70,3 @@ HasNames known (said.Repeats name) = IsNamed known name
 HasNames known (said.Removes name parent) = IsNamed known name × IsNamed known parent
 HasNames known (said.Shares name partner) = IsNamed known name × IsNamed known partner
 HasNames known _ = ⊤
-
--- An event is for its node: it is one of the node's role, and the call that is to fail is at least the first.
-abbrev pub IsFor : Role → play.Event → Type 0
-IsFor role (play.Own n task) = suits role task ≡ true
-IsFor role (play.RollOver n) = is_centre role ≡ true
-IsFor role (play.ArmFail n call) = 1 ≤ call
-IsFor role _ = ⊤

@@ -31,7 +31,7 @@ most_event_lines = 24
 
 -- how many lines were counted
 abbrev pub lines_told : Ledger → ℕ
-lines_told k = told k.scribe
+lines_told k = told k.transcript.scribe
 
 -- How many lines may have been counted before an event. It is so far below the most that any event has room.
 abbrev pub most_before_event : ℕ
@@ -40,14 +40,14 @@ most_before_event = 4294967000
 abbrev pub HasRoom : Ledger → Type 0
 HasRoom k = lines_told k ≤ most_before_event
 
--- The lines so far declare the nodes of the schedule, and the scribe has of them what a run needs.
+-- The lines so far declare the nodes of the schedule, and the transcript's scribe has of them what a run needs.
 pub record IsTold (w : Schedule) (h : List Line) (k : Ledger) : Type 0 where
   pub known : stations_of h ≡ stations w
-  pub kept : Kept h k.scribe
+  pub kept : Kept h k.transcript.scribe
 
 -- Further lines were told: their text is after what stood on the page, where that is read.
 pub record Adds (w : Schedule) (h lines : List Line) (old new : Ledger) : Type 0 where
-  pub page : new.page ≡ append_known old.page (text_of (stations w) lines)
+  pub page : new.transcript.page ≡ append_known old.transcript.page (text_of (stations w) lines)
   pub told : IsTold w (h ++ lines) new
 
 -- a refusal of the event itself, for this reason

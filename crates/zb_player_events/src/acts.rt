@@ -13,7 +13,7 @@ use crate::seats::{Seat, Seats};
 use arrayvec::ArrayVec;
 use zb_base::{Name, Short};
 use zb_install::InstallCode;
-use zb_player_node::Task;
+use zb_player_node::NodeEvent;
 use zb_sched::Event;
 use zb_send::copied;
 
@@ -21,7 +21,7 @@ use zb_send::copied;
 #[derive(Drop)]
 pub enum Act {
     /// An event of its own.
-    Own(Task),
+    Own(NodeEvent),
     /// The centre draws a new network key.
     Roll,
     /// The frame of that number arrives.
@@ -52,7 +52,7 @@ pub enum Act {
 fn say(to: Short, bytes: &ArrayVec<u8, 64>) -> Act
     ensures { IsOwn result (SayTo to.0 bytes.now.items) }
 {
-    Act::Own(Task::Say {
+    Act::Own(NodeEvent::Say {
         to,
         bytes: copied(bytes),
     })
@@ -109,14 +109,14 @@ impl Seats {
         match event {
             Event::Say { to, bytes, .. } => say(*to, bytes),
             Event::Deliver { frame, .. } => Act::Deliver(*frame),
-            Event::Timer { .. } => Act::Own(Task::Timer),
-            Event::Knock { .. } => Act::Own(Task::Knock),
-            Event::Rejoin { .. } => Act::Own(Task::Rejoin),
+            Event::Timer { .. } => Act::Own(NodeEvent::Timer),
+            Event::Knock { .. } => Act::Own(NodeEvent::Knock),
+            Event::Rejoin { .. } => Act::Own(NodeEvent::Rejoin),
             Event::Child { name, rejoin, .. } => self.child(name, *rejoin),
             Event::Provision { name, code } => self.provision(name, code),
             Event::Again { name } => self.again(name),
             Event::Roll => Act::Roll,
-            Event::Switch => Act::Own(Task::Switch),
+            Event::Switch => Act::Own(NodeEvent::Switch),
             Event::Remove { name, parent } => self.remove(name, parent),
             Event::Reset { .. } => Act::Reset,
             Event::Boot { .. } => Act::Boot,
@@ -138,7 +138,7 @@ impl Seats {
             → IsOwn result (HasChild (named known name.now.bytes) rejoin) }
     {
         let device = self.eui(name);
-        Act::Own(Task::Child { device, rejoin })
+        Act::Own(NodeEvent::Child { device, rejoin })
     }
 
     fn provision(&self, name: &Name, code: &InstallCode) -> Act
@@ -147,7 +147,7 @@ impl Seats {
     {
         let device = self.eui(name);
         let key = code.link_key();
-        Act::Own(Task::Provision { device, key })
+        Act::Own(NodeEvent::Provision { device, key })
     }
 
     fn again(&self, name: &Name) -> Act
@@ -155,7 +155,7 @@ impl Seats {
             → IsOwn result (DoAgain (named known name.now.bytes)) }
     {
         let device = self.eui(name);
-        Act::Own(Task::Again { device })
+        Act::Own(NodeEvent::Again { device })
     }
 
     fn remove(&self, name: &Name, parent: &Name) -> Act
@@ -165,7 +165,7 @@ impl Seats {
     {
         let device = self.eui(name);
         let via = self.eui(parent);
-        Act::Own(Task::Remove { device, via })
+        Act::Own(NodeEvent::Remove { device, via })
     }
 
     fn ask(&self, partner: &Name) -> Act
@@ -173,7 +173,7 @@ impl Seats {
             → IsOwn result (AskFor (named known partner.now.bytes)) }
     {
         let partner = self.eui(partner);
-        Act::Own(Task::Ask { partner })
+        Act::Own(NodeEvent::Ask { partner })
     }
 
     fn share(&self, name: &Name, partner: &Name) -> Act
@@ -183,7 +183,7 @@ impl Seats {
     {
         let device = self.eui(name);
         let partner = self.eui(partner);
-        Act::Own(Task::Share { device, partner })
+        Act::Own(NodeEvent::Share { device, partner })
     }
 
     fn tell(&self, partner: &Name, bytes: &ArrayVec<u8, 64>) -> Act
@@ -191,7 +191,7 @@ impl Seats {
             → IsOwn result (TellTo (named known partner.now.bytes) bytes.now.items) }
     {
         let partner = self.eui(partner);
-        Act::Own(Task::Tell {
+        Act::Own(NodeEvent::Tell {
             partner,
             bytes: copied(bytes),
         })

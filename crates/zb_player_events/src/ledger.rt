@@ -1,12 +1,13 @@
-//! What is told of a run: the scribe, and the lines of the event that is being answered.
+//! What is told of a run: its transcript, and the plan of the event that is being answered.
 ghost use Rattle.std.specs.Prelude.{◌≡◌, ◌≤◌, ◌<◌, ◌+◌, ℕ, List, OnOk, Some, false, map, slice_get, [], ◌∷◌};
 ghost use Rattle.std.specs.Option.{option_map};
 ghost use Rattle.zb_base.specs.declared.key.Key.{Key as key};
-ghost use Rattle.zb_player_events.specs.Acts.{IsFor, act_for};
+ghost use Rattle.zb_player_events.specs.Acts.{act_for};
 ghost use Rattle.zb_player_events.specs.Told.{Adds, Before, Calls, Goes, HasRoom, IsTold, lines_told, most_event_lines};
 ghost use Rattle.zb_model.specs.Lines as log;
 ghost use Rattle.zb_model.specs.Play as model;
 ghost use Rattle.zb_model.specs.Play.{Schedule, stations};
+ghost use Rattle.zb_model.specs.Schedules.{CountsCalls};
 ghost use Rattle.zb_model_real.specs.Real.{real};
 ghost use Rattle.zb_player_events.specs.Calls.{event_calls};
 ghost use Rattle.law_run_steps.specs.Conditions.{Condition};
@@ -14,28 +15,23 @@ ghost use Rattle.law_run_steps.specs.Turns.{event_turn};
 ghost use Rattle.zb_node_types.specs.Changes.{model_place, place_of, reason};
 ghost use Rattle.zb_trace_model.specs.Naming.{IsCalled};
 ghost use Rattle.zb_trace_model.specs.Said.{IsLineOf};
-ghost use Rattle.zb_player_scribe.specs.Kept.{declares_node};
+ghost use Rattle.zb_trace_model.specs.AnswerLines.{declares_node};
 ghost use Rattle.zb_base.specs.Limits.{most_lines};
 
 use crate::acts::Act;
-use std::alloc::Global;
 use zb_base::{Key, Name, NoMemory};
 use zb_disk::MemDisk;
 use zb_node_types::Refusal;
-use zb_player_node::{Node, NodePlan, Task};
-use zb_player_scribe::{Page, Scribe};
+use zb_player_node::{Node, NodeEvent, NodePlan};
+use zb_player_scribe::Transcript;
 use zb_trace::Line;
-use zb_trace_model::refuse_line;
+use zb_trace_model::{Teller, refuse_line};
 
-/// What was told of a run, and the lines that aren't handed out yet.
+/// The transcript of a run, and the place of plans.
 #[derive(Drop)]
 pub struct Ledger {
-    /// Where memory comes from.
-    pub alloc: Global,
-    /// What prints lines, and keeps of them what the rest of the run needs.
-    pub scribe: Scribe,
-    /// The text of the lines that aren't handed out yet, where it is read.
-    pub page: Page,
+    /// What takes the lines of the run.
+    pub transcript: Transcript,
     /// The place of the plan of an event. What stood in it before is gone.
     pub plan: NodePlan,
 }
@@ -45,9 +41,9 @@ impl Ledger {
     #[tactic(auto, using(crate::proofs::Adding::drawn))]
     pub fn draw(&self, draws: &[Key]) -> Option<Key>
         ensures { option_map (λ (k : key). k.0) result
-            ≡ slice_get (map (λ (k : key). k.0) draws.now) self.now.scribe.used }
+            ≡ slice_get (map (λ (k : key). k.0) draws.now) self.now.transcript.scribe.used }
     {
-        draws.get(self.scribe.used()).copied()
+        draws.get(self.transcript.scribe.used()).copied()
     }
 
     /// Prints a line that declares no node, and keeps what it says.
@@ -60,7 +56,7 @@ impl Ledger {
         ensures adds { OnOk result ((w : Schedule) (h : List log.Line) (m : log.Line) → IsTold w h self.old
             → IsLineOf (stations w) line.now m → declares_node m ≡ false → Adds w h (m ∷ []) self.old self.new) }
     {
-        self.scribe.tell(self.alloc, &mut self.page, line)
+        self.transcript.tell(line)
     }
 
     /// Prints the line of an event that a node refuses.
@@ -94,18 +90,18 @@ impl Ledger {
         ensures seat { node.new.peer ≡ node.old.peer }
         ensures goes { OnOk result ((w : Schedule) (h : List log.Line) (x : Condition) (latest n : ℕ)
             (event : model.Event) → Before w h x latest n self.old node.old disk.old
-            → map (λ (k : key). k.0) draws.now ≡ w.draws → act_for n act ≡ Some event → IsFor x.setting.me.role event
+            → map (λ (k : key). k.0) draws.now ≡ w.draws → act_for n act ≡ Some event → CountsCalls event
             → Goes w (event_turn real w h x number event) h latest self.old self.new node.new disk.new) }
         ensures calls { OnOk result ((w : Schedule) (h : List log.Line) (x : Condition) (latest n : ℕ)
             (event : model.Event) → Before w h x latest n self.old node.old disk.old
-            → map (λ (k : key). k.0) draws.now ≡ w.draws → act_for n act ≡ Some event → IsFor x.setting.me.role event
+            → map (λ (k : key). k.0) draws.now ≡ w.draws → act_for n act ≡ Some event → CountsCalls event
             → Calls (event_calls real w h x event) disk.old disk.new) }
     {
         match act {
-            Act::Own(task) => self.handle(node, disk, number, task),
+            Act::Own(what) => self.handle(node, disk, number, &what),
             Act::Roll => {
                 let draw = self.draw(draws);
-                self.handle(node, disk, number, Task::Roll { draw })
+                self.handle(node, disk, number, &NodeEvent::Roll { draw })
             }
             Act::Deliver(frame) => self.deliver(node, disk, draws, number, frame),
             Act::Reset => self.reset(node, disk, number),

@@ -1,5 +1,5 @@
 //! The events of a node.
-ghost use Rattle.std.specs.Prelude.{◌≡◌, ◌≤◌, ◌<◌, ◌+◌, ◌∷◌, [], ℕ, List, None, OnOk, if◌then◌else◌, map, true};
+ghost use Rattle.std.specs.Prelude.{◌≡◌, ◌≤◌, ◌<◌, ◌+◌, ◌∷◌, [], ℕ, List, None, OnOk, if◌then◌else◌, map};
 ghost use Rattle.zb_base.specs.declared.key.Key.{Key as key};
 ghost use Rattle.zb_disk.specs.Memory.{Medium as medium};
 ghost use Rattle.zb_model.specs.Data.{Down as model_down, NoFrame as model_no_frame, Received, WrongState as model_wrong_state};
@@ -10,7 +10,7 @@ ghost use Rattle.zb_model_real.specs.Real.{real};
 ghost use Rattle.zb_player_events.specs.Calls.{event_calls, frame_calls, task_calls};
 ghost use Rattle.law_run_steps.specs.Conditions.{Condition};
 ghost use Rattle.law_run_steps.specs.Turns.{deliver_turn, event_turn, task_turn};
-ghost use Rattle.zb_player_node.specs.Tasks.{model_task, suits};
+ghost use Rattle.zb_player_node.specs.Events.{task_of};
 ghost use Rattle.zb_player_events.specs.Told.{Adds, Before, Calls, Goes, HasRoom, IsFallen, IsRefusedFor, IsTold, fall_line, lines_told, most_event_lines};
 ghost use Rattle.zb_trace_model.specs.Naming.{IsCalled};
 ghost use Rattle.zb_base.specs.Limits.{most_lines};
@@ -20,9 +20,11 @@ use zb_armed_host::Fall;
 use zb_base::{Frame, Key, List, Name, NoMemory, Place};
 use zb_disk::MemDisk;
 use zb_node_types::Refusal;
-use zb_player_node::{Handled, Node, Task};
+use zb_player_node::{Handled, Node, NodeEvent};
 use zb_trace::Line;
-use zb_trace_model::{boot_line, disk_line, dump_line, reset_line, stopped_line};
+use zb_trace_model::{
+    Group, boot_line, disk_line, dump_line, reset_line, stopped_line, tell_answer, tell_stored,
+};
 
 // Makes the line of a node on whose call a stop or a failure fell.
 fn fallen_line(event: u32, node: Name, fall: Fall) -> Line
@@ -44,35 +46,32 @@ impl Ledger {
         node: &mut Node,
         disk: &mut MemDisk,
         event: u32,
-        task: Task,
+        what: &NodeEvent,
     ) -> Result<(), NoMemory>
         requires room { HasRoom self.old }
         ensures few { OnOk result (lines_told self.new ≤ lines_told self.old + most_event_lines) }
         ensures goes { OnOk result ((w : Schedule) (h : List log.Line) (x : Condition) (latest n : ℕ)
             → Before w h x latest n self.old node.old disk.old
-            → suits x.setting.me.role (model_task task) ≡ true
-            → Goes w (task_turn real h x event n (model_task task)) h latest
+            → Goes w (task_turn real h x event n (task_of what.now)) h latest
             self.old self.new node.new disk.new) }
         ensures calls { OnOk result ((w : Schedule) (h : List log.Line) (x : Condition) (latest n : ℕ)
             → Before w h x latest n self.old node.old disk.old
-            → suits x.setting.me.role (model_task task) ≡ true
-            → Calls (task_calls real x (model_task task)) disk.old disk.new) }
+            → Calls (task_calls real x (task_of what.now)) disk.old disk.new) }
         ensures seat { node.new.peer ≡ node.old.peer }
     {
         let name = node.name();
         if !node.is_up() {
             return self.refuse(event, name, down());
         }
-        match node.handle(disk, task, &mut self.plan) {
-            Some(Handled::Whole) => {
-                self.scribe.stored(self.alloc, &mut self.page, event, name, &self.plan.changes)?;
-                self.scribe
-                    .answered(self.alloc, &mut self.page, event, name, &self.plan.out)
-            }
+        let group = Group {
+            event,
+            frame: self.transcript.scribe.next_frame(),
+            node: name,
+        };
+        match node.handle(disk, what, &mut self.plan) {
+            Some(Handled::Whole) => tell_answer(&mut self.transcript, &group, &self.plan),
             Some(Handled::Cut { fall }) => {
-                let stored = &self.plan.changes;
-                self.scribe
-                    .stored(self.alloc, &mut self.page, event, name, stored)?;
+                tell_stored(&mut self.transcript, &group, &self.plan.changes)?;
                 self.fallen(event, name, fall)
             }
             None => self.refuse(event, name, down()),
@@ -112,7 +111,7 @@ impl Ledger {
             → Calls (frame_calls real x (supply w h) (frame_at h frame)) disk.old disk.new) }
         ensures seat { node.new.peer ≡ node.old.peer }
     {
-        match self.scribe.frame(frame) {
+        match self.transcript.scribe.frame(frame) {
             Some(bytes) => self.receive(node, disk, draws, event, bytes),
             None => self.miss(node, event),
         }
@@ -140,7 +139,7 @@ impl Ledger {
             disk.old disk.new) }
     {
         let draw = self.draw(draws);
-        self.handle(node, disk, event, Task::Deliver { bytes, draw })
+        self.handle(node, disk, event, &NodeEvent::Deliver { bytes, draw })
     }
 
     // Prints the refusal of a frame whose number no frame on the air has.
@@ -196,7 +195,7 @@ impl Ledger {
         if node.is_up() {
             return self.refuse(event, name, wrong_state());
         }
-        match node.boot(self.alloc, disk)? {
+        match node.boot(self.transcript.alloc, disk)? {
             None => self.tell(&boot_line(event, name)),
             Some(fall) => self.tell(&fallen_line(event, name, fall)),
         }
@@ -214,7 +213,7 @@ impl Ledger {
             → Goes w (event_turn real w h x event (model.ShowRecord n)) h latest self.old self.new node.now disk.new) }
         ensures calls { OnOk result (Calls 0 disk.old disk.new) }
     {
-        let record = node.dump(self.alloc, disk)?;
+        let record = node.dump(self.transcript.alloc, disk)?;
         self.tell(&dump_line(event, node.name(), List::from_vec(record)))
     }
 }

@@ -123,7 +123,7 @@ impl Ledger {
         ensures adds { OnOk result ((w : Schedule) (h : List log.Line) → IsTold w h self.old
             → Adds w h (log.Inject event (length (air h) + 1) bytes.now.items ∷ []) self.old self.new) }
     {
-        let frame = self.scribe.next_frame();
+        let frame = self.transcript.scribe.next_frame();
         self.tell(&inject_line(event, frame, frame_from(bytes.as_slice())))
     }
 
@@ -181,7 +181,7 @@ impl Ledger {
         ensures adds { OnOk result ((w : Schedule) (h : List log.Line) → IsTold w h self.old
             → Adds w h (log.Send event None (length (air h) + 1) bytes.items ∷ []) self.old self.new) }
     {
-        let frame = self.scribe.next_frame();
+        let frame = self.transcript.scribe.next_frame();
         self.tell(&send_line(event, nobody(), frame, bytes))
     }
 }

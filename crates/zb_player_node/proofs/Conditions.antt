@@ -1,6 +1,7 @@
 -- What the calls of a host leave is the condition that the model says.
-use Rattle.std.proofs.Common.{◌≡◌, ◌≢◌, ◌≤◌, ◌+◌, ◌&&◌, ℕ, Bool, true, false, if◌then◌else◌, List, [], ◌∷◌, length, get_or, Option, Some, None, Result, Ok, Err, is_some, refl, sym, ◌∙◌, ap, subst, arith}
+use Rattle.std.proofs.Common.{◌<◌, ◌≡◌, ◌≢◌, ◌≤◌, ◌+◌, ◌&&◌, ℕ, Bool, true, false, if◌then◌else◌, List, [], ◌∷◌, length, get_or, Option, Some, None, Result, Ok, Err, is_some, refl, sym, ◌∙◌, ap, subst, arith}
 use Rattle.std.proofs.lemmas.Bool.{false≢true, ne_eqb}
+use Rattle.zb_base.specs.Sizes.{late_generation}
 use Rattle.zb_base.specs.Outside.{risen}
 use Rattle.zb_base.specs.declared.fault.OrMemory.{OrMemory}
 use Rattle.zb_base.specs.declared.fault.OrMemory.TheVariants.{Fault}
@@ -34,9 +35,8 @@ use Rattle.zb_setting.specs.Settings.{setting_for}
 use Rattle.law_run_steps.specs.Swaps.{Stood, after_swap}
 use Rattle.zb_player_node.proofs.Showing.{same_answer}
 use Rattle.zb_player_node.proofs.Standing.{after_alike, boot_alike, calls_are, same_given, stored_as, stored_from, stored_later, stored_next, writes_are}
-use Rattle.zb_player_node.specs.Answers.{CanHave, CanStart, HasBooted, HasGiven, HasMade, IsPlanFor, IsStarted, IsStillDown, IsUpAgain, WasAnswered, WasCut, start_condition}
+use Rattle.zb_player_node.specs.Answers.{CanStart, HasBooted, HasGiven, HasMade, IsPlanFor, IsStarted, IsStillDown, IsUpAgain, WasAnswered, WasCut, start_condition}
 use Rattle.zb_player_node.specs.Nodes.{CanBootFrom, IsIn, IsPowered, IsRunning, IsStored, words_for}
-use Rattle.zb_player_node.specs.Tasks.{suits}
 use Rattle.zb_player_node.specs.Values.{NodeValue, Running}
 use Rattle.zb_node_types.specs.Changes.{edits, model_role}
 use Rattle.zb_node_types.specs.declared.change.Change.{Change}
@@ -182,18 +182,18 @@ went x number task s r p after m stored run given =
 -- a host that is up has what a call of it asks
 up_of : (x : Condition) (number : ℕ) (task : model.Task) (s : Standing) (r : Running) (m : Medium)
     → IsStored x.setting.me.role x.state x.commits number s → IsRunning x s r m → IsUnarmed m → IsArming x.disk.armed
-    → CanHave x number task → IsUp (words_for x.setting.me.role) s x.disk.armed r.host m
+    → number < late_generation → IsUp (words_for x.setting.me.role) s x.disk.armed r.host m
 up_of x number task s r m stored run unarmed arming can =
     record {
       current = run.current;
       unarmed = unarmed;
       arming = arming;
-      lasting = omega (arith, stored.generation, can.early);
+      lasting = omega (arith, stored.generation, can);
     }
 
 answered_in : (x : Condition) (number : ℕ) (task : model.Task) (node : NodeValue) (r r' : Running) (p : CorePlan)
     (old new : Medium)
-    → IsIn x number (record node { machine = Some r }) old → CanHave x number task → r'.role ≡ r.role
+    → IsIn x number (record node { machine = Some r }) old → number < late_generation → r'.role ≡ r.role
     → HasGiven x.setting.me.role task x.disk.armed r.host old p (Ok tt) r'.host new
     → WasAnswered (answer real x.setting x.state task) x number p old (record node { machine = Some r' }) new
 answered_in x number task node r r' p old new is can role_stays given =
@@ -231,19 +231,19 @@ answered_in x number task node r r' p old new is can role_stays given =
 -- what was given of the host's role and of what the node armed is given of the condition
 given_of : (x : Condition) (number : ℕ) (task : model.Task) (node : NodeValue) (r : Running) (old : Medium)
     (p : CorePlan) (result : Result (Unit {0}) CutEvent) (after : Hosted CoreValue) (new : Medium)
-    → IsIn x number (record node { machine = Some r }) old → CanHave x number task
-    → (suits r.role task ≡ true → HasGiven r.role task (armed_of node.arms) r.host old p result after new)
+    → IsIn x number (record node { machine = Some r }) old → number < late_generation
+    → HasGiven r.role task (armed_of node.arms) r.host old p result after new
     → HasGiven x.setting.me.role task x.disk.armed r.host old p result after new
 given_of x number task node r old p result after new is can given =
     let run = (running_of x.up x is.standing r old is.powered).0 in
     subst (λ (a : Armed). HasGiven x.setting.me.role task a r.host old p result after new) is.armed
     (subst (λ (role : Role). HasGiven role task (armed_of node.arms) r.host old p result after new) run.role
-    (given (ap (λ (role : Role). suits role task) run.role ∙ can.suits)))
+    given)
 
 pub was_answered : (task : model.Task) (node : NodeValue) (r r' : Running) (p : CorePlan) (old new : Medium) → r'.role
     ≡ r.role
-    → (suits r.role task ≡ true → HasGiven r.role task (armed_of node.arms) r.host old p (Ok tt) r'.host new)
-    → (x : Condition) (number : ℕ) → IsIn x number (record node { machine = Some r }) old → CanHave x number task
+    → HasGiven r.role task (armed_of node.arms) r.host old p (Ok tt) r'.host new
+    → (x : Condition) (number : ℕ) → IsIn x number (record node { machine = Some r }) old → number < late_generation
     → WasAnswered (answer real x.setting x.state task) x number p old (record node { machine = Some r' }) new
 was_answered task node r r' p old new role_stays given x number is can =
     answered_in x number task node r r' p old new is can role_stays
@@ -300,9 +300,9 @@ cut_now x number node s next es false both m stored then_stored rest gates setti
 
 pub was_cut : (task : model.Task) (node : NodeValue) (r : Running) (after : Hosted CoreValue) (p : CorePlan)
     (cut : CutEvent) (kept : List Change) (old new : Medium)
-    → (suits r.role task ≡ true → HasGiven r.role task (armed_of node.arms) r.host old p (Err cut) after new) → kept
+    → HasGiven r.role task (armed_of node.arms) r.host old p (Err cut) after new → kept
     ≡ (if cut.fallen.fired && arms_stand (armed_of node.arms) then p.changes.items else [])
-    → (x : Condition) (number : ℕ) → IsIn x number (record node { machine = Some r }) old → CanHave x number task
+    → (x : Condition) (number : ℕ) → IsIn x number (record node { machine = Some r }) old → number < late_generation
     → WasCut (answer real x.setting x.state task) x number kept cut.fallen.fall old
     (record node { machine = None; arms = if cut.fallen.fired then Unarmed else node.arms }) new
 was_cut task node r after p cut kept old new gave kept_are x number is can =

@@ -14,13 +14,13 @@ use Rattle.zb_armed_host.specs.Driven.{IsDown, IsUp, WasHandled, HasEnded, HasFa
 use Rattle.zb_armed_host.specs.declared.fall.Cut.{Cut}
 use Rattle.zb_armed_host.specs.declared.fall.Fallen.{Fallen}
 use Rattle.zb_model.specs.Data.{Role}
-use Rattle.zb_model.specs.Data as model
 use Rattle.zb_model.specs.Play.{Armed}
 use Rattle.zb_player_node.specs.Answers.{HasGiven, HasMade, IsDump, IsPlanFor, made}
 use Rattle.zb_player_node.specs.Nodes.{words_for}
 use Rattle.zb_player_node.specs.declared.machine.Machine.{Machine}
 use Rattle.zb_host.specs.Hosts.{Hosted, Restoring}
 use Rattle.zb_core.specs.CorePlans.{CorePlan, IsCoreAfter, IsCorePlan}
+use Rattle.zb_core.specs.Events.{NodeEvent, task_of}
 use Rattle.zb_node_types.specs.declared.change.Change.{Change}
 use Rattle.zb_stored_tables.specs.Cores.{CoreValue}
 use Rattle.zb_host.specs.Plans.{gives}
@@ -74,18 +74,15 @@ dump_is restored m (Some n) room kept is same = inr (shown_again restored (stand
 
 -- ---- what an event of a host gave, from what its call promises
 
-plan_for : {E : Type 0} (role : Role) (stands_for : E → model.Task → Type 0) (task : model.Task) (before : CoreValue)
-    (e : E) (p : CorePlan) (after : CoreValue) → stands_for e task
-    → IsCorePlan role stands_for before e p → IsCoreAfter before p after → IsPlanFor role task before p after
-plan_for role stands_for task before e p after is plan done =
-    record { answer_is = plan.answer_is task is; storable = plan.storable; after_is = done }
+plan_for : (role : Role) (before : CoreValue) (e : NodeEvent) (p : CorePlan) (after : CoreValue)
+    → IsCorePlan role before e p → IsCoreAfter before p after → IsPlanFor role (task_of e) before p after
+plan_for role before e p after plan done =
+    record { answer_is = plan.answer_is; storable = plan.storable; after_is = done }
 
-pub given_by : {E : Type 0} (D : Type 0) (role : Role) (stands_for : E → model.Task → Type 0) (task : model.Task)
-    (a : Armed) (before after : Hosted CoreValue) (old new : Medium) (e : E) (p : CorePlan)
-    (result : Result (Unit {0}) Cut)
-    → stands_for e task → OnOk result (IsCorePlan role stands_for before.core e p)
-    → OnOk result (IsCoreAfter before.core p after.core)
-    → OnErr result ((q : CorePlan) × IsCorePlan role stands_for before.core e q × IsCoreAfter before.core q after.core
+pub given_by : (D : Type 0) (role : Role) (a : Armed) (before after : Hosted CoreValue) (old new : Medium)
+    (e : NodeEvent) (p : CorePlan) (result : Result (Unit {0}) Cut)
+    → OnOk result (IsCorePlan role before.core e p) → OnOk result (IsCoreAfter before.core p after.core)
+    → OnErr result ((q : CorePlan) × IsCorePlan role before.core e q × IsCoreAfter before.core q after.core
     × (p.changes ≡ q.changes) × D)
     → OnOk result
     ((s : Standing) → IsUp (words_for role) s a before old
@@ -93,13 +90,13 @@ pub given_by : {E : Type 0} (D : Type 0) (role : Role) (stands_for : E → model
     → IfErr result
     (λ cut. (s : Standing) → IsUp (words_for role) s a before old
     → HasFallen (words_for role) s a before old p.changes.items cut.fallen after new)
-    → HasGiven role task a before old p result after new
-given_by D role stands_for task a before after old new e p (Ok u) is planned done withheld handled fallen =
-    (plan_for role stands_for task before.core e p after.core is planned done, handled)
-given_by D role stands_for task a before after old new e p (Err cut) is planned done withheld handled fallen = (
+    → HasGiven role (task_of e) a before old p result after new
+given_by D role a before after old new e p (Ok u) planned done withheld handled fallen =
+    (plan_for role before.core e p after.core planned done, handled)
+given_by D role a before after old new e p (Err cut) planned done withheld handled fallen = (
   (
     withheld.0,
-    plan_for role stands_for task before.core e withheld.0 after.core is withheld.1 withheld.2,
+    plan_for role before.core e withheld.0 after.core withheld.1 withheld.2,
     ap (λ (v : ArrayVec Change 16 (Unit {0})). v.items) withheld.3,
   ),
   fallen,

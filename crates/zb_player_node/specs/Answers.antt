@@ -25,7 +25,6 @@ use Rattle.zb_model_real.specs.Real.{real}
 use Rattle.law_run_steps.specs.Conditions.{Condition, calls_by, after_whole, after_cut, after_power_on, after_cut_boot}
 use Rattle.zb_setting.specs.Settings.{setting_for}
 use Rattle.zb_player_node.specs.Nodes.{IsIn, IsStored, words_for}
-use Rattle.zb_player_node.specs.Tasks.{suits}
 use Rattle.zb_player_node.specs.Values.{NodeValue, Running, running}
 use Rattle.zb_player_node.specs.declared.machine.Machine.{Machine}
 use Rattle.zb_player_node.specs.declared.node.Handled.{Handled}
@@ -40,12 +39,6 @@ use Rattle.zb_stored_tables.specs.Stored.{IsStorable}
 use Rattle.zb_base.specs.Sizes.{late_generation}
 
 -- ---- of a node
-
--- A task that a node in this condition may have: it is of its role. The generations of its disk are far from the last
--- one.
-pub record CanHave (x : Condition) (number : ℕ) (task : model.Task) : Type 0 where
-  pub early : number < late_generation
-  pub suits : suits x.setting.me.role task ≡ true
 
 -- An event was handled: nothing falls on it, it gave this answer, and the node is in the condition after it. All
 -- device calls of its commit were made.
@@ -70,10 +63,10 @@ pub record WasCut (a : Answer) (x : Condition) (number : ℕ) (stored : List Cha
 abbrev pub HasHandled : model.Task → NodeValue → Medium → Option Handled → CorePlan → NodeValue → Medium → Type 0
 HasHandled task old m None p new m' = (old.machine ≡ None) × (new ≡ old) × (m' ≡ m)
 HasHandled task old m (Some Whole) p new m' = (x : Condition) (number : ℕ) → IsIn x number old m
-    → CanHave x number task
+    → number < late_generation
     → WasAnswered (answer real x.setting x.state task) x number p m new m'
 HasHandled task old m (Some (Cut fall)) p new m' = (x : Condition) (number : ℕ) → IsIn x number old m
-    → CanHave x number task
+    → number < late_generation
     → WasCut (answer real x.setting x.state task) x number p.changes.items fall m new m'
 
 -- A node was booted: nothing falls on its boot, and it is up.

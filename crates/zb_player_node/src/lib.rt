@@ -5,10 +5,8 @@
 mod law;
 mod machine;
 mod node;
-mod roles;
-mod task;
 
 pub use law::{a_host_has_power, a_later_event, another_disk_sets_the_condition};
 pub use machine::{Machine, NodePlan};
 pub use node::{Handled, Node};
-pub use task::Task;
+pub use zb_core::NodeEvent;

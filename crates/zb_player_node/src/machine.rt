@@ -1,14 +1,13 @@
 //! The host of a node, of whichever role it is.
-ghost use Rattle.std.specs.Prelude.{◌≡◌, ◌≤◌, ◌&&◌, ℕ, List, true, is_some, length, option_map, IfOk, IfErr, IsTrue, OnOk};
+ghost use Rattle.std.specs.Prelude.{◌≡◌, ◌≤◌, ◌&&◌, ℕ, List, is_some, length, IfOk, IfErr, IsTrue, OnOk};
 ghost use Rattle.zb_base.specs.Config.{IsConfig};
+ghost use Rattle.zb_core.specs.Events.{task_of};
 ghost use Rattle.zb_disk.specs.View.{IsStill};
 ghost use Rattle.zb_disk.specs.Memory.{memory_view};
 ghost use Rattle.zb_armed_host.specs.Arms.{IsUnarmed, armed_of, arms_stand};
 ghost use Rattle.zb_armed_host.specs.Driven.{HasEnded, IsShown, IsRecordOf};
 ghost use Rattle.zb_host.specs.Hosts.{Gives};
-ghost use Rattle.zb_model.specs.Data as model;
 ghost use Rattle.zb_player_node.specs.Answers.{HasGiven, HasMade, made};
-ghost use Rattle.zb_player_node.specs.Tasks.{model_task, suits};
 ghost use Rattle.zb_player_node.specs.Values.{running};
 ghost use Rattle.zb_node_types.specs.Changes.{model_role};
 ghost use Rattle.zb_store.specs.Layout.{IsWhole, Standing};
@@ -16,12 +15,11 @@ ghost use Rattle.zb_base.specs.Sizes.{record_room};
 ghost use Rattle.zb_stored_tables.specs.Cores.{IsOfRole};
 ghost use Rattle.zb_stored_tables.specs.Stored.{restored};
 
-use crate::roles::{centre_event, device_event, router_event};
-use crate::task::Task;
 use std::alloc::Global;
 use zb_armed_host::{Arms, Cut, Fallen, boot_armed, dump, run};
-use zb_base::{Config, NoMemory, OrMemory, Place, Role};
+use zb_base::{Config, NoMemory, OrMemory, Role};
 use zb_centre::Centre;
+use zb_core::NodeEvent;
 use zb_disk::MemDisk;
 use zb_host::{Host, Outcome, Plan};
 use zb_node_types::Refusal;
@@ -41,87 +39,6 @@ pub enum Machine {
 
 /// What an event of a node gives: its changes, and what goes out once they are stored.
 pub type NodePlan = Plan<Outcome<Term, Refusal>>;
-
-// Refuses an event that the role of a node doesn't have.
-fn refuse(plan: &mut NodePlan) {
-    plan.changes.clear();
-    plan.out = Outcome::nothing();
-    plan.out.refused = Some(Refusal::Policy {
-        place: Place::Event,
-    });
-}
-
-// Handles an event of the centre.
-fn handle_centre(
-    host: &mut Host<Centre>,
-    disk: &mut MemDisk,
-    arms: &Arms,
-    task: Task,
-    plan: &mut NodePlan,
-) -> Result<(), Cut>
-    requires up { IsTrue (is_some host.old.store) }
-    ensures given { suits model.Centre (model_task task) ≡ true → HasGiven model.Centre (model_task task)
-        (armed_of arms.now) host.old disk.old plan.new result host.new disk.new }
-    ensures ended { IfErr result (λ cut. HasEnded (armed_of arms.now) disk.old cut.fallen disk.new) }
-    ensures stored { IfErr result (λ cut. cut.stored ≡ (cut.fallen.fired && arms_stand (armed_of arms.now))) }
-    ensures up { OnOk result (IsTrue (is_some host.new.store)) }
-{
-    match centre_event(task) {
-        Some(event) => run(host, disk, arms, &event, plan),
-        None => {
-            refuse(plan);
-            Ok(())
-        }
-    }
-}
-
-// Handles an event of a router.
-fn handle_router(
-    host: &mut Host<Router>,
-    disk: &mut MemDisk,
-    arms: &Arms,
-    task: Task,
-    plan: &mut NodePlan,
-) -> Result<(), Cut>
-    requires up { IsTrue (is_some host.old.store) }
-    ensures given { suits model.Router (model_task task) ≡ true → HasGiven model.Router (model_task task)
-        (armed_of arms.now) host.old disk.old plan.new result host.new disk.new }
-    ensures ended { IfErr result (λ cut. HasEnded (armed_of arms.now) disk.old cut.fallen disk.new) }
-    ensures stored { IfErr result (λ cut. cut.stored ≡ (cut.fallen.fired && arms_stand (armed_of arms.now))) }
-    ensures up { OnOk result (IsTrue (is_some host.new.store)) }
-{
-    match router_event(task) {
-        Some(event) => run(host, disk, arms, &event, plan),
-        None => {
-            refuse(plan);
-            Ok(())
-        }
-    }
-}
-
-// Handles an event of a device.
-fn handle_device(
-    host: &mut Host<Device>,
-    disk: &mut MemDisk,
-    arms: &Arms,
-    task: Task,
-    plan: &mut NodePlan,
-) -> Result<(), Cut>
-    requires up { IsTrue (is_some host.old.store) }
-    ensures given { suits model.Device (model_task task) ≡ true → HasGiven model.Device (model_task task)
-        (armed_of arms.now) host.old disk.old plan.new result host.new disk.new }
-    ensures ended { IfErr result (λ cut. HasEnded (armed_of arms.now) disk.old cut.fallen disk.new) }
-    ensures stored { IfErr result (λ cut. cut.stored ≡ (cut.fallen.fired && arms_stand (armed_of arms.now))) }
-    ensures up { OnOk result (IsTrue (is_some host.new.store)) }
-{
-    match device_event(task) {
-        Some(event) => run(host, disk, arms, &event, plan),
-        None => {
-            refuse(plan);
-            Ok(())
-        }
-    }
-}
 
 impl Machine {
     /// Boots a node of that role from its disk, with what is armed on that.
@@ -160,17 +77,16 @@ impl Machine {
     /// Handles an event of a node that is up, over its disk, with what is armed on that.
     ///
     /// # Errors
-    /// How the event was cut: where a stop or a failure that was armed fell on it, or the disk failed otherwise.
+    /// How the event was cut: by a stop or a failure that was armed, or by another fault of the disk.
     pub(crate) fn handle(
         &mut self,
         disk: &mut MemDisk,
         arms: &Arms,
-        task: Task,
+        event: &NodeEvent,
         plan: &mut NodePlan,
     ) -> Result<(), Cut>
         requires up { IsTrue (is_some (running self.old).host.store) }
-        ensures given { suits (running self.old).role (model_task task) ≡ true
-            → HasGiven (running self.old).role (model_task task) (armed_of arms.now)
+        ensures given { HasGiven (running self.old).role (task_of event.now) (armed_of arms.now)
             (running self.old).host disk.old plan.new result (running self.new).host disk.new }
         ensures ended { IfErr result (λ cut. HasEnded (armed_of arms.now) disk.old cut.fallen disk.new) }
         ensures stored { IfErr result (λ cut. cut.stored ≡ (cut.fallen.fired && arms_stand (armed_of arms.now))) }
@@ -178,16 +94,16 @@ impl Machine {
         ensures up { OnOk result (IsTrue (is_some (running self.new).host.store)) }
     {
         match self {
-            Machine::Centre(host) => handle_centre(host, disk, arms, task, plan),
-            Machine::Router(host) => handle_router(host, disk, arms, task, plan),
-            Machine::Device(host) => handle_device(host, disk, arms, task, plan),
+            Machine::Centre(host) => run(host, disk, arms, event, plan),
+            Machine::Router(host) => run(host, disk, arms, event, plan),
+            Machine::Device(host) => run(host, disk, arms, event, plan),
         }
     }
 
     /// Writes the record that the disk of a node of that role represents, and returns its length.
     ///
-    /// Returns None where the disk is off, nothing stands on it, or what stands is no record of such a node. Requires
-    /// a configuration of a node of that role, and room for a record.
+    /// Returns None if the disk is off, or holds no record of such a node. Requires a configuration of a node of that
+    /// role, and room for a record.
     ///
     /// # Errors
     /// `NoMemory`.

@@ -1,6 +1,7 @@
 //! A node.
 ghost use Rattle.std.specs.Prelude.{◌≡◌, ◌+◌, ◌≤◌, ℕ, List, [], true, None, if◌then◌else◌, is_some, take, IfOk, MatchOption};
 ghost use Rattle.zb_base.specs.Config.{IsConfig};
+ghost use Rattle.zb_core.specs.Events.{task_of};
 ghost use Rattle.zb_disk.specs.Memory.{Medium};
 ghost use Rattle.zb_armed_host.specs.Driven.{IsShown};
 ghost use Rattle.zb_model.specs.Play.{FailAt, StopAfter};
@@ -10,26 +11,25 @@ ghost use Rattle.zb_model.specs.State.{NodeState};
 ghost use Rattle.law_run_steps.specs.Conditions.{Condition, after_arming, after_reset};
 ghost use Rattle.zb_player_node.specs.Answers.{CanStart, HasBooted, HasBootedOn, HasHandled, HasHandledOn, IsDump, IsStarted};
 ghost use Rattle.zb_player_node.specs.Nodes.{IsIn};
-ghost use Rattle.zb_player_node.specs.Tasks.{model_task};
 ghost use Rattle.zb_node_types.specs.Changes.{model_role};
 ghost use Rattle.zb_store.specs.Layout.{Standing};
 ghost use Rattle.zb_stored_tables.specs.Cores.{IsOfRole};
 ghost use Rattle.zb_stored_tables.specs.Stored.{restored};
 
 use crate::machine::{Machine, NodePlan};
-use crate::task::Task;
 use arrayvec::ArrayVec;
 use std::alloc::Global;
 use std::marker::Model;
 use zb_armed_host::{Arms, Fall, reset};
 use zb_base::{Config, Eui, Name, NoMemory, OrMemory, Peer, RECORD_ROOM, Role};
+use zb_core::NodeEvent;
 use zb_disk::MemDisk;
 use zb_node_types::Changes;
 
-/// What became of an event of a node that was up.
+/// How an event of a node that was up ended.
 #[derive(Clone, Copy, Debug, PartialEq, Eq)]
 pub enum Handled {
-    /// It was handled: the changes of its plan are stored, and what goes out goes out.
+    /// It was handled: the changes of its plan are stored, and its frame may go out.
     Whole,
     /// A stop or a failure of the disk cut it. The node is down. The plan has the changes that are stored: all or
     /// none.
@@ -70,7 +70,7 @@ impl Model for Node {
     }) };
 }
 
-// Keeps the changes of a cut event where they are stored.
+// Keeps the changes of a cut event if they are stored.
 fn keep_stored(stored: bool, changes: &mut Changes)
     ensures { changes.new.items ≡ (if stored then changes.old.items else []) }
 {
@@ -79,14 +79,14 @@ fn keep_stored(stored: bool, changes: &mut Changes)
     }
 }
 
-// Takes the power away. It has a place of its own, so that an event which goes well clears none.
+// Takes the power away. This has a function of its own, so that an event that succeeds clears no place for it.
 fn take_power(machine: &mut Option<Machine>)
     ensures { machine.new ≡ None }
 {
     *machine = None;
 }
 
-// Takes back what was armed once it fell. What didn't fall is still to come.
+// Disarms what fell. What didn't fall stays armed.
 fn spend(arms: &mut Arms, fired: bool)
     ensures { arms.new ≡ (if fired then Arms.Unarmed else arms.old) }
 {
@@ -95,7 +95,7 @@ fn spend(arms: &mut Arms, fired: bool)
     }
 }
 
-// Keeps what is shown: the first `len` bytes, or none where nothing is.
+// Keeps the bytes that are shown: the first `len`, or none.
 fn keep_shown(room: &mut Vec<u8>, len: Option<u32>)
     ensures shown { (bytes : List ℕ) → IsShown len room.old.items bytes → room.new.items ≡ bytes }
     ensures exact { MatchOption len (room.new.items ≡ []) (λ n. room.new.items ≡ take n room.old.items) }
@@ -107,9 +107,9 @@ fn keep_shown(room: &mut Vec<u8>, len: Option<u32>)
 }
 
 impl Node {
-    /// Boots a node for the first time, from the record that stands on its disk.
+    /// Boots a node for the first time, from the record on its disk.
     ///
-    /// Requires a configuration of this node. Where the disk holds no record of such a node it stays down.
+    /// Requires a configuration of this node. If the disk holds no record of such a node, the node stays down.
     ///
     /// # Errors
     /// `NoMemory`.
@@ -177,17 +177,22 @@ impl Node {
 
     /// Handles an event, over the node's disk, and writes its changes and what goes out into `plan`.
     ///
-    /// Returns None where the node is down. Where a stop or a failure falls on the event, or the disk fails, the node
-    /// is down after it. What is armed and didn't fall stays, whatever the disk did.
-    pub fn handle(&mut self, disk: &mut MemDisk, task: Task, plan: &mut NodePlan) -> Option<Handled>
-        ensures event { HasHandled (model_task task) self.old disk.old result plan.new self.new disk.new }
+    /// Returns None if the node is down. If a stop or a failure falls on the event, or the disk fails, the node is
+    /// down after it. What is armed and didn't fall stays armed, whatever the disk did.
+    pub fn handle(
+        &mut self,
+        disk: &mut MemDisk,
+        event: &NodeEvent,
+        plan: &mut NodePlan,
+    ) -> Option<Handled>
+        ensures event { HasHandled (task_of event.now) self.old disk.old result plan.new self.new disk.new }
         ensures any { HasHandledOn self.old disk.old result plan.new.changes.items self.new disk.new }
         ensures peer { self.new.peer ≡ self.old.peer }
         ensures config { self.new.config ≡ self.old.config }
     {
         match &mut self.machine {
             None => None,
-            Some(machine) => match machine.handle(disk, &self.arms, task, plan) {
+            Some(machine) => match machine.handle(disk, &self.arms, event, plan) {
                 Ok(()) => Some(Handled::Whole),
                 Err(cut) => {
                     keep_stored(cut.stored, &mut plan.changes);
@@ -214,8 +219,7 @@ impl Node {
 
     /// Boots the node, which is down, from its disk.
     ///
-    /// Returns how the boot ended, where it didn't end well. What is armed and didn't fall stays, whatever the disk
-    /// did.
+    /// Returns how the boot ended if it failed. What is armed and didn't fall stays armed, whatever the disk did.
     ///
     /// # Errors
     /// `NoMemory`.
@@ -246,7 +250,7 @@ impl Node {
 
     /// Returns the record that the node's disk represents.
     ///
-    /// It has no bytes where the disk is off, nothing stands on it, or what stands is no record of such a node.
+    /// It has no bytes if the disk is off, or holds no record of such a node.
     ///
     /// # Errors
     /// `NoMemory`.

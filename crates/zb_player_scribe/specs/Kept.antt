@@ -1,5 +1,5 @@
 -- What the scribe of a run keeps of the lines so far, and what it is that it told lines.
-use Rattle.std.specs.Prelude.{◌≡◌, ℕ, ◌+◌, List, ◌++◌, fold, length, Bool, true, false, Option}
+use Rattle.std.specs.Prelude.{◌≡◌, ℕ, ◌+◌, List, ◌++◌, fold, length, Option}
 use Rattle.std.specs.Io.KnownBytes.{append_known}
 use Rattle.zb_model.specs.Data.{Station}
 use Rattle.zb_model.specs.Lines as log
@@ -19,10 +19,6 @@ pub record Kept (h : List log.Line) (k : Scribe) : Type 0 where
   pub accepts : k.accepts ≡ fold accept_count 0 h
   pub refusals : k.refusals ≡ fold refuse_count 0 h
 
--- The most lines for the changes that an event stores.
-abbrev pub most_stored_lines : ℕ
-most_stored_lines = 17
-
 -- how many lines it counted
 abbrev pub told : Scribe → ℕ
 told k = k.used + (k.seals + (k.accepts + (k.refusals + length k.air)))
@@ -35,11 +31,6 @@ pub record Counts (m : log.Line) (old new : Scribe) : Type 0 where
   pub seals : new.seals ≡ seal_count old.seals m
   pub accepts : new.accepts ≡ accept_count old.accepts m
   pub refusals : new.refusals ≡ refuse_count old.refusals m
-
--- whether a line declares a node
-abbrev pub declares_node : log.Line → Bool
-declares_node (log.Declared p) = true
-declares_node _ = false
 
 -- Lines of the model were told, none of which declares a node. Where the page is read their text is after what stood
 -- on it. The scribe keeps what they say after the lines before them.

@@ -1,4 +1,4 @@
 pub mod Frames
 pub mod Kept
-pub mod Outcomes
 pub mod Pages
+pub mod Turns

@@ -1,7 +1,7 @@
 //! The frames on the air, looked up by number.
 ghost use Rattle.std.specs.Prelude.{◌^◌, ◌≡◌, ◌≤◌, ◌<◌, ◌-◌, ◌∷◌, length, get_or, take, drop, slice_get};
 ghost use Rattle.zb_player_scribe.specs.Frames.{AreEnds, frames_in};
-ghost use Rattle.zb_player_scribe.specs.Outcomes.{items_of};
+ghost use Rattle.zb_trace_model.specs.AnswerLines.{frame_bytes};
 
 use std::alloc::Global;
 use std::marker::Model;
@@ -31,7 +31,7 @@ impl Model for Air {
 
 impl Air {
     ghost use Rattle.std.specs.Prelude.{◌≡◌, ◌<◌, ◌-◌, ◌++◌, [], ◌∷◌, length, None, nat_eq, slice_get, if◌then◌else◌, OnOk, OnErr};
-    ghost use Rattle.zb_player_scribe.specs.Outcomes.{items_of};
+    ghost use Rattle.zb_trace_model.specs.AnswerLines.{frame_bytes};
 
     /// Makes the air before any frame.
     pub fn new(alloc: Global) -> Air
@@ -69,7 +69,7 @@ impl Air {
 
     /// Returns the frame of a number, which counts from 1, where there is one.
     pub fn frame(&self, number: u32) -> Option<Frame>
-        ensures { items_of result ≡ (if nat_eq number 0 then None else slice_get self.now (number - 1)) }
+        ensures { frame_bytes result ≡ (if nat_eq number 0 then None else slice_get self.now (number - 1)) }
     {
         if number == 0 {
             return None;
@@ -86,7 +86,7 @@ impl Air {
 #[tactic(auto, using(crate::proofs::FramesIn::frame_at_a_place))]
 fn frame_at(bytes: &[u8], ends: &[usize], place: usize) -> Option<Frame>
     requires { AreEnds (length bytes.now) 0 ends.now }
-    ensures { items_of result ≡ slice_get (frames_in bytes.now 0 ends.now) place }
+    ensures { frame_bytes result ≡ slice_get (frames_in bytes.now 0 ends.now) place }
 {
     if place < ends.len() {
         let start = start_of(ends, place);

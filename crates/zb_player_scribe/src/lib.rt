@@ -4,12 +4,13 @@
 #![tactic(auto)]
 
 mod air;
-mod group;
 mod laws;
 mod page;
 mod scribe;
+mod transcript;
 
 pub use air::Air;
 pub use laws::{lines_are_told_in_turn, no_lines_are_told};
 pub use page::Page;
 pub use scribe::Scribe;
+pub use transcript::Transcript;

@@ -29,8 +29,8 @@ impl Scribe {
     ghost use Rattle.zb_model.specs.Secrets.{ideal as ideal_of, private as private_of};
     ghost use Rattle.zb_model_real.specs.Real.{real};
     ghost use Rattle.zb_trace_model.specs.Said.{IsLineOf};
-    ghost use Rattle.zb_player_scribe.specs.Kept.{Counts, declares_node, Kept, Tells, told};
-    ghost use Rattle.zb_player_scribe.specs.Outcomes.{items_of};
+    ghost use Rattle.zb_player_scribe.specs.Kept.{Counts, Kept, Tells, told};
+    ghost use Rattle.zb_trace_model.specs.AnswerLines.{declares_node, frame_bytes};
     ghost use Rattle.zb_trace.specs.Text.{text};
     ghost use Rattle.zb_trace.specs.Views.{logged};
 
@@ -111,7 +111,7 @@ impl Scribe {
 
     /// Returns the frame of a number, which counts from 1, where there is one.
     pub fn frame(&self, number: u32) -> Option<Frame>
-        ensures { items_of result ≡ (if nat_eq number 0 then None else slice_get self.now.air (number - 1)) }
+        ensures { frame_bytes result ≡ (if nat_eq number 0 then None else slice_get self.now.air (number - 1)) }
     {
         self.air.frame(number)
     }

@@ -26,7 +26,7 @@ use Rattle.zb_sched.proofs.Lists.{all_map2}
 use Rattle.zb_sched.proofs.Splits.{false_if}
 use Rattle.zb_player_scribe.specs.Kept.{Kept, Tells}
 use Rattle.zb_player_scribe.specs.declared.scribe.Scribe.{Scribe}
-use Rattle.zb_player_scribe.proofs.Telling.{append_twice, told_in_turn}
+use Rattle.zb_player_scribe.specs.Turns.{append_twice, told_in_turn}
 use Rattle.zb_trace.specs.Views.{eui_or_nobody, named}
 use Rattle.zb_player_start.specs.Starts.{AreKnown, code_lines, counter_lines, declared_lines, network_lines, station_of}
 

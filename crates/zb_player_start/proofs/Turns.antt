@@ -13,7 +13,7 @@ use Rattle.zb_trace_model.proofs.Texts.{text_append}
 use Rattle.zb_sched.specs.declared.schedule.Node.{Node as CodeNode}
 use Rattle.zb_player_scribe.specs.Kept.{Kept, Tells}
 use Rattle.zb_player_scribe.specs.declared.scribe.Scribe.{Scribe}
-use Rattle.zb_player_scribe.proofs.Telling.{append_nothing, append_twice, told_in_turn}
+use Rattle.zb_player_scribe.specs.Turns.{append_nothing, append_twice, told_in_turn}
 use Rattle.zb_player_start.specs.Starts.{AreKnown, IsKnown, declared_lines, station_of}
 
 pub each : {X : Type 0} (P : X → Type 0) (xs : List X) (i : ℕ) (x : X) → i < length xs → x ≡ get_or xs i x

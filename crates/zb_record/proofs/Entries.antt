@@ -1,4 +1,4 @@
--- The entries that were written are made again, after any others.
+-- The entries that were written are applied when they are read, after any others.
 use Rattle.std.proofs.Common.{◌≡◌, ℕ, zero, suc, ◌+◌, ◌≤◌, Bool, true, false, if◌then◌else◌, List, [], ◌∷◌, ◌++◌, length, filter, flat_map, Result, Ok, Err, refl, sym, ap, ◌≢◌, ◌∙◌, subst, arith, append_assoc, append-nil, length-append}
 use Rattle.std.specs.List.{AllByRecursion}
 use Rattle.std.proofs.lemmas.List.Concat.{flat_map-cons}
@@ -92,7 +92,7 @@ module _ (v : Version) (more : List ℕ) where
           (omega (arith, a.0, b.0), rw (a.1) (b.1))
       by_one u (Err f) is e later = not_failed u t f rest e
 
--- ---- how many payloads there may be is no matter, where there are as many as bytes
+-- ---- the number of payloads doesn't matter, if there are as many as bytes
 
 fuel : (v : Version) (a b : ℕ) (bytes : List ℕ) (s : NodeState) → length bytes ≤ a → length bytes ≤ b
     → payloads_redone v a bytes s ≡ payloads_redone v b bytes s
@@ -151,7 +151,7 @@ redone_behind v q more s t e = ap (λ m. payloads_redone v m (q ++ more) s) (len
 
 -- ---- what is written
 
--- After a record of a later version than the first all changes are made as ever.
+-- After a record of a later version than the first all changes have their usual effect.
 later_fits : (v : Version) → v ≢ First → (e : Edit) (s : NodeState) → fits_behind v e s ≡ fits e s
 unfolding fits_behind
 later_fits First later e s = absurd (later refl)
@@ -187,7 +187,7 @@ stored_fits e s stored fit = by_edit e stored fit
     by_edit (Moved (Told device)) stored fit = (both (may_change (Moved (Told device)) s) _ fit).1
     by_edit (Moved (Untold device)) stored fit = (both (may_change (Moved (Untold device)) s) _ fit).1
 
--- a draw is no bytes, and changes nothing
+-- a draw has no bytes, and changes nothing
 draw_only : (e : Edit) (s : NodeState) → is_stored e ≡ false → (edit_bytes e ≡ []) × (applied e s ≡ s)
 unfolding edit_bytes applied
 draw_only (Reserve layer limit) s stored = absurd (cc)
@@ -249,7 +249,7 @@ written_again v other (c ∷ cs) rest s kept range fit =
         ∙ later s kept (subst (λ u. all_fit (edits cs) u ≡ true) none.1 all)
         ∙ ap (λ u. at_end (shown (applied_all (edits cs) u)) rest) (sym none.1)
 
--- The payload of changes that fit makes them again.
+-- The payload of changes that fit applies them.
 pub payload_again : (v : Version) → v ≢ First → (cs : List Change) (s : NodeState) → keeps_rules s ≡ true
     → AllByRecursion InRange cs → all_fit (edits cs) s ≡ true → redone v (payload (edits cs)) (shown s)
     ≡ at_end (shown (applied_all (edits cs) s)) []

@@ -1,5 +1,5 @@
--- Changes after a record: the rules for records stand after them, in version 1 too, where two are made otherwise than
--- ever.
+-- Changes after a record: the rules for records hold after them. This includes version 1, where two changes have
+-- another effect.
 use Rattle.std.proofs.Common.{◌≡◌, ℕ, List, [], ◌∷◌, ◌++◌, map, refl, sym, ap, ◌∙◌, subst, Bool, true, false, if◌then◌else◌}
 use Rattle.std.proofs.lemmas.Bool.{not-true}
 use Rattle.std.proofs.lemmas.List.{map-append}
@@ -16,7 +16,7 @@ use Rattle.zb_record.specs.declared.version.Version.{Version}
 use Rattle.zb_record.specs.declared.version.Version.TheVariants.{First, Second, Third}
 use Rattle.zb_record.specs.Redoing.{limited, with_limit, with_net, first_applied, first_fits, fits_behind, applied_behind}
 
--- a change that fits leaves the rules
+-- a change that fits keeps the rules
 pub fit_kept : (e : Edit) (s : NodeState) → keeps_rules s ≡ true → fits e s ≡ true → keeps_rules (applied e s) ≡ true
 fit_kept e s kept fit =
     let parts = both (may_change e s) (leaves_rules e s) (sym (fits_is e s kept) ∙ fit) in
@@ -39,7 +39,7 @@ limit_kept limit s kept =
     declared_kept limit (record s { nets = map (limited limit) s.nets })
     (mild_kept (limited limit) (limited_is_mild limit) s r floors)
 
--- ---- a new row that has it
+-- ---- a new row with this limit
 
 abbrev goes_on : ℕ → NetKey → NetKey
 goes_on limit r = record r { started = true; limit = limit; next = limit }
@@ -121,7 +121,7 @@ pub first_shown : (e : Edit) (s : NodeState) → keeps_rules s ≡ true → firs
     → keeps_rules (shown (first_applied e s)) ≡ true
 first_shown e s kept fit = rules_shown (first_applied e s) (first_kept e s kept fit)
 
--- A change that fits after a record leaves the rules, and so does what tables show of it.
+-- A change that fits after a record keeps the rules, and so does what tables show of it.
 pub behind_kept : (v : Version) (e : Edit) (s : NodeState) → keeps_rules s ≡ true → fits_behind v e s ≡ true
     → keeps_rules (applied_behind v e s) ≡ true
 unfolding fits_behind applied_behind

@@ -1,4 +1,4 @@
--- Of ascending senders all are below another where the last one is.
+-- Ascending senders are all below another one if the last of them is.
 use Rattle.std.proofs.Common.{◌≡◌, ℕ, suc, ◌-◌, ◌&&◌, Bool, true, false, List, [], ◌∷◌, length, map, Option, Some, None, is_some, refl, sym, ap, arith, ◌∙◌, true≢false}
 use Rattle.std.specs.Prelude.{nat_lt, slice_get}
 use Rattle.std.specs.List.{list_all}

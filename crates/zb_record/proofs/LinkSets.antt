@@ -1,4 +1,4 @@
--- Marks beside link rows: a further row, and what is read off them.
+-- Marks for link rows: one more row, and what the marks show.
 use Rattle.std.proofs.Common.{◌≡◌, ◌&&◌, ◌||◌, not, ℕ, List, [], ◌∷◌, ◌++◌, Bool, true, false, refl, ap, sym, subst, ◌∙◌, nat_eq, eqb-true}
 use Rattle.std.specs.List.{list_any}
 use Rattle.std.proofs.lemmas.Slice.Eq.{bytes_eq-Decides}
@@ -20,14 +20,14 @@ kept_live : (marks : List ℕ) (n : ℕ) (rows : List LinkKey) → HaveLive mark
 kept_live marks n rows have partner unverified told free =
     have partner unverified told (free_before marks n (link_number partner unverified told) free)
 
--- no row and not the further one
+-- no row, and not the additional one either
 neither : (p : LinkKey → Bool) (rows : List LinkKey) (r : LinkKey) → list_any p rows ≡ false → p r ≡ false
     → list_any p (rows ++ r ∷ []) ≡ false
 neither p rows r none not_it =
     list_any-append p rows (r ∷ []) ∙ ap (λ (b : Bool). b || (p r || false)) none
     ∙ ap (λ (b : Bool). b || false) not_it
 
--- what would be the noted number isn't free
+-- a number isn't free if it would be the noted number
 another : (b : Bool) (marks : List ℕ) (n o : ℕ) → (b ≡ true → n ≡ o) → may_have (noted marks n) o ≡ false → b ≡ false
 another true marks n o same free = sym (ap (may_have (noted marks n)) (sym (same refl)) ∙ noted_there marks n) ∙ free
 another false marks n o same free = refl
@@ -99,7 +99,7 @@ module _ (old new : List ℕ) (rows : List LinkKey) (r : LinkKey) where
         (more_keys old rows r have.0, more_dead (noted old k) rows r dead live),
       )
 
--- questions of all rows
+-- tests of all rows
 
 both_any : (p q : LinkKey → Bool) (rows : List LinkKey) → (list_any p rows || list_any q rows)
     ≡ list_any (λ x. p x || q x) rows
@@ -158,7 +158,7 @@ by_told true false same unverified told other = refl
 by_told false true same unverified told other = refl
 by_told false false same unverified told other = refl
 
--- the two questions that a live row is asked, and the answer to one that isn't live
+-- the two tests of a live row, and the result for one that isn't live
 
 module _ (rows : List LinkKey) (r : LinkKey) (b : Bool) where
   like : (r.live

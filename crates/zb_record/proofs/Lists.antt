@@ -1,4 +1,4 @@
--- Questions of lists, seen another way.
+-- Tests of lists, in another form.
 use Rattle.std.proofs.Common.{◌≡◌, List, [], ◌∷◌, length, map, refl, ap, Bool, true, false, if◌then◌else◌, ◌||◌}
 use Rattle.std.specs.Prelude.{filter}
 use Rattle.std.specs.List.{list_any}

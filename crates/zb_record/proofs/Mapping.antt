@@ -1,4 +1,4 @@
--- A loop that changes each item of a slice: how far it has come.
+-- A loop that changes each item of a slice: how far it has got.
 use Rattle.std.proofs.Common.{◌≡◌, ℕ, ◌+◌, ◌<◌, List, [], ◌∷◌, ◌++◌, length, map, take, drop, get_or, sym, ap, ◌∙◌, arith, length-drop, subst}
 use Rattle.std.specs.Prelude.{slice_set, All}
 use Rattle.std.proofs.lemmas.List.{take_more_set, map_push, map_more, get_or-drop, drop-set-lt, drop-drop, get_or_default, get_or-map, length-map}
@@ -41,7 +41,7 @@ next_read {X} {Y} {view} {f} i old new d y lt changed so =
     let in_new : i < length new = omega (arith, ap (length {A = X}) so.rest, length-drop i new, length-drop i old) in
     next i old new (get_or new i d) y lt (get_or_default new i d (get_or new i d) in_new) changed so
 
--- what all changed items meet, the one that is next meets too, whatever the loop itself does
+-- a condition that all changed items meet is met by the next one too, whatever the loop itself does
 pub room_beside : {X Y : Type 0} {view : X → Y} {g : Y → Y} (f : Y → Y) (P : Y → Type 0) (i : ℕ) (old new : List X)
     (d : X) → i < length old → All P (map f (map view old)) → Mapped view g i old new → P (f (view (get_or new i d)))
 room_beside {X} {Y} {view} {g} f P i old new d lt all so =

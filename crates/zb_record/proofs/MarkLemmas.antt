@@ -1,4 +1,4 @@
--- Marks in a table of bytes: what a further number does to them.
+-- Marks in a table of bytes: what noting one more number does to them.
 use Rattle.std.proofs.Common.{◌≡◌, ℕ, zero, suc, Bool, true, false, ◌||◌, if◌then◌else◌, List, [], ◌∷◌, length, get_or, set, nat_eq, refl, sym, ap, ◌∙◌, eq-eqb, ne_eqb, true≢false, append-nil, arith, ◌++◌, take, drop}
 use Rattle.std.proofs.lemmas.List.{length-set, drop_all, take_all}
 use Rattle.zb_record.specs.Marks.{is_mark_of, mark_after, mark_of, may_have, noted, place_of}
@@ -16,7 +16,7 @@ marked zero n = ap (λ (b : Bool). nat_eq (mark_of n) 1 || b) (eq-eqb (mark_of n
     either false = refl
 marked (suc m) n = ap (λ (b : Bool). is_mark_of (if b then mark_of n else 1) n) (some m)
 
--- a byte that isn't there for a number wasn't before
+-- a byte that doesn't allow a number now didn't allow it before
 mark_before : (m n o : ℕ) → is_mark_of (mark_after m n) o ≡ false → is_mark_of m o ≡ false
 unfolding is_mark_of mark_after mark_of
 mark_before zero n o free = ne_eqb 0 (mark_of o) (λ e. omega (arith, e))
@@ -39,7 +39,7 @@ before (x ∷ xs) zero (suc q) n o free = free
 before (x ∷ xs) (suc p) zero n o free = free
 before (x ∷ xs) (suc p) (suc q) n o free = before xs p q n o free
 
--- as many bytes as before
+-- the number of bytes doesn't change
 size_stays : (marks : List ℕ) (n : ℕ) → length (noted marks n) ≡ length marks
 unfolding noted
 size_stays marks n = length-set marks (place_of (length marks) n)
@@ -57,7 +57,7 @@ unfolding may_have noted
 free_before marks n o free = before marks (place_of (length marks) n) (place_of (length marks) o) n o
     (sym (ap (λ (size : ℕ). is_mark_of (get_or (noted marks n) (place_of size o) 1) o) (size_stays marks n)) ∙ free)
 
--- a table whose bytes were lent is what was written
+-- a table whose bytes were borrowed is what was written
 pub lent : (len : ℕ) (old items new : List ℕ) → length new ≡ length old → old ≡ items → length old ≡ len
     → take len (new ++ drop (length new) items) ≡ new
 lent len old items new same is size =

@@ -22,7 +22,7 @@ use Rattle.zb_record.proofs.Sound.{both_read, rows_keep, given}
 use Rattle.zb_node_types.specs.Changes.{model_role}
 use Rattle.zb_record.specs.Redoing.{Redone, onward, change_made, limited, first_applied, first_fits, fits_behind, applied_behind, change_redone, changes_redone, payloads_redone, redone, GoesOn, HasOneLimit}
 
--- ---- what each change keeps, all of them keep
+-- ---- what each change preserves, all of them preserve
 
 module _ (v : Version) (P : NodeState → Type 0)
     (each : (e : Edit) (s : NodeState) → P s → fits_behind v e s ≡ true → P (shown (applied_behind v e s))) where

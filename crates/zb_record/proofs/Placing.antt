@@ -94,7 +94,7 @@ fill_end i old new rest total le so =
     ≡ Ok (map net_seen new, rest) = rw (none, all) refl in
     sym so.reads ∙ one
 
--- the same where the rows are kept as they are seen
+-- the same if the rows are stored as contracts see them
 
 module _ {A : Type 0} (step : List A → Placed A) (count i : ℕ) (bytes : List ℕ) (rows : List A)
     (total : Result (List A × List ℕ) ℕ) where

@@ -1,4 +1,4 @@
--- A change that is spelled is read again, whatever follows.
+-- A change that is written is read back, whatever follows.
 use Rattle.std.proofs.Common.{◌≡◌, ℕ, ◌^◌, true, List, [], ◌∷◌, ◌++◌, Ok, refl, ap, ◌∙◌, append_assoc}
 use Rattle.std.specs.Int.{w32}
 use Rattle.zb_base.specs.declared.label.Layer.{Layer}

@@ -1,4 +1,4 @@
--- A record that is written is read again, as it is after a boot.
+-- A record that is written is read back, as it is after a boot.
 use Rattle.zb_model.specs.Data as model
 use Rattle.std.proofs.Common.{◌≡◌, ℕ, zero, suc, ◌+◌, ◌^◌, ◌<◌, ◌≤◌, List, [], ◌∷◌, ◌++◌, length, map, filter, flat_map, Result, Ok, refl, sym, ap, ◌∙◌, subst, arith, Bool, true, false, not, if◌then◌else◌, ◌&&◌, ◌||◌, append_assoc, append-nil, length-append}
 use Rattle.std.specs.Prelude.{nat_eq, nat_le, nat_lt}
@@ -38,7 +38,7 @@ pub field_again : {A : Type 0} (read : Reading ℕ A) (fits : A → Bool) (bytes
     → read (length bytes) bytes ≡ found x rest → fits x ≡ true → field read fits bytes ≡ found x rest
 field_again read fits bytes rest x e fit = ap (judged (length bytes) fits) e ∙ rw fit refl
 
--- rows, each read beside those before it; `can` says that the first one may stand there
+-- rows, each checked against those before it; `can` says that the first one is allowed there
 pub rows_again : {A X : Type 0} (step : List A → Placed A) (spell : X → List ℕ) (view : X → A)
     (Can : List X → List X → Type 0)
     → ((done rows : List X) (x : X) (rest : List ℕ) → Can done (x ∷ rows)
@@ -59,7 +59,7 @@ rows_again step spell view Can each (x ∷ rows) done rest can =
     ∙ ap (λ l. rows_at step (length rows) l (flat_map spell rows ++ rest)) (sym grown)
     ∙ later ∙ ap (λ l. found (map view l) rest) (append_assoc done (x ∷ []) rows)
 
--- items that are apart: those before one, and it
+-- items that all differ: those before one item, and the item itself
 apart_front : {X : Type 0} (alike : X → X → Bool) (xs ys : List X) → all_apart alike (xs ++ ys) ≡ true
     → all_apart alike xs ≡ true
 apart_front alike [] ys e = refl
@@ -378,7 +378,7 @@ three_flags false true false = (refl, refl, refl, refl)
 three_flags false false true = (refl, refl, refl, refl)
 three_flags false false false = (refl, refl, refl, refl)
 
--- an attribute of the program for each of the model
+-- the program's attribute for each one of the model
 attribute_of : model.Attribute → Attribute
 attribute_of Provisional = attribute.Provisional
 attribute_of Unverified = attribute.Unverified

@@ -1,4 +1,4 @@
--- The parts of a record make the record.
+-- The parts of a record make up the record.
 use Rattle.std.proofs.Common.{◌≡◌, ℕ, List, [], ◌∷◌, ◌++◌, length, map, refl, ap, ◌∙◌, append_assoc, Bool, true, false, if◌then◌else◌, Option, Some, None}
 use Rattle.std.specs.Prelude.{filter}
 use Rattle.std.specs.List.{flat_map}
@@ -14,7 +14,7 @@ use Rattle.zb_record.specs.declared.pair_row.Pair.{Pair}
 use Rattle.zb_record.specs.RowViews.{net_key, link_key, pair_key}
 use Rattle.zb_record.specs.Headings.{place_in, state_with, state_written}
 
--- the bytes of the rows that pass, one after the other
+-- the bytes of the rows that satisfy the test, one after the other
 flat_map_if : (spell : NetKey → List ℕ) (rows : List NetRow)
     → flat_map (λ (r : NetRow). if (net_key r).live then spell (net_key r) else []) rows
     ≡ flat_map spell (filter (λ (r : NetKey). r.live) (map net_key rows))

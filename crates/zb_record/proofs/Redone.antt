@@ -1,4 +1,4 @@
--- Making changes again: how the loops go on and end.
+-- Applying changes: how the loops continue and end.
 use Rattle.std.proofs.Common.{◌≡◌, ℕ, zero, suc, ◌+◌, ◌-◌, ◌<◌, ◌≤◌, true, false, List, [], ◌∷◌, length, Ok, Err, refl, sym, ap, ◌∙◌, arith}
 use Rattle.zb_node_types.specs.declared.change.Change.{Change}
 use Rattle.zb_node_types.specs.Changes.{edit}
@@ -25,7 +25,7 @@ pub one_made : (v : Version) (bytes rest : List ℕ) (s : NodeState) (c : Change
 unfolding change_redone
 one_made v bytes rest s c read fit = ap (change_made v s (length bytes)) read ∙ rw fit refl
 
--- so many changes: those that are left give the whole
+-- that many changes: the remaining ones give the whole
 module _ (v : Version) (count i : ℕ) (bytes rest : List ℕ) (s t : NodeState) (total : Redone) (lt : i < count)
     (so : changes_redone v (count - i) bytes s ≡ total) where
   pub go_on : change_redone v bytes s ≡ (t, Ok rest) → changes_redone v (count - (i + 1)) rest t ≡ total
@@ -50,7 +50,7 @@ all_made v count i bytes s total le so =
     let step : changes_redone v (count - i) bytes s ≡ (s, Ok bytes) = rw k refl in
     sym so ∙ step
 
--- payloads: with so many more bytes than payloads those that are left give the whole
+-- payloads: if there are at least as many bytes as payloads, the remaining ones give the whole
 pub record Left (v : Version) (bytes : List ℕ) (s : NodeState) (total : Redone) : Type 0 where
   pub greatest_counter : ℕ
   pub enough : length bytes ≤ greatest_counter

@@ -1,4 +1,4 @@
--- Storing a floor among ascending senders: walking past the smaller ones, and what the place says.
+-- Storing a floor among ascending senders: walking past the smaller ones, and what the place means.
 use Rattle.std.proofs.Common.{◌≡◌, ℕ, ◌+◌, ◌<◌, ◌≤◌, List, [], ◌∷◌, ◌++◌, length, map, take, drop, get_or, refl, sym, ap, ◌∙◌, arith, max, append_assoc, add-one, length-append}
 use Rattle.std.specs.Prelude.{slice_set, nat_lt, nat_eq, insert, true, false}
 use Rattle.std.proofs.lemmas.List.{take_more, drop_more, map_push, map-append, drop_all, take_at, set_split, length-map, take-append-drop}
@@ -50,7 +50,7 @@ is_here floors sender i d lt here so = record {
       rw (← e) here;
 }
 
--- a floor that stands there is raised
+-- a floor that is already there is raised
 pub raised : (floors : List SenderFloor) (sender place value : ℕ) (d : SenderFloor) (m : ℕ) → place < length floors
     → (get_or floors place d).sender.0 ≡ sender
     → m ≡ max (get_or floors place d).stored value
@@ -73,7 +73,7 @@ raised floors sender place value d m lt same new so =
     (sym (drop_more floors place d lt))
     ∙ sym (so.before value)
 
--- a floor of a sender that has none goes before those of greater senders
+-- the floor of a sender without one goes before those of greater senders
 in_front : (rest : List SenderFloor) (sender value : ℕ)
     → ((f : SenderFloor) (fs : List SenderFloor) → rest ≡ f ∷ fs → sender < f.sender.0)
     → floor_stored sender value (map heard_floor rest) ≡ record { sender = sender; kept = 0; stored = value }
@@ -115,7 +115,7 @@ has_room floors sender place value so absent room =
     omega arith) in
     omega arith
 
--- an array filled again from a list of its own length is that list
+-- an array that is filled from a list of its own length is that list
 pub refilled : {X : Type 0} (xs ws : List X) → length ws ≡ length xs → refill (length xs) xs ws ≡ ws
 refilled {X} xs ws same = ap (λ l. take (length xs) (ws ++ l)) (drop_all (length ws) xs (omega (arith, same))) ∙
     take_at ws [] (length xs) same

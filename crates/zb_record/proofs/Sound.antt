@@ -59,7 +59,7 @@ passed {A} read fits bytes rest x e = by_read (read (length bytes) bytes) e
     by_read (Ok y) e = by_test (fits y.0) y refl e
     by_read (Err f) e = absurd (cc)
 
--- what each row keeps, all rows keep
+-- what each row satisfies, all rows satisfy
 pub rows_keep : {A : Type 0} (step : List A → Placed A) (P : List A → Type 0)
     → ((done : List A) (bytes rest : List ℕ) (x : A) → P done → step done bytes ≡ found x rest → P (done ++ x ∷ []))
     → (n : ℕ) (done : List A) (bytes rest : List ℕ) (rows : List A) → P done → rows_at step n done bytes
@@ -431,7 +431,7 @@ lives_bare (r ∷ rs) = by_live r.live (lives_bare rs)
     by_live true e = rw e refl
     by_live false e = e
 
--- what the network keys keep, with their floors
+-- what the network keys satisfy, with their floors
 pub record AllNets (active : ℕ) (rows : List NetKey) : Type 0 where
   pub keys : all_apart nets_alike rows ≡ true
   pub two : lives rows ≤ 2

@@ -1,4 +1,4 @@
--- What was read is read again where more bytes stand after it, and nothing is left that wasn't there.
+-- What was read is read again if more bytes come after it, and nothing is left that wasn't there.
 use Rattle.std.proofs.Common.{◌≡◌, ℕ, ◌≤◌, Bool, true, false, List, [], ◌∷◌, ◌++◌, length, take, drop, Option, Some, None, Result, Ok, Err, refl, ap, arith, length-append, length-drop, if◌then◌else◌}
 use Rattle.std.specs.Int.{Width, w32, w64, byte_len, from_le_bytes}
 use Rattle.std.specs.Prelude.{nat_lt, ◌==◌}
@@ -140,7 +140,7 @@ rollover_steady : {E : Type 0} → Steady {E = E} rollover_at
 unfolding rollover_at
 rollover_steady = then_steady byte_steady (λ b. chosen_steady (rollover_of b))
 
--- where a test chooses between two
+-- if a test chooses between two
 either : {E A : Type 0} {one two : Reading E A} (b : Bool) → Steady one → Steady two
     → Steady (λ cut bytes. if b then one cut bytes else two cut bytes)
 either true p q = p

@@ -1,4 +1,4 @@
--- The test of the widths of a record is what it represents.
+-- The test of the widths of a record is equivalent to the statement about them.
 use Rattle.std.proofs.Common.{◌≡◌, ◌<◌, ◌^◌, Bool, true, ◌&&◌, List, [], ◌∷◌, length, refl}
 use Rattle.std.specs.Prelude.{nat_eq, nat_lt}
 use Rattle.std.specs.List.{AllByRecursion, list_all}

@@ -1,4 +1,4 @@
--- The whole record of a state is read again as that state after a boot.
+-- The whole record of a state is read back as that state after a boot.
 use Rattle.zb_model.specs.Data as model
 use Rattle.std.proofs.Common.{◌≡◌, ℕ, zero, suc, ◌+◌, ◌^◌, ◌<◌, ◌≤◌, List, [], ◌∷◌, ◌++◌, length, map, flat_map, Ok, refl, sym, ap, ◌∙◌, arith, Bool, true, false, not, if◌then◌else◌, ◌&&◌, ◌||◌, Option, Some, None, append-nil}
 use Rattle.std.specs.Prelude.{find, nat_eq, nat_lt, ◌==◌}
@@ -30,7 +30,7 @@ use Rattle.zb_record.specs.Records.{may_enter, may_roll, has_net_room, is_place,
 use Rattle.zb_record.proofs.Sound.{live_at}
 use Rattle.zb_record.proofs.RecordAgain.{found, field_again, rows_again, NetsCan, net_again, bare_boot, booted_row, all_floors_again, filtered, LinksCan, link_again, PairsCan, pair_again, same_pair, map_same}
 
--- what the program says for the model's words
+-- the program's values for the model's words
 
 role_for : model.Role → Role
 role_for Centre = role.Centre
@@ -93,7 +93,7 @@ unfolding rollover_at rollover_for
 rollover_read cut false rest = refl
 rollover_read cut true rest = refl
 
--- what the part that the node plays allows
+-- what the node's role allows
 
 enter_can : (s : NodeState) → role_is_kept s ≡ true → may_enter (role_for s.role) (state_for s.state) ≡ true
 unfolding role_is_kept

@@ -71,7 +71,7 @@ filter_part {X} p i xs =
     ap (filter p) (sym (take-append-drop i xs)) ∙ filter-append p (take i xs) (drop i xs) in
     omega (arith, ap (length {A = X}) split, length-append (filter p (take i xs)) (filter p (drop i xs)))
 
--- the bound after one more item, which takes room where it passes
+-- the bound after one more item, which takes room if it passes the test
 pub bound_more : (b : Bool) (size at end next n m : ℕ) → next ≤ end + (if b then size else 0) → m
     ≡ n + (if b then 1 else 0) → end ≤ at + size * n → next ≤ at + size * m
 bound_more true size at end next n m after more before = let e : size * (n + 1) ≡ size * n + size =

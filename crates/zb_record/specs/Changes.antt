@@ -1,5 +1,5 @@
 -- The changes of a journal entry, read from their bytes: a kind byte, and the fields of that kind. Each fault of a
--- change is that of a change that isn't whole.
+-- change is reported in the same way as a change that isn't whole.
 use Rattle.std.specs.Prelude.{ℕ, Err, ◌==◌, if◌then◌else◌}
 use Rattle.std.specs.Int.{w32}
 use Rattle.zb_node_types.specs.declared.change.Change.{Change}

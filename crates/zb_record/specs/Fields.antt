@@ -1,4 +1,4 @@
--- Fields of one byte that represent one of a few values; another byte is refused as a missing one is.
+-- Fields of one byte that represent one of a few values; any other byte is refused in the same way as a missing one.
 use Rattle.std.specs.Prelude.{ℕ, List, [], ◌∷◌, Option, Some, None, Ok, Err, ◌==◌, if◌then◌else◌}
 use Rattle.zb_base.specs.declared.label.Layer.{Layer}
 use Rattle.zb_base.specs.declared.label.Layer.TheVariants as layer
@@ -14,7 +14,7 @@ use Rattle.zb_base.specs.declared.state.Rollover.{Rollover}
 use Rattle.zb_base.specs.declared.state.Rollover.TheVariants as rollover
 use Rattle.zb_cursor.specs.Reading.{Reading, ◌>>=◌, byte_at}
 
--- a value, where there is one
+-- a value, if there is one
 abbrev pub chosen : {E A : Type 0} → Option A → Reading E A
 chosen None cut bytes = Err cut
 chosen (Some x) cut bytes = Ok (x, bytes)
@@ -73,7 +73,7 @@ abbrev pub version_of : ℕ → Option Version
 version_of b = if b == 1 then Some version.First else if b == 2 then Some version.Second
     else if b == 3 then Some version.Third else None
 
--- the version of a record, which its first byte says
+-- the version of a record, given by its first byte
 abbrev pub record_version : List ℕ → Option Version
 record_version [] = None
 record_version (b ∷ bytes) = version_of b

@@ -1,4 +1,4 @@
--- Marks beside the link rows of a record: of their keys, and of what each live row is to its partner.
+-- Marks for the link rows of a record: of their keys, and of the partner and kind of each live row.
 use Rattle.std.specs.Prelude.{◌≡◌, ℕ, Bool, false, ◌&&◌, List, nat_eq}
 use Rattle.std.specs.List.{list_any}
 use Rattle.zb_base.specs.declared.key.Key.{Key}
@@ -12,12 +12,12 @@ abbrev pub is_live_so : ℕ → Bool → Bool → LinkKey → Bool
 is_live_so partner unverified told r = r.live
     && (nat_eq r.partner partner && (same_bool (is_unverified r.attribute) unverified && same_bool r.told told))
 
--- a key that isn't marked is that of no row
+-- if a key isn't marked, no row has it
 abbrev pub HaveKeys : List ℕ → List LinkKey → Type 0
 HaveKeys marks rows = (key : Bytes) → may_have marks (key_number key) ≡ false
     → list_any (λ (r : LinkKey). same_key r.key key) rows ≡ false
 
--- what isn't marked is no live row to its partner
+-- if a partner and kind aren't marked, no live row has them
 abbrev pub HaveLive : List ℕ → List LinkKey → Type 0
 HaveLive marks rows = (partner : ℕ) (unverified told : Bool) → may_have marks (link_number partner unverified told)
     ≡ false → list_any (is_live_so partner unverified told) rows ≡ false

@@ -1,4 +1,4 @@
--- Readings that tell the place of a fault: the number of bytes from the first one of the field at fault to the end.
+-- Readings with the place of a fault: the number of bytes from the first one of the faulty field to the end.
 use Rattle.std.specs.Prelude.{◌≡◌, ℕ, zero, suc, Bool, List, [], ◌∷◌, ◌++◌, length, Result, Ok, Err, if◌then◌else◌}
 use Rattle.zb_base.specs.declared.fault.OrMemory.{OrMemory}
 use Rattle.zb_base.specs.declared.fault.OrMemory.TheVariants.{Fault, NoMemory}
@@ -33,12 +33,12 @@ field read fits bytes = judged (length bytes) fits (read (length bytes) bytes)
 abbrev pub whole : {A : Type 0} → Reading ℕ A → Placed A
 whole read bytes = read (length bytes) bytes
 
--- that many rows, each judged beside those before it
+-- that many rows, each checked against those before it
 unfoldable pub rows_at : {A : Type 0} → (List A → Placed A) → ℕ → List A → Placed (List A)
 rows_at step zero done bytes = Ok (done, bytes)
 rows_at step (suc n) done bytes = onward (step done bytes) (λ row rest. rows_at step n (done ++ row ∷ []) rest)
 
--- What a call returned and left in its reader.
+-- What a call returned, and what it left in its reader.
 abbrev pub Gives : {A B : Type 0} → (A → B) → Result A ℕ → List ℕ → Result (B × List ℕ) ℕ → Type 0
 Gives view (Ok x) rest read = read ≡ Ok (view x, rest)
 Gives view (Err left) rest read = read ≡ Err left

@@ -1,4 +1,4 @@
--- The values of changes that can be spelled: keys of 16 bytes, numbers within their widths.
+-- The values of changes that can be written: keys of 16 bytes, numbers within their widths.
 use Rattle.std.specs.Prelude.{◌≡◌, ◌^◌, ◌<◌, Bool, ◌&&◌, length, nat_eq, nat_lt}
 use Rattle.std.specs.List.{AllByRecursion, list_all}
 use Rattle.zb_model.specs.State.{SenderFloor, NetKey, LinkKey, PairKey, NodeState}
@@ -27,7 +27,7 @@ InRange (Removed device) = device.0 < 2 ^ 64
 InRange (Start k value) = IsKey k × (value < 2 ^ 32)
 InRange (Pair first second k) = (first.0 < 2 ^ 64) × (second.0 < 2 ^ 64) × IsKey k
 
--- the rows of a state that can be spelled
+-- the rows of a state that can be written
 
 pub record NetFits (r : NetKey) : Type 0 where
   pub key : length r.key ≡ 16

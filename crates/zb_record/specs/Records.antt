@@ -1,5 +1,5 @@
 -- The record of a node, read from its bytes: versions 1, 2 and 3. Each field is whole and keeps the rules for records
--- beside the fields before it; a rule over several fields is broken by the last of them.
+-- together with the fields before it; if a rule over several fields is broken, the last of them is at fault.
 use Rattle.std.specs.Prelude.{◌≡◌, ℕ, zero, suc, Bool, not, ◌||◌, ◌==◌, if◌then◌else◌, List, [], ◌∷◌, length, map, Option, Some, None, Result, Ok, Err, nat_le, nat_lt}
 use Rattle.std.specs.Int.{w16, w32}
 use Rattle.zb_base.specs.declared.fault.OrMemory.{OrMemory}
@@ -23,7 +23,7 @@ use Rattle.zb_record.specs.Placed.{Placed, ◌>>=◌, give, field, whole, rows_a
 use Rattle.zb_record.specs.Rows.{net_seen, link_seen, pair_seen, net_at, all_floors_at, links_at, pairs_at}
 use Rattle.zb_model.specs.Record.{no_place}
 
--- the centre stays in the first state, and it alone sends a new network key
+-- the centre stays in the first state, and only the centre sends a new network key
 abbrev pub may_enter : Role → State → Bool
 may_enter role state = not (is_centre (model_role role)) || is_fresh (model_state state)
 
@@ -65,7 +65,7 @@ nets_at h = do
   rows ← rows_at (net_at h.node.version h.declared h.active) h.nets []
   all_floors_at [] rows
 
--- the key of the row at a place, where there is one
+-- the key of the row at a place, if there is one
 abbrev pub key_of : ℕ → List NetKey → Option Bytes
 key_of place [] = None
 key_of zero (r ∷ rs) = Some r.key
@@ -104,18 +104,18 @@ ended (Err left) = Err left
 unfoldable pub record_read : List ℕ → Result NodeState ℕ
 record_read bytes = ended (record_at bytes)
 
--- the record of the program in the model
+-- the program's record as the model's state
 abbrev pub record_seen : program.Record → NodeState
 record_seen r = state_from r.head (map net_seen r.nets.items) (map link_seen r.links.items)
     (map pair_seen r.pairs.items)
 
--- what a call returns that reads a record
+-- the result of a call that reads a record
 abbrev pub IsRecord : {A : Type 0} → (A → NodeState) → Result A (OrMemory ℕ) → Result NodeState ℕ → Type 0
 IsRecord view (Ok x) read = read ≡ Ok (view x)
 IsRecord view (Err (Fault left)) read = read ≡ Err left
 IsRecord view (Err NoMemory) read = Unit {0}
 
--- what a call returns that makes tables of a record of `total` bytes: the place of the fault, or out of memory
+-- the result of a call that makes tables from a record of `total` bytes: the place of the fault, or out of memory
 abbrev pub BadPlace : OrMemory KeyError → ℕ → Result NodeState ℕ → Type 0
 BadPlace (Fault (KeyOld place)) total read = ⊥
 BadPlace (Fault KeysFull) total read = ⊥

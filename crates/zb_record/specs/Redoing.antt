@@ -1,6 +1,6 @@
--- The payloads of journal entries are made again, one after the other: each change in its order, up to the first that
--- isn't whole, is none, or doesn't fit. After a record of version 1 two kinds of changes are made otherwise than ever,
--- and two don't stand.
+-- The payloads of journal entries are applied one after the other: each change in its order, up to the first that
+-- isn't whole, isn't a change, or doesn't fit. After a record of version 1 two kinds of changes have another effect
+-- than after later versions, and two kinds aren't allowed.
 use Rattle.std.specs.Prelude.{◌≡◌, ℕ, zero, suc, ◌-◌, max, min, Bool, true, false, nat_le, List, [], ◌∷◌, ◌++◌, length, map, Result, Ok, Err, if◌then◌else◌}
 use Rattle.std.specs.List.{AllByRecursion}
 use Rattle.zb_node_types.specs.declared.change.Change.{Change}
@@ -15,10 +15,10 @@ use Rattle.zb_record.specs.declared.version.Version.TheVariants.{First, Second, 
 use Rattle.zb_record.specs.Changes.{change_at}
 use Rattle.zb_base.specs.Limits.{greatest_count}
 
--- After a record of version 1 there is one NWK limit for all network rows. The declared start is that limit, too, and
+-- After a record of version 1 there is one NWK limit for all network rows. The declared start is that limit too, and
 -- each row counts as started with it.
 
--- a row goes on from the limit; like all limits it never falls
+-- a row continues from the limit; like all limits it never falls
 abbrev pub limited : ℕ → NetKey → NetKey
 limited limit r = record r { started = true; limit = max r.limit limit; next = max r.next limit }
 
@@ -26,27 +26,28 @@ limited limit r = record r { started = true; limit = max r.limit limit; next = m
 abbrev pub with_limit : ℕ → NodeState → NodeState
 with_limit limit s = record s { declared = limit; nets = map (limited limit) s.nets }
 
--- a new row has it, too
+-- a new row has this limit too
 abbrev pub with_net : Bytes → ℕ → NodeState → NodeState
 with_net key sequence s = record s {
   nets = if has_net key s.nets then s.nets
       else s.nets ++ given_net s.declared key sequence ∷ [];
 }
 
--- all other changes are made as ever
+-- all other changes have their usual effect
 unfoldable pub first_applied : Edit → NodeState → NodeState
 first_applied (Reserve Nwk limit) s = with_limit limit s
 first_applied (Moved (Install key sequence)) s = with_net key sequence s
 first_applied e s = applied e s
 
--- a NWK reserve isn't below the one limit, a start and a pair don't stand there, and all other changes fit as ever
+-- a NWK reserve isn't below the one limit, a start and a pair aren't allowed, and all other changes fit by the usual
+-- rules
 unfoldable pub first_fits : Edit → NodeState → Bool
 first_fits (Reserve Nwk limit) s = nat_le s.declared limit
 first_fits (Start key value) s = false
 first_fits (Moved (Pair first second key)) s = false
 first_fits e s = fits e s
 
--- whether a change fits after a record of a version, and what it does there
+-- whether a change fits after a record of a version, and its effect there
 unfoldable pub fits_behind : Version → Edit → NodeState → Bool
 fits_behind First e s = first_fits e s
 fits_behind Second e s = fits e s
@@ -66,7 +67,7 @@ abbrev pub onward : NodeState → Result (List ℕ) ℕ → (List ℕ → NodeSt
 onward s (Ok rest) next = next rest s
 onward s (Err left) next = (s, Err left)
 
--- a change that was read is made where it fits, and is else at fault from its first byte on
+-- a change that was read is made if it fits; otherwise the fault is at its first byte
 abbrev pub change_made : Version → NodeState → ℕ → Result (Change × List ℕ) ℕ → Redone
 change_made v s left (Ok x) = if fits_behind v (edit x.0) s then (shown (applied_behind v (edit x.0) s), Ok x.1)
     else (s, Err left)
@@ -88,28 +89,28 @@ payloads_redone v (suc n) [] s = (s, Ok [])
 payloads_redone v (suc n) (count ∷ bytes) s = onward (changes_redone v count bytes s).0
     (changes_redone v count bytes s).1 (payloads_redone v n)
 
--- all payloads after a record of a version; each has a byte at least
+-- all payloads after a record of a version; each payload has at least one byte
 unfoldable pub redone : Version → List ℕ → NodeState → Redone
 redone v entries s = payloads_redone v (length entries) entries s
 
--- A call made this, and left these bytes and this state.
+-- A call applied this, and left these bytes and this state.
 abbrev pub Redoes : Result (Unit {0}) ℕ → List ℕ → NodeState → Redone → Type 0
 Redoes (Ok done) rest s r = r ≡ (s, Ok rest)
 Redoes (Err left) rest s r = r ≡ (s, Err left)
 
--- a row is started, and goes on from that limit
+-- a row is started, and continues from that limit
 abbrev pub GoesOn : ℕ → NetKey → Type 0
 GoesOn limit r = (r.started ≡ true) × (r.limit ≡ limit) × (r.next ≡ limit)
 
--- all network rows go on from the declared start
+-- all network rows continue from the declared start
 abbrev pub HasOneLimit : NodeState → Type 0
 HasOneLimit s = AllByRecursion (GoesOn s.declared) s.nets
 
--- the place of a fault: how many bytes stand before it, or 2^32 - 1 where there are more
+-- the place of a fault: how many bytes come before it, at most 2^32 - 1
 abbrev pub place_of : ℕ → ℕ → ℕ
 place_of total left = min (total - left) greatest_count
 
--- what a call returns that makes the entries again, of `total` bytes
+-- the result of a call that applies the entries, of `total` bytes
 abbrev pub redo_answer : ℕ → Result (List ℕ) ℕ → Result (Unit {0}) KeyError
 redo_answer total (Ok rest) = Ok tt
 redo_answer total (Err left) = Err (BadRecord (place_of total left))

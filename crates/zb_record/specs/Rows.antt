@@ -1,4 +1,4 @@
--- The rows of a record, read from their bytes, each beside those before it.
+-- The rows of a record, read from their bytes, each checked against those before it.
 use Rattle.std.specs.Prelude.{ℕ, Bool, true, not, ◌&&◌, ◌||◌, ◌==◌, if◌then◌else◌, List, [], ◌∷◌, ◌++◌, length, map, filter, Ok, nat_eq, nat_le, nat_lt}
 use Rattle.std.specs.List.{list_any, list_all}
 use Rattle.std.specs.Int.{w16, w32}
@@ -19,8 +19,7 @@ use Rattle.zb_record.specs.declared.pair.PairRecord.{PairRecord}
 use Rattle.zb_record.specs.Fields.{attribute_at}
 use Rattle.zb_record.specs.Placed.{Placed, ◌>>=◌, give, field, whole, rows_at}
 
--- what the rows of the program are in the model: after a boot a counter goes on from its limit, and a floor from the
--- stored one
+-- the program's rows as the model's: after a boot a counter continues from its limit, and a floor from the stored one
 
 abbrev pub sender_seen : SenderRecord → SenderFloor
 sender_seen f = record { sender = f.sender.0; kept = f.stored; stored = f.stored }
@@ -66,7 +65,7 @@ net_flags First = 2
 net_flags Second = 4
 net_flags Third = 4
 
--- a third live row is refused, and an active row that isn't live
+-- a third live row is refused, and so is an active row that isn't live
 abbrev pub net_flags_fit : Version → ℕ → List NetKey → ℕ → Bool
 net_flags_fit version active done flags = nat_lt flags (net_flags version)
     && (if bit flags 0 then nat_lt (lives done) 2 else not (nat_eq active (length done)))
@@ -128,7 +127,7 @@ abbrev pub live_floors_at : NetKey → Placed NetKey
 live_floors_at r bytes = if r.live then (floors_at >>= (λ floors. give (record r { floors = floors }))) bytes
     else Ok (r, bytes)
 
--- those of all rows, in their order
+-- the floors of all rows, in their order
 unfoldable pub all_floors_at : List NetKey → List NetKey → Placed (List NetKey)
 all_floors_at done [] bytes = Ok (done, bytes)
 all_floors_at done (r ∷ rs) bytes = (live_floors_at r >>= (λ row. all_floors_at (done ++ row ∷ []) rs)) bytes
@@ -157,11 +156,11 @@ kinds_alike a b = like_rows a b && same_bool (is_unverified a.attribute) (is_unv
 abbrev pub told_apart : LinkKey → LinkKey → Bool
 told_apart a b = like_rows a b && not (same_bool a.told b.told)
 
--- a told row is a live one of the centre, and a provisional one is from an install code
+-- a told row is a live one of the centre, and a provisional row is from an install code
 abbrev pub is_marked : Role → LinkKey → Bool
 is_marked d r = (not r.told || (r.live && is_centre d)) && (not (is_provisional r.attribute) || r.code)
 
--- a partner has one live row of a kind, and its live rows agree in whether it was told
+-- a partner has one live row of a kind, and its live rows agree whether it was told
 abbrev pub link_fits : Role → List LinkKey → LinkKey → Bool
 link_fits d done r = is_marked d r
     && (not (list_any (λ (y : LinkKey). kinds_alike y r) done)
@@ -192,7 +191,7 @@ links_at d = do
 abbrev pub is_pair : ℕ → ℕ → PairKey → Bool
 is_pair first second p = nat_eq p.first first && nat_eq p.second second
 
--- the first device is the one of the smaller address, and no two pairs have the same devices
+-- the first device is the one with the smaller EUI, and no two pairs have the same devices
 abbrev pub is_new_pair : List PairKey → Eui → Eui → Bool
 is_new_pair done first second = nat_lt first.0 second.0 && not (list_any (is_pair first.0 second.0) done)
 
@@ -207,7 +206,7 @@ pair_at done = do
   live ← field byte_at is_one
   give (record { first = first.0; second = second.0; key = key.0 })
 
--- the centre alone has pairs
+-- only the centre has pairs
 abbrev pub pairs_room : Role → ℕ
 pairs_room d = if is_centre d then most_pairs else 0
 
@@ -219,7 +218,7 @@ all_pairs_at d = do
   count ← field (number_at w16) (has_pair_room d)
   rows_at pair_at count []
 
--- they stand in version 3 alone
+-- only version 3 has pairs
 abbrev pub pairs_at : Version → Role → Placed (List PairKey)
 pairs_at First d = give []
 pairs_at Second d = give []

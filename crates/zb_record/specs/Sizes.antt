@@ -1,4 +1,4 @@
--- The size of the greatest record, and of its greatest parts.
+-- The size of the greatest record, and of its largest parts.
 use Rattle.std.specs.Prelude.{ℕ}
 
 -- the number of bytes of the greatest record

@@ -137,7 +137,7 @@ fn read_told(reader: &mut Reader<usize>) -> Result<Change, usize>
     Ok(Change::Told { device })
 }
 
-/// Reads a device that is to be told again.
+/// Reads a device that is to be told of the new network key again.
 #[tactic(auto, unfolding(crate::specs::Changes::untold_at, zb_model::specs::Record::edit_bytes))]
 fn read_untold(reader: &mut Reader<usize>) -> Result<Change, usize>
     ensures exact { Gives result reader.new.rest.now (untold_at reader.old.cut reader.old.rest.now) }
@@ -234,10 +234,10 @@ fn read_fields_of(reader: &mut Reader<usize>, kind: u8) -> Result<Change, usize>
     }
 }
 
-/// Reads a change other than a draw, which is spelled nowhere.
+/// Reads a change other than a draw, which isn't written.
 ///
 /// # Errors
-/// The reader's fault, as at a field that isn't whole, where the bytes are no change, whole or not.
+/// The reader's fault at bytes that aren't a change, the same as at a field that isn't whole.
 #[tactic(auto, unfolding(crate::specs::Changes::change_at))]
 pub fn read_change(reader: &mut Reader<usize>) -> Result<Change, usize>
     ensures exact { Gives result reader.new.rest.now (change_at reader.old.cut reader.old.rest.now) }

@@ -1,5 +1,5 @@
-//! Fields of one byte that represent a layer, an attribute, a state or a rollover. A byte that represents none is
-//! refused by the reader's fault.
+//! Fields of one byte that represent a layer, an attribute, a state or a rollover. At a byte that represents none, the
+//! result is the reader's fault.
 ghost use Rattle.std.specs.Prelude.{◌≡◌, ◌∷◌, IfOk};
 ghost use Rattle.zb_node_types.specs.Changes.{model_role, model_layer, model_attribute, model_state, is_sending};
 ghost use Rattle.zb_cursor.specs.Reading.{Gives};
@@ -12,7 +12,7 @@ use zb_cursor::Reader;
 /// Reads a layer: 00 network, 01 application support.
 ///
 /// # Errors
-/// The reader's fault at any other byte, or where no byte is left.
+/// The reader's fault at any other byte, or if no byte is left.
 #[tactic(auto, unfolding(crate::specs::Fields::layer_at))]
 pub(crate) fn read_layer(reader: &mut Reader<usize>) -> Result<Layer, usize>
     ensures exact { Gives result reader.new.rest.now (layer_at reader.old.cut reader.old.rest.now) }
@@ -29,7 +29,7 @@ pub(crate) fn read_layer(reader: &mut Reader<usize>) -> Result<Layer, usize>
 /// Reads an attribute: 00 provisional, 01 unverified, 02 verified.
 ///
 /// # Errors
-/// The reader's fault at any other byte, or where no byte is left.
+/// The reader's fault at any other byte, or if no byte is left.
 #[tactic(auto, unfolding(crate::specs::Fields::attribute_at))]
 pub(crate) fn read_attribute(reader: &mut Reader<usize>) -> Result<Attribute, usize>
     ensures exact { Gives result reader.new.rest.now (attribute_at reader.old.cut reader.old.rest.now) }
@@ -48,7 +48,7 @@ pub(crate) fn read_attribute(reader: &mut Reader<usize>) -> Result<Attribute, us
 /// Reads a state: 00 to 06, in the order of `State`.
 ///
 /// # Errors
-/// The reader's fault at any other byte, or where no byte is left.
+/// The reader's fault at any other byte, or if no byte is left.
 #[tactic(auto, unfolding(crate::specs::Fields::state_at))]
 pub(crate) fn read_state(reader: &mut Reader<usize>) -> Result<State, usize>
     ensures exact { Gives result reader.new.rest.now (state_at reader.old.cut reader.old.rest.now) }
@@ -70,7 +70,7 @@ pub(crate) fn read_state(reader: &mut Reader<usize>) -> Result<State, usize>
 /// Reads a rollover: 00 idle, 01 sending.
 ///
 /// # Errors
-/// The reader's fault at any other byte, or where no byte is left.
+/// The reader's fault at any other byte, or if no byte is left.
 #[tactic(auto, unfolding(crate::specs::Fields::rollover_at))]
 pub(crate) fn read_rollover(reader: &mut Reader<usize>) -> Result<Rollover, usize>
     ensures exact { Gives result reader.new.rest.now (rollover_at reader.old.cut reader.old.rest.now) }
@@ -87,7 +87,7 @@ pub(crate) fn read_rollover(reader: &mut Reader<usize>) -> Result<Rollover, usiz
 /// Reads a role: 00 centre, 01 router, 02 device.
 ///
 /// # Errors
-/// The reader's fault at any other byte, or where no byte is left.
+/// The reader's fault at any other byte, or if no byte is left.
 #[tactic(auto, unfolding(crate::specs::Fields::role_at))]
 pub(crate) fn read_role(reader: &mut Reader<usize>) -> Result<Role, usize>
     ensures exact { Gives result reader.new.rest.now (role_at reader.old.cut reader.old.rest.now) }

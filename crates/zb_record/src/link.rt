@@ -23,11 +23,11 @@ use zb_cursor::{Reader, has_bit};
 /// Partner 8, key 16, attribute 1, flags 1 (bit 0 live, bit 1 from an install code, bit 2 told), floor 4.
 #[derive(Clone, Copy, Debug, PartialEq, Eq)]
 pub struct LinkRecord {
-    /// With whom the key is shared.
+    /// The partner of the key.
     pub partner: Eui,
     /// The key.
     pub key: Key,
-    /// What was proved of it.
+    /// The attribute of the key.
     pub attribute: Attribute,
     /// Whether it is in use.
     pub live: bool,
@@ -62,14 +62,15 @@ impl LinkRecord {
         matches!(self.attribute, Attribute::Unverified)
     }
 
-    /// Returns whether a told row is a live one of the centre, and a provisional one from an install code.
+    /// Returns whether the row is a live one of the centre if it is told, and from an install code if it is
+    /// provisional.
     fn is_marked(&self, role: Role) -> bool
         ensures { result ≡ is_marked (model_role role) (link_seen self.now) }
     {
         self.may_be_told(role) && self.may_be_provisional()
     }
 
-    /// Returns whether it isn't told, or is a live row of the centre.
+    /// Returns whether the row isn't told, or is a live row of the centre.
     fn may_be_told(&self, role: Role) -> bool
         ensures { result ≡ (not (link_seen self.now).told
             || ((link_seen self.now).live && is_centre (model_role role))) }
@@ -77,7 +78,7 @@ impl LinkRecord {
         !self.told || (self.live && matches!(role, Role::Centre))
     }
 
-    /// Returns whether it isn't provisional, or is from an install code.
+    /// Returns whether the row isn't provisional, or is from an install code.
     fn may_be_provisional(&self) -> bool
         ensures { result ≡ (not (is_provisional (link_seen self.now).attribute) || (link_seen self.now).code) }
     {
@@ -85,7 +86,7 @@ impl LinkRecord {
     }
 }
 
-/// Returns the key that sixteen bytes are.
+/// Returns sixteen bytes as a key.
 fn key_of(bytes: &[u8]) -> Key
     requires { length bytes.now ≡ 16 }
     ensures { result ≡ key_from bytes.now }
@@ -111,14 +112,14 @@ fn read_new_key<'a>(reader: &mut Reader<'a, usize>, rows: &LinksSoFar) -> Result
     }
 }
 
-/// Returns whether a row may stand after these.
+/// Returns whether a row may come after these.
 fn row_fits(role: Role, rows: &LinksSoFar, row: &LinkRecord) -> bool
     ensures { result ≡ link_fits (model_role role) rows.now (link_seen row.now) }
 {
     row.is_marked(role) && is_alone(rows, row)
 }
 
-/// Returns whether a row has no like among these, and agrees with them.
+/// Returns whether none of these rows is like this one, and whether they agree with it.
 fn is_alone(rows: &LinksSoFar, row: &LinkRecord) -> bool
     ensures { result ≡ (not (list_any (λ y. kinds_alike y (link_seen row.now)) rows.now)
         && not (list_any (λ y. told_apart y (link_seen row.now)) rows.now)) }
@@ -126,7 +127,7 @@ fn is_alone(rows: &LinksSoFar, row: &LinkRecord) -> bool
     !rows.has_like(row) && !rows.has_told_apart(row)
 }
 
-/// Reads the flags of a row, which complete it but for its floor.
+/// Reads the flags of a row, which complete it except for its floor.
 fn read_flags(
     reader: &mut Reader<usize>,
     role: Role,
@@ -153,7 +154,7 @@ fn read_flags(
     }
 }
 
-/// Returns whether flags are known, and their row may stand after these.
+/// Returns whether flags are known, and their row may come after these.
 fn flags_fit(role: Role, rows: &LinksSoFar, row: LinkRecord, flags: u8) -> bool
     ensures { result ≡ (nat_lt flags 8 && link_fits (model_role role) rows.now (link_seen row)) }
 {
@@ -199,7 +200,7 @@ fn read_count(reader: &mut Reader<usize>, role: Role) -> Result<u16, usize>
     }
 }
 
-/// Reads `count` link keys. The place stands in a reader of the call's own, so that it is in registers meanwhile.
+/// Reads `count` link keys. The place is in a reader of the call's own, so that it is kept in registers.
 fn read_rows(
     alloc: Global,
     reader: &mut Reader<usize>,
@@ -241,8 +242,8 @@ fn read_rows_of(
 /// Reads the link keys, with their number.
 ///
 /// # Errors
-/// The length from the first byte of the first bad field to the end. A field is bad where it isn't whole or breaks a
-/// rule. `NoMemory`.
+/// The length from the first byte of the first bad field to the end. A field is bad if it isn't whole or breaks a
+/// rule. `NoMemory` if memory runs out.
 #[tactic(auto, unfolding(crate::specs::Rows::links_at))]
 pub(crate) fn read_links(
     alloc: Global,

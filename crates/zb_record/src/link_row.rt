@@ -12,14 +12,14 @@ use zb_counter::Floor;
 
 /// A link key that is shared with a partner.
 ///
-/// A row is never taken away: a key that comes again for its partner revives it.
+/// A row is never removed: if its partner gets a dropped key again, the row is live again.
 #[derive(Clone, Copy, Debug, PartialEq, Eq)]
 pub struct LinkRow {
-    /// With whom the key is shared.
+    /// The partner of the key.
     pub partner: Eui,
     /// The key.
     pub key: Key,
-    /// What was proved of it.
+    /// The attribute of the key.
     pub attribute: Attribute,
     /// Whether it is in use.
     pub live: bool,
@@ -61,21 +61,21 @@ impl LinkRow {
         self.live && self.partner == partner
     }
 
-    /// Returns whether it is only offered: nobody proved yet that both sides hold the key.
+    /// Returns whether the key is only offered: nobody has proved yet that both sides hold it.
     pub fn is_unverified(&self) -> bool
         ensures { result ≡ is_unverified (link_key self.now).attribute }
     {
         matches!(self.attribute, Attribute::Unverified)
     }
 
-    /// Returns whether both sides proved that they hold the key.
+    /// Returns whether both sides have proved that they hold the key.
     pub fn is_verified(&self) -> bool
         ensures { result ≡ is_verified (link_key self.now).attribute }
     {
         matches!(self.attribute, Attribute::Verified)
     }
 
-    /// Goes on from the stored floor.
+    /// Continues from the stored floor.
     fn boot(&mut self)
         ensures { link_key self.new ≡ booted_link (link_key self.old) }
     {
@@ -103,7 +103,7 @@ impl LinkRow {
         }
     }
 
-    /// Keeps what was accepted, if the row is of that partner and key.
+    /// Stores what was accepted in memory, if the row is of that partner and key.
     fn hear_at(&mut self, partner: Eui, key: &Key, kept: u32)
         ensures { link_key self.new ≡ (if is_link partner.0 key.now.0 (link_key self.old)
             then link_kept kept (link_key self.old) else link_key self.old) }
@@ -113,7 +113,7 @@ impl LinkRow {
         }
     }
 
-    /// Brings the row into use, if it is of that partner and key.
+    /// Makes the row live, if it is of that partner and key.
     fn revive_at(&mut self, partner: Eui, key: &Key, attribute: Attribute, told: bool)
         ensures { link_key self.new ≡ (if is_link partner.0 key.now.0 (link_key self.old)
             then revived (model_attribute attribute) told (link_key self.old) else link_key self.old) }
@@ -162,7 +162,7 @@ pub fn store_link(rows: &mut [LinkRow], partner: Eui, key: &Key, value: u32)
     }
 }
 
-/// Brings the row of a partner and key into use.
+/// Makes the row of a partner and key live.
 pub fn revive_link(rows: &mut [LinkRow], partner: Eui, key: &Key, attribute: Attribute, told: bool)
     ensures { map link_key rows.new
         ≡ at_link partner.0 key.now.0 (revived (model_attribute attribute) told) (map link_key rows.old) }
@@ -254,7 +254,7 @@ pub fn other_row<'a>(rows: &'a [LinkRow], partner: Eui, key: &Key) -> Option<&'a
         .find(|row| row.key == *key && row.partner.0 != partner.0)
 }
 
-/// Keeps what was accepted of a partner under a key.
+/// Stores in memory what was accepted of a partner under a key.
 pub fn hear_link(rows: &mut [LinkRow], partner: Eui, key: &Key, kept: u32)
     ensures { map link_key rows.new ≡ at_link partner.0 key.now.0 (link_kept kept) (map link_key rows.old) }
 {

@@ -1,4 +1,4 @@
-//! The link rows of a record that were read so far, with a quick look-up of what the next one is compared with.
+//! The link rows of a record that were read so far, with a fast look-up for the comparisons with the next row.
 ghost use Rattle.std.specs.Prelude.{◌≡◌, ◌||◌, true, false, [], ◌∷◌, ◌++◌, map, IfOk, OnOk, List};
 ghost use Rattle.std.specs.List.{list_any};
 ghost use Rattle.zb_model.specs.State.{LinkKey, same_key};
@@ -14,13 +14,13 @@ use zb_base::{Eui, Key};
 /// How many bytes of marks there are for each row.
 const MARKS: usize = 16;
 
-/// Link rows in their order, with which another row is compared, mostly without a walk.
+/// Link rows in their order. Another row is compared with them mostly without a walk.
 ///
 /// A contract sees it as the list of its rows.
 #[derive(Drop)]
 pub(crate) struct LinksSoFar {
     rows: Vec<LinkRecord>,
-    /// Marks of the keys of all rows, and of what the live ones are to their partners.
+    /// Marks of the keys of all rows, and of the live rows by partner and kind.
     marks: Vec<u8>,
 }
 
@@ -38,7 +38,7 @@ impl Model for LinksSoFar {
 }
 
 impl LinksSoFar {
-    /// Makes the value of no rows, with room for that many.
+    /// Makes an empty value with room for that many rows.
     ///
     /// # Errors
     /// `AllocError`.
@@ -73,7 +73,7 @@ impl LinksSoFar {
         other.live && self.has_live_of_kind(other.partner, other.is_unverified())
     }
 
-    /// Returns whether one of the rows is told where another isn't, or the other way round.
+    /// Returns whether one of the rows is told and another isn't, or the reverse.
     pub fn has_told_apart(&self, other: &LinkRecord) -> bool
         ensures { result ≡ list_any (λ y. told_apart y (link_seen other.now)) self.now }
     {
@@ -96,7 +96,7 @@ impl LinksSoFar {
         self.has_live(partner, true, told) || self.has_live(partner, false, told)
     }
 
-    /// Returns whether there is such a live row.
+    /// Returns whether a partner has a live row of this kind.
     fn has_live(&self, partner: Eui, unverified: bool, told: bool) -> bool
         ensures { result ≡ list_any (is_live_so partner.0 unverified told) self.now }
     {
@@ -126,7 +126,7 @@ impl LinksSoFar {
     }
 }
 
-/// Notes the key of a row and, if it is live, what it is to its partner.
+/// Notes the key of a row and, if it is live, its partner and kind.
 fn note_row(marks: &mut [u8], row: &LinkRecord)
     ensures { (rows : List LinkKey) → HaveMarks marks.old rows
         → (HaveMarks marks.new rows) × (HaveMarks marks.new (rows ++ link_seen row.now ∷ [])) }

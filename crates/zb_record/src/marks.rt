@@ -1,4 +1,4 @@
-//! Marks of numbers in a table of bytes, by which most numbers that weren't noted are told from those that were.
+//! Marks of numbers in a table of bytes. They tell most numbers that weren't noted from those that were.
 ghost use Rattle.std.specs.Prelude.{◌≡◌, ◌+◌, if◌then◌else◌, get_or, length};
 ghost use Rattle.std.specs.Int.{from_le_bytes, w64};
 ghost use Rattle.zb_record.specs.Marks.{is_mark_of, key_number, link_number, mark_after, mark_of, may_have, noted, place_of, spread};
@@ -16,7 +16,7 @@ pub(crate) fn no_marks(alloc: Global, size: usize) -> Result<Vec<u8>, AllocError
     Ok(marks)
 }
 
-/// Returns whether a number may have been noted. It wasn't where the result is false.
+/// Returns whether a number may have been noted. If the result is false, it wasn't.
 #[tactic(auto, unfolding(crate::specs::Marks::may_have))]
 pub(crate) fn may_have(marks: &[u8], number: u64) -> bool
     ensures { result ≡ may_have marks.now number }
@@ -65,7 +65,7 @@ fn answers(unverified: bool, told: bool) -> u64
     first + second
 }
 
-/// Returns the number that eight bytes spell, from the lowest one on.
+/// Returns the number that eight bytes spell, least significant byte first.
 fn half_number(bytes: &[u8]) -> u64
     requires { length bytes.now ≡ 8 }
     ensures { result ≡ from_le_bytes w64 bytes.now }
@@ -75,7 +75,7 @@ fn half_number(bytes: &[u8]) -> u64
     ])
 }
 
-/// Puts numbers that differ in few places far apart.
+/// Spreads numbers that differ in few places far apart.
 #[tactic(auto, unfolding(crate::specs::Marks::spread))]
 fn spread(number: u64) -> u64
     ensures { result ≡ spread number }
@@ -83,7 +83,7 @@ fn spread(number: u64) -> u64
     number.wrapping_mul(11_400_714_819_323_198_485)
 }
 
-/// Returns the place among `size` at which a number is marked.
+/// Returns the place, among `size` bytes, at which a number is marked.
 #[tactic(auto, unfolding(crate::specs::Marks::place_of))]
 fn place_of(size: usize, number: u64) -> usize
     ensures { result ≡ place_of size number }
@@ -107,7 +107,7 @@ fn is_mark_of(mark: u8, number: u64) -> bool
     mark == 1 || mark == mark_of(number)
 }
 
-/// Returns the mark that takes the place of another when a number is noted.
+/// Returns the mark that replaces another when a number is noted.
 #[tactic(auto, unfolding(crate::specs::Marks::mark_after))]
 fn mark_after(mark: u8, number: u64) -> u8
     ensures { result ≡ mark_after mark number }
@@ -115,7 +115,7 @@ fn mark_after(mark: u8, number: u64) -> u8
     if mark == 0 { mark_of(number) } else { 1 }
 }
 
-/// Returns the mark at a place, and that of all numbers where there is none.
+/// Returns the mark at a place, or the mark of all numbers if the table ends before it.
 fn mark_at(marks: &[u8], at: usize) -> u8
     ensures { result ≡ get_or marks.now at 1 }
 {

@@ -18,8 +18,8 @@ use zb_cursor::{Reader, has_bit};
 
 /// A network key of a record.
 ///
-/// Key 16, sequence 1, flags 1 (bit 0 live, bit 1 started), limit 4. In the first version the flags are live alone,
-/// and there is no limit.
+/// Key 16, sequence 1, flags 1 (bit 0 live, bit 1 started), limit 4. In the first version the only flag is live, and
+/// there is no limit.
 #[derive(Debug, Drop)]
 pub struct NetRecord {
     /// The key.
@@ -28,11 +28,11 @@ pub struct NetRecord {
     pub sequence: u8,
     /// Whether it is in use.
     pub live: bool,
-    /// Whether it was ever the active one.
+    /// Whether it was ever active.
     pub started: bool,
     /// Its outgoing counters below this one are reserved.
     pub limit: u32,
-    /// The floors under it, which stand after all network keys; none under a dropped one.
+    /// The floors under it, which come after all network keys; a dropped key has none.
     pub floors: ArrayVec<SenderRecord, 64>,
 }
 
@@ -85,7 +85,7 @@ fn read_new_key(reader: &mut Reader<usize>, rows: &[NetRecord]) -> Result<Key, u
     }
 }
 
-/// Returns how many values the flags have.
+/// Returns how many values the flags can have.
 fn flag_values(version: Version) -> u8
     ensures { result ≡ net_flags version }
 {
@@ -96,7 +96,7 @@ fn flag_values(version: Version) -> u8
     }
 }
 
-/// Returns whether a row may be live or dropped as its flags say, which come after those of these rows.
+/// Returns whether the row after these may be live or dropped, as its flags say.
 fn may_live(rows: &[NetRecord], active: u16, flags: u8) -> bool
     ensures { result ≡ (if bit flags 0 then nat_lt (lives (map net_seen rows.now)) 2
         else not (nat_eq active (length (map net_seen rows.now)))) }
@@ -127,7 +127,7 @@ fn read_flags(
     }
 }
 
-/// Returns whether the flags of a row are known, and may be those of the row after these.
+/// Returns whether the flags of a row are known and allowed for the row after these.
 fn flags_fit(version: Version, active: u16, rows: &[NetRecord], flags: u8) -> bool
     ensures { result ≡ net_flags_fit version active (map net_seen rows.now) flags }
 {
@@ -145,7 +145,7 @@ fn is_started(version: Version, flags: u8) -> bool
     }
 }
 
-/// Reads the limit of a row. It is 0 where the row isn't started.
+/// Reads the limit of a row. It is 0 if the row isn't started.
 fn read_own_limit(reader: &mut Reader<usize>, started: bool) -> Result<u32, usize>
     ensures { Gives (λ n. n) result reader.new.rest.now
         (field (number_at w32) (allows_limit started) reader.old.rest.now) }
@@ -175,7 +175,7 @@ fn read_limit(
     }
 }
 
-/// Reads a network key, after these rows. Its floors stand elsewhere.
+/// Reads a network key, after these rows. Its floors are read later.
 #[tactic(auto, unfolding(crate::specs::Rows::net_at))]
 fn read_net(
     reader: &mut Reader<usize>,
@@ -206,8 +206,8 @@ fn read_net(
 /// Reads `count` network keys.
 ///
 /// # Errors
-/// The length from the first byte of the first bad field to the end. A field is bad where it isn't whole or breaks a
-/// rule. `NoMemory`.
+/// The length from the first byte of the first bad field to the end. A field is bad if it isn't whole or breaks a
+/// rule. `NoMemory` if memory runs out.
 pub(crate) fn read_nets(
     alloc: Global,
     reader: &mut Reader<usize>,

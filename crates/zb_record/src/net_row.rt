@@ -14,7 +14,7 @@ use zb_base::{Eui, Key};
 /// The floor of one sender under a network key.
 #[derive(Clone, Copy, Debug, Default, PartialEq, Eq)]
 pub struct SenderFloor {
-    /// Whose frames.
+    /// The sender of the frames.
     pub sender: Eui,
     /// The least counter that is taken now.
     pub kept: u32,
@@ -27,7 +27,7 @@ pub type Senders = ArrayVec<SenderFloor, 64>;
 
 /// A network key with its counter and its floors.
 ///
-/// A row is never taken away: a dropped key is refused when it comes again.
+/// A row is never removed: a dropped key is refused if it comes again.
 #[derive(Debug, Drop)]
 pub struct NetRow {
     /// The key.
@@ -36,13 +36,13 @@ pub struct NetRow {
     pub sequence: u8,
     /// Whether it is in use.
     pub live: bool,
-    /// Whether it was ever the active one.
+    /// Whether it was ever active.
     pub started: bool,
     /// Its outgoing counters below this one are reserved.
     pub limit: u32,
     /// The outgoing counter of the next frame under it.
     pub next: u32,
-    /// The floors under it, none once the key is dropped.
+    /// The floors under it; a dropped key has none.
     pub floors: Senders,
 }
 
@@ -77,7 +77,7 @@ impl NetRow {
         }
     }
 
-    /// Goes on from a limit that all keys have, started. A limit never falls.
+    /// Continues from a limit that all keys have, started. A limit never falls.
     fn limit_to(&mut self, limit: u32)
         ensures { net_key self.new ≡ limited limit (net_key self.old) }
     {
@@ -86,7 +86,7 @@ impl NetRow {
         self.next = self.next.max(limit);
     }
 
-    /// Goes on from what is stored: the counter from its limit, each floor from the stored one.
+    /// Continues from what is stored: the counter from its limit, each floor from the stored one.
     fn boot(&mut self)
         ensures { net_key self.new ≡ booted_net (net_key self.old) }
     {
@@ -116,7 +116,7 @@ impl NetRow {
         }
     }
 
-    /// Begins counting at a value, if the row has that key.
+    /// Starts counting at a value, if the row has that key.
     fn start_at(&mut self, key: &Key, value: u32)
         ensures { net_key self.new ≡ (if same_key (net_key self.old).key key.now.0
             then started_at value (net_key self.old) else net_key self.old) }
@@ -128,7 +128,7 @@ impl NetRow {
         }
     }
 
-    /// Goes on from a counter, if the row has that key.
+    /// Continues from a counter, if the row has that key.
     fn go_on_at(&mut self, key: &Key, next: u32)
         ensures { net_key self.new ≡ (if same_key (net_key self.old).key key.now.0
             then next_at next (net_key self.old) else net_key self.old) }
@@ -150,7 +150,7 @@ impl NetRow {
         }
     }
 
-    /// Keeps what was accepted of a sender, if the row has that key.
+    /// Stores in memory what was accepted of a sender, if the row has that key.
     fn hear_at(&mut self, key: &Key, sender: Eui, kept: u32)
         ensures { net_key self.new ≡ (if same_key (net_key self.old).key key.now.0
             then net_kept sender.0 kept (net_key self.old) else net_key self.old) }
@@ -162,7 +162,7 @@ impl NetRow {
 }
 
 /// Returns the place of a sender's floor among those by ascending sender: that of the first sender that isn't below
-/// it.
+/// this one.
 fn place(floors: &[SenderFloor], sender: Eui) -> usize
     ensures { IsPlace floors.now sender.0 result }
 {
@@ -190,7 +190,7 @@ fn store(floors: &mut Senders, sender: Eui, value: u32)
     }
 }
 
-/// Raises the floor at the sender's place, if it is of that sender.
+/// Raises the floor at the sender's place, if it belongs to that sender.
 fn raise(floors: &mut [SenderFloor], at: usize, sender: Eui, value: u32) -> bool
     requires { IsPlace floors.old sender.0 at }
     ensures raised { IsTrue result → map heard_floor floors.new
@@ -205,7 +205,7 @@ fn raise(floors: &mut [SenderFloor], at: usize, sender: Eui, value: u32) -> bool
     }
 }
 
-/// Keeps what was accepted of a sender, where a floor of it was stored.
+/// Stores in memory what was accepted of a sender, if a floor of it was stored.
 fn hear(floors: &mut [SenderFloor], sender: Eui, kept: u32)
     ensures { map heard_floor floors.new ≡ floor_kept sender.0 kept (map heard_floor floors.old) }
 {
@@ -215,7 +215,7 @@ fn hear(floors: &mut [SenderFloor], sender: Eui, kept: u32)
 }
 
 impl SenderFloor {
-    /// Keeps what was accepted, if the floor is of that sender.
+    /// Stores in memory what was accepted, if the floor belongs to that sender.
     fn hear(&mut self, sender: Eui, kept: u32)
         ensures { heard_floor self.new ≡ (if nat_eq (heard_floor self.old).sender sender.0
             then record (heard_floor self.old) { kept = kept } else heard_floor self.old) }
@@ -225,7 +225,7 @@ impl SenderFloor {
         }
     }
 
-    /// Goes on from the stored floor.
+    /// Continues from the stored floor.
     fn boot(&mut self)
         ensures { heard_floor self.new ≡ booted_floor (heard_floor self.old) }
     {
@@ -269,7 +269,7 @@ pub fn reserve_net(rows: &mut [NetRow], key: &Key, limit: u32)
     }
 }
 
-/// Gives all network keys this limit, unless theirs is higher. Each is started, and counts on from it.
+/// Gives all network keys this limit, unless theirs is higher. Each is started, and continues from the limit.
 pub fn limit_nets(rows: &mut [NetRow], limit: u32)
     ensures { map net_key rows.new ≡ map (limited limit) (map net_key rows.old) }
 {
@@ -278,7 +278,7 @@ pub fn limit_nets(rows: &mut [NetRow], limit: u32)
     }
 }
 
-/// Begins counting under a key.
+/// Starts counting under a key.
 pub fn start_net(rows: &mut [NetRow], key: &Key, value: u32)
     ensures { map net_key rows.new ≡ at_net key.now.0 (started_at value) (map net_key rows.old) }
 {
@@ -296,7 +296,7 @@ pub fn set_net_next(rows: &mut [NetRow], key: &Key, next: u32)
     }
 }
 
-/// Keeps what was accepted of a sender under a key.
+/// Stores in memory what was accepted of a sender under a key.
 pub fn hear_net(rows: &mut [NetRow], key: &Key, sender: Eui, kept: u32)
     ensures { map net_key rows.new ≡ at_net key.now.0 (net_kept sender.0 kept) (map net_key rows.old) }
 {

@@ -123,11 +123,11 @@ fn read_rows(
     Ok(rows)
 }
 
-/// Reads the pairs with their number, which stand there in the third version alone.
+/// Reads the pairs with their number, which only the third version has.
 ///
 /// # Errors
-/// The length from the first byte of the first bad field to the end. A field is bad where it isn't whole or breaks a
-/// rule. `NoMemory`.
+/// The length from the first byte of the first bad field to the end. A field is bad if it isn't whole or breaks a
+/// rule. `NoMemory` if memory runs out.
 pub(crate) fn read_pairs(
     alloc: Global,
     reader: &mut Reader<usize>,

@@ -1,4 +1,4 @@
-//! The keys that the centre gave two devices for one another.
+//! The keys that the centre gave two devices for use with each other.
 ghost use Rattle.std.specs.Prelude.{◌≡◌, not, filter, find, vec_capacity};
 ghost use Rattle.std.specs.List.{list_any};
 ghost use Rattle.std.specs.Option.{option_copied};
@@ -10,7 +10,7 @@ use zb_base::{Eui, Key};
 /// A key of two devices.
 #[derive(Clone, Copy, Debug, PartialEq, Eq)]
 pub struct Pair {
-    /// The device with the smaller address.
+    /// The device with the smaller EUI.
     pub first: Eui,
     /// The other device.
     pub second: Eui,
@@ -29,7 +29,7 @@ pub fn has_pair(pairs: &[Pair], a: Eui, b: Eui) -> bool
         .any(|pair| pair.first.0 == first && pair.second.0 == second)
 }
 
-/// Takes away the keys of a device.
+/// Removes the keys of a device.
 pub fn drop_pairs(pairs: &mut Vec<Pair>, device: Eui)
     ensures kept { pairs.new.items ≡ filter (λ p. not (names device.0 (pair_key p))) pairs.old.items }
     ensures room { vec_capacity pairs.new ≡ vec_capacity pairs.old }

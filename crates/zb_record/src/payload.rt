@@ -185,7 +185,7 @@ fn put_byte(into: &mut [u8], at: usize, kind: u8, byte: u8) -> usize
     put(into, at, &[kind, byte])
 }
 
-/// Writes a change. Of a draw nothing is written.
+/// Writes a change. Nothing is written for a draw.
 #[tactic(auto, unfolding(zb_model::specs::Record::edit_bytes))]
 fn put_change(into: &mut [u8], at: usize, change: &Change) -> usize
     requires { at + length (edit_bytes (edit change.now)) ≤ length into.old }
@@ -255,7 +255,7 @@ fn put_changes(into: &mut [u8], at: usize, changes: &[Change]) -> usize
 
 /// Writes the payload of changes that are stored together, and returns its length.
 ///
-/// Requires room for it. A payload of more than `PAYLOAD_ROOM` bytes has no place in a journal.
+/// Requires room for it. A payload of more than `PAYLOAD_ROOM` bytes doesn't fit in a journal.
 #[tactic(auto, unfolding(zb_model::specs::Record::payload))]
 pub fn change_bytes(changes: &Changes, into: &mut [u8]) -> u32
     requires room { length (payload (edits changes.now.items)) ≤ length into.old }

@@ -3,7 +3,7 @@ ghost use Rattle.std.specs.Prelude.{◌≡◌, length};
 
 use zb_cursor::Reader;
 
-/// Begins a field, and returns the number of bytes from here on, by which its faults are reported.
+/// Starts a field, and returns the number of bytes from here on, by which its faults are reported.
 pub(crate) fn begin(reader: &mut Reader<usize>) -> usize
     ensures left { result ≡ length reader.old.rest.now }
     ensures cut { reader.new.cut ≡ result }

@@ -20,18 +20,18 @@ use std::alloc::Global;
 use zb_base::{OrMemory, Role, Rollover, State};
 use zb_cursor::Reader;
 
-/// What a record says of its node first.
+/// The first fields of a record, about its node.
 #[derive(Clone, Copy, Debug, PartialEq, Eq)]
 pub struct Node {
     /// The version of the record.
     pub version: Version,
-    /// The part that the node plays.
+    /// The node's role.
     pub role: Role,
     /// Its state.
     pub state: State,
 }
 
-/// What stands in a record before its rows.
+/// The fields of a record before its rows.
 #[derive(Clone, Copy, Debug, PartialEq, Eq)]
 pub struct Head {
     /// The node.
@@ -44,14 +44,14 @@ pub struct Head {
     pub rolling: Rollover,
     /// How many network keys there are.
     pub nets: u16,
-    /// The place of the active one; 65,535 where there is none.
+    /// The place of the active one, or 65,535 if there is none.
     pub active: u16,
 }
 
-/// What is read of a record.
+/// What is read from a record.
 #[derive(Debug, Drop)]
 pub struct Record {
-    /// What stands before the rows.
+    /// The fields before the rows.
     pub head: Head,
     /// The network keys.
     pub nets: Vec<NetRecord>,
@@ -61,14 +61,14 @@ pub struct Record {
     pub pairs: Vec<PairRecord>,
 }
 
-/// Returns whether a node may have a state: the centre has the first one alone.
+/// Returns whether a node may have a state: the centre has only the first one.
 fn may_enter(role: Role, state: State) -> bool
     ensures { result ≡ may_enter role state }
 {
     !matches!(role, Role::Centre) || matches!(state, State::Fresh)
 }
 
-/// Returns whether a node may have a rollover: the centre alone sends.
+/// Returns whether a node may have a rollover: only the centre may send.
 fn may_roll(role: Role, rolling: Rollover) -> bool
     ensures { result ≡ may_roll role rolling }
 {
@@ -140,7 +140,7 @@ fn read_place(reader: &mut Reader<usize>, nets: u16) -> Result<u16, usize>
     }
 }
 
-/// Reads what stands between the node and the rows.
+/// Reads the fields between the node and the rows.
 #[tactic(auto, unfolding(crate::specs::Records::head_at))]
 fn read_head(reader: &mut Reader<usize>, node: Node) -> Result<Head, usize>
     ensures { Gives (λ h. h) result reader.new.rest.now (head_at node reader.old.rest.now) }
@@ -213,13 +213,13 @@ fn read_front(alloc: Global, reader: &mut Reader<usize>) -> Result<Record, OrMem
     })
 }
 
-/// Reads a record of version 1, 2 or 3, which is all of the bytes.
+/// Reads a record of version 1, 2 or 3, which must be all of the bytes.
 ///
 /// # Errors
-/// - The length from the first byte of the first bad field to the end. A field is bad where it isn't whole or breaks a
-///   rule. A rule over several fields is broken by the last of them. Where bytes come after the record, it is their
-///   number.
-/// - `NoMemory` out of memory.
+/// - The length from the first byte of the first bad field to the end. A field is bad if it isn't whole or breaks a
+///   rule. If a rule over several fields is broken, the last of them is bad. If bytes come after the record, it is
+///   their number.
+/// `NoMemory` if memory runs out.
 #[tactic(auto, unfolding(crate::specs::Records::record_read))]
 pub fn read_record(alloc: Global, bytes: &[u8]) -> Result<Record, OrMemory<usize>>
     ensures { IsRecord record_seen result (record_read bytes.now) }

@@ -15,13 +15,13 @@ use zb_cursor::Reader;
 /// The floor of a sender of a record: its EUI 8, its stored floor 4.
 #[derive(Clone, Copy, Debug, Default, PartialEq, Eq)]
 pub struct SenderRecord {
-    /// Whose frames.
+    /// The sender of the frames.
     pub sender: Eui,
     /// The least counter that is taken.
     pub stored: u32,
 }
 
-/// Returns whether a sender may stand after these, which ascend: it is above the last.
+/// Returns whether a sender may come after these, which ascend: it is above the last.
 fn is_last(floors: &[SenderRecord], sender: Eui) -> bool
     requires { senders_ascend (map sender_seen floors.now) ≡ true }
     ensures { result ≡ is_last (map sender_seen floors.now) sender }
@@ -104,7 +104,7 @@ fn read_floors(reader: &mut Reader<usize>) -> Result<ArrayVec<SenderRecord, 64>,
     Ok(floors)
 }
 
-/// Reads the floors under a network key, if it is live.
+/// Reads the floors under a network key, if the key is live.
 fn read_live_floors(reader: &mut Reader<usize>, row: &mut NetRecord) -> Result<(), usize>
     ensures { Gives (λ done. net_seen row.new) result reader.new.rest.now
         (live_floors_at (net_seen row.old) reader.old.rest.now) }
@@ -115,10 +115,10 @@ fn read_live_floors(reader: &mut Reader<usize>, row: &mut NetRecord) -> Result<(
     Ok(())
 }
 
-/// Reads the floors under the live ones of network keys.
+/// Reads the floors under the live network keys.
 ///
 /// # Errors
-/// The length from the first byte of the first bad field to the end. A field is bad where it isn't whole or breaks a
+/// The length from the first byte of the first bad field to the end. A field is bad if it isn't whole or breaks a
 /// rule.
 pub(crate) fn read_all_floors(
     reader: &mut Reader<usize>,

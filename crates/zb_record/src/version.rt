@@ -7,21 +7,21 @@ use zb_cursor::Reader;
 
 /// The version of a record.
 ///
-/// From the second on each network key has its own limit, and from the third on there are pairs.
+/// Since the second version each network key has its own limit; since the third there are pairs.
 #[derive(Clone, Copy, Debug, PartialEq, Eq)]
 pub enum Version {
     /// One outgoing NWK limit for all network keys.
     First,
     /// A limit for each network key.
     Second,
-    /// Keys of pairs of devices besides.
+    /// Keys of pairs of devices too.
     Third,
 }
 
 /// Reads a version: 01, 02 or 03.
 ///
 /// # Errors
-/// The reader's fault at any other byte, or where no byte is left.
+/// The reader's fault at any other byte, or if no byte is left.
 #[tactic(auto, unfolding(crate::specs::Fields::version_at))]
 pub(crate) fn read_version(reader: &mut Reader<usize>) -> Result<Version, usize>
     ensures { Gives result reader.new.rest.now (version_at reader.old.cut reader.old.rest.now) }
@@ -34,7 +34,7 @@ pub(crate) fn read_version(reader: &mut Reader<usize>) -> Result<Version, usize>
     }
 }
 
-/// Returns the version that the first byte of a record says, if it is one.
+/// Returns the version in the first byte of a record, if the byte is a version.
 pub fn version_of(bytes: &[u8]) -> Option<Version>
     ensures { result ≡ record_version bytes.now }
 {

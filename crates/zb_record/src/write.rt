@@ -17,10 +17,10 @@ use crate::payload::{attribute_byte, put_eui_number, put_number64, rollover_byte
 use crate::writing::{put, worth};
 use zb_base::{Key, Role, Rollover, State};
 
-/// What stands in a record before its rows, as it is written.
+/// The fields of a record before its rows, as they are written.
 #[derive(Clone, Copy, Debug, PartialEq, Eq)]
 pub struct Heading {
-    /// The part that the node plays.
+    /// The node's role.
     pub role: Role,
     /// Its state.
     pub state: State,
@@ -117,7 +117,7 @@ fn put_live_floors(into: &mut [u8], at: usize, row: &NetRow) -> usize
     }
 }
 
-/// Writes the floors of the network keys in use, of which there are two at most.
+/// Writes the floors of the network keys in use, at most two.
 fn put_all_floors(into: &mut [u8], at: usize, rows: &[NetRow]) -> usize
     requires few { length (filter (λ r. (net_key r).live) rows.now) ≤ 2 }
     requires room { at + 3 * floors_room ≤ length into.old }
@@ -211,7 +211,7 @@ fn put_pairs(into: &mut [u8], at: usize, pairs: &[Pair]) -> usize
     end
 }
 
-/// Returns the place of the active network key among the rows; 65,535 where there is none.
+/// Returns the place of the active network key among the rows, or 65,535 if there is none.
 fn key_number(rows: &[NetRow], key: &Key) -> u16
     requires { length rows.now ≤ no_place }
     ensures { result ≡ place_from 0 key.now.0 (map net_key rows.now) }
@@ -225,7 +225,7 @@ fn key_number(rows: &[NetRow], key: &Key) -> u16
 }
 
 impl Heading {
-    /// Returns the place of the active network key; 65,535 where none is active.
+    /// Returns the place of the active network key, or 65,535 if none is active.
     fn active_number(&self, nets: &[NetRow]) -> u16
         requires { length nets.now ≤ no_place }
         ensures { result ≡ place_in self.now.active nets.now }
@@ -270,7 +270,7 @@ impl Heading {
         put_number(into, at, self.active_number(nets))
     }
 
-    /// Writes the part of the record that speaks of network keys.
+    /// Writes the network keys' part of the record.
     fn put_net_part(&self, into: &mut [u8], at: usize, nets: &[NetRow]) -> usize
         requires few { length nets.now ≤ most_nets }
         requires live { length (filter (λ r. (net_key r).live) nets.now) ≤ 2 }
@@ -287,7 +287,7 @@ impl Heading {
     }
 }
 
-/// Writes the part of the record that speaks of link keys.
+/// Writes the link keys' part of the record.
 fn put_link_part(into: &mut [u8], at: usize, links: &[LinkRow]) -> usize
     requires few { length links.now ≤ most_centre_links }
     requires room { at + links_room ≤ length into.old }
@@ -299,7 +299,7 @@ fn put_link_part(into: &mut [u8], at: usize, links: &[LinkRow]) -> usize
     put_links(into, at, links)
 }
 
-/// Writes the part of the record that speaks of pairs.
+/// Writes the pairs' part of the record.
 fn put_pair_part(into: &mut [u8], at: usize, pairs: &[Pair]) -> usize
     requires few { length pairs.now ≤ most_pairs }
     requires room { at + pairs_room ≤ length into.old }
@@ -323,7 +323,7 @@ fn put_number(into: &mut [u8], at: usize, number: u16) -> usize
 /// Writes the record of a node with this heading and these rows, and returns its length.
 ///
 /// Requires at most 256 network keys, of which two are in use, 1,024 link keys and 256 pairs, and `RECORD_ROOM` bytes.
-/// The next APS counter isn't recorded, so the record is the same whatever it is.
+/// The next APS counter isn't recorded, so the record doesn't depend on it.
 pub fn write_record(
     heading: &Heading,
     nets: &[NetRow],

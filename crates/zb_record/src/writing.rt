@@ -13,7 +13,7 @@ pub(crate) fn put(into: &mut [u8], at: usize, piece: &[u8]) -> usize
     end
 }
 
-/// Returns what a bit of a flags byte is worth.
+/// Returns the value of a bit of a flags byte.
 pub(crate) fn worth(bit: u8, set: bool) -> u8
     ensures value { result ≡ worth bit set }
     ensures small { result ≤ bit }

@@ -1,4 +1,4 @@
--- The smallest address among rows, one row after the other.
+-- The smallest EUI among rows, one row after the other.
 use Rattle.std.proofs.Common.{◌≡◌, ℕ, ◌+◌, ◌<◌, ◌≤◌, List, [], ◌∷◌, map, take, get_or, length, sym, ap, ◌∙◌, Bool, true, false, if◌then◌else◌, Option, None, refl}
 use Rattle.std.specs.Prelude.{filter, fold}
 use Rattle.std.proofs.lemmas.List.{map_more, take_all}

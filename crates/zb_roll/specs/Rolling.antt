@@ -1,10 +1,10 @@
--- What the start and the end of a rollover change, in the words of the policy.
+-- What the start and the end of a rollover change, in the terms of the policy.
 use Rattle.std.specs.Prelude.{◌+◌, ◌%◌, List, [], ◌∷◌, ◌++◌, true, false, Option, Some, None}
 use Rattle.zb_model.specs.Data.{Bytes, Move, Install, Active, Roll, NoKey, KeysFull}
 use Rattle.zb_model.specs.Rules.{Outcome, Does, refuse_if, found_or, drop_old, nets_full}
 use Rattle.zb_model.specs.State.{NetKey, NodeState, active_row}
 
--- of two network keys in use the one that isn't active goes, and the new one has the next sequence
+-- of two network keys in use the one that isn't active is dropped, and the new one has the next sequence
 abbrev pub start_moves : NodeState → NetKey → Bytes → List Move
 start_moves s net key = drop_old s ++ (Install key ((net.sequence + 1) % 256) ∷ Roll true ∷ [])
 

@@ -1,7 +1,6 @@
-//! The rollover of the network key: what its steps change, who is told next, and whether all were told.
+//! The rollover of the network key: what its steps change, which device is told next, and whether all were told.
 //!
-//! A new key is drawn and sent to each device, and then all switch to it. Its state stands in the tables of the
-//! centre.
+//! A new key is drawn and sent to each device, and then all switch to it. Its state is in the tables of the centre.
 #![tactic(auto)]
 
 mod members;

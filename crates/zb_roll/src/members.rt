@@ -8,14 +8,14 @@ use zb_keys::{LinkRow, Tables};
 
 /// Returns the device that is sent the new network key next.
 ///
-/// It is that of the smallest address among the live ones that weren't sent it.
+/// It is the one with the smallest EUI among the live devices that weren't sent it.
 pub fn next_member(tables: &Tables) -> Option<Eui>
     ensures { option_map (λ e. e.0) result ≡ next_member tables.now }
 {
     least_waiting(tables.links())
 }
 
-/// Returns the smallest address of a device with a row that waits.
+/// Returns the smallest EUI of a device with a row that waits.
 fn least_waiting(rows: &[LinkRow]) -> Option<Eui>
     ensures { option_map (λ e. e.0) result
         ≡ fold (λ best r. least best r.partner) None (filter is_waiting (map link_key rows.now)) }
@@ -27,7 +27,7 @@ fn least_waiting(rows: &[LinkRow]) -> Option<Eui>
     best
 }
 
-/// Returns the smallest address so far and that of a row, if it waits.
+/// Returns the smallest EUI so far, with that of a row included if the row waits.
 fn with_row(best: Option<Eui>, row: &LinkRow) -> Option<Eui>
     ensures { option_map (λ e. e.0) result
         ≡ (if is_waiting (link_key row.now)
@@ -40,7 +40,7 @@ fn with_row(best: Option<Eui>, row: &LinkRow) -> Option<Eui>
     }
 }
 
-/// Returns the smaller one of two addresses, if there is a first.
+/// Returns the smaller of two EUIs, or the second if there is no first.
 fn lesser(best: Option<Eui>, other: Eui) -> Eui
     ensures { Some result.0 ≡ least (option_map (λ e. e.0) best) other.0 }
 {

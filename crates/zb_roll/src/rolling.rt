@@ -1,4 +1,4 @@
-//! The changes of a rollover: of its start, of its end, and of a device that is sent the new key once more.
+//! The changes of a rollover: of its start, of its end, and of sending the new key to a device again.
 ghost use Rattle.std.specs.Prelude.{◌≡◌, ◌≤◌, ◌+◌, ◌++◌, ◌∷◌, [], is_some, length, map, true};
 ghost use Rattle.zb_node_types.specs.Changes.{edits};
 ghost use Rattle.zb_model.specs.Data.{Moved, Untold};
@@ -14,9 +14,11 @@ use zb_node_types::{Change, Changes, KeyError};
 use zb_row_changes::{add, add_active};
 use zb_rows::{add_drop_old, nets_full};
 
-/// Adds what the start of a rollover changes: of two network keys in use the one that isn't active goes.
+/// Adds the changes of the start of a rollover.
 ///
-/// `net`: the active row, after whose sequence number the new key has the next. Requires room for three more.
+/// Of two network keys in use, the one that isn't active is dropped.
+///
+/// `net`: the active row. The new key gets the sequence number after the row's. Requires room for three more.
 pub fn add_start(changes: &mut Changes, tables: &Tables, net: &NetRow, key: &Key)
     requires room { length changes.old.items ≤ 13 }
     ensures made { edits changes.new.items ≡ edits changes.old.items
@@ -39,7 +41,7 @@ pub fn add_start(changes: &mut Changes, tables: &Tables, net: &NetRow, key: &Key
     );
 }
 
-/// Lists what the start of a rollover changes.
+/// Lists the changes of the start of a rollover.
 fn started(tables: &Tables, net: &NetRow, key: &Key) -> Changes
     ensures made { edits result.items ≡ map Moved (start_moves tables.now (net_key net.now) key.now.0) }
     ensures few { length result.items ≤ 5 }
@@ -52,7 +54,7 @@ fn started(tables: &Tables, net: &NetRow, key: &Key) -> Changes
 /// Returns the changes of the start of a rollover to a network key.
 ///
 /// Of two network keys in use the one that isn't active is dropped. The new one has the next sequence number, and no
-/// device was told. Requires an active row. The changes fit outside a rollover, where no network row has the key.
+/// device was told. Requires an active row. The changes fit outside a rollover, if no network row has the key.
 ///
 /// # Errors
 /// `KeysFull` at 256 network keys.
@@ -95,7 +97,7 @@ pub fn finish(tables: &Tables) -> Changes
     changes
 }
 
-/// Returns the changes that let a device be sent the new network key once more.
+/// Returns the changes that let a device be sent the new network key again.
 ///
 /// Requires a live device that was told.
 pub fn again(tables: &Tables, device: Eui) -> Changes

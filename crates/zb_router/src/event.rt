@@ -1,17 +1,5 @@
-//! The events of a router.
-use zb_base::Eui;
-use zb_device::DeviceEvent;
+//! What happens to a router.
+use zb_device::NodeEvent;
 
-/// An event of a router.
-#[derive(Drop)]
-pub enum RouterEvent {
-    /// An event that devices also have.
-    Own(DeviceEvent),
-    /// Handles a child that asks to join or rejoin.
-    Child {
-        /// The child.
-        device: Eui,
-        /// Whether it asks to rejoin.
-        rejoin: bool,
-    },
-}
+/// What happens to a router. It refuses the events of the centre as policy.
+pub type RouterEvent = NodeEvent;

@@ -1,8 +1,7 @@
-//! What a router does at each event: what a device does, and what it does for its children.
+//! The core of a router. It plans each event as a device does, and has children too.
 #![tactic(auto)]
 
 mod event;
-mod planning;
 mod router;
 
 pub use event::RouterEvent;

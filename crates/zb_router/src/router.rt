@@ -1,11 +1,9 @@
 //! The core of a router: the policy of its role.
-ghost use Rattle.zb_router.specs.Tasks.{IsTaskOf, some_task};
 ghost use Rattle.zb_model.specs.Data as model;
 
 use crate::event::RouterEvent;
-use crate::planning::plan_router;
 use zb_base::Role;
-use zb_device::{NodeCore, Policy, PolicyCore};
+use zb_device::{NodeCore, Policy, PolicyCore, plan_member};
 use zb_host::{Outcome, Plan};
 use zb_node_types::Refusal;
 use zb_seal::Term;
@@ -14,21 +12,15 @@ use zb_seal::Term;
 pub struct RouterPolicy;
 
 impl Policy for RouterPolicy {
-    type Event = RouterEvent;
-
     ghost of = { model.Router };
-
-    ghost stands_for = { IsTaskOf };
 
     fn role() -> Role {
         Role::Router
     }
 
     fn plan(node: &NodeCore, event: &RouterEvent, plan: &mut Plan<Outcome<Term, Refusal>>) {
-        plan_router(node, event, plan);
+        plan_member(node, event, plan);
     }
-
-    ghost some = { some_task };
 }
 
 /// The core of a router, which decides what it does.

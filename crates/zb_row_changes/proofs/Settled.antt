@@ -1,4 +1,4 @@
--- A network key that comes new, as it is stored: the key that goes, the row, and what makes the key active.
+-- A new network key is installed, as it is stored: the key that is dropped, the row, and what makes the key active.
 use Rattle.std.proofs.Common.{◌≡◌, ℕ, List, [], ◌∷◌, ◌++◌, map, length, refl, Bool, true, false, if◌then◌else◌, not}
 use Rattle.std.specs.Prelude.{filter, nat_le}
 use Rattle.zb_model.specs.Data.{Bytes, Install, Moved}

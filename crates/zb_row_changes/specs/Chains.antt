@@ -1,4 +1,4 @@
--- What the proof of a call unfolds beside its own word: the steps of a chain of refusals.
+-- What the proof of a call unfolds in addition to its own definition: the steps of a chain of refusals.
 use Rattle.std.specs.Prelude.{⊤}
 use Rattle.zb_model.specs.Rules.{refuse_if, found_or, choose}
 use Rattle.zb_model.specs.Commands.{take_row}

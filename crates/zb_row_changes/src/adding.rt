@@ -1,4 +1,4 @@
-//! Lists of changes as they grow.
+//! Lists of changes, and adding to them.
 ghost use Rattle.std.specs.Prelude.{◌≡◌, ◌<◌, ◌≤◌, ◌+◌, ◌++◌, ◌∷◌, [], length, map, option_map};
 ghost use Rattle.std.specs.Option.{option_copied};
 ghost use Rattle.zb_node_types.specs.Changes.{edit, edits};
@@ -20,7 +20,7 @@ pub fn add(changes: &mut Changes, change: Change)
     changes.push(change);
 }
 
-/// Adds the drop of a row, where there is one.
+/// Adds the drop of a row, if there is one.
 ///
 /// Requires room for one more.
 pub fn add_drop(changes: &mut Changes, row: Option<&LinkRow>)

@@ -1,7 +1,7 @@
-//! The changes of a node's rows: a key comes, is offered, proved or shared, becomes active, or goes.
+//! The changes of a node's rows: a key is installed, offered, proved or shared, becomes active, or is dropped.
 //!
-//! Each call returns the changes of its rows in order, or why there are none. None changes the tables or takes memory:
-//! `Tables::apply` makes the changes.
+//! Each call returns the changes of its rows in order, or the reason why there are none. None changes the tables or
+//! takes memory: `Tables::apply` makes the changes.
 #![tactic(auto)]
 
 mod adding;

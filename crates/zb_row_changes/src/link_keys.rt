@@ -1,4 +1,4 @@
-//! The changes of link keys: one is entered, offered, shared with a partner, or goes.
+//! The changes of link keys: one is entered, offered, shared with a partner, or dropped.
 ghost use Rattle.std.specs.Prelude.{◌≡◌, ◌≤◌, ◌+◌, ◌++◌, ◌∷◌, [], List, false, length, map, option_map};
 ghost use Rattle.std.specs.Option.{option_copied};
 ghost use Rattle.zb_node_types.specs.Changes.{edits};
@@ -16,9 +16,9 @@ use zb_base::{Attribute, Eui, Key};
 use zb_node_types::{Change, Changes, KeyError};
 use zb_rows::{LinkRow, Tables, add_drop_partner, has_link, links_full, live_link, other_user};
 
-/// Returns why a link key gets no row, if it gets none.
+/// Returns why a link key gets no row, if it can't get one.
 ///
-/// There is no room for one, or another partner's row has the key.
+/// There is no room for a row, or another partner's row has the key.
 #[tactic(auto, unfolding(crate::specs::Chains::steps))]
 pub fn row_refusal(tables: &Tables, partner: Eui, key: &Key) -> Option<KeyError>
     ensures { (moves : List Move) → told (take_row tables.now partner.0 key.now.0 moves) ≡ refused_or result moves }
@@ -34,8 +34,8 @@ pub fn row_refusal(tables: &Tables, partner: Eui, key: &Key) -> Option<KeyError>
     }
 }
 
-/// Lists what an admission changes. The row of the install code's key is new or revived, and provisional. The device
-/// is live.
+/// Lists the changes of an admission. The row of the install code's key is new or revived, and provisional. The device
+/// becomes live.
 fn admitted(device: Eui, key: &Key) -> Changes
     ensures made { edits result.items ≡ map Moved (Row device.0 key.now.0 Provisional ∷ Live device.0 ∷ []) }
     ensures few { length result.items ≤ 5 }
@@ -53,14 +53,14 @@ fn admitted(device: Eui, key: &Key) -> Changes
     changes
 }
 
-/// Returns the changes of the centre where the link key of a device's install code is entered.
+/// Returns the changes of the centre when the link key of a device's install code is entered.
 ///
-/// The key's row is new or revived, and the device is live.
+/// The key's row is new or revived, and the device becomes live.
 ///
 /// Requires a device that isn't live.
 ///
 /// # Errors
-/// `RowsFull` where a new row has no room; `KeyInUse` where another device's row has the key.
+/// `RowsFull` if there is no room for a new row; `KeyInUse` if another device's row has the key.
 #[tactic(auto, unfolding(zb_model::specs::OwnEvents::provision, crate::specs::Chains::steps))]
 pub fn provision(tables: &Tables, device: Eui, key: &Key) -> Result<Changes, KeyError>
     requires { is_live tables.now device.0 ≡ false }
@@ -88,7 +88,7 @@ pub fn has_key(row: Option<&LinkRow>, key: &Key) -> bool
     }
 }
 
-/// Adds what a link key changes that is offered: it is the offered one, in place of another.
+/// Adds the changes for an offered link key: it becomes the offered one, and another offered one is dropped.
 ///
 /// Requires room for two more.
 pub fn add_offer(changes: &mut Changes, tables: &Tables, partner: Eui, key: &Key)
@@ -108,7 +108,7 @@ pub fn add_offer(changes: &mut Changes, tables: &Tables, partner: Eui, key: &Key
     );
 }
 
-/// Lists what a link key changes that is offered.
+/// Lists the changes for an offered link key.
 fn offered(tables: &Tables, partner: Eui, key: &Key) -> Changes
     ensures made { edits result.items ≡ map Moved (drop_row (offered tables.now partner.0)
         ++ (Row partner.0 key.now.0 Unverified ∷ [])) }
@@ -119,14 +119,14 @@ fn offered(tables: &Tables, partner: Eui, key: &Key) -> Changes
     changes
 }
 
-/// Returns the changes of a link key that is offered.
+/// Returns the changes for a link key that is offered.
 ///
-/// There are none where it is the current or the offered one.
+/// There are none if it is the current or the offered one.
 ///
-/// Otherwise it becomes the offered one, in place of another. Its row is new or revived, and unverified.
+/// Otherwise it becomes the offered one and replaces another. Its row is new or revived, and unverified.
 ///
 /// # Errors
-/// `RowsFull` where a new row has no room; `KeyInUse` where another partner's row has the key.
+/// `RowsFull` if there is no room for a new row; `KeyInUse` if another partner's row has the key.
 #[tactic(auto, unfolding(crate::specs::Planned::offer_rule, zb_model::specs::Rules::choose))]
 pub fn offer(tables: &Tables, partner: Eui, key: &Key) -> Result<Changes, KeyError>
     ensures rule { answered result ≡ told (offer_rule tables.now partner.0 key.now.0) }
@@ -141,7 +141,7 @@ pub fn offer(tables: &Tables, partner: Eui, key: &Key) -> Result<Changes, KeyErr
     }
 }
 
-/// Lists what a key with a partner changes: it takes the place of the partner's rows in use, verified.
+/// Lists the changes for a key with a partner: it replaces the partner's rows in use, and is verified.
 fn shared(tables: &Tables, partner: Eui, key: &Key) -> Changes
     ensures made { edits result.items ≡ map Moved (drop_partner tables.now partner.0
         ++ (Row partner.0 key.now.0 Verified ∷ [])) }
@@ -160,14 +160,14 @@ fn shared(tables: &Tables, partner: Eui, key: &Key) -> Changes
     changes
 }
 
-/// Returns the changes of a key that comes with a partner.
+/// Returns the changes for a key that is shared with a partner.
 ///
-/// There are none where the partner's row in use has it.
+/// There are none if the partner's row in use has it.
 ///
-/// Otherwise it takes the place of the partner's rows in use. Its row is new or revived, and verified.
+/// Otherwise it replaces the partner's rows in use. Its row is new or revived, and verified.
 ///
 /// # Errors
-/// `RowsFull` where a new row has no room; `KeyInUse` where another partner's row has the key.
+/// `RowsFull` if there is no room for a new row; `KeyInUse` if another partner's row has the key.
 #[tactic(auto, unfolding(crate::specs::Planned::partner_rule, zb_model::specs::Rules::choose))]
 pub fn partner(tables: &Tables, partner: Eui, key: &Key) -> Result<Changes, KeyError>
     ensures rule { answered result ≡ told (partner_rule tables.now partner.0 key.now.0) }
@@ -184,7 +184,7 @@ pub fn partner(tables: &Tables, partner: Eui, key: &Key) -> Result<Changes, KeyE
 
 /// Returns the changes that drop a partner.
 ///
-/// Each of its rows in use goes, of which there are two at most.
+/// Each of its rows in use is dropped; there are at most two.
 pub fn drop_partner(tables: &Tables, partner: Eui) -> Changes
     ensures rule { edits result.items ≡ map Moved (drop_partner tables.now partner.0) }
     ensures few { length result.items ≤ 2 }

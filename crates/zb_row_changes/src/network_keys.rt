@@ -1,4 +1,4 @@
-//! The changes of network keys: one comes, and one becomes active.
+//! The changes of network keys: one is installed, and one becomes active.
 ghost use Rattle.std.specs.Prelude.{◌≡◌, ◌≤◌, ◌+◌, ◌++◌, ◌∷◌, [], length};
 ghost use Rattle.zb_node_types.specs.Changes.{edits};
 ghost use Rattle.zb_model.specs.Data.{Active, Install};
@@ -14,9 +14,9 @@ use zb_rows::{
     is_active_key, live_of, nets_full,
 };
 
-/// Adds what makes a network key active, which is nothing where it is active already.
+/// Adds what makes a network key active: nothing, if it is active already.
 ///
-/// Where it never was, its first counter comes after it. Requires room for two more.
+/// If it never was active, its first counter follows. Requires room for two more.
 #[tactic(auto, unfolding(crate::specs::Planned::settled))]
 pub fn add_active(changes: &mut Changes, tables: &Tables, key: &Key)
     requires room { length changes.old.items ≤ 14 }
@@ -33,7 +33,7 @@ pub fn add_active(changes: &mut Changes, tables: &Tables, key: &Key)
     }
 }
 
-/// Adds what a network key changes by coming: in a node that waits for it, and where none is active, it becomes so.
+/// Adds what makes an installed network key active, in a node that waits for it or has no active key.
 #[tactic(auto, unfolding(crate::specs::Planned::settled))]
 fn add_arrival(changes: &mut Changes, tables: &Tables, key: &Key)
     requires room { length changes.old.items ≤ 14 }
@@ -46,7 +46,7 @@ fn add_arrival(changes: &mut Changes, tables: &Tables, key: &Key)
     }
 }
 
-/// Lists what a network key changes that is in use already.
+/// Lists the changes for a network key that is already in use.
 fn known(tables: &Tables, key: &Key) -> Changes
     ensures made { edits result.items ≡ settled tables.now (arrival tables.now key.now.0) }
     ensures few { length result.items ≤ 5 }
@@ -56,7 +56,7 @@ fn known(tables: &Tables, key: &Key) -> Changes
     changes
 }
 
-/// Lists what a new network key changes: of two in use the one that isn't active goes.
+/// Lists the changes for a new network key: of two in use, the one that isn't active is dropped.
 #[tactic(auto, using(crate::proofs::Settled::settled_new))]
 fn installed(tables: &Tables, key: &Key, sequence: u8) -> Changes
     ensures made { edits result.items
@@ -76,10 +76,11 @@ fn installed(tables: &Tables, key: &Key, sequence: u8) -> Changes
     changes
 }
 
-/// Returns the changes of a network key that comes.
+/// Returns the changes for a network key that is installed.
 ///
-/// A key in use gets no second row. A new one has a row, after one of two in use is dropped: the one that isn't
-/// active, or the first where none is. It becomes active in a node that knocks or rejoins, and where none is active.
+/// A key in use gets no second row. A new key gets a row. If two keys are in use, one of them is dropped first: the
+/// one that isn't active, or the first if none is. The new key becomes active in a node that knocks or rejoins, and in
+/// a node without an active key.
 ///
 /// # Errors
 /// `KeyOld` with the place of the dropped row that has the key; `KeysFull` at 256 network keys.
@@ -112,10 +113,10 @@ fn activation(tables: &Tables, key: &Key) -> Changes
 
 /// Returns the changes of a switch to a sequence number.
 ///
-/// The newest network key in use that has it becomes active.
+/// The newest network key in use with that number becomes active.
 ///
 /// # Errors
-/// `NoRow` where no network key in use has the sequence.
+/// `NoRow` if no network key in use has the sequence.
 #[tactic(auto, unfolding(crate::specs::Planned::switch_rule, crate::specs::Chains::steps))]
 pub fn switch(tables: &Tables, sequence: u8) -> Result<Changes, KeyError>
     ensures rule { answered result ≡ stored tables.now (switch_rule tables.now sequence) }

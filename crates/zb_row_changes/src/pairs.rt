@@ -41,9 +41,9 @@ fn paired(a: Eui, b: Eui, key: &Key) -> Changes
     changes
 }
 
-/// Returns the changes of the centre by a key for two devices: they get a pair with it.
+/// Returns the changes of the centre for a key for two devices: they get a pair with it.
 ///
-/// The pair fits two different devices that have none.
+/// The pair fits two different devices without one.
 ///
 /// # Errors
 /// `RowsFull` at 256 pairs.

@@ -28,7 +28,7 @@ pub fn is_proved(row: Option<&LinkRow>, hash: &[u8; 16]) -> bool
     }
 }
 
-/// Returns the current row of a partner where it is verified.
+/// Returns the current row of a partner if it is verified.
 pub fn verified_row<'a>(tables: &'a Tables, partner: Eui) -> Option<&'a LinkRow>
     ensures { option_map link_key (option_copied result) ≡ verified_current tables.now partner.0 }
 {
@@ -38,7 +38,7 @@ pub fn verified_row<'a>(tables: &'a Tables, partner: Eui) -> Option<&'a LinkRow>
     }
 }
 
-/// Lists what a proof of the offered key changes: it is verified, and the current one goes.
+/// Lists the changes when the offered key is proved: it is verified, and the current one is dropped.
 pub fn verified(tables: &Tables, partner: Eui, key: &Key) -> Changes
     ensures made { edits result.items ≡ map Moved
         (drop_row (current tables.now partner.0) ++ (Row partner.0 key.now.0 Verified ∷ [])) }
@@ -57,14 +57,14 @@ pub fn verified(tables: &Tables, partner: Eui, key: &Key) -> Changes
     changes
 }
 
-/// Returns the changes of the proof of a partner's key by its hash.
+/// Returns the changes when a partner proves a key by its hash.
 ///
-/// A proof of the offered key verifies it, and the current one goes. A proof of the verified current key changes
+/// A proof of the offered key verifies it, and the current one is dropped. A proof of the verified current key changes
 /// nothing.
 ///
 /// # Errors
-/// `NoRow` where the partner has neither an offered row nor a verified current one; `WrongHash` where it has, and the
-/// hash is that of neither.
+/// `NoRow` if the partner has neither an offered row nor a verified current one; `WrongHash` if it has one, and the
+/// hash is of neither key.
 #[tactic(auto, unfolding(crate::specs::Planned::verify_rule, crate::specs::Chains::steps))]
 pub fn verify(tables: &Tables, partner: Eui, hash: &[u8; 16]) -> Result<Changes, KeyError>
     ensures rule { answered result ≡ told (verify_rule real tables.now partner.0 hash.now) }

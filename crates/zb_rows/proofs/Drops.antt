@@ -118,7 +118,7 @@ few_live s partner kept =
       one_of_class partner false s.links apart,
     )
 
--- the drops of the rows that pass a test, up to a place
+-- the drops of the rows that satisfy a test, up to a place
 pub record Dropping (test : LinkKey → Bool) (rows : List LinkRow) (i : ℕ) (old new : List Change) : Type 0 where
   pub made : edits new ≡ edits old ++ map Moved (map drop_link (filter test (map link_key (take i rows))))
   pub room : length new ≤ length old + length (filter test (map link_key (take i rows)))
@@ -194,7 +194,7 @@ pub drops_few : (test : LinkKey → Bool) (rows : List LinkRow) (n : ℕ) (old n
 drops_few test rows n old new few long so =
     omega (arith, so.room, few, ap (λ l. length {A = LinkKey} (filter test (map link_key l))) (take_all n rows long))
 
--- a partner has at most two rows in use, so at most two go
+-- a partner has at most two rows in use, so at most two are dropped
 fewer : (p q : LinkKey → Bool) → ((x : LinkKey) → p x ≡ true → q x ≡ true) → (xs : List LinkKey)
     → length (filter p xs) ≤ length (filter q xs)
 fewer p q each [] = omega arith

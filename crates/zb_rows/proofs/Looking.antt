@@ -1,4 +1,4 @@
--- Looking for a row from the end, and after a test.
+-- Searching for a row from the end, and after a test.
 use Rattle.std.proofs.Common.{◌≡◌, ℕ, List, [], ◌∷◌, ◌++◌, map, refl, sym, ap, ◌∙◌, append-nil, Bool, true, false, if◌then◌else◌, ◌&&◌, Option, Some, None}
 use Rattle.std.specs.Prelude.{filter, find, nat_eq, option_map, reverse}
 use Rattle.std.specs.List.{list_any}
@@ -9,7 +9,7 @@ use Rattle.zb_rows.specs.Asking.{may_use_in}
 use Rattle.zb_keys.proofs.FindLemmas.{find_map, last_map}
 use Rattle.zb_record.proofs.Lists.{any_map}
 
--- a row of the program that was found is the one that the model finds
+-- a row that the program found is the one that the model finds
 pub found_in : {X Y : Type 0} (p : Y → Bool) (view : X → Y) (rows : List X) (xs : List Y) (o : Option X)
     → map view rows ≡ xs → o ≡ find (λ x. p (view x)) rows → option_map view o ≡ find p xs
 found_in p view rows xs o is found = ap (option_map view) found ∙ sym (find_map p view rows) ∙ ap (find p) is
@@ -23,7 +23,7 @@ pub any_in : {X Y : Type 0} (p : Y → Bool) (view : X → Y) (rows : List X) (x
     ≡ xs → b ≡ list_any (λ x. p (view x)) rows → b ≡ list_any p xs
 any_in p view rows xs b is found = found ∙ sym (any_map p view rows) ∙ ap (list_any p) is
 
--- the last item of a test among those of another one
+-- the last item that satisfies one test among those that satisfy another
 find_filtered : {X : Type 0} (p q : X → Bool) (xs : List X) → find q (filter p xs) ≡ find (λ x. p x && q x) xs
 find_filtered p q [] = refl
 find_filtered p q (x ∷ xs) = at_test (p x) (find_filtered p q xs)
@@ -80,7 +80,7 @@ pub usable_none : (s : NodeState) (sequence : ℕ) → may_use s ≡ false → N
 unfolding usable_of usable_nets
 usable_none s sequence isnt = rw isnt refl
 
--- whether network keys may be used is asked of the role and the state alone
+-- whether network keys may be used depends on the role and the state alone
 may_use_at : (s : NodeState) (state : State) → s.state ≡ state → may_use_in s.role state ≡ may_use s
 may_use_at s Fresh is = rw is refl
 may_use_at s Knocked is = rw is refl

@@ -1,4 +1,4 @@
--- Room for a third network key: of two in use, the one that isn't active goes.
+-- Room for a third network key: if two are in use, the one that isn't active is dropped.
 use Rattle.std.proofs.Common.{◌≡◌, ℕ, ◌<◌, ◌≤◌, ◌++◌, List, [], ◌∷◌, map, length, refl, sym, ap, ◌∙◌, Bool, true, false, not, ◌&&◌, if◌then◌else◌, Option, Some, None, append-nil}
 use Rattle.std.specs.Prelude.{filter, find, nat_le, option_map}
 use borrow.Author.Tests.{lt-leb, le-leb}
@@ -42,7 +42,7 @@ pub live_count : (s : NodeState) (rows : List NetRow) (n : ℕ) → map net_key 
 live_count s rows n is counted = counted ∙ sym (count_map (λ (r : NetKey). r.live) net_key rows) ∙ ap
     (λ l. length {A = NetKey} (filter (λ (r : NetKey). r.live) l)) is
 
--- fewer than two are in use: nothing goes
+-- fewer than two are in use: nothing is dropped
 pub drop_few : (s : NodeState) (old : List Change) (n : ℕ) → n ≡ length (live_nets s) → n < 2 → edits old ≡ edits old
     ++ map Moved (drop_old s)
 unfolding drop_old
@@ -50,7 +50,7 @@ drop_few s old n is few =
     let two : nat_le 2 (length (live_nets s)) ≡ false = rw (sym is) (lt-leb 2 n few) in
     rw two (sym (append-nil (edits old)))
 
--- two are in use: the first that isn't active goes
+-- two are in use: the first that isn't active is dropped
 pub drop_idle : (s : NodeState) (rows : List NetRow) (active : Option Bytes) (n : ℕ) (o : Option NetRow)
     → map net_key rows ≡ s.nets → active ≡ s.active → n ≡ length (live_nets s) → 2 ≤ n
     → o ≡ find (λ (r : NetRow). (net_key r).live && not (is_active_key active (net_key r).key)) rows

@@ -1,4 +1,4 @@
--- Parts of the model's words on a node's rows, each over the things that it looks at alone.
+-- Parts of the model's definitions about a node's rows, each over just the values that it needs.
 use Rattle.std.specs.Prelude.{ℕ, Bool, true, false, not, ◌&&◌, nat_eq, Option, Some, None}
 use Rattle.std.specs.List.{list_any}
 use Rattle.zb_model.specs.Data.{Bytes, Role, State, Fresh, Knocked, Gone, Attribute}
@@ -12,7 +12,7 @@ may_use_in role Knocked = is_centre role
 may_use_in role Gone = is_centre role
 may_use_in role _ = true
 
--- a link row of whatever partner, in use or dropped, has the key
+-- a link row of any partner, in use or dropped, has the key
 abbrev pub key_is_used : NodeState → Bytes → Bool
 key_is_used s key = list_any (λ (r : LinkKey). same_key r.key key) s.links
 
@@ -21,7 +21,7 @@ abbrev pub is_row_as : ℕ → Bytes → Attribute → LinkKey → Bool
 is_row_as partner key attribute r = is_link partner key r
     && (r.live && nat_eq (attribute_byte r.attribute) (attribute_byte attribute))
 
--- the row of the key that is spared, if there is one
+-- the spared key, if there is one, is the row's
 abbrev pub is_spared : Option Bytes → Bytes → Bool
 is_spared None key = false
 is_spared (Some spared) key = same_key key spared

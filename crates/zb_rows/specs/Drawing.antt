@@ -1,4 +1,4 @@
--- What a draw from an outgoing counter gives a frame, in the model's words.
+-- What a draw from an outgoing counter gives, in the model's terms.
 use Rattle.std.specs.Prelude.{ℕ, ◌+◌, min, Bool, true, false, if◌then◌else◌, Option, Some, None, nat_eq, nat_le}
 use Rattle.zb_counter.specs.declared.sending.Draw.{Draw}
 use Rattle.zb_counter.specs.declared.sending.Draw.TheVariants.{Ready, Reserve, Spent}
@@ -19,12 +19,12 @@ reserve_at c s layer = limit_to_store (next_counter layer s) (stored_limit layer
 abbrev pub given : ℕ → Option ℕ → Option Drawn
 given number reserve = Some (record { number = number; reserve = reserve })
 
--- what a counter gives a frame: nothing once it has reached its end
+-- the number that a counter gives a frame: none once it has reached its end
 abbrev pub drawn_of : Outgoing → Option Drawn
 drawn_of o = if nat_le greatest_counter o.next then None
     else given o.next (limit_to_store o.next o.limit o.block)
 
--- what a draw gives a frame, if a number is ready; the limit was stored before it
+-- the number that a draw gives a frame, if one is ready; the limit was stored before
 abbrev pub ready_of : Option ℕ → Draw → Option Drawn
 ready_of reserve (Ready number) = given number reserve
 ready_of reserve (Reserve limit) = None

@@ -1,4 +1,4 @@
-//! What rules ask of outgoing counters, and the numbers that are drawn for frames.
+//! The outgoing counters as rules see them, and the numbers that are drawn for frames.
 ghost use Rattle.std.specs.Prelude.{◌≡◌, ◌≤◌, IfSome, is_some, nat_le, not, option_map};
 ghost use Rattle.std.specs.Option.{option_copied};
 ghost use Rattle.zb_node_types.specs.Changes.{model_layer};
@@ -14,7 +14,7 @@ use zb_counter::{Draw, Outgoing};
 use zb_keys::{NetRow, Tables};
 use zb_setting::Network;
 
-/// The number that a frame is sealed with.
+/// The number under which a frame is sealed.
 #[derive(Clone, Copy, Debug, PartialEq, Eq)]
 pub struct Drawn {
     /// The number, which is the frame's counter.
@@ -23,7 +23,7 @@ pub struct Drawn {
     pub reserve: Option<u32>,
 }
 
-/// Returns what a draw gives a frame, if a number is ready. The limit was stored for it.
+/// Returns the number of a draw, if one is ready. The limit was stored for it.
 fn ready(draw: Draw, reserve: Option<u32>) -> Option<Drawn>
     ensures { result ≡ ready_of reserve draw }
 {
@@ -34,7 +34,7 @@ fn ready(draw: Draw, reserve: Option<u32>) -> Option<Drawn>
     }
 }
 
-/// Draws a number from a counter. Where none is reserved, it reserves a block and draws again.
+/// Draws a number from a counter. If none is reserved, it reserves a block and draws again.
 fn drawn_from(counter: Outgoing) -> Option<Drawn>
     requires { 1 ≤ counter.block }
     ensures { result ≡ drawn_of counter }
@@ -55,7 +55,7 @@ fn drawn_from(counter: Outgoing) -> Option<Drawn>
 
 /// Draws the number for a frame that is sealed at a layer, unless its counter has reached its end.
 ///
-/// The number is used once the limit that comes with it is stored, if there is one. The tables stay as they are.
+/// The number may be used once the limit that comes with it is stored, if there is one. The tables don't change.
 #[tactic(auto, unfolding(zb_model::specs::Rules::spent))]
 pub fn draw_number(network: &Network, tables: &Tables, layer: Layer) -> Option<Drawn>
     ensures there { is_some result ≡ not (spent (model_layer layer) tables.now) }
@@ -75,7 +75,7 @@ pub fn next_counter(tables: &Tables, layer: Layer) -> u32
     tables.outgoing(layer, 1).next
 }
 
-/// Returns whether a draw found its counter at the end.
+/// Returns whether a draw found its counter at its end.
 fn is_end(draw: Draw) -> bool
     ensures { result ≡ is_end draw }
 {
@@ -127,7 +127,7 @@ pub fn has_started(tables: &Tables, key: &Key) -> bool
     is_started(net_of(tables, key))
 }
 
-/// Returns whether there is a row, and it was ever active.
+/// Returns whether there is a row that was ever active.
 fn is_started(row: Option<&NetRow>) -> bool
     ensures { result ≡ row_is_started (option_map net_key (option_copied row.entry)) }
 {

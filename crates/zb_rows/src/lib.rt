@@ -1,6 +1,6 @@
-//! What the rules of the policy ask of a node's tables, and the changes of rows that several rules make.
+//! The questions that the rules of the policy ask of a node's tables, and the changes of rows that several rules make.
 //!
-//! Each call returns what one word of the model says of a node's state. None changes the tables.
+//! Each call returns the value of one definition of the model for a node's state. None changes the tables.
 #![tactic(auto)]
 
 mod counters;

@@ -1,4 +1,4 @@
-//! What rules ask of link keys and of the keys of pairs.
+//! The questions that rules ask about link keys and the keys of pairs.
 ghost use Rattle.std.specs.Prelude.{◌≡◌, ◌&&◌, ◌||◌, find, length, map, nat_eq, nat_le, not, option_map};
 ghost use Rattle.std.specs.List.{list_any};
 ghost use Rattle.std.specs.Option.{option_copied};
@@ -24,7 +24,7 @@ pub fn link_of<'a>(tables: &'a Tables, partner: Eui, key: &Key) -> Option<&'a Li
     row_of(tables.links(), partner, key)
 }
 
-/// Returns which of these rows is that of a partner and a key.
+/// Returns the one of these rows that has a partner and a key.
 fn row_of<'a>(rows: &'a [LinkRow], partner: Eui, key: &Key) -> Option<&'a LinkRow>
     ensures { option_copied result ≡ find (λ r. is_link partner.0 key.now.0 (link_key r)) rows.now }
 {
@@ -70,7 +70,7 @@ pub fn has_link(tables: &Tables, partner: Eui, key: &Key) -> bool
     has_row(tables.links(), partner, key)
 }
 
-/// Returns whether one of these rows is that of a partner and a key.
+/// Returns whether one of these rows has that partner and key.
 #[tactic(auto, using(zb_keys::proofs::Mapping::any_map))]
 fn has_row(rows: &[LinkRow], partner: Eui, key: &Key) -> bool
     ensures { result ≡ has_link partner.0 key.now.0 (map link_key rows.now) }
@@ -78,7 +78,7 @@ fn has_row(rows: &[LinkRow], partner: Eui, key: &Key) -> bool
     zb_record::link_row::has_row(rows, partner, key)
 }
 
-/// Returns whether a row of whatever partner, in use or dropped, has a key.
+/// Returns whether any partner's row, in use or dropped, has a key.
 pub fn uses_key(tables: &Tables, key: &Key) -> bool
     ensures { result ≡ key_is_used tables.now key.now.0 }
 {
@@ -92,7 +92,7 @@ fn is_used(rows: &[LinkRow], key: &Key) -> bool
     rows.iter().any(|row| row.key == *key)
 }
 
-/// Returns a key of the supply, unless a row of the node has it already.
+/// Returns a key of the supply, unless a row of the node already has it.
 pub fn unless_held(tables: &Tables, draw: Option<Key>) -> Option<Key>
     ensures { option_map (λ k. k.0) result ≡ unless_held tables.now (option_map (λ k. k.0) draw) }
 {
@@ -161,14 +161,16 @@ fn has_told_row(rows: &[LinkRow], partner: Eui) -> bool
     has_told(rows, partner)
 }
 
-/// Returns whether a partner's key is in use and has an attribute already: a row of it would change nothing.
+/// Returns whether a partner's key is in use and already has an attribute.
+///
+/// A row with that key and attribute would then change nothing.
 pub fn has_row_as(tables: &Tables, partner: Eui, key: &Key, attribute: Attribute) -> bool
     ensures { not result ≡ changes tables.now (Row partner.0 key.now.0 (model_attribute attribute)) }
 {
     has_that_row(tables.links(), partner, key, attribute)
 }
 
-/// Returns whether one of these rows is that of a partner and a key, in use with an attribute.
+/// Returns whether one of these rows has a partner and a key, and is in use with an attribute.
 fn has_that_row(rows: &[LinkRow], partner: Eui, key: &Key, attribute: Attribute) -> bool
     ensures { result
         ≡ list_any (λ r. is_row_as partner.0 key.now.0 (model_attribute attribute) (link_key r)) rows.now }
@@ -177,7 +179,7 @@ fn has_that_row(rows: &[LinkRow], partner: Eui, key: &Key, attribute: Attribute)
         .any(|row| is_row_as(row, partner, key, attribute))
 }
 
-/// Returns whether it is the row of a partner and a key, in use with an attribute.
+/// Returns whether a row has a partner and a key, and is in use with an attribute.
 fn is_row_as(row: &LinkRow, partner: Eui, key: &Key, attribute: Attribute) -> bool
     ensures { result ≡ is_row_as partner.0 key.now.0 (model_attribute attribute) (link_key row.now) }
 {

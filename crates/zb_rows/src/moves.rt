@@ -1,4 +1,4 @@
-//! The drops that several rules make, as the rules have them: none is left out, and no counter starts.
+//! The drops that several rules make, in the form of the rules: none is left out, and no counter starts.
 ghost use Rattle.std.specs.Prelude.{◌≡◌, ◌<◌, ◌≤◌, ◌+◌, ◌++◌, ◌∷◌, [], ◌&&◌, not, filter, find, length, map, option_map};
 ghost use Rattle.std.specs.Option.{option_copied};
 ghost use Rattle.zb_node_types.specs.Changes.{edit, edits};
@@ -13,7 +13,7 @@ use zb_base::{Eui, Key};
 use zb_keys::{LinkRow, NetRow, Tables};
 use zb_node_types::{Change, Changes};
 
-/// Adds the drops of all rows in use of a partner, of which there are two at most.
+/// Adds the drops of all rows in use of a partner, at most two.
 pub fn add_drop_partner(tables: &Tables, changes: &mut Changes, partner: Eui)
     requires { length changes.old.items ≤ 14 }
     ensures made { edits changes.new.items ≡ edits changes.old.items ++ map Moved (drop_partner tables.now partner.0) }
@@ -23,7 +23,7 @@ pub fn add_drop_partner(tables: &Tables, changes: &mut Changes, partner: Eui)
     add_drops(tables.links(), partner, None, changes);
 }
 
-/// Adds the drops of all rows in use of a partner but that of a key.
+/// Adds the drops of all rows in use of a partner except that of a key.
 pub fn add_drop_others(tables: &Tables, changes: &mut Changes, partner: Eui, key: &Key)
     requires { length changes.old.items ≤ 14 }
     ensures made { edits changes.new.items
@@ -34,7 +34,7 @@ pub fn add_drop_others(tables: &Tables, changes: &mut Changes, partner: Eui, key
     add_drops(tables.links(), partner, Some(*key), changes);
 }
 
-/// Adds the drops of those of these rows that go, of which there are two at most.
+/// Adds the drops of those of these rows that are to be dropped, at most two.
 fn add_drops(rows: &[LinkRow], partner: Eui, spared: Option<Key>, changes: &mut Changes)
     requires few { length (filter (goes partner.0 (option_map (λ k. k.0) spared)) (map link_key rows.now)) ≤ 2 }
     requires room { length changes.old.items ≤ 14 }
@@ -55,14 +55,14 @@ fn add_drops(rows: &[LinkRow], partner: Eui, spared: Option<Key>, changes: &mut 
     }
 }
 
-/// Returns whether it is a row in use of a partner, and not that of the key that is spared.
+/// Returns whether a row is in use and of a partner, and its key isn't spared.
 fn goes(row: &LinkRow, partner: Eui, spared: Option<Key>) -> bool
     ensures { result ≡ goes partner.0 (option_map (λ k. k.0) spared) (link_key row.now) }
 {
     row.is_live_of(partner) && !is_spared(spared, &row.key)
 }
 
-/// Returns whether there is a key that is spared, and it is that one.
+/// Returns whether a key is the spared one, if there is one.
 fn is_spared(spared: Option<Key>, key: &Key) -> bool
     ensures { result ≡ is_spared (option_map (λ k. k.0) spared) key.now.0 }
 {
@@ -72,7 +72,7 @@ fn is_spared(spared: Option<Key>, key: &Key) -> bool
     }
 }
 
-/// Adds the drop that makes room for a third network key in use, where there are two.
+/// Adds the drop that makes room for a third network key in use, if there are two.
 ///
 /// It drops the first one that isn't active.
 pub fn add_drop_old(tables: &Tables, changes: &mut Changes)

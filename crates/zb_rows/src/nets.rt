@@ -1,4 +1,4 @@
-//! What rules ask of network keys.
+//! The questions that rules ask about network keys.
 ghost use Rattle.std.specs.Prelude.{◌≡◌, ◌<◌, ◌&&◌, ◌||◌, IfSome, is_none, length, map, nat_eq, nat_le, option_map};
 ghost use Rattle.std.specs.Option.{option_copied};
 ghost use Rattle.zb_node_types.specs.Changes.{model_role, model_state};
@@ -37,14 +37,14 @@ fn may_use_in(role: Role, state: State) -> bool
     }
 }
 
-/// Returns whether it is the role of the centre.
+/// Returns whether a role is the centre's.
 pub(crate) fn is_centre(role: Role) -> bool
     ensures { result ≡ is_centre (model_role role) }
 {
     matches!(role, Role::Centre)
 }
 
-/// Returns the active row, where the node may use it.
+/// Returns the active row, if the node may use it.
 #[tactic(auto, unfolding(zb_model::specs::State::usable_active))]
 pub fn usable_active(tables: &Tables) -> Option<&NetRow>
     ensures { option_map net_key (option_copied result) ≡ usable_active tables.now }
@@ -113,7 +113,7 @@ pub fn is_active_key(tables: &Tables, key: &Key) -> bool
     is_that_key(tables.active_key(), key)
 }
 
-/// Returns whether there is a key, and it is that one.
+/// Returns whether a key is the given one, if there is one.
 pub(crate) fn is_that_key(active: Option<Key>, key: &Key) -> bool
     ensures { result ≡ is_active_key (option_map (λ k. k.0) active) key.now.0 }
 {
@@ -123,9 +123,9 @@ pub(crate) fn is_that_key(active: Option<Key>, key: &Key) -> bool
     }
 }
 
-/// Returns whether a network key that is taken in becomes active at once.
+/// Returns whether a network key that is installed becomes active at once.
 ///
-/// It does in a node that waits for one, and where none is active.
+/// It does in a node that waits for one, and in a node without an active key.
 pub fn activates(tables: &Tables) -> bool
     ensures { result ≡ activates tables.now }
 {

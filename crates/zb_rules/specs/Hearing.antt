@@ -7,7 +7,7 @@ use Rattle.zb_row_changes.specs.RowViews.{link_key}
 use Rattle.zb_rules.specs.declared.heard.Heard.{Heard}
 use Rattle.zb_rules.specs.declared.heard.Heard.TheVariants.{Clear, Sealed}
 
--- A command in clear at APS came in a secured NWK frame, whose source is its sender.
+-- A command without APS security came in a secured NWK frame, whose source is its sender.
 abbrev pub heard_of : Heard → model.Heard
 heard_of (Clear nwk) = record { sender = nwk.0; label = None; row = None; nwk_source = Some nwk.0 }
 heard_of (Sealed sender label row nwk) =

@@ -1,4 +1,4 @@
--- What saying something leads to, once it is known whether the node may.
+-- The result of `say`, once it is known whether the node may send.
 use Rattle.std.specs.Prelude.{ℕ, List, [], Option, Some, Result, Ok, Err, true}
 use Rattle.zb_model.specs.Data.{Bytes, Edit, Reason}
 use Rattle.zb_model.specs.Rules.{Saying, Sending}

@@ -9,15 +9,15 @@ use zb_send::{Body, Sending};
 /// What a rule does: the changes that it makes, without counters, and what it sends.
 #[derive(Debug, Drop)]
 pub struct Effect {
-    /// The changes, in order. One that leaves a thing as it is may be among them.
+    /// The changes, in order. They may include one that leaves a thing as it is.
     pub changes: Changes,
     /// What the node sends, if anything.
     pub sending: Option<Sending>,
 }
 
-/// Returns what sends a body to an address.
+/// Returns the sending of a body to an address.
 ///
-/// `secured`: at the network layer.
+/// `secured`: whether the network layer is secured.
 pub fn sending(to: Short, secured: bool, body: Body) -> Option<Sending>
     ensures { result ≡ Some (record { to = to; secured = secured; body = body }) }
 {
@@ -49,7 +49,7 @@ impl Effect {
 
     /// Returns the effect that sends a body to an address and changes nothing.
     ///
-    /// `secured`: at the network layer.
+    /// `secured`: whether the network layer is secured.
     pub fn of_sending(to: Short, secured: bool, body: Body) -> Effect
         ensures changes { result.changes.items ≡ [] }
         ensures sending { result.sending ≡ Some (record { to = to; secured = secured; body = body }) }

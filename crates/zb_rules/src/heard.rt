@@ -1,4 +1,4 @@
-//! A command as it came to a node.
+//! A command as a node received it.
 use zb_base::{Eui, Label};
 use zb_row_changes::LinkRow;
 use zb_setting::Network;
@@ -19,7 +19,7 @@ pub enum Heard {
         label: Label,
         /// The row whose key opened it.
         row: LinkRow,
-        /// The source of the NWK layer, where that was secured.
+        /// The source of the NWK layer, if that was secured.
         nwk: Option<Eui>,
     },
 }
@@ -57,7 +57,7 @@ impl Heard {
         self.is_clear() || self.is_sealed_for(Label::Data)
     }
 
-    /// Returns the source of the NWK layer, where that was secured.
+    /// Returns the source of the NWK layer, if that was secured.
     pub fn nwk_source(&self) -> Option<Eui>
         ensures { option_map (λ e. e.0) result ≡ (heard_of self.now).nwk_source }
     {

@@ -1,4 +1,4 @@
-//! The one event that every node has: it says something.
+//! The one event that all nodes have: `say`, which sends application data.
 ghost use Rattle.std.specs.Prelude.{◌≡◌, ℕ, IfErr, Some, true};
 ghost use Rattle.zb_base.specs.declared.place.Place.TheVariants.{Event};
 ghost use Rattle.zb_model.specs.Data.{Bytes};
@@ -15,19 +15,19 @@ use zb_node_types::Refusal;
 use zb_row_changes::{Tables, is_spent, usable_active};
 use zb_send::{Body, Payload, Sending};
 
-/// Returns whether a node in that state waits to be let in again.
+/// Returns whether a node in that state is waiting to be admitted again.
 pub fn is_rejoining(state: State) -> bool
     ensures { result ≡ in_rejoining (model_state state) }
 {
     matches!(state, State::Rejoining)
 }
 
-/// Checks that a node may say something.
+/// Checks that a node may send application data.
 ///
 /// # Errors
-/// - No key without a usable active network key.
-/// - Wrong state in rejoining.
-/// - Counter spent where the NWK counter is.
+/// - No key, if there is no usable active network key.
+/// - Wrong state, if the node is rejoining.
+/// - Counter spent, if the NWK counter is spent.
 #[tactic(auto, unfolding(zb_model::specs::OwnEvents::say, crate::specs::Chains::steps))]
 pub fn may_say(tables: &Tables) -> Result<(), Refusal>
     ensures rule { (to : ℕ) (bytes : Bytes) → said result to bytes ≡ told (say tables.now to bytes) }
@@ -51,7 +51,7 @@ pub fn may_say(tables: &Tables) -> Result<(), Refusal>
     Ok(())
 }
 
-/// Returns what says application data to a short address: a data frame, without APS security.
+/// Returns application data to a short address as a data frame, without APS security.
 pub fn sending_data(to: Short, bytes: Payload) -> Option<Sending>
     ensures { result ≡ Some (record { to = to; secured = true; body = SayingBody bytes }) }
 {
@@ -61,7 +61,7 @@ pub fn sending_data(to: Short, bytes: Payload) -> Option<Sending>
 /// Sends application data to a short address, as a data frame without APS security.
 ///
 /// # Errors
-/// Those of `may_say`.
+/// The errors of `may_say`.
 pub fn say(tables: &Tables, to: Short, bytes: Payload) -> Result<Effect, Refusal>
     ensures rule { decided result ≡ told (say tables.now to.0 bytes.items) }
     ensures keeps { Keeps Event result }

@@ -5,3 +5,5 @@ pub mod Judge
 pub mod Reading
 pub mod Views
 pub mod SoFar
+pub use Rattle.zb_event.specs.Resolving
+pub use Rattle.zb_event.specs.declared.resolving.Unresolved

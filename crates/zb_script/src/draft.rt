@@ -29,6 +29,7 @@ use zb_base::{
     Config, Eui, List, MOST_IN_BLOCK, MOST_NODES, MOST_OUT_BLOCK, MOST_STEPS, Name, OrMemory, Peer,
     RECORD_ROOM, Role, Short,
 };
+use zb_event::Names;
 use zb_install::InstallCode;
 use zb_keys::Tables;
 
@@ -413,5 +414,19 @@ impl Draft {
             config,
             steps: List::from_vec(steps),
         }
+    }
+}
+
+impl Names for Draft {
+    ghost device = { λ s name. device_named name s.stations };
+
+    ghost parent = { λ s name. parent_named name s.stations };
+
+    fn find_device(&self, name: &Name) -> Option<Eui> {
+        self.device_named(name)
+    }
+
+    fn find_parent(&self, name: &Name) -> Option<Eui> {
+        self.parent_named(name)
     }
 }

@@ -18,3 +18,4 @@ pub use error::{ScriptCause, ScriptError};
 pub use line::{Line, read_line};
 pub use reader::read;
 pub use script::{Order, Script, Step};
+pub use zb_event::{Said, Unresolved, resolve};

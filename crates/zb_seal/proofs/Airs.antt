@@ -1,4 +1,4 @@
--- Bytes on the air and the term that they are of.
+-- Bytes on the air and their term.
 use Rattle.std.proofs.Common.{◌≡◌, ℕ, ◌-◌, ◌/◌, ◌%◌, ◌<◌, ◌^◌, true, leb, List, [], ◌∷◌, ◌++◌, length, Option, Some, Result, Ok, refl, sym, ap, ◌∙◌, append_assoc, arith, length-append}
 use Rattle.std.specs.Prelude.{◌==◌}
 use Rattle.std.proofs.lemmas.Bool.{le-leb}
@@ -56,7 +56,7 @@ wire_is t hd tl c size at is header =
 regroup : (hd au body mic : List ℕ) → (hd ++ au) ++ body ++ mic ≡ hd ++ ((au ++ body) ++ mic)
 regroup hd au body mic = simp append_assoc
 
--- bytes that are sealed so are those of the term up to the level bits
+-- bytes that are sealed in this way are those of the term, except for the level bits
 pub wire_same : (bytes hd tl body mic : List ℕ) (c size : ℕ) (t : Term) → aux_size t.layer t.control ≡ size → size
     ≡ length (c ∷ tl) → bytes ≡ hd ++ (((c ∷ tl) ++ body) ++ mic)
     → t.header.items ≡ hd ++ (real_level c ∷ tl) → (sealed_term (sealing_key t.label t.base.0) t).text ≡ body
@@ -83,7 +83,7 @@ unplace change (y ∷ hd) tl (b ∷ bytes) x e =
     let t = unplace change hd tl bytes x inner in
     (t.0, ap (λ (l : List ℕ). b ∷ l) t.1 ∙ ap (λ (n : ℕ). n ∷ (hd ++ (t.0 ∷ tl))) first, t.2)
 
--- bytes that are those of a term up to the level bits
+-- bytes that are those of a term, except for the level bits
 pub unwire : (bytes hd tl : List ℕ) (c size : ℕ) (t : Term) → aux_size t.layer t.control ≡ size → size
     ≡ length (c ∷ tl) → t.header.items ≡ hd ++ (c ∷ tl)
     → at_place zero_level (length t.header.items - size) bytes ≡ wire t
@@ -129,7 +129,7 @@ opened_again t own given source sixteen =
           t.content.items 4 sixteen (omega arith),
     ) refl
 
--- an envelope is that of a term where each of its fields is
+-- an envelope is that of a term if each of its fields is
 pub envelope_is : (t : Term) (own : Option Eui) (s : Sealed) (layer : Layer) (label : Label) (counter control : ℕ)
     (header : List ℕ) → t.layer ≡ layer → t.label ≡ label → t.counter ≡ counter → t.control ≡ control → t.header.items
     ≡ header
@@ -148,7 +148,7 @@ envelope_is t own s layer label counter control header p q r u v = rw (← p, �
 pub term_ok_is : (t u : Term) → done t ≡ done u → t ≡ u
 term_ok_is t u same = cc
 
--- the bytes on the air of a term have its level bits cleared
+-- the bytes on the air of a term, which have their level bits cleared
 pub wire_twice : (t : Term) (hd tl : List ℕ) (c size : ℕ) → aux_size t.layer t.control ≡ size → size ≡ length (c ∷ tl)
     → t.header.items ≡ hd ++ (c ∷ tl) → at_place zero_level (length t.header.items - size) (wire t) ≡ wire t
 wire_twice t hd tl c size at is header =

@@ -1,4 +1,4 @@
--- An APS frame opens to a term exactly where its bytes are those of the term up to the level bits.
+-- An APS frame opens to a term exactly if its bytes are those of the term, except for the level bits.
 use Rattle.std.proofs.Common.{◌≡◌, ℕ, ◌-◌, ◌≤◌, List, ◌++◌, length, Option, Some, None, Result, Ok, Err, refl, sym, ap, subst, ◌∙◌, arith}
 use Rattle.std.specs.Prelude.{is_some, IfSome}
 use Rattle.std.specs.Int.{w32}

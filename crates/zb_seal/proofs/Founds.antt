@@ -1,4 +1,4 @@
--- What a call answers is what the bytes open to.
+-- The result of a call is what the bytes open to.
 use Rattle.std.proofs.Common.{◌≡◌, ℕ, List, length, Option, Result, Ok, Err, sym}
 use Rattle.std.specs.Prelude.{IfOk}
 use Rattle.zb_base.specs.declared.address.Eui.{Eui}

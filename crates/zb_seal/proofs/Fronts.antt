@@ -1,4 +1,4 @@
--- The prefix of a frame up to its body, with the level that counts, is what is authenticated.
+-- The prefix of a frame up to its body, with the actual level, is what is authenticated.
 use Rattle.std.proofs.Common.{◌≡◌, ℕ, ◌+◌, ◌-◌, List, ◌∷◌, ◌++◌, length, take, Option, Some, None, refl, sym, ap, ◌∙◌, append_assoc, arith, length-append}
 use Rattle.std.specs.Int.{w32}
 use Rattle.std.proofs.lemmas.List.{take_at}
@@ -19,7 +19,7 @@ use Rattle.zb_seal.proofs.Places.{at_place-append}
 regroup : (hd au body mic : List ℕ) → hd ++ ((au ++ body) ++ mic) ≡ (hd ++ au) ++ (body ++ mic)
 regroup hd au body mic = simp append_assoc
 
--- how long the parts are together
+-- the total length of the parts
 pub parts_length : (hd au body mic bytes : List ℕ) → bytes ≡ hd ++ ((au ++ body) ++ mic) → length mic ≡ 4
     → length bytes ≡ length hd + length au + length body + 4
 parts_length hd au body mic bytes parts four =

@@ -1,4 +1,4 @@
--- Keys that are derived have 16 bytes, a MIC has the length that is asked for, and how long a term is on the air.
+-- Derived keys have 16 bytes, a MIC has the length that is asked for, and how long a term is on the air.
 use Rattle.std.proofs.Common.{◌≡◌, ℕ, zero, suc, ◌+◌, ◌-◌, ◌*◌, ◌/◌, ◌≤◌, Bool, true, false, cond, List, [], ◌∷◌, ◌++◌, length, take, drop, map, replicate, nat_le, refl, ap, ◌∙◌, arith, length-append, length-take, length-drop}
 use Rattle.std.specs.List.{fold, range_with_len}
 use Rattle.zb_base.specs.declared.label.Label.{Label}

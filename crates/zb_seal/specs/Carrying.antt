@@ -19,7 +19,8 @@ key_in (Ok (TransportApplication key partner initiator)) = Some key
 key_in (Ok (TransportLink key destination source)) = Some key
 key_in _ = None
 
--- the two low bits of a frame control are 1 for a command, at NWK (05-3474-21, 3.3.1.1.1) as at APS (2.2.5.1.1.1)
+-- the two low bits of a frame control are 1 for a command, both at NWK (05-3474-21, 3.3.1.1.1) and at APS
+-- (2.2.5.1.1.1)
 abbrev pub is_command : ℕ → Bool
 is_command control = control % 4 == 1
 
@@ -39,8 +40,8 @@ abbrev pub carried_at : Layer → List ℕ → List ℕ → Option Key
 carried_at Aps header content = if is_command_header header then key_in (command_of content) else None
 carried_at Nwk header content = clear_key (frame_of content)
 
--- The key that a term carries. An APS term carries one where its header is that of a command and its content is a
--- Transport-Key. An NWK term does where its content is a whole APS command without APS security that is a
+-- The key that a term carries. An APS term carries one if its header is of a command and its content is a
+-- Transport-Key. A NWK term carries one if its content is a whole APS command without APS security that is a
 -- Transport-Key.
 unfoldable pub carried : Term → Option Key
 carried term = carried_at term.layer term.header.items term.content.items

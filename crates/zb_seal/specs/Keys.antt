@@ -1,4 +1,4 @@
--- From a base key to the keys that seal.
+-- The sealing keys of a base key.
 use Rattle.std.specs.Prelude.{ℕ, List}
 use Rattle.zb_base.specs.declared.label.Label.{Label}
 use Rattle.zb_base.specs.declared.label.Label.TheVariants.{Data, Network, Transport, Load}

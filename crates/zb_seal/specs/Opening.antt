@@ -1,4 +1,4 @@
--- What a frame says of itself before any key is tried, and what it opens to.
+-- What a frame shows before any key is tried, and what it opens to.
 use Rattle.std.specs.Prelude.{◌≡◌, ℕ, ◌-◌, ◌%◌, ◌≤◌, true, List, ◌++◌, length, Option, Some, None, Result, Ok, Err, ◌==◌, if◌then◌else◌}
 use Rattle.zb_base.specs.declared.address.Eui.{Eui}
 use Rattle.zb_base.specs.declared.key.Key.{Key}
@@ -34,7 +34,7 @@ use Rattle.zb_base.specs.Limits.{longest_frame}
 abbrev pub label_of : ℕ → Label
 label_of id = if id == 0 then Data else if id == 1 then Network else if id == 2 then Transport else Load
 
--- an auxiliary header with the level that counts
+-- an auxiliary header with the actual level
 abbrev pub leveled_nwk : NwkAux → NwkAux
 leveled_nwk a = record a { control = real_level a.control }
 
@@ -58,7 +58,7 @@ abbrev pub nwk_envelope : NwkFrame → Option NwkAux → Result Envelope OpenErr
 nwk_envelope f None = Err NotSecured
 nwk_envelope f (Some a) = Ok (nwk_layer f a)
 
--- the same, with how the frame is addressed and which network key seals it
+-- the same, with the addresses of the frame and the network key that seals it
 abbrev pub nwk_closed : NwkFrame → Option NwkAux → Result NwkEnvelope OpenError
 nwk_closed f None = Err NotSecured
 nwk_closed f (Some a) =
@@ -73,7 +73,7 @@ abbrev pub nwk_seen : Result NwkFrame NwkError → Result Envelope OpenError
 nwk_seen (Err e) = Err (Frame (Some e) None)
 nwk_seen (Ok f) = nwk_envelope f f.aux
 
--- what a NWK frame says of itself
+-- what a NWK frame shows
 unfoldable pub seen_nwk : List ℕ → Result Envelope OpenError
 seen_nwk bytes = nwk_seen (nwk_reading.frame_of bytes)
 
@@ -99,16 +99,16 @@ abbrev pub aps_seen : Result ApsFrame ApsError → Result Envelope OpenError
 aps_seen (Err e) = Err (Frame None (Some e))
 aps_seen (Ok f) = aps_envelope f f.aux
 
--- what an APS frame says of itself
+-- what an APS frame shows
 unfoldable pub seen_aps : List ℕ → Result Envelope OpenError
 seen_aps bytes = aps_seen (aps_reading.frame_of bytes)
 
--- the source that stands in the frame, else the one that is given
+-- the source in the frame, or else the given one
 abbrev pub source_of : Option Eui → Option Eui → Option Eui
 source_of (Some source) given = Some source
 source_of None given = given
 
--- the term of an envelope whose text is the content
+-- the term of an envelope with the text as the content
 abbrev pub term_of : Envelope → Key → Eui → Term
 term_of s base source = record {
   layer = s.layer;
@@ -141,16 +141,16 @@ abbrev pub opened_seen : Result Envelope OpenError → Key → Option Eui → Re
 opened_seen (Err e) base given = Err e
 opened_seen (Ok s) base given = opened s base given
 
--- What a NWK frame opens to, or the first of its faults: no frame, not secured, a MIC that is not the content's.
+-- What a NWK frame opens to, or the first of its faults: not a frame, not secured, a MIC that isn't the content's.
 unfoldable pub opened_nwk : List ℕ → Key → Result Term OpenError
 opened_nwk bytes base = opened_seen (seen_nwk bytes) base None
 
--- The same of an APS frame, which may leave its source out.
+-- The same for an APS frame, which may leave its source out.
 unfoldable pub opened_aps : List ℕ → Key → Option Eui → Result Term OpenError
 opened_aps bytes base given = opened_seen (seen_aps bytes) base given
 
--- The term is of a NWK frame: its header is that of a secured frame with the level that counts, and the term says what
--- the header says.
+-- The term is of a NWK frame: its header is of a secured frame with the actual level, and the fields of the term agree
+-- with the header.
 pub record IsNwkTerm (t : Term) (h : NwkHeader) (a : NwkAux) : Type 0 where
   pub shaped : nwk_shape.IsHeader h
   pub in_range : nwk_shape.HeaderInRange h
@@ -165,7 +165,7 @@ pub record IsNwkTerm (t : Term) (h : NwkHeader) (a : NwkAux) : Type 0 where
   pub control : t.control ≡ a.control
   pub header : t.header.items ≡ nwk.header h ++ nwk.aux a
 
--- The bytes open to the term under the base key: they are its bytes on the air, up to the level bits.
+-- The bytes open to the term under the base key: they are its bytes on the air, except for the level bits.
 pub record OpensNwk (bytes : List ℕ) (base : Key) (t : Term) : Type 0 where
   pub header : NwkHeader
   pub aux : NwkAux

@@ -10,8 +10,8 @@ use Rattle.zb_ccm.specs.Ccm.{Sealed, sealed}
 use Rattle.zb_seal.specs.Keys.{sealing_key}
 use Rattle.zb_seal.specs.declared.term.Term.{Term}
 
--- The low three bits of a control byte are the level: 000 on the air, and 5 (encryption and a MIC of 4 bytes) where it
--- counts.
+-- The low three bits of a control byte are the level: 000 on the air; for the nonce and the MIC it is 5 (encryption
+-- and a MIC of 4 bytes).
 abbrev pub zero_level : ℕ → ℕ
 zero_level control = control / 8 * 8
 
@@ -28,13 +28,13 @@ at_place change place [] = []
 at_place change zero (x ∷ xs) = change x ∷ xs
 at_place change (suc place) (x ∷ xs) = x ∷ at_place change place xs
 
--- How far before the header's end its auxiliary control byte stands: 14 at NWK, and at APS 13 with the extended nonce
--- (bit 5), else 5.
+-- How far before the header's end its auxiliary control byte is: 14 at NWK; at APS 13 with the extended nonce (bit 5),
+-- else 5.
 abbrev pub aux_size : Layer → ℕ → ℕ
 aux_size Nwk control = 14
 aux_size Aps control = if bit control 5 then 13 else 5
 
--- A header as it stands on the air. One that is too short for an auxiliary header stays as it is.
+-- A header as it is on the air. One that is too short for an auxiliary header isn't changed.
 abbrev pub on_air : ℕ → List ℕ → List ℕ
 on_air size header = if nat_le size (length header) then at_place zero_level (length header - size) header else header
 
@@ -49,7 +49,7 @@ wire_under key t = on_air (aux_size t.layer t.control) t.header.items ++ (sealed
 abbrev pub wire : Term → List ℕ
 wire t = wire_under (sealing_key t.label t.base.0) t
 
--- How many bytes a term has on the air: neither the level bits nor the cipher change a length, and the MIC has 4
+-- How many bytes a term has on the air: neither the level bits nor the cipher changes a length, and the MIC has 4
 -- bytes.
 abbrev pub wire_length : Term → ℕ
 wire_length t = length t.header.items + length t.content.items + 4

@@ -1,4 +1,4 @@
-//! The key in what was sealed, and in what was heard in clear.
+//! The key in a sealed term, and in an unsecured frame that was heard.
 ghost use Rattle.std.specs.Prelude.{◌≡◌, ◌≤◌, length};
 ghost use Rattle.zb_aps.specs.Reading.{frame_of};
 ghost use Rattle.zb_cmd.specs.Reading.{command_of};
@@ -13,7 +13,7 @@ use zb_cmd::{Command, read_command};
 /// Returns the key that a term carries, if any (05-3474-21, 4.4.10.1).
 ///
 /// It is that of a Transport-Key which is the content of the term: sealed at the application support layer as a
-/// command, or standing in clear in a network frame.
+/// command, or in a network frame without APS security.
 #[tactic(auto, unfolding(crate::specs::Carrying::carried))]
 pub fn carried(term: &Term) -> Option<Key>
     ensures { result ≡ carried term.now }
@@ -30,7 +30,7 @@ pub fn carried(term: &Term) -> Option<Key>
     }
 }
 
-/// Returns whether a header is that of an APS command.
+/// Returns whether a header is of an APS command.
 fn is_command_header(header: &[u8]) -> bool
     ensures { result ≡ is_command_header header.now }
 {
@@ -40,7 +40,7 @@ fn is_command_header(header: &[u8]) -> bool
     }
 }
 
-/// Returns whether an APS or NWK frame control is that of a command: its two low bits are 1.
+/// Returns whether an APS or NWK frame control is of a command: its two low bits are 1.
 pub fn is_command(control: u16) -> bool
     ensures { result ≡ is_command control }
 {

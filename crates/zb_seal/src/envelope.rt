@@ -1,4 +1,4 @@
-//! What a secured frame says of itself before any key is tried, and opening it.
+//! What a secured frame shows before any key is tried, and opening it.
 ghost use Rattle.std.specs.Prelude.{◌≡◌, Some, None, Err, OnOk, OnErr};
 ghost use Rattle.zb_seal.specs.declared.envelope.OpenError.TheVariants.{BadMic};
 ghost use Rattle.zb_ccm.specs.Ccm.{opens};
@@ -14,10 +14,10 @@ use zb_aps::ApsError;
 use zb_base::{Eui, Frame, Key, Label, Layer, Short};
 use zb_nwk::NwkError;
 
-/// Why a frame does not open, in the order in which it is judged.
+/// Why a frame doesn't open, in the order of the checks.
 #[derive(Clone, Copy, Debug, PartialEq, Eq)]
 pub enum OpenError {
-    /// The bytes are no frame. One of both faults is there: that of the reader that was used.
+    /// The bytes aren't a frame. One of the two faults is present: that of the reader that was used.
     Frame {
         /// The fault of the reader of NWK frames.
         nwk: Option<NwkError>,
@@ -26,9 +26,9 @@ pub enum OpenError {
     },
     /// The frame is not secured.
     NotSecured,
-    /// The frame names no source, and none was given.
+    /// The frame has no source, and none was given.
     NoSource,
-    /// The MIC is not that of a content under this key.
+    /// The MIC isn't that of a content under this key.
     BadMic,
 }
 
@@ -69,20 +69,20 @@ fn open_frame(
     }
 }
 
-/// A secured layer of a frame, closed: all but the key and the content.
+/// A closed secured layer of a frame: everything except the key and the content.
 #[derive(Debug, Drop, PartialEq, Eq)]
 pub struct Envelope {
     /// The layer that is secured.
     pub layer: Layer,
-    /// Which key of a base key seals it.
+    /// The label: which key derived from a base key seals it.
     pub label: Label,
-    /// The source in the auxiliary header, which only an APS frame may leave out.
+    /// The source in the auxiliary header. Only an APS frame may leave it out.
     pub source: Option<Eui>,
     /// The frame counter of the auxiliary header.
     pub counter: u32,
-    /// The auxiliary control byte with the real level.
+    /// The auxiliary control byte with the actual level.
     pub control: u8,
-    /// What is authenticated: the header with its auxiliary header and the real level.
+    /// What is authenticated: the header with its auxiliary header and the actual level.
     pub header: Frame,
     /// The cipher text.
     pub text: Frame,
@@ -90,7 +90,7 @@ pub struct Envelope {
     pub mic: [u8; 4],
 }
 
-/// A secured NWK frame, closed: how it is addressed, which network key seals it, and its envelope.
+/// A closed secured NWK frame: its addresses, which network key seals it, and its envelope.
 #[derive(Debug, Drop, PartialEq, Eq)]
 pub struct NwkEnvelope {
     /// The short address that the frame goes to.
@@ -108,8 +108,8 @@ impl Envelope {
     ///
     /// # Errors
     ///
-    /// `BadMic` where the MIC is not that of a content under this key and source. Then all stays as it was, for the
-    /// next key.
+    /// `BadMic` if the MIC isn't that of a content under this key and source. Then nothing changes, so that the next
+    /// key can be tried.
     pub fn unseal(&mut self, cipher: &Cipher, source: Eui) -> Result<(), OpenError>
         ensures opened { OnOk result (content_of self.old cipher.now source ≡ Some self.new.text.items) }
         ensures refused { OnErr result (content_of self.old cipher.now source ≡ None) }
@@ -122,7 +122,7 @@ impl Envelope {
         Ok(())
     }
 
-    /// Returns the source in the frame, else the one that is given.
+    /// Returns the source in the frame, or else the given one.
     pub fn source_or(&self, given: Option<Eui>) -> Option<Eui>
         ensures { result ≡ source_of self.now.source given }
     {
@@ -149,11 +149,11 @@ impl Envelope {
     }
 
     /// Opens the envelope under a base key. Requires its sealing key for the label, which was expanded before. `given`
-    /// is the source where the frame names none.
+    /// is the source if the frame has none.
     ///
     /// # Errors
     ///
-    /// `NoSource` where the source is not known, then `BadMic` where the MIC is not that of a content.
+    /// `NoSource` if the source isn't known, then `BadMic` if the MIC isn't that of a content.
     #[tactic(auto, unfolding(crate::specs::Opening::opened))]
     pub fn open_with(
         self,

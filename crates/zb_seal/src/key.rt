@@ -1,4 +1,4 @@
-//! From a base key to the keys that seal, the level bits, and the nonce.
+//! The sealing keys of a base key, the level bits, and the nonce.
 ghost use Rattle.std.specs.Prelude.{◌≡◌, ℕ, ◌+◌, ◌*◌, ◌/◌, length};
 ghost use Rattle.zb_seal.specs.Keys.{sealing_key as key_of};
 ghost use Rattle.zb_seal.specs.Wire.{zero_level as cleared, real_level as restored, nonce as nonce_of};
@@ -25,7 +25,7 @@ pub fn zero_level(control: u8) -> u8
     control / 8 * 8
 }
 
-/// Returns a control byte as it counts, with level 5.
+/// Returns a control byte with the actual level, 5.
 pub fn real_level(control: u8) -> u8
     ensures { result ≡ restored control }
 {

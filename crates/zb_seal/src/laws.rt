@@ -1,4 +1,4 @@
-//! Laws of sealing and opening: they undo each other. Each function here says laws and does nothing.
+//! Laws of sealing and opening: they undo each other. Each function here states laws and has an empty body.
 ghost use Rattle.std.specs.Prelude.{◌≡◌, ◌-◌, ◌≤◌, ℕ, List, length, Option, Some, Ok};
 ghost use Rattle.zb_base.specs.declared.address.Eui.{Eui};
 ghost use Rattle.zb_base.specs.declared.key.Key.{Key};
@@ -14,7 +14,7 @@ ghost use Rattle.zb_base.specs.Limits.{longest_frame};
 
 /// States that `wire` and the calls that open undo each other.
 pub fn wire_and_open()
-    // The bytes of a term open to it, under its base key, and at APS with its source where the header has none.
+    // The bytes of a term open to it, under its base key, and at APS with its source if the header has none.
     ensures nwk_opens { (t : Term) (h : NwkHeader) (a : NwkAux) → IsNwkTerm t h a → length t.base.0 ≡ 16
         → length (wire t) ≤ longest_frame → opened_nwk (wire t) t.base ≡ Ok t }
     ensures aps_opens { (t : Term) (h : ApsHeader) (a : ApsAux) (given : Option Eui) → IsApsTerm t h a

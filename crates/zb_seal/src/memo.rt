@@ -1,4 +1,4 @@
-//! Sealing keys that were derived and expanded before, so that no frame expands a key again.
+//! Sealing keys that were derived and expanded before, so that they aren't expanded again for each frame.
 ghost use Rattle.std.specs.Prelude.{◌≡◌, ◌<◌, Err, IfOk, IfSome, None, OnErr, OnOk, Some, length};
 ghost use Rattle.zb_seal.specs.Keys.{sealing_key as key_of};
 ghost use Rattle.zb_seal.specs.Opening.{content_of, opened};
@@ -15,7 +15,7 @@ use zb_aes::Cipher;
 use zb_base::{Eui, Frame, Key, Label};
 use zb_cursor::TooLong;
 
-/// A base key, a label, and the sealing key that comes of both, expanded once.
+/// A base key, a label, and the sealing key that results from both, expanded once.
 #[derive(Drop)]
 struct Expanded {
     base: Key,
@@ -27,14 +27,14 @@ struct Expanded {
 /// How many sealing keys a memo has at most.
 const KEYS: usize = 8;
 
-/// The sealing keys that were used last, expanded: at most 8.
+/// The last sealing keys that were added, expanded: at most 8.
 ///
-/// What it has changes no result: a key that it lacks is expanded for the one call. It takes memory where a key is
-/// kept. Out of memory it keeps none.
+/// Its content changes no result: a key that it lacks is expanded for the one call. It takes memory when a key is
+/// kept. If memory runs out, it keeps none.
 #[derive(Drop)]
 pub struct KeyMemo {
     keys: Vec<Expanded>,
-    // The place that the next one takes.
+    // The place that the next key takes.
     next: usize,
 }
 
@@ -47,7 +47,7 @@ impl KeyMemo {
         }
     }
 
-    /// Returns the sealing key that a label makes of a base key, if it was kept.
+    /// Returns the sealing key of a base key and a label, if it was kept.
     pub fn find(&self, label: Label, base: &Key) -> Option<&Cipher>
         ensures { IfSome result (λ cipher. cipher.now ≡ key_of label base.now.0) }
     {
@@ -61,7 +61,7 @@ impl KeyMemo {
 
     /// Derives and expands a sealing key, and keeps it.
     ///
-    /// Where there is no room, it takes the place of the one that came first.
+    /// If there is no room, it replaces the oldest one.
     pub fn keep(&mut self, label: Label, base: &Key) {
         if self.find(label, base).is_some() {
             return;
@@ -98,11 +98,11 @@ impl KeyMemo {
         }
     }
 
-    /// Opens an envelope under a base key. `given` is the source where the frame names none.
+    /// Opens an envelope under a base key. `given` is the source if the frame has none.
     ///
     /// # Errors
     ///
-    /// `NoSource` where the source is not known, then `BadMic` where the MIC is not that of a content.
+    /// `NoSource` if the source isn't known, then `BadMic` if the MIC isn't that of a content.
     #[tactic(auto, unfolding(crate::specs::Opening::opened))]
     pub fn open(&self, envelope: Envelope, key: &Key, given: Option<Eui>) -> Result<Term, OpenError>
         ensures { result ≡ opened envelope key.now given }
@@ -121,7 +121,7 @@ impl KeyMemo {
     ///
     /// # Errors
     ///
-    /// `TooLong` where its bytes on the air are more than 127.
+    /// `TooLong` if its bytes on the air are more than 127.
     pub fn wire(&self, term: &Term) -> Result<Frame, TooLong>
         ensures text { IfOk result (λ bytes. bytes.items ≡ wire term.now) }
         ensures long { OnErr result (longest_frame < wire_length term.now) }

@@ -1,4 +1,4 @@
-//! From the bytes on the air to a term, by way of an envelope.
+//! From the bytes on the air to an envelope, and then to a term.
 ghost use Rattle.std.specs.Prelude.{◌≡◌, ◌+◌, ◌-◌, ◌≤◌, ◌<◌, ◌++◌, length, take, IfOk, IfErr, IfSome, Some, None, Ok, Err};
 ghost use Rattle.zb_base.specs.declared.label.Label.TheVariants.{Network};
 ghost use Rattle.zb_nwk.specs.Shape.{Spells as SpellsNwk};
@@ -21,7 +21,7 @@ use zb_base::{Eui, Frame, Key, Label, Layer};
 use zb_cursor::frame_from;
 use zb_nwk::{NwkAux, NwkFrame};
 
-/// Changes the control byte at the place to the level that counts.
+/// Changes the control byte at the place to the actual level.
 fn restore_level(bytes: &mut [u8], place: usize)
     requires { place < length bytes.old }
     ensures { bytes.new ≡ at_place restored place bytes.old }
@@ -29,8 +29,8 @@ fn restore_level(bytes: &mut [u8], place: usize)
     bytes[place] = real_level(bytes[place]);
 }
 
-/// Returns what is authenticated: the start of the bytes up to the body, with the level that counts in the control
-/// byte that stands `size` bytes before its end.
+/// Returns what is authenticated: the start of the bytes up to the body, with the actual level in the control byte,
+/// which is `size` bytes before its end.
 fn authenticated(bytes: &[u8], body: usize, size: usize) -> Frame
     requires some { 0 < size }
     requires room { size + body + 4 ≤ length bytes.now }
@@ -52,13 +52,13 @@ fn nwk_header(bytes: &[u8], frame: &NwkFrame, aux: &NwkAux) -> Frame
     authenticated(bytes, frame.body.len(), 14)
 }
 
-/// Returns how a NWK frame is addressed, and what it says of itself before any key is tried.
+/// Returns the addresses of a NWK frame, and what it shows before any key is tried.
 ///
 /// Requires the bytes that the frame was read from.
 ///
 /// # Errors
 ///
-/// `NotSecured` where the frame is not secured.
+/// `NotSecured` if the frame is not secured.
 pub fn envelope_nwk(bytes: &[u8], frame: &NwkFrame) -> Result<NwkEnvelope, OpenError>
     requires { SpellsNwk bytes.now frame.now }
     ensures exact { result ≡ nwk_closed frame.now frame.now.aux }
@@ -87,11 +87,11 @@ pub fn envelope_nwk(bytes: &[u8], frame: &NwkFrame) -> Result<NwkEnvelope, OpenE
     }
 }
 
-/// Reads a NWK frame, and returns what it says of itself before any key is tried.
+/// Reads a NWK frame, and returns what it shows before any key is tried.
 ///
 /// # Errors
 ///
-/// `Frame` where the bytes are no NWK frame, then `NotSecured` where it is not secured.
+/// `Frame` if the bytes aren't a NWK frame, then `NotSecured` if it is not secured.
 #[tactic(auto, unfolding(crate::specs::Opening::seen_nwk))]
 pub fn look_nwk(bytes: &[u8]) -> Result<Envelope, OpenError>
     ensures exact { result ≡ seen_nwk bytes.now }
@@ -140,13 +140,13 @@ fn aps_header(bytes: &[u8], frame: &ApsFrame, aux: &ApsAux) -> Frame
     authenticated(bytes, frame.body.len(), aps_size(aux.source))
 }
 
-/// Returns what an APS frame says of itself before any key is tried.
+/// Returns what an APS frame shows before any key is tried.
 ///
 /// Requires the bytes that the frame was read from.
 ///
 /// # Errors
 ///
-/// `NotSecured` where the frame is not secured.
+/// `NotSecured` if the frame is not secured.
 pub fn envelope_aps(bytes: &[u8], frame: &ApsFrame) -> Result<Envelope, OpenError>
     requires { SpellsAps bytes.now frame.now }
     ensures exact { result ≡ envelope_of_aps frame.now frame.now.aux }
@@ -166,11 +166,11 @@ pub fn envelope_aps(bytes: &[u8], frame: &ApsFrame) -> Result<Envelope, OpenErro
     }
 }
 
-/// Reads an APS frame, and returns what it says of itself before any key is tried.
+/// Reads an APS frame, and returns what it shows before any key is tried.
 ///
 /// # Errors
 ///
-/// `Frame` where the bytes are no APS frame, then `NotSecured` where it is not secured.
+/// `Frame` if the bytes aren't an APS frame, then `NotSecured` if it is not secured.
 #[tactic(auto, unfolding(crate::specs::Opening::seen_aps))]
 pub fn look_aps(bytes: &[u8]) -> Result<Envelope, OpenError>
     ensures exact { result ≡ seen_aps bytes.now }
@@ -205,12 +205,12 @@ pub fn open_nwk_with(bytes: &[u8], key: &Key, cipher: &Cipher) -> Result<Term, O
 ///
 /// The first of these:
 ///
-/// - `Frame` where the bytes are no NWK frame
-/// - `NotSecured` where it is not secured
-/// - `BadMic` where its MIC is not that of a content under the key
+/// - `Frame` if the bytes aren't a NWK frame
+/// - `NotSecured` if it is not secured
+/// - `BadMic` if its MIC is not that of a content under the key
 pub fn open_nwk(bytes: &[u8], key: &Key) -> Result<Term, OpenError>
     ensures exact { result ≡ opened_nwk bytes.now key.now }
-    // What is returned is what the bytes open to, and what the bytes open to is returned.
+    // The bytes open to the term that is returned, and a term that they open to is returned.
     ensures found { IfOk result (λ t. OpensNwk bytes.now key.now t) }
     ensures only { (t : Term) → OpensNwk bytes.now key.now t → result ≡ Ok t }
 {
@@ -218,8 +218,8 @@ pub fn open_nwk(bytes: &[u8], key: &Key) -> Result<Term, OpenError>
     open_nwk_with(bytes, key, &Cipher::new(&key.0))
 }
 
-/// Opens an APS frame under a link key whose sealing keys were expanded before. `source` is the source where the frame
-/// names none.
+/// Opens an APS frame under a link key whose sealing keys were expanded before. `source` is the source if the frame
+/// has none.
 ///
 /// # Errors
 ///
@@ -248,19 +248,19 @@ fn open_aps_once(bytes: &[u8], base: &Key, source: Option<Eui>) -> Result<Term, 
     Ok(term)
 }
 
-/// Opens an APS frame under a link key. `source` is the source where the frame names none.
+/// Opens an APS frame under a link key. `source` is the source if the frame has none.
 ///
 /// # Errors
 ///
 /// The first of these:
 ///
-/// - `Frame` where the bytes are no APS frame
-/// - `NotSecured` where it is not secured
-/// - `NoSource` where its source is not known
-/// - `BadMic` where its MIC is not that of a content under the key
+/// - `Frame` if the bytes aren't an APS frame
+/// - `NotSecured` if it is not secured
+/// - `NoSource` if its source is not known
+/// - `BadMic` if its MIC is not that of a content under the key
 pub fn open_aps(bytes: &[u8], base: &Key, source: Option<Eui>) -> Result<Term, OpenError>
     ensures exact { result ≡ opened_aps bytes.now base.now source }
-    // What is returned is what the bytes open to, and what the bytes open to is returned.
+    // The bytes open to the term that is returned, and a term that they open to is returned.
     ensures found { IfOk result (λ t. OpensAps bytes.now base.now source t) }
     ensures only { (t : Term) → OpensAps bytes.now base.now source t → result ≡ Ok t }
 {

@@ -11,7 +11,7 @@ use zb_base::{Frame, Layer};
 use zb_ccm::seal_with;
 use zb_cursor::{TooLong, has_bit, put};
 
-/// Returns how far before the header's end its auxiliary control byte stands.
+/// Returns how far before the header's end its auxiliary control byte is.
 fn aux_size(layer: Layer, control: u8) -> usize
     ensures size { result ≡ size_of_aux layer control }
     ensures some { 5 ≤ result }
@@ -45,7 +45,7 @@ fn fill(out: &mut Frame, bytes: &[u8])
     let _ = put(out, bytes);
 }
 
-/// Fills an empty frame with the header with level bits 000, where it is long enough for an auxiliary header.
+/// Fills an empty frame with the header with level bits 000, if it is long enough for an auxiliary header.
 fn fill_on_air(out: &mut Frame, size: usize, header: &Frame)
     requires empty { out.old.items ≡ [] }
     requires size { 5 ≤ size }
@@ -58,7 +58,7 @@ fn fill_on_air(out: &mut Frame, size: usize, header: &Frame)
     }
 }
 
-/// Encrypts the content of a term, which `text` is, in place, and returns its MIC.
+/// Encrypts the content of a term in place, in `text`, and returns its MIC.
 fn seal_content(cipher: &Cipher, term: &Term, text: &mut Frame) -> [u8; 4]
     requires { text.old.items ≡ term.now.content.items }
     ensures text { text.new.items ≡ (sealed_term cipher.now term.now).text }
@@ -74,7 +74,7 @@ fn seal_content(cipher: &Cipher, term: &Term, text: &mut Frame) -> [u8; 4]
 ///
 /// # Errors
 ///
-/// `TooLong` where they are more than 127 bytes.
+/// `TooLong` if they are more than 127 bytes.
 pub fn wire_with(term: &Term, cipher: &Cipher) -> Result<Frame, TooLong>
     requires { cipher.now ≡ key_of term.now.label term.now.base.0 }
     ensures text { IfOk result (λ bytes. bytes.items ≡ wire_of term.now) }
@@ -98,7 +98,7 @@ pub fn wire_with(term: &Term, cipher: &Cipher) -> Result<Frame, TooLong>
 ///
 /// # Errors
 ///
-/// `TooLong` where they are more than 127 bytes.
+/// `TooLong` if they are more than 127 bytes.
 pub fn wire(term: &Term) -> Result<Frame, TooLong>
     ensures text { IfOk result (λ bytes. bytes.items ≡ wire_of term.now) }
     ensures fits { IfOk result (λ bytes. length (wire_of term.now) ≤ longest_frame) }

@@ -1,4 +1,4 @@
--- What is chosen among a few things reads as itself, and a word that reads as one of them is its text.
+-- What is chosen among a few things reads back as itself, and a word that reads as one of them is its text.
 use Rattle.std.proofs.Common.{◌≡◌, ℕ, List, [], ◌∷◌, Bool, true, false, Option, Some, None, refl, ap, ◌∙◌, bytes_eq}
 use Rattle.std.specs.Prelude.{if◌then◌else◌}
 use Rattle.std.proofs.lemmas.Slice.Eq.{bytes_eq-Decides}

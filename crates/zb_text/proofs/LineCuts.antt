@@ -19,6 +19,6 @@ last_line : (line : List ℕ) → (line ≡ [] → ⊥) → lines_of_parts (line
 last_line [] some = absurd (some refl)
 last_line (b ∷ bs) some = let here : (length (b ∷ bs) == 0) ≡ false = grind (arith, nat_tests) in rw here refl
 
--- without one, all that there is is a line, if there is anything
+-- without one, the whole text is a line, if it isn't empty
 pub lines_last : (text : List ℕ) → parts 10 text ≡ text ∷ [] → (length text ≡ 0 → ⊥) → lines text ≡ text ∷ []
 lines_last text e some = ap lines_of_parts e ∙ last_line text (λ h. some (ap (length {A = ℕ}) h))

@@ -13,7 +13,7 @@ pub digit_none : (number i : ℕ) (bs : List ℕ) → i < length bs → is_ascii
     → digits_after number (drop i bs) ≡ None
 digit_none number i bs within digit = rw (drop-cons bs i 0, digit) refl
 
--- more digits make no smaller number
+-- more digits don't make a number smaller
 over_digit : (digit : Bool) (limit : ℕ) (o : Option ℕ) → up_to limit o ≡ None
     → up_to limit (if digit then o else None) ≡ None
 over_digit true limit o h = h

@@ -35,7 +35,7 @@ digit_none x h g =
     let t : nat_lt (get_or VALUES x 0) 16 ≡ false = grind (arith, nat_tests) in
     rw t at (table_at x h)
 
--- What pairs of digits give after bytes that are known.
+-- What pairs of digits give after bytes that are already known.
 abbrev pub spelled_from : List ℕ → List ℕ → Option (List ℕ)
 spelled_from done [] = Some done
 spelled_from done (high ∷ []) = None

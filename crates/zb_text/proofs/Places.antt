@@ -1,4 +1,4 @@
--- The first place of a byte, as it is searched for.
+-- The first place of a byte, and the search for it.
 use Rattle.std.proofs.Common.{◌≡◌, ℕ, ◌<◌, ◌==◌, List, ◌+◌, ◌≤◌, length, get_or, not, zero-add, Bool, true, false, cond, Option, Some, None, refl, arith, ap, sym, ◌∙◌, nat_lt}
 use Rattle.std.specs.Prelude.{position}
 use Rattle.std.specs.List.{prefix_len}
@@ -33,7 +33,7 @@ first_place c xs (Some k) h =
     (λ j before. not_true _ (h.0.before j (omega arith) before)) (λ within. h.1) in
     sym (ap (place_of n) here ∙ ap (λ (b : Bool). cond b (Some k) None) (is_less k n h.0.high))
 
--- a place among the first 16 is the first of all
+-- a place found among the first 16 is the first of all
 pub near_place : (c : ℕ) (xs : List ℕ) (k : ℕ) → 0 + 16 ≤ length xs
     → k ≡ prefix_len (λ b. not (b == c)) (chunk 0 16 xs) → k < 16 → Some k ≡ position (λ b. b == c) xs
 near_place c xs k room counted few =

@@ -1,4 +1,4 @@
--- What is printed reads as itself.
+-- What is printed reads back as itself.
 use Rattle.std.proofs.Common.{◌≡◌, ℕ, ◌+◌, ◌*◌, ◌/◌, ◌%◌, ◌-◌, ◌^◌, ◌<◌, ◌≤◌, ◌==◌, ◌&&◌, ◌||◌, nat_le, nat_lt, List, [], ◌∷◌, ◌++◌, length, get_or, Bool, true, false, Option, Some, None, ◌⊎◌, inl, inr, refl, arith, lit<, ap, ◌∙◌, append_assoc, decimal, codes, bytes_eq, zero, suc}
 use Rattle.std.specs.Prelude.{if◌then◌else◌}
 use Rattle.std.specs.Char.{is_ascii_digit}
@@ -240,7 +240,7 @@ IsLine-words (word ∷ next ∷ more) fit =
 pub name_again : (name : List ℕ) → is_name name ≡ true → name_of name ≡ Some name
 name_again name h = rw h refl
 
--- ---- the same under names that a function's attribute can write
+-- ---- the same with names that a function's attribute can have
 
 pub ruleset lines_of_words = (IsLine-words)
 

@@ -1,5 +1,5 @@
--- The words for what is one of a few things: a role, a layer, a key identifier, an attribute, a state, a rollover, the
--- place of a refusal, an answer. A word is read where it is the text of one of them.
+-- The words for one of a few things: a role, a layer, a key identifier, an attribute, a state, a rollover, the place
+-- of a refusal, an answer. A word is read if it is the text of one of them.
 use Rattle.std.specs.Prelude.{◌≡◌, ℕ, List, [], ◌∷◌, codes, bytes_eq, Bool, true, false, if◌then◌else◌, Option, Some, None}
 use Rattle.zb_base.specs.declared.label.Label.{Label}
 use Rattle.zb_base.specs.declared.label.Label.TheVariants as label
@@ -17,7 +17,7 @@ use Rattle.zb_base.specs.declared.state.State.{State}
 use Rattle.zb_base.specs.declared.state.State.TheVariants as state
 use Rattle.zb_text.specs.Pages.{IsWord}
 
--- The first of some values whose text is that word.
+-- The first of some values whose text is this word.
 abbrev pub value_among : {X : Type 0} → (X → List ℕ) → List X → List ℕ → Option X
 value_among text [] word = None
 value_among text (x ∷ more) word = if bytes_eq word (text x) then Some x else value_among text more word
@@ -67,7 +67,7 @@ abbrev pub answer_text : Bool → List ℕ
 answer_text true = codes "yes"
 answer_text false = codes "no"
 
--- ---- all of each, in the order in which they are tried
+-- ---- all values of each, in the order in which they are tried
 
 abbrev pub roles : List Role
 roles = role.Centre ∷ role.Router ∷ role.Device ∷ []
@@ -120,9 +120,9 @@ place_of word = value_among place_text places word
 abbrev pub answer_of : List ℕ → Option Bool
 answer_of word = value_among answer_text answers word
 
--- ---- both ways
+-- ---- both directions
 
--- Each value's text is a word that reads as the value, and a word that reads as a value is its text.
+-- Each value's text is a word that reads back as the value, and a word that reads as a value is its text.
 pub record IsBothWays {X : Type 0} (text : X → List ℕ) (reading : List ℕ → Option X) : Type 0 where
   pub word : (x : X) → IsWord (text x)
   pub reads : (x : X) → reading (text x) ≡ Some x

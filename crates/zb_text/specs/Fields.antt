@@ -1,4 +1,4 @@
--- The words for what a network is made of: names, addresses and keys.
+-- The words for parts of a network: names, addresses and keys.
 use Rattle.std.specs.Prelude.{ℕ, ◌&&◌, ◌||◌, nat_le, List, length, Bool, if◌then◌else◌, Option, Some, None}
 use Rattle.std.specs.List.{list_all}
 use Rattle.std.specs.Char.{is_ascii_digit, is_ascii_lowercase}
@@ -7,7 +7,7 @@ use Rattle.std.specs.Option.{option_map}
 use Rattle.hex.specs.Hex.{encode_upper}
 use Rattle.zb_text.specs.Hexadecimal.{fixed_of}
 
--- Whether a byte may stand in a name: a to z and 0 to 9.
+-- Whether a byte may be part of a name: a to z and 0 to 9.
 abbrev pub is_name_byte : ℕ → Bool
 is_name_byte byte = is_ascii_lowercase byte || is_ascii_digit byte
 
@@ -15,7 +15,7 @@ is_name_byte byte = is_ascii_lowercase byte || is_ascii_digit byte
 abbrev pub is_name : List ℕ → Bool
 is_name word = nat_le 1 (length word) && nat_le (length word) 16 && list_all is_name_byte word
 
--- The name that a word is.
+-- A word as a name.
 abbrev pub name_of : List ℕ → Option (List ℕ)
 name_of word = if is_name word then Some word else None
 

@@ -1,10 +1,10 @@
--- Hexadecimal digits, in either case where they are read and in upper case where they are written.
+-- Hexadecimal digits: read in either case, written in upper case.
 use Rattle.std.specs.Prelude.{ℕ, ◌==◌, ◌+◌, ◌*◌, ◌/◌, nat_lt, List, [], ◌∷◌, length, codes, bytes_eq, if◌then◌else◌, Option, Some, None}
 use Rattle.std.specs.Option.{option_and_then}
 use Rattle.std.specs.Result.{result_ok}
 use Rattle.hex.specs.Hex.{decode_of, decode_sized, encode_upper, hex_digit_value}
 
--- The byte of two digits, the first of them for its high four bits.
+-- The byte of two digits, the first for its high four bits.
 abbrev pub byte_of_pair : ℕ → ℕ → Option ℕ
 byte_of_pair high low =
     option_and_then (λ h. option_and_then (λ l. Some (h * 16 + l)) (hex_digit_value low)) (hex_digit_value high)

@@ -8,8 +8,8 @@ use Rattle.zb_text.specs.declared.words.Words.{Words}
 abbrev pub parts : ℕ → List ℕ → List (List ℕ)
 parts separator text = slice_split (λ byte. byte == separator) text
 
--- The words of what is left of a line, which are separated by one space each. None is what is left after the last
--- word. An empty line has one word, which is empty.
+-- The words in the rest of a line, separated by one space each. None means that the last word was taken. An empty line
+-- has one word, which is empty.
 abbrev pub words : Option (List ℕ) → List (List ℕ)
 words None = []
 words (Some line) = parts 32 line
@@ -28,17 +28,17 @@ abbrev pub field : {X : Type 0} → (List ℕ → Option X) → List (List ℕ) 
 field meaning [] = None
 field meaning (word ∷ more) = option_map (λ x. (x, more)) (meaning word)
 
--- Nothing, where no word is left.
+-- The empty value, if no word is left.
 abbrev pub nothing : List (List ℕ) → Option Unit
 nothing [] = Some tt
 nothing (word ∷ more) = None
 
--- What a call answered, seen by `view`, and what it left are `expected`; it answered None where that is None.
+-- The result of a call, seen by `view`, and what it left are `expected`; the result is None if `expected` is None.
 abbrev pub Takes : {X Y : Type 0} → (X → Y) → Option X → List (List ℕ) → Option (Y × List (List ℕ)) → Type 0
 Takes view None after expected = expected ≡ None
 Takes view (Some x) after expected = expected ≡ Some (view x, after)
 
--- What a call answered, seen by `view`, is `expected`.
+-- The result of a call, seen by `view`, is `expected`.
 abbrev pub Shows : {X Y : Type 0} → (X → Y) → Option X → Option Y → Type 0
 Shows view None expected = expected ≡ None
 Shows view (Some x) expected = expected ≡ Some (view x)

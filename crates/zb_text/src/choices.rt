@@ -1,4 +1,4 @@
-//! The words for what is one of a few things, read and written: roles, layers, key identifiers, attributes, states,
+//! Reading and writing the words for one of a few things: roles, layers, key identifiers, attributes, states,
 //! rollovers, the places of refusals and answers.
 
 ghost use Rattle.std.specs.Prelude.{◌≡◌, codes};

@@ -1,4 +1,4 @@
-//! The words for what a network is made of: names, addresses and keys.
+//! The words for parts of a network: names, addresses and keys.
 
 ghost use Rattle.std.specs.Prelude.{◌≡◌, ◌<◌, ◌^◌, ◌++◌, length, OnOk, IfSome, IsTrue};
 ghost use Rattle.std.specs.List.{list_all};

@@ -21,7 +21,7 @@ pub fn fixed<const N: usize>(word: &[u8]) -> Option<[u8; N]>
     Some(bytes)
 }
 
-// States that bytes are below 256, as their type says.
+// States that bytes are below 256, because of their type.
 fn known_bytes(bytes: &[u8])
     ensures { IsBytes bytes.now }
 {}
@@ -60,7 +60,7 @@ fn pairs_of<const N: usize>(word: &[u8]) -> Option<ArrayVec<u8, N>>
     if rest.is_empty() { Some(found) } else { None }
 }
 
-/// The value of each digit, in either case, and 255 for each byte that is none.
+/// The value of each digit, in either case, and 255 for each byte that isn't a digit.
 static VALUES: [u8; 256] = [
     255, 255, 255, 255, 255, 255, 255, 255, 255, 255, 255, 255, 255, 255, 255, 255, 255, 255, 255,
     255, 255, 255, 255, 255, 255, 255, 255, 255, 255, 255, 255, 255, 255, 255, 255, 255, 255, 255,
@@ -88,7 +88,7 @@ fn digit(byte: u8) -> Option<u8>
     if value < 16 { Some(value) } else { None }
 }
 
-/// Returns the byte of two digits, the first of them for its high four bits.
+/// Returns the byte of two digits, the first for its high four bits.
 fn pair_value(high: u8, low: u8) -> Option<u8>
     ensures { result ≡ byte_of_pair high low }
 {
@@ -110,7 +110,7 @@ pub fn put_digits(out: &mut Vec<u8>, bytes: &[u8]) -> Result<(), AllocError>
     Ok(())
 }
 
-/// Prints the blocks of `N` bytes that a string of bytes begins with, and returns the bytes after them.
+/// Prints the blocks of `N` bytes at the start of a string of bytes, and returns the bytes after them.
 fn put_blocks<'a, const N: usize>(
     out: &mut Vec<u8>,
     bytes: &'a [u8],
@@ -154,7 +154,7 @@ fn pairs_of_block<const N: usize>(block: &[u8; N]) -> [[u8; 2]; N]
     pairs
 }
 
-/// The two digits of each byte, the first of them in the low eight bits.
+/// The two digits of each byte, the first in the low eight bits.
 static PAIRS: [u16; 256] = [
     0x3030, 0x3130, 0x3230, 0x3330, 0x3430, 0x3530, 0x3630, 0x3730, 0x3830, 0x3930, 0x4130, 0x4230,
     0x4330, 0x4430, 0x4530, 0x4630, 0x3031, 0x3131, 0x3231, 0x3331, 0x3431, 0x3531, 0x3631, 0x3731,
@@ -188,7 +188,7 @@ fn pair_of(byte: u8) -> [u8; 2]
     PAIRS[byte as usize].to_le_bytes()
 }
 
-/// Prints bytes in two digits each, byte by byte. It takes the room for all of them at once.
+/// Prints bytes in two digits each, byte by byte. It takes the room for all of them first.
 #[tactic(auto, using(crate::proofs::Digits::one_more_byte), unfolding(hex::specs::Hex::encode_with))]
 fn put_each(out: &mut Vec<u8>, bytes: &[u8]) -> Result<(), AllocError>
     ensures { OnOk result (out.new.items ≡ out.old.items ++ encode_upper bytes.now) }

@@ -1,5 +1,5 @@
-//! Texts in lines of words, as schedules, transcripts, captures and scripts are. Here are a reader of lines and words,
-//! the words that they share, and printers of these words.
+//! Texts in lines of words, for example schedules, transcripts, captures and scripts. The crate has a reader of lines
+//! and words, the words that these texts share, and printers of these words.
 //!
 //! A line ends with a line feed, and one carriage return before that is dropped; the last line may lack the line
 //! feed. Words are separated by one space.

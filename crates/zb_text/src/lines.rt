@@ -6,7 +6,7 @@ ghost use Rattle.zb_text.specs.Words.{first_of, Shows};
 
 use crate::words::cut;
 
-/// Takes the first line off a text. Returns the line without its end, and the text after it. None where nothing is
+/// Takes the first line off a text. Returns the line without its end, and the text after it, or None if nothing is
 /// left.
 #[tactic(auto, using(crate::proofs::LineCuts::lines_front, crate::proofs::LineCuts::lines_last))]
 pub fn next_line(text: &[u8]) -> Option<(&[u8], &[u8])>

@@ -1,5 +1,5 @@
-//! A page of text that is being printed: its first word, words after a space each, the ends of lines, and the way
-//! out into a sink. A page grows as its vector does, so no word costs an allocation of its own.
+//! A page of text that is being printed: its first word, words after a space each, the ends of lines, and the output
+//! into a sink. A page grows as its vector does, so words need no allocations of their own.
 
 ghost use Rattle.std.specs.Prelude.{◌≡◌, ◌∷◌, ◌++◌, [], decimal, OnOk, OnErr};
 ghost use Rattle.std.specs.Io.KnownBytes.{Appends};
@@ -116,10 +116,10 @@ pub fn add_bytes(out: &mut Vec<u8>, bytes: &[u8]) -> Result<(), AllocError>
     Ok(())
 }
 
-/// Hands a page out into a sink, and empties it.
+/// Writes a page into a sink, and empties it.
 ///
 /// # Errors
-/// `Failed` where the sink failed, which took a prefix of the page. The page is then as it was.
+/// `Failed` if the sink failed; it took a prefix of the page. The page then stays as it was.
 pub fn hand_out<W: Sink>(page: &mut Vec<u8>, out: &mut W) -> Result<(), Failed>
     ensures whole { OnOk result (Appends (W.taken out.old) (W.taken out.new) page.old.items × (page.new.items ≡ [])) }
     ensures front { OnErr result (AppendsFront (W.taken out.old) (W.taken out.new) page.old.items

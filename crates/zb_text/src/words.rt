@@ -33,7 +33,7 @@ impl<'a> Words<'a> {
         Words { rest: Some(line) }
     }
 
-    /// Takes the next word, or returns None where none is left.
+    /// Takes the next word, or returns None if none is left.
     pub fn word(&mut self) -> Option<&'a [u8]>
         ensures { Takes (λ word. word.now) result (left self.new) (first_of (left self.old)) }
     {
@@ -182,7 +182,7 @@ impl<'a> Words<'a> {
         Some(answer)
     }
 
-    /// Returns Some where no word is left.
+    /// Returns Some if no word is left.
     #[tactic(auto, using(crate::proofs::Cuts::parts_are_some))]
     pub fn end(&self) -> Option<()>
         ensures { result ≡ nothing (left self.now) }
@@ -194,7 +194,7 @@ impl<'a> Words<'a> {
     }
 }
 
-/// Returns what stands before the first separator, and what stands after it. None where there is no separator.
+/// Returns what is before the first separator, and what is after it, or None if there is no separator.
 #[inline(always)]
 #[tactic(auto, using(crate::proofs::Cuts::cut_none, crate::proofs::Cuts::cut_some))]
 pub(crate) fn cut(text: &[u8], separator: u8) -> Option<(&[u8], &[u8])>
@@ -219,7 +219,7 @@ fn place(text: &[u8], byte: u8) -> Option<usize>
     }
 }
 
-/// Returns the first place of a byte if it is among the first 16, as most words end there.
+/// Returns the first place of a byte if it is among the first 16, where most words end.
 #[tactic(auto, using(crate::proofs::Places::near_place))]
 fn near_place(text: &[u8], byte: u8) -> Option<usize>
     ensures { IfSome result (λ at. Some at ≡ position (λ other. other == byte) text.now) }
@@ -231,7 +231,7 @@ fn near_place(text: &[u8], byte: u8) -> Option<usize>
     if before < 16 { Some(before) } else { None }
 }
 
-/// Returns how many of the 16 bytes at a place come before the first that is some byte: all 16 where none is.
+/// Returns how many of the 16 bytes at a place come before the first one that equals some byte; 16 if none does.
 fn others_before(text: &[u8], at: usize, byte: u8) -> usize
     requires { at + 16 ≤ length text.now }
     ensures { result ≡ prefix_len (λ other. not (other == byte)) (chunk at 16 text.now) }

@@ -5,3 +5,4 @@ pub mod Words
 pub mod Lines
 pub mod Fixed
 pub mod Says
+pub mod AnswerLaws

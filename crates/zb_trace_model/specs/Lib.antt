@@ -1,3 +1,4 @@
 pub mod Parts
 pub mod Naming
 pub mod Said
+pub mod AnswerLines

@@ -5,9 +5,11 @@
 //! other; `making` makes the program's lines, each with what it is in the model.
 #![tactic(auto)]
 
+mod answer;
 mod laws;
 mod making;
 
+pub use answer::{Group, Teller, tell_answer, tell_stored};
 pub use laws::{
     a_text_fixes_its_lines, each_line_is_said, names_lead_to_their_nodes, texts_follow_each_other,
 };

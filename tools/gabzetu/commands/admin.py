@@ -1,7 +1,9 @@
 """gabzetu admin: carries out a script on a centre's store in a file."""
+import argparse
 import os
 import sys
 import tempfile
+from typing import Any, Optional
 
 from .. import program, told
 from ..errors import UNWRITABLE, Stop, reason_of
@@ -16,7 +18,7 @@ DESCRIPTION = """Carries out the commands of a script on the store in the file S
 
 Each line comes out when what its command changed is stored. So OUT is written line by line, and keeps what came out
 also where a later command fails. A new STORE and OUT hold keys: only their owner may read them. tc locks STORE while
-it runs. A second run at the same time ends with `store fault` and changes nothing."""
+it runs. A second run at the same time ends with `busy` and changes nothing."""
 
 KINDS = (b'net ', b'link ', b'send ', b'ok ', b'refuse ', b'{')
 WARNING = b'tc: others may read or write '
@@ -25,7 +27,7 @@ STORE_FAULT = 7
 RUN_AGAIN = 'Look at the disk and run it again: it goes on from what is on the disk.'
 
 
-def add_arguments(parser):
+def add_arguments(parser: argparse.ArgumentParser) -> None:
     """Adds the words of the command."""
     parser.add_argument(
         'store', metavar='STORE', help='the file of the store; where there is none, `init` or `restore` makes it'
@@ -37,12 +39,12 @@ def add_arguments(parser):
 class Lines:
     """Hands on each line as it comes. OUT is opened at the first line, so a refused script leaves it as it was."""
 
-    def __init__(self, path, is_json):
+    def __init__(self, path: Optional[str], is_json: bool) -> None:
         self.path = path
         self.is_json = is_json
         self.file = sys.stdout.buffer if path in (None, '-') else None
 
-    def hand_on(self, line):
+    def hand_on(self, line: bytes) -> None:
         """Writes a line of tc, as it is or as a JSON line."""
         try:
             if self.file is None:
@@ -56,13 +58,13 @@ class Lines:
                 f'{self.path or "standard output"}: cannot be written: {reason_of(error)}', UNWRITABLE
             ) from error
 
-    def close(self):
+    def close(self) -> None:
         """Closes OUT where it was opened."""
         if self.file not in (None, sys.stdout.buffer):
             self.file.close()
 
 
-def drop_cache(store):
+def drop_cache(store: str) -> None:
     """Drops what the system has cached of the store, so that tc reads what is on the disk.
 
     After a failed sync of an earlier process the cache can differ from the disk, and tc can't ask for this itself. A
@@ -83,7 +85,7 @@ def drop_cache(store):
             os.close(handle)
 
 
-def serve(store, given, lines):
+def serve(store: str, given: bytes, lines: Lines) -> Completed:
     """Runs the script, hands on what it writes, and returns the status and the line of a fault."""
     fault = b''
     with tempfile.TemporaryFile() as script, tempfile.TemporaryFile() as said:
@@ -100,14 +102,14 @@ def serve(store, given, lines):
     return Completed(process.returncode, fault)
 
 
-def hand_on_warnings(said):
+def hand_on_warnings(said: Any) -> None:
     """Says what tc warned of. Its other sentences are on statuses, for which the front end has its own."""
     for line in said:
         if line.startswith(WARNING):
             say(f'gabzetu: {printable(line.decode("utf-8", "replace").rstrip()[len("tc: "):])}')
 
 
-def why_not(store):
+def why_not(store: str) -> str:
     """Returns why no store can be served at a path, where the path shows that; else nothing."""
     folder = os.path.dirname(store) or '.'
     if not os.path.isdir(folder):
@@ -121,7 +123,7 @@ def why_not(store):
     return '' if os.access(store, os.R_OK | os.W_OK) else 'you may not read and write it'
 
 
-def run(arguments):
+def run(arguments: argparse.Namespace) -> int:
     """Runs the command, and returns the exit status."""
     keep_inputs([arguments.store, arguments.script], [arguments.output])
     given = read_for_tc(arguments.script)

@@ -1,9 +1,11 @@
 """gabzetu campaigns: any number of made runs, or a folder of captures, by GNU parallel."""
+import argparse
 import os
 import re
 import shlex
 import subprocess
 import sys
+from typing import List, Sequence, Tuple
 
 from .. import encoded
 from ..errors import MISSING, UNREADABLE, WRONG_USE, Stop, reason_of
@@ -38,7 +40,7 @@ PRIVATE = 0o077
 CAPTURES = (b'\xa1\xb2\xc3\xd4', b'\xd4\xc3\xb2\xa1', b'\xa1\xb2\x3c\x4d', b'\x4d\x3c\xb2\xa1', b'\n\r\r\n')
 
 
-def add_arguments(parser):
+def add_arguments(parser: argparse.ArgumentParser) -> None:
     """Adds the words of the command."""
     parser.add_argument('kind', choices=list(KINDS), help='what is done')
     parser.add_argument('words', metavar='WORD', nargs='+', help='the words of that kind, as above')
@@ -53,20 +55,20 @@ def add_arguments(parser):
     )
 
 
-def words_of(arguments, names):
+def words_of(arguments: argparse.Namespace, names: str) -> list:
     """Returns the words of a kind, those with a number as such. Stops where they are others."""
-    names = names.split()
-    if len(arguments.words) != len(names):
-        raise Stop(f'campaigns {arguments.kind} takes {" ".join(names)}', WRONG_USE)
+    wanted = names.split()
+    if len(arguments.words) != len(wanted):
+        raise Stop(f'campaigns {arguments.kind} takes {" ".join(wanted)}', WRONG_USE)
     wrong = [
-        word for name, word in zip(names, arguments.words) if name in NUMBERS and not re.fullmatch('[0-9]{1,10}', word)
+        word for name, word in zip(wanted, arguments.words) if name in NUMBERS and not re.fullmatch('[0-9]{1,10}', word)
     ]
     if wrong:
-        raise Stop(f'campaigns {arguments.kind} takes {" ".join(names)}, and {wrong[0]!r} is no number', WRONG_USE)
-    return [int(word) if name in NUMBERS else word for name, word in zip(names, arguments.words)]
+        raise Stop(f'campaigns {arguments.kind} takes {" ".join(wanted)}, and {wrong[0]!r} is no number', WRONG_USE)
+    return [int(word) if name in NUMBERS else word for name, word in zip(wanted, arguments.words)]
 
 
-def run(arguments):
+def run(arguments: argparse.Namespace) -> int:
     """Runs the command, and returns the exit status."""
     try:
         return KINDS[arguments.kind](arguments)
@@ -76,7 +78,7 @@ def run(arguments):
         raise Stop(f'an answer is not of the known form: {error}', UNREADABLE) from error
 
 
-def do_schedule(arguments):
+def do_schedule(arguments: argparse.Namespace) -> int:
     """Writes a made schedule."""
     start, count = words_of(arguments, 'START N')
     if start > MASK or not 1 <= count <= MOST:
@@ -85,13 +87,13 @@ def do_schedule(arguments):
     return 0
 
 
-def shares_of(count, start):
+def shares_of(count: int, start: int) -> List[Tuple[int, int]]:
     """Returns how many runs each call plays, and its start value. Its runs are numbered from 0, so their sizes are 1
     to 8 in turn."""
     return [(min(SHARE, count - done), start + done) for done in range(0, count, SHARE)]
 
 
-def check_work(results, words):
+def check_work(results: str, words: str) -> None:
     """Keeps what the folder is for, and stops where it was begun for something else."""
     os.makedirs(results, exist_ok=True)
     name = os.path.join(results, 'words')
@@ -103,13 +105,13 @@ def check_work(results, words):
             raise Stop(f'{results} was begun for other work: give another folder, or remove it', WRONG_USE)
 
 
-def options_of(arguments):
+def options_of(arguments: argparse.Namespace) -> List[str]:
     """Returns the options for parallel."""
     jobs = ['--jobs', arguments.jobs] if arguments.jobs else []
     return jobs + [word for words in arguments.parallel for word in shlex.split(words)]
 
 
-def call_all(results, options, command, columns):
+def call_all(results: str, options: List[str], command: str, columns: Sequence[tuple]) -> List[int]:
     """Has parallel make a call for each row of columns, and returns how each ended. What it writes comes into the
     file of the row's last column."""
     words = ['parallel', '--will-cite', '--joblog', f'{results}/jobs', '--resume-failed', '--colsep', BETWEEN]
@@ -122,7 +124,7 @@ def call_all(results, options, command, columns):
     return statuses_of(results, len(columns))
 
 
-def statuses_of(results, count):
+def statuses_of(results: str, count: int) -> List[int]:
     """Returns how each call ended by the log: by a status, or by a signal as 128 and its number. A later try
     counts."""
     statuses = {}
@@ -135,7 +137,7 @@ def statuses_of(results, count):
     return [statuses[number] for number in range(1, count + 1)]
 
 
-def read_campaign(name, count):
+def read_campaign(name: str, count: int) -> tuple:
     """Returns the three sums of a campaign's total, and the first of its runs that ended with `no`."""
     with open(name, encoding='ascii') as file:
         lines = [line.split() for line in file]
@@ -146,7 +148,7 @@ def read_campaign(name, count):
     return [int(word) for word in lines[-1][2:]], bad[0] if bad else None
 
 
-def name_run(results, runs, start, number):
+def name_run(results: str, runs: int, start: int, number: int) -> None:
     """Writes the schedule of a run, and says which one it is."""
     write_output(f'{results}/first.sched', ''.join(f'{line}\n' for line in made(start + number, 1 + number % 8)))
     print(
@@ -155,7 +157,7 @@ def name_run(results, runs, start, number):
     )
 
 
-def do_runs(arguments):
+def do_runs(arguments: argparse.Namespace) -> int:
     """Plays made schedules in calls of `tc campaign`, and adds up their totals."""
     count, start, results = words_of(arguments, 'COUNT START RESULTS')
     if count < 1 or start + count > LAST:
@@ -179,7 +181,7 @@ def do_runs(arguments):
     return 1 if first else 0
 
 
-def command_for(path):
+def command_for(path: str) -> str:
     """Returns the command that reads a file: `open` for a capture of packets, also one packed by gzip, else
     `inspect`."""
     with open(path, 'rb') as file:
@@ -187,7 +189,7 @@ def command_for(path):
     return 'open' if first in CAPTURES or first[:2] == b'\x1f\x8b' else 'inspect'
 
 
-def key_words(arguments):
+def key_words(arguments: argparse.Namespace) -> str:
     """Returns the words that give `open` the keys, as a shell takes them. They are tried first."""
     read_ring(arguments)
     words = [word for name in ('code', 'key') for value in getattr(arguments, name) for word in (f'--{name}', value)]
@@ -195,7 +197,7 @@ def key_words(arguments):
     return shlex.join(words)
 
 
-def do_captures(arguments):
+def do_captures(arguments: argparse.Namespace) -> int:
     """Opens each file of a folder, and adds up what was found."""
     given, results = words_of(arguments, 'FOLDER RESULTS')
     folder = os.path.abspath(given)
@@ -215,7 +217,7 @@ def do_captures(arguments):
     return 1 if bad else 0
 
 
-def rows_of(folder, files):
+def rows_of(folder: str, files: List[str]) -> List[Tuple[str, str, str]]:
     """Returns for each file of a folder the command that reads it, its encoded path, and the name of its result."""
     return [
         (command_for(os.path.join(folder, name)), encoded.encode(os.path.join(folder, name)), result)

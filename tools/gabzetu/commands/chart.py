@@ -1,9 +1,11 @@
 """gabzetu chart: a transcript as a picture for a page or a paper."""
+import argparse
 import os
 import shutil
 import subprocess
 import sys
 import tempfile
+from typing import List, Optional
 
 from ..charts import make_chart
 from ..errors import MISSING, UNWRITABLE, WRONG_USE, Stop
@@ -29,7 +31,7 @@ Of a long run draw a part (--from, --to, --node), or use `gabzetu explore`."""
 ENDINGS = ('.svg', '.png', '.msc')
 
 
-def add_arguments(parser):
+def add_arguments(parser: argparse.ArgumentParser) -> None:
     """Adds the words of the command."""
     parser.add_argument('transcript', metavar='TRANSCRIPT', help='the transcript, - for the standard input')
     parser.add_argument('out', metavar='OUT', nargs='+', help='a picture, which ends in .svg, .png or .msc')
@@ -41,7 +43,7 @@ def add_arguments(parser):
     parser.add_argument('--schedule', metavar='S', help='the schedule that was played')
 
 
-def check_outs(outs):
+def check_outs(outs: List[str]) -> None:
     """Stops where an OUT has no known ending, or where mscgen is needed and missing."""
     for out in outs:
         if not out.endswith(ENDINGS):
@@ -53,7 +55,7 @@ def check_outs(outs):
         )
 
 
-def picture(text, kind):
+def picture(text: str, kind: str) -> Optional[bytes]:
     """Returns the picture of a chart as bytes.
 
     It is drawn in a folder of its own, so that a failure leaves nothing."""
@@ -67,7 +69,7 @@ def picture(text, kind):
     return drawn
 
 
-def draw(text, out):
+def draw(text: str, out: str) -> None:
     """Writes one picture, or stops with what to do in its place."""
     kind = os.path.splitext(out)[1][1:]
     if kind == 'msc':
@@ -81,7 +83,7 @@ def draw(text, out):
     write_output(out, drawn)
 
 
-def run(arguments):
+def run(arguments: argparse.Namespace) -> int:
     """Runs the command, and returns the exit status."""
     check_outs(arguments.out)
     keep_inputs([arguments.transcript, arguments.schedule], arguments.out)

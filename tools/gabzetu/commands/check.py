@@ -1,8 +1,10 @@
 """gabzetu check: the mistakes of schedules, captures and scripts. Whether a file is right is said by tc."""
+import argparse
 import collections
 import json
 import os
 import tempfile
+from typing import Iterator, List
 
 from .. import program, told
 from ..errors import MISSING, UNWRITABLE, WRONG_INPUT, Stop
@@ -27,7 +29,7 @@ SCENARIO = '.scn'
 Verdict = collections.namedtuple('Verdict', 'status line cause output')
 
 
-def add_arguments(parser):
+def add_arguments(parser: argparse.ArgumentParser) -> None:
     """Adds the words of the command."""
     parser.add_argument('files', metavar='FILE', nargs='+', help='a file, or - for standard input')
     parser.add_argument(
@@ -39,7 +41,7 @@ def add_arguments(parser):
     parser.add_argument('--json', action='store_true', help='write JSON lines: an object for each mistake')
 
 
-def ask_tc(kind, data):
+def ask_tc(kind: str, data: bytes) -> Verdict:
     """Returns what tc says of a text of this kind. A script is served on a store in a folder of its own."""
     if kind == 'script':
         with tempfile.TemporaryDirectory() as folder:
@@ -51,20 +53,20 @@ def ask_tc(kind, data):
     return Verdict(ran.status, *((int(words[1]), words[2]) if is_refused else (None, None)), ran.output)
 
 
-def object_of(path, mistake):
+def object_of(path: str, mistake: Mistake) -> dict:
     """Returns the fields of a mistake, without those that it has not."""
     fields = {'file': 'standard input' if path == '-' else path, **mistake._asdict()}
     return {key: value for key, value in fields.items() if value is not None}
 
 
-def unseen(kind, data, verdict):
+def unseen(kind: str, data: bytes, verdict: Verdict) -> Mistake:
     """Returns the words on a refusal of tc whose line has no mistake that the readers see."""
     text = next((it.text for it in read_lines(data) if it.number == verdict.line), '')
     sentence = CAUSES[kind].get(verdict.cause, verdict.cause)
     return Mistake(verdict.line, 1, text, f'tc refuses this line: {verdict.cause}: {sentence}', verdict.cause, None)
 
 
-def mistakes_of(kind, data, verdict):
+def mistakes_of(kind: str, data: bytes, verdict: Verdict) -> List[Mistake]:
     """Returns the mistakes of a text that tc refuses. Its own line is among them, whatever the readers see."""
     found = diagnosis.find_mistakes(kind, data, verdict.line or 1, MOST_FOUND)
     if verdict.line is not None and verdict.line not in [it.line for it in found]:
@@ -72,7 +74,7 @@ def mistakes_of(kind, data, verdict):
     return sorted(found)
 
 
-def notes_of(name, data, output):
+def notes_of(name: str, data: bytes, output: bytes) -> Iterator[str]:
     """Yields a note for each delivery of a frame that wasn't on the air by then."""
     lines = [it for it in read_lines(data) if it.words[0].text not in diagnosis.schedules.DECLARED]
     sent = 0
@@ -85,7 +87,7 @@ def notes_of(name, data, output):
             yield f'{place}: this frame was not sent before; {sent} frames were'
 
 
-def report(arguments, path, found):
+def report(arguments: argparse.Namespace, path: str, found: List[Mistake]) -> None:
     """Writes mistakes, at most some of them."""
     name = told.base_name(path)
     shown = found if arguments.all else found[:MOST_SHOWN]
@@ -100,7 +102,7 @@ def report(arguments, path, found):
         say(f'gabzetu: {name}: after {MOST_FOUND} mistakes no more are looked for')
 
 
-def check_scenario(arguments, path, data):
+def check_scenario(arguments: argparse.Namespace, path: str, data: bytes) -> int:
     """Checks a scenario, and returns the status. It stops where no schedule comes of one whose lines are right."""
     found, name = faults_of(data), told.base_name(path)
     if found:
@@ -112,7 +114,7 @@ def check_scenario(arguments, path, data):
     return 0
 
 
-def check(arguments, path):
+def check(arguments: argparse.Namespace, path: str) -> int:
     """Checks a file, and returns the status of tc."""
     data, name = read_for_tc(path), told.base_name(path)
     if path.endswith(SCENARIO) and not arguments.kind:
@@ -135,7 +137,7 @@ def check(arguments, path):
     return 0
 
 
-def check_or_say(arguments, path):
+def check_or_say(arguments: argparse.Namespace, path: str) -> int:
     """Checks a file, and returns the status. What keeps it from being checked is said, and the next file's turn
     comes."""
     try:
@@ -147,6 +149,6 @@ def check_or_say(arguments, path):
         return stop.status
 
 
-def run(arguments):
+def run(arguments: argparse.Namespace) -> int:
     """Runs the command, and returns the exit status."""
     return max(check_or_say(arguments, path) for path in arguments.files)

@@ -1,9 +1,11 @@
 """gabzetu compare: holds what tc opens of a transcript's frames against what tshark opens."""
+import argparse
 import os
 import re
 import shutil
 import subprocess
 import tempfile
+from typing import Dict, List, Tuple
 
 from ..errors import MISSING, UNREADABLE, WRONG_USE, Stop
 from ..formats import diagnosis, pcap, transcripts
@@ -29,7 +31,7 @@ LINE_OF_BYTES = '(?m)^[0-9a-f]{4,8}  ((?:[0-9a-f]{2} ){1,16})'
 NETWORK = b'\x62\x1a'
 
 
-def add_arguments(parser):
+def add_arguments(parser: argparse.ArgumentParser) -> None:
     """Adds the words of the command."""
     parser.add_argument('transcript', metavar='TRANSCRIPT', nargs='?', help='a transcript, or - for standard input')
     parser.add_argument(
@@ -37,7 +39,7 @@ def add_arguments(parser):
     )
 
 
-def run(arguments):
+def run(arguments: argparse.Namespace) -> int:
     """Runs the command, and returns the exit status."""
     if (arguments.transcript is None) == (arguments.made is None):
         raise Stop('compare takes a transcript, or --made COUNT START', WRONG_USE)
@@ -49,7 +51,7 @@ def run(arguments):
         raise Stop(f'the transcript or an answer is not of the known form: {error!r}', UNREADABLE) from error
 
 
-def frames_and_keys(text):
+def frames_and_keys(text: str) -> Tuple[List[bytes], List[str]]:
     """Returns the frames of a transcript, and the keys that it gives nodes at the start."""
     lines = [words for words in map(str.split, text.splitlines()) if len(words) > 2]
     frames = [bytes.fromhex(words[-1]) for words in lines if words[1] in ('send', 'inject')]
@@ -57,7 +59,7 @@ def frames_and_keys(text):
     return frames, list(dict.fromkeys(keys))
 
 
-def capture_file(frames):
+def capture_file(frames: List[bytes]) -> bytes:
     """Returns a pcap: each frame in a data packet from and to the short addresses of its NWK header."""
     packets = [
         bytes([0x41, 0x88, number & 255]) + NETWORK + frame[2:6].ljust(4, b'\0') + frame
@@ -66,7 +68,7 @@ def capture_file(frames):
     return pcap.HEADER + b''.join(pcap.record(number, 0, packet) for number, packet in enumerate(packets))
 
 
-def ask_tc(words, given):
+def ask_tc(words: List[str], given: bytes) -> str:
     """Returns what tc writes, as text. Stops where it ends with another status than 0."""
     ran = run_tc(words, given)
     if ran.status:
@@ -77,7 +79,7 @@ def ask_tc(words, given):
     return ran.output.decode('ascii')
 
 
-def ask_tshark(words, file, folder):
+def ask_tshark(words: List[str], file: str, folder: str) -> str:
     """Returns what tshark writes on a file. It finds no settings of the user, which may name further keys."""
     ran = subprocess.run(
         ['tshark', '-r', file, *words],
@@ -91,14 +93,14 @@ def ask_tshark(words, file, folder):
     return ran.stdout
 
 
-def layer_of_report(words, ring):
+def layer_of_report(words: List[str], ring: Dict[int, str]) -> Tuple[str, str, str, int, str]:
     """Returns the layer of a line `I nwk key K SOURCE COUNTER CONTENT` or `I aps key K KIND SOURCE COUNTER
     CONTENT`."""
     kind = 'network' if words[1] == 'nwk' else words[4]
     return kind, ring[int(words[3])], words[-3], int(words[-2]), words[-1]
 
 
-def answers_of_report(text, count):
+def answers_of_report(text: str, count: int) -> Tuple[Dict[int, tuple], Dict[str, int]]:
     """Returns for each frame its opened layers and whether one stays closed; and for each key found the frame that
     carries it."""
     lines = [line.split() for line in text.splitlines()]
@@ -111,7 +113,7 @@ def answers_of_report(text, count):
         raise Stop(f'the report is not on {count} frames of {count} packets, but ends: {lines[-2:]}', UNREADABLE)
     ring = {int(words[1]): words[2] for words in lines if words[0] == 'key'}
     found = {words[2]: int(words[4]) for words in lines if words[0] == 'key' and words[3] == 'found'}
-    answers = {}
+    answers: Dict[int, tuple] = {}
     for words in (words for words in lines if words[0].isdigit()):
         layers, closed = answers.get(int(words[0]), ([], False))
         if words[2] == 'key' and words[-1] != '-':
@@ -122,28 +124,31 @@ def answers_of_report(text, count):
     return answers, found
 
 
-def decrypted_contents(text):
+def decrypted_contents(text: str) -> List[List[str]]:
     """Returns the contents that `tshark -x` shows as decrypted: for each frame, after which there is an empty line."""
     parts = [re.split('(?m)^Decrypted ZigBee Payload.*$', dump)[1:] for dump in text.split('\n\n')]
     return [[''.join(re.findall(LINE_OF_BYTES, it)).replace(' ', '').upper() for it in frame] for frame in parts]
 
 
-def answers_of_tshark(table, dump):
+def answers_of_tshark(table: str, dump: str) -> Dict[int, tuple]:
     """Returns the same as answers_of_report, but for each frame also the keys of its commands. Layers open from the
     outermost on."""
-    answers, contents = {}, decrypted_contents(dump)
+    answers: Dict[int, tuple] = {}
+    contents = decrypted_contents(dump)
     for row in table.splitlines():
         number, kinds, *others = row.split('\t')
         keys, sources, counters, carried = (
             other.replace(':', '').upper().split(',') if other else [] for other in others
         )
-        kinds = [KINDS.get(int(kind, 0)) for kind in kinds.split(',') if kind]
-        layers = list(zip(kinds, keys, sources, map(int, counters), contents[int(number) - 1]))
-        answers[int(number)] = layers, len(layers) < len(kinds), carried
+        names = [KINDS.get(int(kind, 0)) for kind in kinds.split(',') if kind]
+        layers = list(zip(names, keys, sources, map(int, counters), contents[int(number) - 1]))
+        answers[int(number)] = layers, len(layers) < len(names), carried
     return answers
 
 
-def compare_frames(count, ours, theirs):
+def compare_frames(
+    count: int, ours: Dict[int, tuple], theirs: Dict[int, tuple]
+) -> Tuple[int, int, int]:
     """Prints the frames that differ. Returns how many agree in what was opened, their layers, and how many neither
     opens."""
     same, opened, neither = 0, 0, 0
@@ -158,7 +163,7 @@ def compare_frames(count, ours, theirs):
     return same, opened, neither
 
 
-def compare_keys(found, theirs, given):
+def compare_keys(found: Dict[str, int], theirs: Dict[int, tuple], given: List[str]) -> int:
     """Prints the keys that differ, and returns how many there are."""
     carried = {number: keys if layers else [] for number, (layers, _, keys) in theirs.items()}
     shown = set().union(*carried.values()) - set(given)
@@ -170,7 +175,7 @@ def compare_keys(found, theirs, given):
     return len(wrong)
 
 
-def compare_all(frames, keys):
+def compare_all(frames: List[bytes], keys: List[str]) -> Tuple[int, int, int, int, int]:
     """Compares what both make of frames under some keys, and prints what differs. Returns how many frames agree, in
     how many layers, how many neither opens, and how many keys were found and differ."""
     capture = capture_file(frames)
@@ -187,7 +192,7 @@ def compare_all(frames, keys):
     return (*compare_frames(len(frames), ours, theirs), len(found), compare_keys(found, theirs, keys))
 
 
-def finish(count, same, opened, neither, found, wrong):
+def finish(count: int, same: int, opened: int, neither: int, found: int, wrong: int) -> int:
     """Prints the total, and returns the status."""
     print(
         f'{same} of {count} frames agree in {opened} opened layers, neither opens {neither}; '
@@ -196,7 +201,7 @@ def finish(count, same, opened, neither, found, wrong):
     return 0 if same > 0 and same + neither == count and wrong == 0 else 1
 
 
-def compare_transcript(path):
+def compare_transcript(path: str) -> int:
     """Compares the frames of a transcript, and returns the exit status."""
     data = read_input(path)
     frames, keys = frames_and_keys(data.decode('ascii', 'replace'))
@@ -206,7 +211,7 @@ def compare_transcript(path):
     return finish(len(frames), *compare_all(frames, keys))
 
 
-def compare_made(count, start):
+def compare_made(count: int, start: int) -> int:
     """Compares the frames of made schedules, which are played one after the other: those of a campaign of these
     words."""
     total, sums = 0, [0] * 5

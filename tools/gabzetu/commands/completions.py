@@ -1,4 +1,6 @@
 """gabzetu completions: what a shell completes."""
+import argparse
+
 from ..output import write_output
 
 SUMMARY = 'write the completions for a shell'
@@ -9,12 +11,12 @@ DESCRIPTION = """Writes the completions for a shell. Where they go:
   fish: ~/.config/fish/completions/gabzetu.fish"""
 
 
-def add_arguments(parser):
+def add_arguments(parser: argparse.ArgumentParser) -> None:
     """Adds the words of the command."""
     parser.add_argument('shell', choices=['bash', 'fish', 'zsh'], help='the shell')
 
 
-def run(arguments):
+def run(arguments: argparse.Namespace) -> int:
     """Runs the command, and returns the exit status."""
     from ..completions import SHELLS
 

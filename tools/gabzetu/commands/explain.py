@@ -1,5 +1,8 @@
 """gabzetu explain: an event of a transcript in words, with the rule that answered it; or what a broken claim is
 about."""
+import argparse
+from typing import List, Optional, Tuple
+
 from .. import program, told
 from ..errors import UNREADABLE, WRONG_USE, Stop
 from ..formats import broken, diagnosis, policy, stories
@@ -20,7 +23,7 @@ there in place of EVENT. Without EVENT and --broken tc is asked for the line."""
 LONGEST = 110
 
 
-def add_arguments(parser):
+def add_arguments(parser: argparse.ArgumentParser) -> None:
     """Adds the words of the command."""
     parser.add_argument('transcript', metavar='TRANSCRIPT', help='a transcript, or - for standard input')
     parser.add_argument(
@@ -31,7 +34,7 @@ def add_arguments(parser):
     parser.add_argument('--full', action='store_true', help='show long lines whole')
 
 
-def number_of(word, what):
+def number_of(word: str, what: str) -> Optional[int]:
     """Returns the number that a word is. Raises Stop where it is none."""
     number = read_number(word)
     if number is None:
@@ -42,23 +45,23 @@ def number_of(word, what):
 class Teller:
     """Writes what lines and groups mean."""
 
-    def __init__(self, lines, is_full):
+    def __init__(self, lines: List[stories.Line], is_full: bool) -> None:
         self.lines = lines
         self.speaker = Speaker(stories.reader_of(lines))
         self.centre = stories.centre_of(lines)
         self.is_full = is_full
 
-    def tell_line(self, line, mark=' '):
+    def tell_line(self, line: stories.Line, mark: str = ' ') -> List[str]:
         """Returns a line of a transcript and its sentence, in lines."""
         text = printable(line.text if self.is_full or len(line.text) <= LONGEST else line.text[:LONGEST] + '..')
         said = printable(self.speaker.say(line.fields)) if line.fields else 'this is no line of a transcript'
         return [f'{mark}{line.number:6}  {text}', f'{"":9}{said}']
 
-    def tell_lines(self, lines, marked=None):
+    def tell_lines(self, lines: List[stories.Line], marked: Optional[int] = None) -> List[str]:
         """Returns lines of a transcript and their sentences. `marked` is the number of the line to point at."""
         return [it for line in lines for it in self.tell_line(line, '>' if line.number == marked else ' ')]
 
-    def tell_heard(self, story):
+    def tell_heard(self, story: stories.Story) -> List[str]:
         """Returns the lines on the frame that was delivered, where the schedule says which one it was."""
         line = story.heard(self.lines)
         if not line:
@@ -68,7 +71,7 @@ class Teller:
         what = self.speaker.what_goes_out(line.fields) or 'unreadable'
         return [printable(f'Frame {line.fields["frame"]}, sent by {by} in event {line.fields["event"]}: {what}'), '']
 
-    def tell_rule(self, story):
+    def tell_rule(self, story: stories.Story) -> List[str]:
         """Returns the lines on the rule that answered, and on the refusal where there is one."""
         rule, refused, note = story.rule(), story.refusal(), story.note()
         said = ['', note] if note else []
@@ -81,7 +84,7 @@ class Teller:
         return said + (self.tell_refusal(refused, rule, story.is_judged()) if refused else [])
 
     @staticmethod
-    def tell_refusal(refused, rule, is_judged):
+    def tell_refusal(refused: dict, rule: Optional[stories.Rule], is_judged: bool) -> List[str]:
         """Returns the lines on a refusal: what it means, and the words of the policy on the judging of frames."""
         layer, reason = refused['layer'], refused['reason']
         why = policy.sentence_of_refusal(rule and rule.refused, layer, reason, is_judged)
@@ -90,7 +93,9 @@ class Teller:
         return said + ([f'  docs/POLICY.md, "Judging a frame": {reason}: {words}'] if words not in (None, why) else [])
 
 
-def words_of_event(arguments, event, lines):
+def words_of_event(
+    arguments: argparse.Namespace, event: int, lines: List[stories.Line]
+) -> Optional[Tuple[int, List[str]]]:
     """Returns the line and the words of an event in the schedule, or none without one."""
     if not arguments.schedule or event == 0:
         return None
@@ -102,7 +107,7 @@ def words_of_event(arguments, event, lines):
     return events[event - 1] if event <= len(events) else None
 
 
-def explain_event(arguments, lines, event):
+def explain_event(arguments: argparse.Namespace, lines: List[stories.Line], event: int) -> Optional[List[str]]:
     """Returns what an event is, in lines."""
     found = [line for group in stories.groups_of(lines) if group.event == event for line in group.lines]
     placed = words_of_event(arguments, event, lines)
@@ -120,7 +125,7 @@ def explain_event(arguments, lines, event):
     return said + (teller.tell_rule(story) if event else [])
 
 
-def title_of(event, placed, story):
+def title_of(event: int, placed: Optional[Tuple[int, List[str]]], story: Optional[stories.Story]) -> str:
     """Returns the head of an event: the words of the schedule, else what the lines tell."""
     if event == 0:
         return 'The start'
@@ -135,7 +140,7 @@ def title_of(event, placed, story):
     return f'Event {event}' + (f': {known} of {node}' if known else f', of {node}' if node else '')
 
 
-def explain_broken(arguments, lines, number, claim):
+def explain_broken(arguments: argparse.Namespace, lines: List[stories.Line], number: int, claim: int) -> List[str]:
     """Returns what a line that breaks a claim is about, in lines."""
     if not 1 <= number <= len(lines):
         if not lines:
@@ -154,7 +159,7 @@ def explain_broken(arguments, lines, number, claim):
     return said + ['Its group:', *teller.tell_lines(group.lines, number)]
 
 
-def ask_audit(arguments, data):
+def ask_audit(arguments: argparse.Namespace, data: bytes) -> Optional[tuple]:
     """Returns the line and the claim that tc says is broken, or none and none."""
     ran = program.run_tc(['audit'], data)
     words = told.last_words(ran.output)
@@ -169,7 +174,7 @@ def ask_audit(arguments, data):
     )
 
 
-def read_words(arguments):
+def read_words(arguments: argparse.Namespace) -> Optional[tuple]:
     """Returns the number of the event that is asked for, or none; and the line and the claim, or none."""
     words, is_answer = arguments.words, arguments.words[:1] == ['broken']
     if (words and arguments.broken) or len(words) not in ([3] if is_answer else [0, 1]):
@@ -180,7 +185,7 @@ def read_words(arguments):
     return None, asked and tuple(map(number_of, asked, ['LINE', 'CLAIM']))
 
 
-def run(arguments):
+def run(arguments: argparse.Namespace) -> int:
     """Runs the command, and returns the exit status."""
     event, broken_words = read_words(arguments)
     data = read_input(arguments.transcript)

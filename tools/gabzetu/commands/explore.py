@@ -1,6 +1,8 @@
 """gabzetu explore: a transcript or a report as one page to look around in."""
+import argparse
 import hashlib
 import os
+from typing import Any
 
 from .. import opened, program
 from ..errors import UNREADABLE, Stop
@@ -34,7 +36,7 @@ address is event 12, #p28 packet 28."""
 NO_AUDIT = ['', None, 'not audited, since tc is missing', 0]
 
 
-def add_arguments(parser):
+def add_arguments(parser: argparse.ArgumentParser) -> None:
     """Adds the words of the command."""
     parser.add_argument('input', metavar='FILE', help='the capture, transcript or report, - for standard input')
     parser.add_argument('out', metavar='OUT.html', help='the page, - for the standard output')
@@ -44,7 +46,7 @@ def add_arguments(parser):
     add_reading(parser)
 
 
-def audit(text):
+def audit(text: str) -> list:
     """Returns the verdict of tc on a transcript, for the page; a page is made without it where tc is missing."""
     try:
         return explain_verdict(program.run_tc(['audit'], text.encode()))
@@ -53,12 +55,12 @@ def audit(text):
         return NO_AUDIT
 
 
-def title_of(path):
+def title_of(path: str) -> str:
     """Returns the title of the page of an input."""
     return 'standard input' if path == '-' else os.path.basename(path)
 
 
-def explore_transcript(text, arguments):
+def explore_transcript(text: str, arguments: argparse.Namespace) -> dict:
     """Returns the data of the page of a transcript."""
     if arguments.capture:
         raise Stop('--capture is for a report, and this is a transcript (--schedule)')
@@ -66,7 +68,7 @@ def explore_transcript(text, arguments):
     return {**make_run(history), 'verdict': audit(text)}
 
 
-def explore_report(text, arguments):
+def explore_report(text: str, arguments: argparse.Namespace) -> Any:
     """Returns the data of the page of a report."""
     if arguments.schedule:
         raise Stop('--schedule is for a transcript, and this is a report (--capture)')
@@ -74,7 +76,7 @@ def explore_report(text, arguments):
     return make_report(parse_report(text, arguments.input), heard, arguments.capture)
 
 
-def read_text(path):
+def read_text(path: str) -> str:
     """Returns the text of a file, or stops where it isn't ASCII."""
     try:
         return read_input(path).decode('ascii')
@@ -84,7 +86,7 @@ def read_text(path):
         ) from error
 
 
-def run_on_capture(arguments):
+def run_on_capture(arguments: argparse.Namespace) -> int:
     """Makes the page of a capture of a sniffer, and returns the exit status."""
     if arguments.schedule or arguments.capture:
         raise Stop('--schedule and --capture are for transcripts and reports, and this is a capture')
@@ -97,7 +99,7 @@ def run_on_capture(arguments):
     return 0
 
 
-def run(arguments):
+def run(arguments: argparse.Namespace) -> int:
     """Runs the command, and returns the exit status."""
     read = [arguments.input, arguments.schedule, arguments.capture, *arguments.keys_from]
     keep_inputs(read, [arguments.out])

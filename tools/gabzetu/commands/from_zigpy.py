@@ -1,7 +1,9 @@
 """gabzetu from-zigpy: a script that makes a centre's store from a coordinator backup."""
+import argparse
 import collections
 import datetime
 import json
+from typing import Any, Iterator, List, Optional, Union
 
 from ..errors import WRONG_USE, Stop
 from ..formats.words import counted
@@ -29,7 +31,7 @@ MOST_PEERS, MOST_LINKS, MOST_NAMED = 63, 1024, 8
 REFUSED = 5
 
 
-def add_arguments(parser):
+def add_arguments(parser: argparse.ArgumentParser) -> None:
     """Adds the words of the command."""
     parser.add_argument('backup', metavar='BACKUP', help='the JSON file, or - for standard input')
     parser.add_argument(
@@ -38,12 +40,12 @@ def add_arguments(parser):
     parser.add_argument('-o', '--output', metavar='OUT', help='write to this file, and not to standard output')
 
 
-def days_since(made, now):
+def days_since(made: datetime.datetime, now: datetime.datetime) -> int:
     """Returns the days since a time, the begun one included, at least 1."""
     return max(1, -((made - now) // datetime.timedelta(days=1)))
 
 
-def choose_skip(given, made, now):
+def choose_skip(given: Optional[int], made: Optional[datetime.datetime], now: datetime.datetime) -> int:
     """Returns what is added to the counters, and says where it comes from."""
     if given is not None:
         if not 0 <= given <= MOST_COUNTER:
@@ -61,13 +63,13 @@ def choose_skip(given, made, now):
     return skip
 
 
-def some(names):
+def some(names: Union[Iterator[Any], List[str]]) -> str:
     """Returns a list as text, of a long one the beginning."""
     names = list(names)
     return ', '.join(names[:MOST_NAMED]) + (f' and {len(names) - MOST_NAMED} more' if len(names) > MOST_NAMED else '')
 
 
-def carried_devices(backup):
+def carried_devices(backup: Any) -> list:
     """Returns the devices whose link keys are carried, and says of the others why not."""
     without = [it.eui for it in backup.devices if it.link is None]
     well_known = [it.eui for it in backup.devices if it.link and it.link.key == WELL_KNOWN]
@@ -89,7 +91,7 @@ def carried_devices(backup):
     return [it for it in backup.devices if it.link and it.link.key != WELL_KNOWN]
 
 
-def link_row(device):
+def link_row(device: Any) -> dict:
     """Returns the row of a device's link key, as docs/BACKUP.md has it."""
     return {
         'attribute': 2,
@@ -102,7 +104,7 @@ def link_row(device):
     }
 
 
-def centre_backup(backup, carried):
+def centre_backup(backup: Any, carried: list) -> dict:
     """Returns the backup of a centre: the network key is active, and the link keys are verified."""
     net = {
         'floors': [],
@@ -124,7 +126,7 @@ def centre_backup(backup, carried):
     }
 
 
-def peer_lines(backup, carried):
+def peer_lines(backup: Any, carried: list) -> List[str]:
     """Returns the `peer` lines: devices with carried keys first, as many as a script may have."""
     known = [
         it for it in [*carried, *(it for it in backup.devices if it not in carried)] if it.short not in (None, '0000')
@@ -145,7 +147,7 @@ def peer_lines(backup, carried):
     return [f'peer n{it.short.lower()} router {it.eui} {it.short}' for it in known[:MOST_PEERS]]
 
 
-def make_script(backup, skip, carried):
+def make_script(backup: Any, skip: int, carried: list) -> str:
     """Returns the text of the script."""
     text = json.dumps(centre_backup(backup, carried), separators=(',', ':'), sort_keys=True)
     return '\n'.join(
@@ -158,7 +160,7 @@ def make_script(backup, skip, carried):
     )
 
 
-def shared_keys(carried):
+def shared_keys(carried: list) -> List[List[str]]:
     """Returns the lists of devices that have one link key."""
     owners = collections.defaultdict(set)
     for device in carried:
@@ -166,12 +168,12 @@ def shared_keys(carried):
     return [sorted(euis) for euis in owners.values() if len(euis) > 1]
 
 
-def repeated(values):
+def repeated(values: Iterator[Any]) -> List[str]:
     """Returns the values that are there twice."""
     return [value for value, count in collections.Counter(values).items() if count > 1]
 
 
-def likely_causes(backup, carried):
+def likely_causes(backup: Any, carried: list) -> List[str]:
     """Returns what the store refuses of a backup, in words."""
     causes = [
         f'the devices {some(euis)} have one link key, and the store takes each key once'
@@ -186,7 +188,7 @@ def likely_causes(backup, carried):
     return causes
 
 
-def check(path, backup, carried, script):
+def check(path: str, backup: Any, carried: list, script: str) -> None:
     """Stops where tc does not make a store from the script."""
     status, lines = try_script(script)
     if not is_restored(status, lines):
@@ -196,7 +198,7 @@ def check(path, backup, carried, script):
         )
 
 
-def tell_rest(backup, skip):
+def tell_rest(backup: Any, skip: int) -> None:
     """Says what of the network a centre's store doesn't keep."""
     if backup.notes:
         say('gabzetu: not carried: ' + ', '.join(f'{name} {value}' for name, value in backup.notes.items()))
@@ -207,7 +209,7 @@ def tell_rest(backup, skip):
         )
 
 
-def run(arguments):
+def run(arguments: argparse.Namespace) -> int:
     """Runs the command, and returns the exit status."""
     keep_inputs([arguments.backup], [arguments.output])
     backup = parse_backup(read_input(arguments.backup), arguments.backup)

@@ -1,4 +1,6 @@
 """gabzetu help: what there is, a command, or the lines of a text."""
+import argparse
+
 from .. import cli, helping
 from ..errors import WRONG_USE, Stop
 from ..formats.words import suggestion
@@ -7,7 +9,7 @@ from ..output import write_output
 SUMMARY = 'describe a command, or the lines of schedules, transcripts, captures, scripts and scenarios'
 
 
-def add_arguments(parser):
+def add_arguments(parser: argparse.ArgumentParser) -> None:
     """Adds the words of the command."""
     parser.add_argument(
         'topic',
@@ -17,7 +19,7 @@ def add_arguments(parser):
     )
 
 
-def run(arguments):
+def run(arguments: argparse.Namespace) -> int:
     """Runs the command, and returns the exit status."""
     topic = arguments.topic
     parsers = cli.parsers_of(cli.make_parser())

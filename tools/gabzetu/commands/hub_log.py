@@ -1,4 +1,6 @@
 """gabzetu hub-log: the transcript of the sessions of tc_centre."""
+import argparse
+
 from hub import log, transcript
 
 from ..errors import WRONG_INPUT, Stop
@@ -15,7 +17,7 @@ The transcript has the lines of the centre alone, with the frames that it heard 
 that not every accepted frame was sealed before. What had to be filled in is said on standard error."""
 
 
-def add_arguments(parser):
+def add_arguments(parser: argparse.ArgumentParser) -> None:
     """Adds the words of the command."""
     parser.add_argument('logs', metavar='LOG', nargs='+', help='a log of sessions, or - for standard input')
     parser.add_argument('-o', '--output', metavar='OUT', help='write to this file, all or nothing')
@@ -29,7 +31,7 @@ def lines_of(path: str) -> list:
         raise Stop(f'{path}: byte {error.start + 1} is not ASCII, so this is no log', WRONG_INPUT) from error
 
 
-def run(arguments):
+def run(arguments: argparse.Namespace) -> int:
     """Runs the command, and returns the exit status."""
     keep_inputs(arguments.logs, [arguments.output])
     lines = [line for path in arguments.logs for line in lines_of(path)]

@@ -1,4 +1,5 @@
 """gabzetu man: the man pages."""
+import argparse
 import os
 
 from ..output import write_output
@@ -6,17 +7,19 @@ from ..output import write_output
 SUMMARY = 'write the man page gabzetu.1, or one for each command too'
 
 
-def add_arguments(parser):
+def add_arguments(parser: argparse.ArgumentParser) -> None:
     """Adds the words of the command."""
     parser.add_argument(
         '-o', '--output', metavar='OUT', help='write to this file, all or nothing, and not to standard output'
     )
     parser.add_argument(
-        '--folder', metavar='FOLDER', help='write gabzetu.1 and a page gabzetu-COMMAND.1 for each command to this folder'
+        '--folder',
+        metavar='FOLDER',
+        help='write gabzetu.1 and a page gabzetu-COMMAND.1 for each command to this folder',
     )
 
 
-def run(arguments):
+def run(arguments: argparse.Namespace) -> int:
     """Runs the command, and returns the exit status."""
     from ..manual import write_manual, write_pages
 

@@ -1,6 +1,8 @@
 """gabzetu open: the frames of a sniffer's capture, packet by packet."""
+import argparse
 import contextlib
 import json
+from typing import Any, Iterator, List, Optional, Sequence, Union
 
 from .. import listing
 from ..capture import Capture
@@ -25,16 +27,16 @@ SUMMARY = "open a sniffer's capture with the keys that you know and those found 
 DESCRIPTION = '''Opens a sniffer's capture with the keys that you know, the well-known key, and the keys that are
 found on the way.
 
-CAPTURE is a pcap or pcapng file, also one packed by gzip, or - for a pipe: tcpdump -w - | gabzetu open --follow - Its
-packets may have any link type with IEEE 802.15.4: 195, 230, 283 (TAP), 215, 147, or ZEP in UDP on Ethernet, Linux
-cooked, loopback or raw IP.
+CAPTURE is a pcap, pcapng or Daintree file, also one packed by gzip, or - for a pipe: tcpdump -w - | gabzetu open
+--follow - Its packets may have any link type with IEEE 802.15.4: 195, 230, 283 (TAP), 215, 147, or ZEP in UDP on
+Ethernet, Linux cooked, loopback or raw IP.
 
 A line for each frame: the number of its packet in the file, PAN, source and destination, what opened each layer, and
 what it carries. The end says which keys there are, and why the rest stayed closed. Whether a frame opens is what `tc
 inspect` says. --from, --to, --pan, --type and --failed choose the lines; the end counts all frames.'''
 
 
-def add_arguments(parser):
+def add_arguments(parser: argparse.ArgumentParser) -> None:
     """Adds the words of the command."""
     parser.add_argument('capture', metavar='CAPTURE', help='a capture file, or - for standard input')
     add_keys(parser)
@@ -52,7 +54,7 @@ def add_arguments(parser):
     )
 
 
-def add_filter(parser):
+def add_filter(parser: argparse.ArgumentParser) -> None:
     """Adds the words that say which frames are shown."""
     parser.add_argument('--from', dest='source', metavar='SHORT', help='show frames of this short address')
     parser.add_argument('--to', metavar='SHORT', help='show frames to this short address')
@@ -61,7 +63,7 @@ def add_filter(parser):
     parser.add_argument('--failed', action='store_true', help='show frames of which a layer stayed closed')
 
 
-def add_reading(parser):
+def add_reading(parser: argparse.ArgumentParser) -> None:
     """Adds the words that say how the packets of a capture are read."""
     parser.add_argument(
         '--fcs',
@@ -78,7 +80,7 @@ def add_reading(parser):
     )
 
 
-def add_keys(parser):
+def add_keys(parser: argparse.ArgumentParser) -> None:
     """Adds the words that say which keys are known."""
     parser.add_argument('--code', metavar='C', action='append', default=[], help='an install code, its CRC included')
     parser.add_argument('--key', metavar='K', action='append', default=[], help='a key of 32 digits')
@@ -87,11 +89,11 @@ def add_keys(parser):
         metavar='FILE',
         action='append',
         default=[],
-        help='a coordinator backup, configuration.yaml, zigbee_pc_keys, a report or a transcript',
+        help='a coordinator backup, zigbee.db, configuration.yaml, zigbee_pc_keys, a report or a transcript',
     )
 
 
-def link_key_of(code):
+def link_key_of(code: str) -> str:
     """Returns the link key of an install code, which tc says."""
     ran = run_tc(['install', code])
     if ran.status:
@@ -103,14 +105,14 @@ def link_key_of(code):
     return ran.output.decode('ascii').strip()
 
 
-def read_key(text):
+def read_key(text: str) -> str:
     """Returns the key of a word."""
     if not normal_key(text):
         raise Stop(f'--key {text}: a key has 32 hexadecimal digits', WRONG_USE)
     return normal_key(text)
 
 
-def read_ring(arguments):
+def read_ring(arguments: argparse.Namespace) -> Ring:
     """Returns the ring of the keys that the words give, and the well-known key behind them."""
     given = [(link_key_of(code), f'given, of code {code}') for code in arguments.code]
     given += [(read_key(text), 'given') for text in arguments.key]
@@ -128,20 +130,20 @@ def read_ring(arguments):
 class TextCapture:
     """Writes a text capture as the frames come: the keys first, the addresses last."""
 
-    def __init__(self, file, ring):
+    def __init__(self, file: Any, ring: Ring) -> None:
         self.file, self.frames = file, 0
         self.put(f'key {key}' for key in ring.keys)
 
-    def put(self, lines):
+    def put(self, lines: Union[Iterator[Any], List[str]]) -> None:
         """Writes lines."""
         self.file.write(''.join(f'{line}\n' for line in lines).encode('ascii'))
 
-    def add(self, frames):
+    def add(self, frames: list) -> None:
         """Writes frames, each behind a comment with the number of its packet."""
         self.frames += len(frames)
         self.put(f'# packet {frame.number}\nframe {frame.payload.hex().upper()}' for frame in frames)
 
-    def finish(self, addresses):
+    def finish(self, addresses: Any) -> None:
         """Writes the addresses. A text capture has one EUI for a short address, so that further ones are comments."""
         taken = set()
         for short, eui in addresses.pairs():
@@ -151,7 +153,9 @@ class TextCapture:
             say(f'gabzetu: the text capture has {self.frames} frames, and inspect takes {MOST_FRAMES}')
 
 
-def show(frames, shown, arguments, is_again=False):
+def show(
+    frames: Sequence[tuple], shown: listing.Listing, arguments: argparse.Namespace, is_again: bool = False
+) -> None:
     """Prints frames with their layers."""
     ring = shown.opener.ring
     for frame, layers in frames:
@@ -166,12 +170,12 @@ def show(frames, shown, arguments, is_again=False):
         print(line, flush=arguments.follow)
 
 
-def is_address(given, found):
+def is_address(given: Optional[str], found: Optional[str]) -> bool:
     """Returns whether an address is the one that was asked for, or none was."""
     return given is None or (found or '').upper() == given.upper()
 
 
-def passes(frame, layers, arguments):
+def passes(frame: Any, layers: tuple, arguments: argparse.Namespace) -> bool:
     """Returns whether a frame passes the filter."""
     source, to = listing.addresses_of(frame)
     return (
@@ -183,7 +187,13 @@ def passes(frame, layers, arguments):
     )
 
 
-def show_all(capture, opener, shown, arguments, text):
+def show_all(
+    capture: Capture,
+    opener: Opener,
+    shown: listing.Listing,
+    arguments: argparse.Namespace,
+    text: Optional[TextCapture],
+) -> None:
     """Prints the frames part by part; those of which more opens later are printed once more."""
     for frames in capture.parts():
         opener.addresses.learn_all(capture.take_associations())
@@ -197,7 +207,7 @@ def show_all(capture, opener, shown, arguments, text):
     show(opener.open_again(), shown, arguments, is_again=True)
 
 
-def finish(shown, arguments):
+def finish(shown: listing.Listing, arguments: argparse.Namespace) -> None:
     """Prints the end."""
     print('\n'.join(map(json.dumps, shown.objects()) if arguments.json else shown.lines()))
     for kind, said, how in shown.capture.checks.surprises():
@@ -213,7 +223,7 @@ def finish(shown, arguments):
         )
 
 
-def run(arguments):
+def run(arguments: argparse.Namespace) -> int:
     """Runs the command, and returns the exit status."""
     keep_inputs([arguments.capture, *arguments.keys_from], [arguments.to_capture])
     ring = read_ring(arguments)

@@ -1,4 +1,6 @@
 """gabzetu play: the transcript of a schedule."""
+import argparse
+
 from ..formats.fields import read_transcript_line
 from ..output import MOST_OF_TC, say
 from ..runs import add_output, run_file
@@ -6,7 +8,7 @@ from ..runs import add_output, run_file
 SUMMARY = 'play a schedule, and write its transcript'
 
 
-def add_arguments(parser):
+def add_arguments(parser: argparse.ArgumentParser) -> None:
     """Adds the words of the command."""
     parser.add_argument(
         'schedule', metavar='SCHEDULE', help='a schedule (gabzetu help schedule), or - for standard input'
@@ -23,7 +25,7 @@ def warn_of_size(output: bytes) -> None:
         )
 
 
-def run(arguments):
+def run(arguments: argparse.Namespace) -> int:
     """Runs the command, and returns the exit status."""
     path = arguments.schedule
     return run_file(arguments, ['play'], 'schedule', path, read_transcript_line, look_at=warn_of_size)

@@ -1,4 +1,6 @@
 """gabzetu scenario: the schedule of a scenario."""
+import argparse
+
 from .. import progress, told
 from ..output import keep_inputs, read_input, write_output
 from ..scenarios.steps import write_schedule
@@ -10,7 +12,7 @@ The frame numbers come from playing what is there so far with tc. The lines of t
 each event that is refused a comment says why. `gabzetu help scenario` has the language."""
 
 
-def add_arguments(parser):
+def add_arguments(parser: argparse.ArgumentParser) -> None:
     """Adds the words of the command."""
     parser.add_argument('scenario', metavar='SCENARIO', help='a scenario, or - for standard input')
     parser.add_argument(
@@ -18,7 +20,7 @@ def add_arguments(parser):
     )
 
 
-def run(arguments):
+def run(arguments: argparse.Namespace) -> int:
     """Runs the command, and returns the exit status."""
     keep_inputs([arguments.scenario], [arguments.output])
     name, data = told.base_name(arguments.scenario), read_input(arguments.scenario)

@@ -1,4 +1,7 @@
 """gabzetu sniff: what the frames of a pcap file show."""
+import argparse
+from typing import Optional
+
 from .. import program, told
 from ..formats.fields import read_report_line
 from ..output import say
@@ -13,7 +16,7 @@ The frames of the report are counted by themselves: frame 21 is the 21st payload
 KEY_DIGITS = 32
 
 
-def add_arguments(parser):
+def add_arguments(parser: argparse.ArgumentParser) -> None:
     """Adds the words of the command."""
     parser.add_argument('capture', metavar='CAPTURE', help='a pcap file, or - for standard input')
     parser.add_argument('keys', metavar='KEY', nargs='*', help='a key of 32 digits, or an install code with its CRC')
@@ -21,7 +24,7 @@ def add_arguments(parser):
     add_output(parser)
 
 
-def fault_of_key(word):
+def fault_of_key(word: str) -> Optional[str]:
     """Returns why a word is neither a key nor an install code, or none where it is one."""
     if len(word) == KEY_DIGITS and all(it in '0123456789abcdefABCDEF' for it in word):
         return None
@@ -31,7 +34,7 @@ def fault_of_key(word):
     )
 
 
-def run(arguments):
+def run(arguments: argparse.Namespace) -> int:
     """Runs the command, and returns the exit status."""
     words = ['sniff', arguments.jobs, *arguments.keys]
     status = run_file(

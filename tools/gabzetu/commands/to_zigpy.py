@@ -1,7 +1,9 @@
 """gabzetu to-zigpy: a coordinator backup from the backup of a centre."""
+import argparse
 import datetime
 import json
 import re
+from typing import Any, Callable, Dict, List, Optional, Tuple
 
 from .. import read_version
 from ..errors import UNREADABLE, WRONG_USE, Stop
@@ -28,10 +30,10 @@ VERIFIED, WORDS = 2, {0: 'provisional', 1: 'unverified'}
 ANY_CENTRE = '00124B00000000FE'
 
 
-def digits_of(size):
+def digits_of(size: int) -> Callable[..., Any]:
     """Returns the type of a word of so many hexadecimal digits."""
 
-    def read(word):
+    def read(word: str) -> Any:
         text = word.replace(':', '').upper()
         text = text[2:] if text.startswith('0X') else text
         if not re.fullmatch(f'[0-9A-F]{{{size}}}', text):
@@ -41,14 +43,14 @@ def digits_of(size):
     return read
 
 
-def read_channel(word):
+def read_channel(word: str) -> int:
     """Returns the number of a channel."""
     if word not in map(str, CHANNELS):
         raise Stop(f'--channel {word}: channels are 11 to 26', WRONG_USE)
     return int(word)
 
 
-def add_arguments(parser):
+def add_arguments(parser: argparse.ArgumentParser) -> None:
     """Adds the words of the command."""
     parser.add_argument('backup', metavar='BACKUP', help='what `backup` writes, or - for standard input')
     parser.add_argument(
@@ -69,7 +71,7 @@ def add_arguments(parser):
     parser.add_argument('-o', '--output', metavar='OUT', help='write to this file, and not to standard output')
 
 
-def read_rows(path):
+def read_rows(path: str) -> dict:
     """Returns the rows of a backup that tc takes. Among the lines that `admin` wrote it is the last one that is a
     backup."""
     text = read_input(path).decode('utf-8', 'replace')
@@ -86,7 +88,7 @@ def read_rows(path):
     return rows
 
 
-def read_addresses(path):
+def read_addresses(path: Optional[str]) -> Tuple[str, Dict[str, str]]:
     """Returns the EUI of the centre, and the short addresses by EUI, that a script declares."""
     lines = [line.split(' ') for line in read_input(path).decode('ascii', 'replace').splitlines()] if path else []
     centres = [words[2].upper() for words in lines if words[0] == 'centre' and len(words) == 5]
@@ -94,13 +96,13 @@ def read_addresses(path):
     return (centres[0] if centres else NO_EUI), shorts
 
 
-def warn(condition, text):
+def warn(condition: Any, text: str) -> None:
     """Says on standard error what holds, where it does."""
     if condition:
         say(f'gabzetu: {text}')
 
 
-def active_net(rows, path):
+def active_net(rows: dict, path: str) -> dict:
     """Returns the active network key. Says which others are left behind."""
     if rows['active'] is None:
         raise Stop(f'{path}: the centre has no active network key', UNREADABLE)
@@ -115,7 +117,7 @@ def active_net(rows, path):
     return rows['nets'][rows['active']]
 
 
-def devices_of(rows, shorts, skip):
+def devices_of(rows: dict, shorts: Dict[str, str], skip: int) -> List[Device]:
     """Returns the devices with verified keys in use. Says which others are left behind."""
     verified = [row for row in rows['links'] if row['live'] and row['attribute'] == VERIFIED]
     others = {
@@ -149,7 +151,7 @@ def devices_of(rows, shorts, skip):
     ]
 
 
-def tell_missing(arguments, coordinator, devices):
+def tell_missing(arguments: argparse.Namespace, coordinator: str, devices: List[Device]) -> None:
     """Says what the backup needs that nobody gave."""
     warn(arguments.pan is None, f'no PAN is known: {NO_PAN} is written (--pan)')
     warn(arguments.channel is None, 'no channel is known: null is written (--channel)')
@@ -164,7 +166,7 @@ def tell_missing(arguments, coordinator, devices):
     )
 
 
-def run(arguments):
+def run(arguments: argparse.Namespace) -> int:
     """Runs the command, and returns the exit status."""
     if not 0 <= arguments.skip <= MOST_COUNTER:
         raise Stop(f'--skip is 0 to {MOST_COUNTER}', WRONG_USE)

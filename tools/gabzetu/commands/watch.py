@@ -1,4 +1,5 @@
 """gabzetu watch: what a real network does wrong, as a capture shows it."""
+import argparse
 import html
 import json
 from typing import Dict, Iterator, List
@@ -29,7 +30,7 @@ STYLE = 'body{font:14px system-ui,sans-serif;margin:2em;max-width:60em}td,th{tex
 HEADS = ('kind', 'verdict', 'packets', 'what')
 
 
-def add_arguments(parser):
+def add_arguments(parser: argparse.ArgumentParser) -> None:
     """Adds the words of the command."""
     parser.add_argument('capture', metavar='CAPTURE', help='a capture file, or - for standard input')
     add_keys(parser)
@@ -66,7 +67,7 @@ def page_of(title: str, watcher: Watcher, end: str) -> str:
     )
 
 
-def watch(capture: Capture, opener: Opener, arguments) -> Watcher:
+def watch(capture: Capture, opener: Opener, arguments: argparse.Namespace) -> Watcher:
     """Takes the frames of a capture in their order, and prints what is found.
 
     Of a file, all frames are opened first, so that keys that are found late open earlier frames too."""
@@ -97,7 +98,7 @@ def whole(capture: Capture, opener: Opener) -> Iterator[tuple]:
     yield from (waiting[number] for number in sorted(waiting))
 
 
-def run(arguments):
+def run(arguments: argparse.Namespace) -> int:
     """Runs the command, and returns the exit status."""
     keep_inputs([arguments.capture, *arguments.keys_from], [arguments.html])
     capture = Capture(arguments.capture, arguments.fcs, arguments.zep_port, arguments.follow)

@@ -1,5 +1,7 @@
 """gabzetu wireshark: hands to Wireshark what tc found, and packets that it reads without settings."""
+import argparse
 import struct
+from typing import Dict, List, Tuple
 
 from ..capture import Capture
 from ..errors import UNREADABLE, WRONG_USE, Stop, reason_of
@@ -23,7 +25,7 @@ DESCRIPTION = '''Hands to Wireshark what tc found.
 BROADCASTS, NETWORK = (0xFFFC, 0xFFFD, 0xFFFF), 0x1A62
 
 
-def add_arguments(parser):
+def add_arguments(parser: argparse.ArgumentParser) -> None:
     """Adds the words of the command."""
     parser.add_argument('kind', choices=list(KINDS), help='what is written')
     parser.add_argument('file', metavar='FILE', help='the file to read, or - for standard input')
@@ -37,7 +39,7 @@ def add_arguments(parser):
     parser.add_argument('--zep-port', metavar='PORT', type=int, help='of packets: as for `open`')
 
 
-def run(arguments):
+def run(arguments: argparse.Namespace) -> int:
     """Runs the command, and returns the exit status."""
     if arguments.out is None and arguments.kind != 'keys':
         raise Stop(
@@ -47,17 +49,17 @@ def run(arguments):
     return KINDS[arguments.kind](arguments)
 
 
-def label_of(words):
+def label_of(words: str) -> str:
     """Returns a text that can stand in quotes in a line of zigbee_pc_keys."""
     return 'tc: ' + ''.join(it for it in words if it not in '"\\')
 
 
-def packet_numbers(path):
+def packet_numbers(path: str) -> List[int]:
     """Returns the packets of the frames of a capture, in order."""
     return [frame.number for frames in Capture(path).parts() for frame in frames]
 
 
-def with_packet(label, numbers):
+def with_packet(label: str, numbers: List[int]) -> str:
     """Returns a label of a report with the packet's number in place of the frame's."""
     head, is_found, frame = label.partition(', found in frame ')
     if not is_found:
@@ -71,7 +73,7 @@ def with_packet(label, numbers):
     return f'{head}, found in packet {numbers[place - 1]}'
 
 
-def write_keys(arguments):
+def write_keys(arguments: argparse.Namespace) -> int:
     """Writes the keys of a report or backup as lines of zigbee_pc_keys."""
     labels = read_key_file(arguments.file)
     if arguments.capture:
@@ -82,7 +84,7 @@ def write_keys(arguments):
     return 0
 
 
-def mac_header(frame, nodes):
+def mac_header(frame: transcripts.Frame, nodes: Dict[str, transcripts.Node]) -> bytes:
     """Returns the header of a data packet between short addresses; it asks for an acknowledgement unless it is for
     all."""
     to, source = struct.unpack('<HH', frame.data[2:6].ljust(4, b'\0'))
@@ -98,7 +100,7 @@ def mac_header(frame, nodes):
     )
 
 
-def read_transcript(path):
+def read_transcript(path: str) -> Tuple[Dict[str, transcripts.Node], List[transcripts.Frame]]:
     """Returns the nodes by name and the frames of a transcript."""
     try:
         events, _ = transcripts.read_events(path)
@@ -111,7 +113,7 @@ def read_transcript(path):
         raise Stop(f'{path}: this is no transcript', UNREADABLE) from error
 
 
-def write_frames(arguments):
+def write_frames(arguments: argparse.Namespace) -> int:
     """Writes the frames of a transcript as a pcap."""
     nodes, frames = read_transcript(arguments.file)
     if not frames:
@@ -123,7 +125,7 @@ def write_frames(arguments):
     return 0
 
 
-def write_packets(arguments):
+def write_packets(arguments: argparse.Namespace) -> int:
     """Writes the packets of a capture as a pcap of link type 230."""
     capture, written, misplaced = Capture(arguments.file, arguments.fcs, arguments.zep_port), 0, 0
     with open_output(arguments.out) as file:

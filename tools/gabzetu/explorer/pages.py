@@ -13,24 +13,24 @@ COMMON = ('common.js', 'lanes.js', 'sections.js', 'strip.js')
 PROGRAMS = {'run': (*COMMON, 'state.js', 'keys.js', 'run.js'), 'report': (*COMMON, 'report.js')}
 
 
-def read_part(name):
+def read_part(name: str) -> str:
     """Returns a part of the page."""
     with open(os.path.join(WEB, name), encoding='utf-8') as file:
         return file.read()
 
 
-def hash_of(text):
+def hash_of(text: str) -> str:
     """Returns the hash of a text as a content security policy names it."""
     return "'sha256-" + base64.b64encode(hashlib.sha256(text.encode()).digest()).decode() + "'"
 
 
-def encode(data):
+def encode(data: dict) -> str:
     """Returns data as JSON that may be in an HTML element."""
     text = json.dumps(data, separators=(',', ':'))
     return text.replace('<', '\\u003c').replace('>', '\\u003e').replace('&', '\\u0026')
 
 
-def make_page(data, title):
+def make_page(data: dict, title: str) -> str:
     """Returns the page of the data of a run or a report."""
     style = read_part('page.css')
     program = '"use strict";\n' + '\n'.join(read_part(name) for name in PROGRAMS[data['kind']])

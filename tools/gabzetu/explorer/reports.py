@@ -1,4 +1,6 @@
 """Makes the data of a report's page: its packets with what opened them, and where each key came from."""
+from typing import Any, Dict, List, Optional, Tuple
+
 from ..errors import UNREADABLE, Stop
 from ..formats import anatomy, frames
 from ..formats.reports import Heard, Reader, content_of
@@ -16,18 +18,18 @@ UNKNOWN, ALL = -1, -2
 class ReportPage:
     """The data of one page, as it is put together."""
 
-    def __init__(self, report, heard):
+    def __init__(self, report: Any, heard: Optional[Dict[int, Heard]]) -> None:
         self.report = report
         self.heard = heard or {place: Heard(place, None, None, None) for place in range(1, report.end['frames'] + 1)}
         self.reader = Reader(report, self.heard, {})
         self.texts, self.lanes, self.euis = Table(), Table(), {}
         self.anatomies = Anatomies(self.texts)
 
-    def lane(self, pan, short):
+    def lane(self, pan: str, short: str) -> int:
         """Returns the place of the lane of a short address in a PAN."""
         return self.lanes.place((pan or '', short))
 
-    def ends(self, place):
+    def ends(self, place: int) -> Tuple[int, int]:
         """Returns the lanes from and to which a frame goes: -2 is everybody, -1 nobody knows whom."""
         heard, layers = self.heard[place], self.report.layers.get(place, [])
         if heard.data and len(heard.data) >= 8:
@@ -38,14 +40,14 @@ class ReportPage:
         sources = [it['source'] for it in layers if 'source' in it]
         return self.lane(heard.pan, sources[0] if sources else '?'), UNKNOWN
 
-    def note_eui(self, heard, source):
+    def note_eui(self, heard: Heard, source: str) -> None:
         """Notes the EUI of a sender whose NWK header shows it."""
         control = int.from_bytes(heard.data[:2], 'little')
         at = 8 + (8 if control & 1 << 11 else 0)
         if control & 1 << 12 and len(heard.data) >= at + 8:
             self.euis.setdefault((heard.pan or '', source), heard.data[at : at + 8][::-1].hex().upper())
 
-    def first_content(self, place):
+    def first_content(self, place: int) -> tuple:
         """Returns the fields of the outermost layer whose content begins with APS, and whether that is a command
         without its header."""
         layers = self.report.layers.get(place, [])
@@ -55,7 +57,7 @@ class ReportPage:
                 return it, it['kind'] == 'aps'
         return None, False
 
-    def words(self, place):
+    def words(self, place: int) -> str:
         """Returns in words what a frame carries, as far as it is open."""
         data, (fields, is_command) = self.heard[place].data, self.first_content(place)
         if data:
@@ -66,14 +68,14 @@ class ReportPage:
             texts, counters = self.describe_content(place, content_of(fields), is_command)
         return ', '.join(texts) + (f' ({", ".join(counters)})' if counters else '')
 
-    def describe_content(self, place, content, is_command):
+    def describe_content(self, place: int, content: bytes, is_command: bool) -> Any:
         """Returns the same of the content of a layer, where no capture shows the frame."""
         try:
             return (self.reader.describe_command if is_command else self.reader.describe_aps)(place, content, [])
         except (frames.Malformed, IndexError):
             return [frames.counted(len(content))], []
 
-    def layer(self, fields):
+    def layer(self, fields: dict) -> list:
         """Returns a layer: kind, the key that opened it or 0, the place of the words."""
         if 'content' not in fields:
             return [fields['kind'], 0, self.texts.place(fields['reason'])]
@@ -84,7 +86,7 @@ class ReportPage:
             self.texts.place(f'key {fields["k"]}{label}, counter {fields["counter"]}'),
         ]
 
-    def contents(self, place):
+    def contents(self, place: int) -> Any:
         """Returns the sections of contents where no capture shows the frame."""
         fields, is_command = self.first_content(place)
         if fields is None:
@@ -96,7 +98,7 @@ class ReportPage:
             )
         )
 
-    def frame(self, place):
+    def frame(self, place: int) -> list:
         """Returns a frame: packet, time, lanes from and to, words, layers, sections, its lines."""
         heard, layers, (source, to) = self.heard[place], self.report.layers.get(place, []), self.ends(place)
         sections = self.anatomies.sections(self.reader, place, heard.data) if heard.data else self.contents(place)
@@ -110,7 +112,7 @@ class ReportPage:
             sections,
         ]
 
-    def key(self, fields):
+    def key(self, fields: dict) -> list:
         """Returns a key: number, digits, the place of the frame that it was found in or -1, the round, the keys that
         opened that frame."""
         place = fields.get('frame')
@@ -118,7 +120,7 @@ class ReportPage:
             return [fields['k'], fields['key'], -1, 0, []]
         return [fields['k'], fields['key'], place - 1, fields['round'], self.openers(place, fields['key'])]
 
-    def openers(self, place, key):
+    def openers(self, place: int, key: str) -> List[int]:
         """Returns the keys that opened the layers of a frame, down to the one whose content shows a key."""
         opened = []
         for it in self.report.layers.get(place, []):
@@ -128,7 +130,7 @@ class ReportPage:
                     break
         return opened
 
-    def data(self):
+    def data(self) -> dict:
         """Returns what the page gets, but for its title and text."""
         rows, keys = [self.frame(place) for place in sorted(self.heard)], [self.key(it) for it in self.report.keys]
         end = self.report.end
@@ -146,7 +148,7 @@ class ReportPage:
         }
 
 
-def check_capture(report, heard, path):
+def check_capture(report: Any, heard: List[Heard], path: str) -> None:
     """Stops where a capture can't be the one that a report is of."""
     if len(heard) != report.end['frames']:
         raise Stop(
@@ -163,7 +165,7 @@ def check_capture(report, heard, path):
             )
 
 
-def secured(data):
+def secured(data: bytes) -> bool:
     """Returns whether a frame has a sealed NWK layer."""
     try:
         return frames.read_nwk(data).payload is None
@@ -171,8 +173,8 @@ def secured(data):
         return False
 
 
-def make_report(report, heard=None, path=None):
+def make_report(report: Any, heard: Optional[List[Heard]] = None, path: Optional[str] = None) -> Optional[dict]:
     """Returns the data of the page of a report, with what its capture shows where that is given."""
     if heard is not None:
         check_capture(report, heard, path)
-    return ReportPage(report, heard and dict(enumerate(heard, 1))).data()
+    return ReportPage(report, dict(enumerate(heard, 1)) if heard else None).data()

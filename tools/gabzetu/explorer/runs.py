@@ -1,4 +1,6 @@
 """Makes the data of a transcript's page: its text, and in words what became of its frames and what its nodes did."""
+from typing import Any, List, Optional, Union
+
 from ..formats import fields, policy, stories
 from ..formats import history as histories
 from ..formats.causes import CLAIMS
@@ -9,7 +11,7 @@ from .tables import Anatomies, Table
 class Run:
     """The data of one page, as it is put together."""
 
-    def __init__(self, history):
+    def __init__(self, history: histories.History) -> None:
         self.history = history
         self.centre = next((node.name for node in history.nodes if node.role == 'centre'), None)
         self.texts, self.boxes, self.refusals = Table(), Table(), {}
@@ -20,22 +22,22 @@ class Run:
             self.sent.setdefault(frame.event, []).append(place)
         self.frame_places = {frame.number: place for place, frame in enumerate(history.frames)}
 
-    def place_of(self, name):
+    def place_of(self, name: str) -> int:
         """Returns the place of a node, or -1 of nobody and of a name that no line declares."""
         return self.places.get(name, -1)
 
-    def box(self, box):
+    def box(self, box: histories.Box) -> int:
         """Returns the place of a box."""
         return self.boxes.place((box.kind, tuple(self.texts.place(text) for text in box.texts)))
 
-    def fold(self, event, boxes):
+    def fold(self, event: int, boxes: List[histories.Box]) -> int:
         """Returns the place of the text under which equal refusals in a row are folded, or -1."""
         if event in self.sent or len(boxes) != 1 or boxes[0].kind != 'refusal':
             return -1
         words = next(words for words in self.history.events[event] if words[0] == 'refuse')
         return self.texts.place(f'refuses ({words[2]}): {words[3]}')
 
-    def refusal(self, event, words):
+    def refusal(self, event: int, words: list) -> int:
         """Returns the place of the sentence of the policy on the refusal of an event, or -1.
 
         Events of a lone refusal share it."""
@@ -48,7 +50,7 @@ class Run:
             self.refusals[kind] = self.texts.place(self.sentence(event, lines, words))
         return self.refusals[kind]
 
-    def sentence(self, event, lines, words):
+    def sentence(self, event: int, lines: list, words: Any) -> Any:
         """Returns what the policy says of the refusal of an event."""
         numbered = [stories.Line(0, '', fields.read_transcript_line([str(event), *it])) for it in lines]
         story = stories.Story(stories.Group(event, numbered), self.centre, words or None)
@@ -58,7 +60,7 @@ class Run:
         )
         return f'{refused["reason"]}: {text}'
 
-    def event(self, event):
+    def event(self, event: int) -> list:
         """Returns an event: number, node, boxes, frames that it sends, the frame that it delivers, words, fold,
         sentence on its refusal."""
         lines, boxes = self.history.events.get(event, []), histories.boxes(self.history, event)
@@ -75,12 +77,12 @@ class Run:
             self.refusal(event, words),
         ]
 
-    def events(self):
+    def events(self) -> List[list]:
         """Returns the events that have lines or words, in order."""
         numbers = set(self.history.events) | set(self.history.schedule.events if self.history.schedule else [])
         return [self.event(event) for event in sorted(numbers - {0})]
 
-    def verdict(self, verdict):
+    def verdict(self, verdict: histories.Verdict) -> List[int]:
         """Returns what a node made of a frame: event, node, the place of the text."""
         text = (
             histories.deed(verdict.reason)
@@ -89,7 +91,7 @@ class Run:
         )
         return [verdict.event, self.place_of(verdict.node), self.texts.place(text), 1 if verdict.reason is None else 0]
 
-    def frame(self, frame):
+    def frame(self, frame: Any) -> list:
         """Returns a frame: number, event, sender, kind, words, counters, destination, the word where nobody judged it,
         verdicts, sections."""
         words, counters = self.history.reader.describe(frame.event, frame.data)
@@ -106,7 +108,7 @@ class Run:
             self.anatomies.sections(self.history.reader, frame.event, frame.data),
         ]
 
-    def data(self):
+    def data(self) -> dict:
         """Returns what the page gets, but for its title, text and verdict."""
         events, frames = self.events(), [self.frame(it) for it in self.history.frames]
         return {
@@ -122,7 +124,7 @@ class Run:
         }
 
 
-def explain_end(end):
+def explain_end(end: List[str]) -> str:
     """Returns the end line in words."""
     events, seals, accepts, refusals, ideal, private = end
     honest = (
@@ -134,7 +136,7 @@ def explain_end(end):
     return f'{events} events; {seals} layers sealed, {accepts} accepted; {refusals} refusals; {honest}; {outside}'
 
 
-def explain_verdict(ran):
+def explain_verdict(ran: Any) -> List[Optional[Union[int, str]]]:
     """Returns the audit's verdict: its words, whether it is good, what they mean, and the line that it names or 0."""
     words = ran.output.decode('ascii', 'replace').split()
     text = ' '.join(words)
@@ -155,6 +157,6 @@ def explain_verdict(ran):
     return [text, False, f'tc ended with status {ran.status}', 0]
 
 
-def make_run(history):
+def make_run(history: histories.History) -> dict:
     """Returns the data of the page of a history."""
     return Run(history).data()

@@ -1,5 +1,6 @@
 """Learns which short address is which EUI, from the headers and contents of a capture, PAN by PAN."""
 import collections
+from typing import Any, Dict, Iterator, List, Optional, Sequence, Tuple
 
 from . import headers
 from .mac import digits
@@ -10,7 +11,7 @@ ANNOUNCE, NWK_ANSWER, IEEE_ANSWER = 0x0013, 0x8000, 0x8001
 NOBODY = ('0' * 16, 'F' * 16)
 
 
-def payload_of(nwk, layers):
+def payload_of(nwk: headers.Nwk, layers: Sequence[Any]) -> Optional[bytes]:
     """Returns what a NWK frame carries: what tc opened of it, or what stands there in clear; none where it stays
     closed."""
     if nwk.auxiliary is None:
@@ -19,7 +20,7 @@ def payload_of(nwk, layers):
     return bytes.fromhex(opened[0].replace('-', '')) if opened else None
 
 
-def content_of(aps, layers):
+def content_of(aps: headers.Aps, layers: Sequence[Any]) -> Optional[bytes]:
     """Returns what an APS frame carries, as payload_of does of a NWK frame."""
     if aps.auxiliary is None:
         return aps.rest
@@ -27,7 +28,7 @@ def content_of(aps, layers):
     return bytes.fromhex(opened[0].replace('-', '')) if opened else None
 
 
-def pair_in(aps, content):
+def pair_in(aps: headers.Aps, content: bytes) -> Optional[Tuple[str, str]]:
     """Returns the short address and the EUI that a content names together, or none."""
     if aps.kind == headers.DATA and aps.profile == 0 and aps.cluster == ANNOUNCE and len(content) >= 11:
         return digits(content[1:3]), digits(content[3:11])
@@ -41,10 +42,10 @@ def pair_in(aps, content):
 class Addresses:
     """The EUIs that were learned of each short address of each PAN, in their order."""
 
-    def __init__(self):
+    def __init__(self) -> None:
         self.pans, self.count = collections.defaultdict(dict), 0
 
-    def learn(self, pan, short, eui):
+    def learn(self, pan: str, short: str, eui: str) -> None:
         """Notes that a short address of a PAN is that of an EUI. Addresses of nobody are passed over."""
         if pan is None or eui in NOBODY or int(short, 16) > LAST_SHORT:
             return
@@ -53,21 +54,21 @@ class Addresses:
             known.append(eui)
             self.count += 1
 
-    def learn_all(self, triples):
+    def learn_all(self, triples: list) -> None:
         """Notes triples of PAN, short address and EUI."""
         for it in triples:
             self.learn(*it)
 
-    def pairs(self):
+    def pairs(self) -> Iterator[Tuple[str, str]]:
         """Yields the short addresses of all PANs with their EUIs."""
         yield from ((short, eui) for known in self.pans.values() for short, euis in known.items() for eui in euis)
 
-    def learn_from_headers(self, frames):
+    def learn_from_headers(self, frames: list) -> None:
         """Learns from the headers that frames show."""
         for frame in frames:
             self.learn_from_header(frame)
 
-    def learn_from_header(self, frame):
+    def learn_from_header(self, frame: Any) -> None:
         """Learns from the headers of a frame. The NWK seal is that of the node that sent the packet."""
         nwk = frame.nwk
         if nwk is None:
@@ -79,7 +80,7 @@ class Addresses:
         if nwk.auxiliary and nwk.auxiliary.source and frame.source and len(frame.source) == 4:
             self.learn(frame.pan, frame.source, nwk.auxiliary.source)
 
-    def learn_from_layers(self, frame, layers):
+    def learn_from_layers(self, frame: Any, layers: tuple) -> None:
         """Learns from what tc opened of a frame."""
         nwk = frame.nwk
         payload = payload_of(nwk, layers) if nwk and nwk.kind == headers.DATA else None
@@ -96,7 +97,7 @@ class Addresses:
         if pair:
             self.learn(frame.pan, *pair)
 
-    def tables(self, pan):
+    def tables(self, pan: Optional[str]) -> List[Dict[str, str]]:
         """Returns tables from short address to EUI for a PAN: as many as some address has EUIs, at least one."""
         known = self.pans.get(pan, {})
         count = max(map(len, known.values()), default=1)

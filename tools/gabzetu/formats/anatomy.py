@@ -3,6 +3,7 @@
 A frame becomes sections. The first is the frame as it is on the air. A nonce, and the content of each layer that a
 line shows opened, are sections of their own, with their own offsets."""
 import collections
+from typing import Any, Callable, Dict, List, Optional, Tuple, Union
 
 from . import frames
 
@@ -39,18 +40,18 @@ COMMANDS = {
 JOINS = {0: 'secured rejoin', 1: 'join', 2: 'leave', 3: 'unsecured rejoin'}
 
 
-def explain_status(status):
+def explain_status(status: int) -> str:
     """Returns the words on the status of an Update-Device."""
     return JOINS.get(status, '')
 
 
 # The fields of commands after their identifier: size (none for the rest), name and shape.
-KEY_FIELDS = {
+KEY_FIELDS: Dict[int, List[tuple]] = {
     1: [(16, 'key', 'key'), (1, 'sequence', 'number'), (8, 'destination', 'address'), (8, 'source', 'address')],
     3: [(16, 'key', 'key'), (8, 'partner', 'address'), (1, 'initiator', 'number')],
     4: [(16, 'key', 'key'), (8, 'destination', 'address'), (8, 'source', 'address')],
 }
-FIELDS = {
+FIELDS: Dict[int, List[tuple]] = {
     frames.UPDATE: [(8, 'device', 'address'), (2, 'short', 'short'), (1, 'status', 'number', explain_status)],
     frames.REMOVE: [(8, 'target', 'address')],
     frames.SWITCH: [(1, 'sequence', 'number')],
@@ -62,10 +63,12 @@ FIELDS = {
 class Cursor:
     """Takes the fields of one section, from its first byte on."""
 
-    def __init__(self, kind, title, data):
+    def __init__(self, kind: str, title: str, data: bytes) -> None:
         self.kind, self.title, self.data, self.at, self.fields = kind, title, data, 0, []
 
-    def take(self, size, name, shape, note=None):
+    def take(
+        self, size: int, name: str, shape: str, note: Optional[Union[Callable[..., Any], str]] = None
+    ) -> int:
         """Takes a field and returns its value as a number. The note is a function of the value, or a text."""
         value = int.from_bytes(self.data[self.at : self.at + size], 'little')
         if len(self.data) < self.at + size:
@@ -76,35 +79,35 @@ class Cursor:
         self.at += size
         return value
 
-    def rest(self, name, shape='bytes'):
+    def rest(self, name: str, shape: str = 'bytes') -> None:
         """Takes all bytes that are left, if any."""
         if self.at < len(self.data):
             self.fields.append(Field(self.at, len(self.data) - self.at, name, shape, ''))
         self.at = len(self.data)
 
-    def section(self):
+    def section(self) -> Section:
         """Returns the section that was read."""
         return Section(self.kind, self.title, self.data, tuple(self.fields))
 
 
-def name_bits(value, bits):
+def name_bits(value: int, bits: Dict[int, str]) -> List[str]:
     """Returns the names of the bits that are set."""
     return [name for bit, name in bits.items() if value & 1 << bit]
 
 
-def explain_nwk(control):
+def explain_nwk(control: int) -> str:
     """Returns the words on a NWK frame control."""
     kind = NWK_TYPES.get(control & 3, f'type {control & 3}')
     return ', '.join([kind, f'version {control >> 2 & 15}', *name_bits(control, NWK_BITS)])
 
 
-def explain_aps(control):
+def explain_aps(control: int) -> str:
     """Returns the words on an APS frame control."""
     kind = APS_TYPES.get(control & 3, 'type 3')
     return ', '.join([kind, DELIVERIES[control >> 2 & 3], *name_bits(control, APS_BITS)])
 
 
-def explain_auxiliary(control):
+def explain_auxiliary(control: int) -> str:
     """Returns the words on an auxiliary security control."""
     texts = [
         f'level {control & 7} on the air' + (', really 5' if control & 7 != 5 else ''),
@@ -113,7 +116,7 @@ def explain_auxiliary(control):
     return ', '.join(texts + (['source given'] if control & 0x20 else []))
 
 
-def take_nwk(cursor):
+def take_nwk(cursor: Cursor) -> Tuple[bool, int]:
     """Takes a NWK header, and says whether the frame is secured and what type it has."""
     control = cursor.take(2, 'NWK control', 'number', explain_nwk)
     cursor.take(2, 'destination', 'short', lambda short: BROADCASTS.get(short, ''))
@@ -132,7 +135,7 @@ def take_nwk(cursor):
     return bool(control & 1 << 9), control & 3
 
 
-def take_aps(cursor):
+def take_aps(cursor: Cursor) -> Tuple[bool, int]:
     """Takes an APS header, and says whether the frame is secured and what type it has."""
     control = cursor.take(1, 'APS control', 'number', explain_aps)
     kind = control & 3
@@ -151,7 +154,7 @@ def take_aps(cursor):
     return bool(control & 0x20), kind
 
 
-def take_seal(cursor):
+def take_seal(cursor: Cursor) -> tuple:
     """Takes an auxiliary header, the sealed bytes and their code, and returns control, counter and source (none if it
     isn't there)."""
     control = cursor.take(1, 'security control', 'number', explain_auxiliary)
@@ -165,7 +168,7 @@ def take_seal(cursor):
     return control, counter, source
 
 
-def nonce_of(layer, control, counter, source):
+def nonce_of(layer: str, control: int, counter: int, source: int) -> Section:
     """Returns the section of the nonce of a sealed layer."""
     data = source.to_bytes(8, 'little') + counter.to_bytes(4, 'little') + bytes([control & 0xF8 | 5])
     cursor = Cursor('nonce', f'Nonce of the {layer} layer', data)
@@ -175,7 +178,7 @@ def nonce_of(layer, control, counter, source):
     return cursor.section()
 
 
-def take_command(cursor):
+def take_command(cursor: Cursor) -> bool:
     """Takes an APS command, and says whether an APS frame for another node follows, as in a Tunnel."""
     kind = cursor.take(1, 'command', 'number', lambda value: COMMANDS.get(value, 'unknown'))
     parts = FIELDS.get(kind, [])
@@ -197,15 +200,15 @@ def take_command(cursor):
 class Anatomy:
     """Takes one frame apart. The reader shows the contents of its sealed layers."""
 
-    def __init__(self, reader, event, data):
+    def __init__(self, reader: Any, event: int, data: bytes) -> None:
         self.reader, self.event, self.sections = reader, event, []
         self.cursor = Cursor('air', 'Frame, as it is on the air', data)
 
-    def close(self):
+    def close(self) -> None:
         """Ends the section that is being taken."""
         self.sections.append(self.cursor.section())
 
-    def open(self, layer, part):
+    def open(self, layer: str, part: frames.Layer) -> bool:
         """Takes the seal of a layer, and goes on with its content. Returns whether its content is known."""
         control, counter, source = take_seal(self.cursor)
         self.close()
@@ -220,7 +223,7 @@ class Anatomy:
             self.cursor = Cursor('content', title, bytes.fromhex(term.content.replace('-', '')))
         return term is not None
 
-    def take_nwk(self):
+    def take_nwk(self) -> None:
         """Takes a NWK frame."""
         is_secured, kind = take_nwk(self.cursor)
         if is_secured and not self.open('NWK', frames.read_nwk(self.cursor.data)):
@@ -232,7 +235,7 @@ class Anatomy:
         else:
             self.take_aps('APS')
 
-    def take_aps(self, layer):
+    def take_aps(self, layer: str) -> None:
         """Takes an APS frame, which ends the section or is followed by its content."""
         start = self.cursor.at
         is_secured, kind = take_aps(self.cursor)
@@ -246,14 +249,14 @@ class Anatomy:
             self.cursor.rest('data')
         self.close()
 
-    def take_command(self):
+    def take_command(self) -> None:
         """Takes an APS command without its header."""
         if take_command(self.cursor):
             self.take_aps('inner APS')
         else:
             self.close()
 
-    def take_all(self, take):
+    def take_all(self, take: Callable[..., Any]) -> List[Section]:
         """Returns the sections, beginning with `take`.
 
         Bytes that are no whole frame end as a field `cut` or `more bytes`."""
@@ -265,13 +268,13 @@ class Anatomy:
         return self.sections
 
 
-def take_apart(reader, event, data):
+def take_apart(reader: Any, event: int, data: bytes) -> List[Section]:
     """Returns the sections of a frame that was sent in an event, as `reader` shows their contents."""
     it = Anatomy(reader, event, data)
     return it.take_all(it.take_nwk)
 
 
-def take_content_apart(reader, event, title, content, is_command):
+def take_content_apart(reader: Any, event: int, title: str, content: bytes, is_command: bool) -> Any:
     """Returns the sections of the content of a layer alone: an APS frame, or an APS command without its header."""
     it = Anatomy(reader, event, content)
     it.cursor = Cursor('content', title, content)

@@ -1,5 +1,6 @@
 """What a broken claim of an audit is about: the earlier lines that a line goes against, and what doesn't add up."""
 import collections
+from typing import Any, List
 
 # What may not add up of a line, by its kind, for claim 4.
 SUMS = {
@@ -32,18 +33,18 @@ SUMS = {
 MOST = 4
 
 
-def number(line, name):
+def number(line: Any, name: str) -> int:
     """Returns the number in a field of a line, and -1 where it is none."""
     value = line.fields.get(name)
     return value if isinstance(value, int) else -1
 
 
-def same(one, other, keys):
+def same(one: dict, other: dict, keys: List[str]) -> bool:
     """Returns whether two lines have the same values in some fields."""
     return all(one.get(key) == other.get(key) for key in keys)
 
 
-def earlier(lines, line, kinds, keys):
+def earlier(lines: list, line: Any, kinds: List[str], keys: List[str]) -> list:
     """Returns the lines of some kinds before a line that have the same values as it."""
     return [
         it
@@ -52,18 +53,18 @@ def earlier(lines, line, kinds, keys):
     ]
 
 
-def nonces(lines, line):
+def nonces(lines: list, line: Any) -> list:
     """Returns the first seal before a line with the same key and nonce."""
     return earlier(lines, line, ['seal'], ['base', 'label', 'source', 'counter', 'control'])[:1]
 
 
-def counters(lines, line):
+def counters(lines: list, line: Any) -> list:
     """Returns the last accept line before a line whose counter isn't smaller."""
     found = earlier(lines, line, ['accept'], ['node', 'layer', 'base', 'source'])
     return [it for it in found if number(it, 'counter') >= number(line, 'counter')][-1:]
 
 
-def sums(lines, line):
+def sums(lines: list, line: Any) -> list:
     """Returns the last lines on the same node that a line of counters, limits, floors and starts goes back on."""
     keys = ['node', 'layer'] if 'layer' in line.fields else ['node', 'key']
     found = earlier(
@@ -78,17 +79,17 @@ def sums(lines, line):
     return sorted(set_of(found[-MOST:] + actives[-MOST:]), key=lambda it: it.number)
 
 
-def set_of(lines):
+def set_of(lines: list) -> Any:
     """Returns lines without repeats."""
     return {it.number: it for it in lines}.values()
 
 
-def removals(lines, line):
+def removals(lines: list, line: Any) -> Any:
     """Returns the last removals before a line."""
     return [it for it in lines if it.number < line.number and it.fields and it.fields['kind'] == 'removed'][-MOST:]
 
 
-def related(lines, line, claim):
+def related(lines: list, line: Any, claim: int) -> list:
     """Returns the earlier lines that matter for a line that breaks a claim."""
     rules = {(1, 'seal'): nonces, (2, 'accept'): counters}
     if not line.fields:
@@ -101,7 +102,7 @@ def related(lines, line, claim):
     return rule(lines, line) if rule else []
 
 
-def reasons(lines, line, claim):
+def reasons(lines: list, line: Any, claim: int) -> List[str]:
     """Returns what may be wrong with a line, as sentences."""
     kind = line.fields['kind'] if line.fields else None
     if claim == 4:
@@ -111,7 +112,7 @@ def reasons(lines, line, claim):
     return []
 
 
-def reasons_of_end(lines, line):
+def reasons_of_end(lines: list, line: Any) -> List[str]:
     """Returns what is wrong with the last line."""
     if line.fields is None or line.fields['kind'] != 'end':
         return ['the last line is no end line']

@@ -5,6 +5,7 @@ their place, or leave them out. So packets that are alike are looked at together
 import binascii
 import collections
 import struct
+from typing import Any, Iterator, Optional, Set, Tuple
 
 from .links import LeftOut
 
@@ -19,17 +20,17 @@ FEW, ENOUGH = 8, 2000
 Evidence = collections.namedtuple('Evidence', 'packets right ok same longer')
 
 
-def check_of(body):
+def check_of(body: bytes) -> bytes:
     """Returns the check sequence of a packet: CRC with polynomial 1021, reflected, first value 0, low byte first."""
     return struct.pack('>H', binascii.crc_hqx(body.translate(MIRROR), 0)).translate(MIRROR)
 
 
-def address_size(mode):
+def address_size(mode: int) -> int:
     """Returns the number of bytes of an address of this mode."""
     return {2: 2, 3: 8}.get(mode, 0)
 
 
-def size_of(packet):
+def size_of(packet: bytes) -> Optional[int]:
     """Returns the size of an acknowledgement or MAC command without its check sequence, or none for other packets."""
     if len(packet) < 3:
         return None
@@ -47,7 +48,7 @@ def size_of(packet):
     return size + COMMAND_SIZES[packet[size]]
 
 
-def note(seen, packet):
+def note(seen: Evidence, packet: bytes) -> Evidence:
     """Adds a whole packet to the evidence."""
     last = packet[-2:]
     size = size_of(packet)
@@ -61,7 +62,7 @@ def note(seen, packet):
     )
 
 
-def decide(seen, said):
+def decide(seen: Evidence, said: str) -> str:
     """Returns what the last two bytes are, by the evidence and what the link type says: crc, ti, ignore or none."""
     if seen.packets == 0 or seen.right * 20 >= seen.packets:
         return 'crc' if seen.packets else said
@@ -81,17 +82,17 @@ def decide(seen, said):
 class Checks:
     """Takes check sequences off. In the mode `auto` the packets that were learned decide how, kind by kind."""
 
-    def __init__(self, mode='auto'):
+    def __init__(self, mode: str = 'auto') -> None:
         self.mode, self.seen, self.said, self.decided = mode, {}, {}, {}
 
-    def learn(self, wrapped):
+    def learn(self, wrapped: Any) -> None:
         """Takes a packet as evidence on those of its kind."""
         before = self.seen.get(wrapped.kind) or Evidence(0, 0, 0, collections.Counter(), collections.Counter())
         if self.mode == 'auto' and before.packets < ENOUGH and 3 <= wrapped.whole == len(wrapped.kept):
             self.seen[wrapped.kind], self.said[wrapped.kind] = note(before, wrapped.kept), wrapped.check
             self.decided.pop(wrapped.kind, None)
 
-    def how(self, wrapped):
+    def how(self, wrapped: Any) -> str:
         """Returns what the last two bytes of a packet are: crc, ti, ignore or none."""
         if self.mode != 'auto':
             return self.mode
@@ -100,17 +101,17 @@ class Checks:
             self.decided[wrapped.kind] = decide(seen, wrapped.check) if seen else wrapped.check
         return self.decided[wrapped.kind]
 
-    def in_use(self):
+    def in_use(self) -> Set[str]:
         """Returns the ways in which check sequences are judged."""
         return set(self.decided.values()) if self.mode == 'auto' else {self.mode}
 
-    def surprises(self):
+    def surprises(self) -> Iterator[Tuple[str, str, str]]:
         """Yields the kinds of packets whose last two bytes aren't what their link type says, with both words."""
         for kind, how in sorted(self.decided.items()):
             if how != self.said.get(kind, how):
                 yield kind, self.said[kind], how
 
-    def take_off(self, wrapped):
+    def take_off(self, wrapped: Any) -> Tuple[bytes, int]:
         """Returns the bytes of a packet without its check sequence, and how many bytes this one has.
 
         Raises LeftOut for a packet that isn't whole or has a wrong check sequence."""

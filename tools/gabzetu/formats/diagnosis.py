@@ -1,9 +1,11 @@
 """Tells of which kind a text is, and finds its mistakes by the reader of that kind. Whether a text is right is said
 by tc."""
 import functools
+from typing import Dict, List, Optional
 
 from .. import program
-from . import captures, grammar, schedules, scripts
+from . import captures, daintree, grammar, schedules, scripts
+from .packets import MODIFIED, PCAP, PCAPNG
 
 READERS = {'schedule': schedules, 'capture': captures, 'script': scripts}
 ENDINGS = {'.sched': 'schedule', '.capture': 'capture', '.script': 'script'}
@@ -17,11 +19,9 @@ MOST_CODES = 512
 TRANSCRIPT, OF_TRANSCRIPT = 'transcript', b'0 node '
 # Inputs of other kinds, by how they begin, and what reads them.
 OTHERS = [
-    (b'\xd4\xc3\xb2\xa1', 'a pcap file: `gabzetu open` reads it'),
-    (b'\xa1\xb2\xc3\xd4', 'a pcap file: `gabzetu open` reads it'),
-    (b'\x4d\x3c\xb2\xa1', 'a pcap file: `gabzetu open` reads it'),
-    (b'\xa1\xb2\x3c\x4d', 'a pcap file: `gabzetu open` reads it'),
-    (b'\x0a\x0d\x0d\x0a', 'a pcapng file: `gabzetu open` reads it'),
+    *((magic, 'a pcap file: `gabzetu open` reads it') for magic in (*PCAP, *MODIFIED)),
+    (PCAPNG, 'a pcapng file: `gabzetu open` reads it'),
+    (daintree.MAGIC, 'a capture of Daintree: `gabzetu open` reads it'),
     (OF_TRANSCRIPT, 'a transcript: `gabzetu audit` judges it'),
     (b'1 nwk ', "an inspector's report"),
     (b'start\n> ', 'a log of tc_centre: `gabzetu hub-log` makes its transcript'),
@@ -41,11 +41,11 @@ USES = {
 class LinkKeys:
     """The link keys of install codes, as tc says them."""
 
-    def __init__(self):
+    def __init__(self) -> None:
         self.asked = 0
 
     @functools.lru_cache(None)
-    def __call__(self, code):
+    def __call__(self, code: str) -> Optional[str]:
         if self.asked >= MOST_CODES:
             return None
         self.asked += 1
@@ -53,12 +53,12 @@ class LinkKeys:
         return ran.output.decode('ascii', 'replace').strip() if ran.status == 0 else None
 
 
-def other_kind_of(data):
+def other_kind_of(data: bytes) -> Optional[str]:
     """Returns what an input of another kind is, or none."""
     return next((what for begin, what in OTHERS if data.startswith(begin)), None)
 
 
-def score(kind, lines):
+def score(kind: str, lines: List[grammar.Line]) -> int:
     """Returns how well lines fit a kind: a line that has a form of it counts twice, one with a first word of it
     once."""
     table = READERS[kind].GRAMMAR
@@ -66,26 +66,26 @@ def score(kind, lines):
     return sum(2 if table.read(line)[0] else 1 for line in known)
 
 
-def scores_of(data):
+def scores_of(data: bytes) -> Dict[str, int]:
     """Returns how well the first lines of a text fit each kind."""
     lines = [line for line, _ in zip(grammar.read_lines(data), range(LINES_THAT_TELL))]
     return {kind: score(kind, lines) for kind in READERS}
 
 
-def kind_by_lines(path, data):
+def kind_by_lines(path: str, data: bytes) -> Optional[str]:
     """Returns the kind that the lines of a text tell, or none. Where two fit as well, the name decides."""
     scores = scores_of(data)
     best = max(scores, key=lambda it: (scores[it], path.endswith('.' + it)))
     return best if scores[best] else None
 
 
-def kind_of(path, data):
+def kind_of(path: str, data: bytes) -> str:
     """Returns the kind of a text: that of its lines, else of the ending of its name, else a schedule."""
     by_name = (kind for ending, kind in ENDINGS.items() if path.endswith(ending))
     return kind_by_lines(path, data) or next(by_name, 'schedule')
 
 
-def no_transcript(path, data):
+def no_transcript(path: str, data: bytes) -> str:
     """Returns why an input is no transcript, where its first line is none: with what it is, if that can be told."""
     if not data:
         return f'{path}: it is empty, and no transcript'
@@ -93,7 +93,7 @@ def no_transcript(path, data):
     return f'{path}: line 1 is no line of a transcript' + (f'; this is {what}' if what else '')
 
 
-def other_than(kind, path, data):
+def other_than(kind: str, path: str, data: bytes) -> Optional[str]:
     """Returns what an input is that was taken for this kind, where it fits another one twice as well; or none."""
     if kind not in (*READERS, TRANSCRIPT) or (kind == TRANSCRIPT and data.startswith(OF_TRANSCRIPT)):
         return None
@@ -102,7 +102,7 @@ def other_than(kind, path, data):
     return other_kind_of(data) or (USES.get(kind_by_lines(path, data)) if fits_better else None)
 
 
-def find_mistakes(kind, data, first=1, most=None):
+def find_mistakes(kind: str, data: bytes, first: int = 1, most: Optional[int] = None) -> List[grammar.Mistake]:
     """Returns the mistakes of a text of this kind from line `first` on, at most one a line, and no more than `most`.
 
     tc took the lines before `first`."""
@@ -111,7 +111,7 @@ def find_mistakes(kind, data, first=1, most=None):
     return READERS[kind].find_mistakes(data, LinkKeys(), first, most)
 
 
-def hints(kind, given, line):
+def hints(kind: str, given: bytes, line: int) -> List[str]:
     """Returns what is wrong with a line, as `LINE:COLUMN: 'text': message`; nothing where the reader finds nothing."""
     if kind not in READERS:
         return []

@@ -4,6 +4,8 @@ lists of stores.
 Each reader takes the words of a line and returns a dict whose `kind` is the kind of the line, or none where the line
 is no such line. Counters and numbers are numbers, `yes` and `no` are true and false, all else is text as it was
 written."""
+from typing import Dict, List, Optional, Union
+
 from .numbers import read_number
 
 NUMBERS = {
@@ -134,19 +136,19 @@ STORE = {
 VERDICTS = {'sound': ['seals accepts word'], 'broken': ['line claim']}
 
 
-def shown(form):
+def shown(form: str) -> str:
     """Returns the words of a form as help shows them: a name in capitals, a very word as it is."""
     return ' '.join(it.partition('=')[2] or it.upper() for it in form.split())
 
 
-def value_of(name, word):
+def value_of(name: str, word: str) -> Union[int, str]:
     """Returns a word as the value of its field."""
     if name in NUMBERS and read_number(word) is not None:
         return read_number(word)
     return TRUTHS.get(word, word) if name in ('ideal', 'private') else word
 
 
-def fields_of(form, words):
+def fields_of(form: str, words: List[str]) -> Optional[dict]:
     """Returns the fields of words by a form, or none where they don't fit."""
     names = form.split()
     if len(names) != len(words):
@@ -161,7 +163,7 @@ def fields_of(form, words):
     return fields
 
 
-def named(head, forms, words):
+def named(head: dict, forms: List[str], words: List[str]) -> Optional[dict]:
     """Returns the fields of `head` and those of the words by the first form that fits, or none."""
     for form in forms:
         fields = fields_of(form, words)
@@ -170,51 +172,51 @@ def named(head, forms, words):
     return None
 
 
-def read_by(table, words):
+def read_by(table: Dict[str, List[str]], words: List[str]) -> Optional[dict]:
     """Returns the fields of a line whose first word is its kind, by a table of forms, or none."""
     return named({'kind': words[0]}, table.get(words[0], []), words[1:]) if words else None
 
 
-def read_numbered(name, table, words):
+def read_numbered(name: str, table: Dict[str, List[str]], words: List[str]) -> Optional[dict]:
     """Returns the fields of a line that begins with a number, which is the field `name`, and its kind; or none."""
     if len(words) < 2 or read_number(words[0]) is None:
         return None
     return named({name: read_number(words[0]), 'kind': words[1]}, table.get(words[1], []), words[2:])
 
 
-def read_transcript_line(words):
+def read_transcript_line(words: List[str]) -> Optional[dict]:
     """Returns the fields of a line of a transcript: `event`, `kind` and those of its kind. The end line has no
     event."""
     return read_by({'end': [END]}, words) or read_numbered('event', TRANSCRIPT, words)
 
 
-def read_report_line(words):
+def read_report_line(words: List[str]) -> Optional[dict]:
     """Returns the fields of a line of an inspector's report, that of `packets` included."""
     return read_by(REPORT, words) or read_numbered('frame', LAYERS, words)
 
 
-def read_campaign_line(words):
+def read_campaign_line(words: List[str]) -> Optional[dict]:
     """Returns the fields of a line of a campaign: of a run or of the total."""
     return read_by({'total': ['count seals accepts refusals']}, words) or read_numbered('run', {'end': [END]}, words)
 
 
-def read_verdict_line(words):
+def read_verdict_line(words: List[str]) -> dict:
     """Returns the fields of the answer of an audit."""
     return read_by(VERDICTS, words)
 
 
-def read_store_line(words):
+def read_store_line(words: List[str]) -> dict:
     """Returns the fields of a line that a script on a store writes. A backup is the field `backup`, as text."""
     if words and words[0].startswith('{'):
         return {'kind': 'backup', 'backup': ' '.join(words)}
     return read_by(STORE, words)
 
 
-def read_key_line(words):
+def read_key_line(words: List[str]) -> Optional[dict]:
     """Returns the field of the link key that an install code has."""
     return named({'kind': 'key'}, ['key'], words)
 
 
-def read_text_line(words):
+def read_text_line(words: List[str]) -> Optional[dict]:
     """Returns a line of a schedule: its kind, which is the first word, and the other words."""
     return {'kind': words[0], 'words': words[1:]} if words else None

@@ -2,6 +2,7 @@
 contents."""
 import collections
 import struct
+from typing import Dict, List, Optional, Tuple, Union
 
 from .names import KEY_TYPES, aps_command, network_command
 
@@ -20,7 +21,7 @@ class Malformed(Exception):
     """Why bytes are no frame."""
 
 
-def layer(kind, to, data, size, is_secured):
+def layer(kind: int, to: Optional[int], data: bytes, size: int, is_secured: bool) -> Optional[Layer]:
     """Returns the layer whose header has `size` bytes. The auxiliary header follows it where the layer is secured."""
     if len(data) < size + (5 if is_secured else 0):
         raise Malformed('NWK header cut' if to is not None else 'APS header cut')
@@ -32,7 +33,7 @@ def layer(kind, to, data, size, is_secured):
     return Layer(kind, to, real.hex().upper(), counter, None)
 
 
-def read_nwk(data):
+def read_nwk(data: bytes) -> Layer:
     """Returns the NWK layer of a frame."""
     if len(data) < 8:
         raise Malformed('NWK header cut')
@@ -45,7 +46,7 @@ def read_nwk(data):
     return layer(control & 3, to, data, size, bool(control & 1 << 9))
 
 
-def read_aps(data):
+def read_aps(data: bytes) -> Layer:
     """Returns the APS layer of a NWK payload."""
     if not data:
         raise Malformed('no APS frame')
@@ -59,12 +60,12 @@ def read_aps(data):
     return layer(kind, None, data, size, bool(control & 0x20))
 
 
-def counted(size):
+def counted(size: int) -> str:
     """Returns a number of bytes in words."""
     return f'{size} byte' + ('' if size == 1 else 's')
 
 
-def short_key(key):
+def short_key(key: str) -> str:
     """Returns the first digits of a key, by which people know it."""
     return key[:8] + '..'
 
@@ -72,17 +73,17 @@ def short_key(key):
 class Reader:
     """Reads the frames of one transcript: its terms show the contents of sealed layers."""
 
-    def __init__(self, events, nodes):
+    def __init__(self, events: Union[Dict[int, List[list]], dict], nodes: list) -> None:
         self.names = {node.eui: node.name for node in nodes}
         self.set_terms({event: self.terms_of(lines) for event, lines in events.items()})
 
-    def set_terms(self, here):
+    def set_terms(self, here: Dict[int, Dict[str, Term]]) -> None:
         """Takes the terms of each event by their headers. Of a term that comes again, the first is taken elsewhere."""
         self.here = collections.defaultdict(dict, here)
         self.anywhere = {header: term for event in sorted(here, reverse=True) for header, term in here[event].items()}
 
     @staticmethod
-    def terms_of(lines):
+    def terms_of(lines: List[List[str]]) -> Dict[str, Term]:
         """Returns the terms of an event by their headers."""
         return {
             words[-2]: Term(words[-6], words[-5], words[-1])
@@ -90,23 +91,23 @@ class Reader:
             if words[0] in ('seal', 'forge', 'accept')
         }
 
-    def term(self, event, part):
+    def term(self, event: int, part: Layer) -> Optional[Term]:
         """Returns the term of a sealed layer, or none where no line shows it."""
         return self.here[event].get(part.header) or self.anywhere.get(part.header)
 
-    def content(self, event, part):
+    def content(self, event: int, part: Layer) -> Optional[bytes]:
         """Returns the content of a layer, or none where no line shows it."""
         if part.payload is not None:
             return part.payload
         term = self.term(event, part)
         return None if term is None else bytes.fromhex(term.content.replace('-', ''))
 
-    def name(self, address):
+    def name(self, address: bytes) -> str:
         """Returns the name of the node with an address as it stands in a frame, or the address."""
         eui = address[::-1].hex().upper()
         return self.names.get(eui, eui)
 
-    def describe(self, event, data):
+    def describe(self, event: int, data: bytes) -> Tuple[List[str], List[str]]:
         """Returns the lines that say what a frame carries, and the counters of its layers."""
         try:
             nwk = read_nwk(data)
@@ -120,7 +121,7 @@ class Reader:
         except (Malformed, IndexError) as why:
             return [f'{counted(len(data))}, ' + (str(why) if isinstance(why, Malformed) else 'command cut')], []
 
-    def describe_aps(self, event, data, counters):
+    def describe_aps(self, event: int, data: bytes, counters: List[str]) -> Tuple[List[str], List[str]]:
         """Returns the same of an APS frame."""
         aps = read_aps(data)
         counters = counters if aps.counter is None else counters + [f'aps {aps.counter}']
@@ -131,7 +132,7 @@ class Reader:
             return [f'data, {counted(len(content))}' if aps.kind == DATA else 'acknowledgement'], counters
         return self.describe_command(event, content, counters)
 
-    def describe_command(self, event, it, counters):
+    def describe_command(self, event: int, it: bytes, counters: List[str]) -> Tuple[List[str], List[str]]:
         """Returns the same of an APS command."""
         kind = it[0]
         if kind == TUNNEL:

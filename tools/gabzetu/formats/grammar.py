@@ -5,6 +5,7 @@ kinds of words the table has by their name."""
 import collections
 import io
 import re
+from typing import Any, Dict, Iterator, List, Optional, Tuple
 
 from .words import Literal, Rest, counted, near
 
@@ -21,17 +22,17 @@ LONGEST_SHOWN = 40
 LONGEST_LINE, MOST_WORDS, BACKUP = 4096, 4096, 'restore '
 
 
-def printable(text):
+def printable(text: str) -> str:
     """Returns a text with escapes for what isn't printed: a terminal takes no orders from a file."""
     return ''.join(it if it.isprintable() and it.isascii() else ascii(it)[1:-1] for it in text)
 
 
-def shown(text):
+def shown(text: str) -> str:
     """Returns a text for a message, cut where it is long."""
     return printable(text if len(text) <= LONGEST_SHOWN else text[:LONGEST_SHOWN] + '..')
 
 
-def describe(mistake):
+def describe(mistake: Mistake) -> str:
     """Returns a mistake as `LINE:COLUMN: 'text': message`."""
     earlier = f' (line {mistake.earlier})' if mistake.earlier else ''
     return f"{mistake.line}:{mistake.column}: '{shown(mistake.text)}': {mistake.message}{earlier}"
@@ -40,7 +41,7 @@ def describe(mistake):
 class Form:
     """A form of a line, what it is (for example an event), what it does in a sentence, and the nodes that it takes."""
 
-    def __init__(self, what, text, about, kinds, roles=None):
+    def __init__(self, what: str, text: str, about: str, kinds: dict, roles: Optional[Dict[str, str]] = None) -> None:
         first, *places = text.split()
         self.first = first
         self.places = [kinds[it] if it in kinds else Literal(it) for it in places]
@@ -50,16 +51,16 @@ class Form:
         self.about = about
         self.roles = roles or {}
 
-    def has_rest(self):
+    def has_rest(self) -> bool:
         """Returns whether the last place takes all that is left of a line."""
         return bool(self.places) and isinstance(self.places[-1], Rest)
 
-    def values(self, line):
+    def values(self, line: Line) -> Dict[str, Word]:
         """Returns the words of a line by the names of their places."""
         return {key: word for key, word in zip(self.keys, line.words[1:]) if key}
 
 
-def split_line(number, text):
+def split_line(number: int, text: str) -> Line:
     """Returns a line with its words and their columns. Words are separated by one space each."""
     words, column = [], 1
     text = text if text.startswith(BACKUP) else text[:LONGEST_LINE]
@@ -69,7 +70,7 @@ def split_line(number, text):
     return Line(number, text, words)
 
 
-def read_texts(data):
+def read_texts(data: bytes) -> Iterator[Tuple[int, str]]:
     """Yields number and text of the lines that say something, decoded byte by byte. Empty lines and comments are
     passed over."""
     for number, line in enumerate(io.BytesIO(data), 1):
@@ -79,13 +80,13 @@ def read_texts(data):
             yield number, text
 
 
-def read_lines(data):
+def read_lines(data: bytes) -> Iterator[Line]:
     """Yields the lines of a text that say something, with their words."""
     for number, text in read_texts(data):
         yield split_line(number, text)
 
 
-def find_mistakes(reader, data, first=1, most=None):
+def find_mistakes(reader: Any, data: bytes, first: int = 1, most: Optional[int] = None) -> List[Mistake]:
     """Returns the mistakes of a text from line `first` on, at most one a line, and no more than `most`.
 
     The reader only skims the lines before `first`, because tc took them."""
@@ -102,12 +103,14 @@ def find_mistakes(reader, data, first=1, most=None):
     return [end] if end else found
 
 
-def number_of_end(data):
+def number_of_end(data: bytes) -> int:
     """Returns the number of the line that would follow a text."""
     return data.count(b'\n') + (1 if data and not data.endswith(b'\n') else 0) + 1
 
 
-def mistake(line, column, text, message, cause='syntax', earlier=None):
+def mistake(
+    line: Any, column: int, text: str, message: str, cause: str = 'syntax', earlier: Optional[int] = None
+) -> Mistake:
     """Returns a mistake in a line."""
     return Mistake(line.number, column, text, message, cause, earlier)
 
@@ -130,7 +133,7 @@ LAYOUTS = [
 ]
 
 
-def fault_of_layout(line, layouts):
+def fault_of_layout(line: Line, layouts: List[Tuple[re.Pattern, str]]) -> Optional[Mistake]:
     """Returns the mistake of the first layout that a line has, or none."""
     for pattern, message in layouts:
         found = pattern.search(line.text)
@@ -139,7 +142,7 @@ def fault_of_layout(line, layouts):
     return None
 
 
-def fault_of_first(line, firsts, others):
+def fault_of_first(line: Line, firsts: dict, others: Dict[str, str]) -> Mistake:
     """Returns the mistake of a line whose first word no form has. `firsts` are the forms by their first words,
     `others` the first words of forms that people may mean by other words."""
     word = line.words[0].text
@@ -151,20 +154,20 @@ def fault_of_first(line, firsts, others):
     return mistake(line, 1, line.text, f"no {form.what} of this name; did you mean '{form.text}'?")
 
 
-def first_fault(form, words):
+def first_fault(form: Form, words: List[Word]) -> Optional[tuple]:
     """Returns the number of the first word that its place doesn't take, and why; or none and none."""
     faults = ((number, place.fault(word.text)) for number, (place, word) in enumerate(zip(form.places, words)))
     return next((it for it in faults if it[1]), (None, None))
 
 
-def in_another_order(form, words):
+def in_another_order(form: Form, words: List[Word]) -> str:
     """Returns two words in the order of the form, where they are in the other one; else nothing."""
     if len(words) != 2 or len(form.places) != 2 or first_fault(form, words[::-1])[1]:
         return ''
     return f"; did you mean '{form.first} {words[1].text} {words[0].text}'?"
 
 
-def wanted_word(form, number, forms):
+def wanted_word(form: Form, number: int, forms: List[Form]) -> Optional[str]:
     """Returns what a place of certain words takes in any of some forms, or none where it takes other words too."""
     places = [it.places[number] for it in forms if len(it.places) > number]
     if not isinstance(form.places[number], Literal) or not all(isinstance(it, Literal) for it in places):
@@ -173,7 +176,7 @@ def wanted_word(form, number, forms):
     return 'the word ' + ' or '.join(f"'{it}'" for it in words) + ' belongs here'
 
 
-def fault_of_words(line, form, forms):
+def fault_of_words(line: Line, form: Form, forms: List[Form]) -> Optional[Mistake]:
     """Returns the mistake of the words of a line in a form, or none: the first wrong word, else their number.
     `forms` are all that the line fits as well."""
     words = line.words[1:]
@@ -195,14 +198,14 @@ def fault_of_words(line, form, forms):
     return None
 
 
-def depth(line, form):
+def depth(line: Line, form: Form) -> Tuple[int, bool]:
     """Returns how many words of a line fit a form, and whether it has as many, to choose the form that was meant."""
     words = line.words[1:]
     number, _ = first_fault(form, words)
     return min(len(words), len(form.places)) if number is None else number, len(words) == len(form.places)
 
 
-def with_rest(line, form):
+def with_rest(line: Line, form: Form) -> Line:
     """Returns a line whose last word is all that is left where the form ends with a rest of the line."""
     size = len(form.places)
     if not form.has_rest() or len(line.words) - 1 <= size:
@@ -211,7 +214,7 @@ def with_rest(line, form):
     return line._replace(words=[*line.words[:size], Word(line.text[last.column - 1 :], last.column)])
 
 
-def by_other(meant):
+def by_other(meant: Dict[str, str]) -> Dict[str, str]:
     """Returns what people write, each word with the one that it is, of the other words of each."""
     return {other: word for word, others in meant.items() for other in others.split()}
 
@@ -219,14 +222,14 @@ def by_other(meant):
 class Grammar:
     """The forms of the lines of a text."""
 
-    def __init__(self, forms, others):
+    def __init__(self, forms: List[Form], others: Dict[str, str]) -> None:
         self.forms = forms
         self.others = others
         self.firsts = collections.defaultdict(list)
         for form in forms:
             self.firsts[form.first].append(form)
 
-    def read(self, line):
+    def read(self, line: Line) -> Optional[tuple]:
         """Returns the form of a line and its words, and none; or none, none and what is wrong with it."""
         forms = self.firsts.get(line.words[0].text)
         fault = self.fault_of_layout(forms, line)
@@ -240,7 +243,7 @@ class Grammar:
         return (None, line, fault) if fault else (form, line, None)
 
     @staticmethod
-    def fault_of_layout(forms, line):
+    def fault_of_layout(forms: Optional[List[Form]], line: Line) -> Optional[Mistake]:
         """Returns what is wrong with the layout of a line. A text of any kind at its end needs be ASCII alone."""
         if not forms or not any(it.has_rest() for it in forms):
             return fault_of_layout(line, LAYOUTS)

@@ -1,6 +1,7 @@
 """Reads the headers of NWK and APS frames (docs/FORMATS.md, "Frames"), as far as addresses and reasons need them."""
 import collections
 import struct
+from typing import Optional, Tuple
 
 from .mac import digits
 
@@ -22,14 +23,14 @@ class Malformed(Exception):
     """Why bytes are no frame."""
 
 
-def take(data, at, size):
+def take(data: bytes, at: int, size: int) -> Tuple[bytes, int]:
     """Returns the bytes at a place, and the place after them. Raises Malformed where there are fewer."""
     if at + size > len(data):
         raise Malformed('header cut')
     return data[at : at + size], at + size
 
 
-def read_auxiliary(data, at):
+def read_auxiliary(data: bytes, at: int) -> Tuple[Auxiliary, int]:
     """Returns the auxiliary header at a place, and the place behind it."""
     fixed, at = take(data, at, 5)
     control, counter = struct.unpack('<BI', fixed)
@@ -43,7 +44,7 @@ def read_auxiliary(data, at):
     return Auxiliary(control & 7, control >> 3 & 3, counter, source, sequence), at
 
 
-def read_optional(data, at, is_there):
+def read_optional(data: bytes, at: int, is_there: int) -> tuple:
     """Returns an EUI where it is there, and the place behind it."""
     if not is_there:
         return None, at
@@ -51,7 +52,7 @@ def read_optional(data, at, is_there):
     return digits(address), at
 
 
-def read_nwk(data):
+def read_nwk(data: bytes) -> Nwk:
     """Returns the header of a NWK frame of version 2. Raises Malformed where it isn't whole or of another version."""
     fixed, at = take(data, 0, 8)
     control, to, source = struct.unpack_from('<HHH', fixed)
@@ -69,7 +70,7 @@ def read_nwk(data):
     return Nwk(control & 3, VERSION, f'{to:04X}', f'{source:04X}', to_eui, source_eui, auxiliary, data[at:])
 
 
-def try_nwk(data):
+def try_nwk(data: bytes) -> Optional[Nwk]:
     """Returns the header of a NWK frame, or none where read_nwk raises."""
     try:
         return read_nwk(data)
@@ -77,7 +78,7 @@ def try_nwk(data):
         return None
 
 
-def read_aps(data):
+def read_aps(data: bytes) -> Aps:
     """Returns the header of an APS frame. Raises Malformed where it isn't whole or of another type."""
     fixed, at = take(data, 0, 1)
     control, profile, cluster = fixed[0], None, None

@@ -3,6 +3,7 @@
 Charts and explorers show the same words because both take them from here. Nothing is judged: each word says what a
 line says."""
 import collections
+from typing import Dict, List, Optional
 
 from . import frames, transcripts
 from .numbers import read_number
@@ -29,7 +30,7 @@ Box = collections.namedtuple('Box', 'kind texts')
 Schedule = collections.namedtuple('Schedule', 'nodes events')
 
 
-def read_schedule(path):
+def read_schedule(path: str) -> Schedule:
     """Returns a schedule, of which it reads no more than its node lines and its events."""
     try:
         text = read_input(path).decode('ascii')
@@ -42,14 +43,14 @@ def read_schedule(path):
     return Schedule(nodes, dict(enumerate((words for words in lines if words[0] not in DECLARATIONS), 1)))
 
 
-def may_deliver(words):
+def may_deliver(words: List[str]) -> bool:
     """Returns whether a line may be of a delivery whose frame the transcript doesn't show."""
     if words[0] == 'refuse':
         return words[2] != 'event' or words[3] == 'down'
     return words[0] == 'stopped' or (words[0] == 'down' and words[2] == 'disk')
 
 
-def seal_of(data):
+def seal_of(data: bytes) -> Optional[str]:
     """Returns the header of the outermost sealed layer of a frame, or of its APS layer where none is sealed; none of
     no frame."""
     try:
@@ -59,7 +60,7 @@ def seal_of(data):
         return None
 
 
-def named_nodes(events):
+def named_nodes(events: Dict[int, List[list]]) -> List[transcripts.Node]:
     """Returns the nodes in the order of centre, routers and devices.
 
     In a foreign transcript a line may name one without a node line."""
@@ -75,7 +76,7 @@ def named_nodes(events):
 class History:
     """A transcript with what became of its frames."""
 
-    def __init__(self, transcript, schedule=None):
+    def __init__(self, transcript: transcripts.Transcript, schedule: Optional[Schedule] = None) -> None:
         self.events, self.end, self.schedule = transcript.events, transcript.end, schedule
         self.nodes = named_nodes(self.events)
         self.frames = transcripts.read_frames(self.events)
@@ -89,14 +90,14 @@ class History:
         self.verdicts, self.last_unknown = collections.defaultdict(list), 0
         self.frame_at = {event: self.judge(event, self.events[event]) for event in sorted(self.events) if event}
 
-    def node_of(self, lines):
+    def node_of(self, lines: List[List[str]]) -> Optional[str]:
         """Returns the node that an event is of, or none."""
         if any(words[0] in AT_THE_CENTRE for words in lines):
             return self.nodes[0].name if self.nodes else None
         named = [words[1] for words in lines if words[0] not in OF_NOBODY and words[1] != '-']
         return named[0] if named else None
 
-    def judge(self, event, lines):
+    def judge(self, event: int, lines: List[List[str]]) -> Optional[int]:
         """Notes what became of the frame that an event delivers, and returns its number, or none."""
         number, node = self.delivered(event, lines), self.node_of(lines)
         refusals = [words[3] for words in lines if words[0] == 'refuse']
@@ -107,7 +108,7 @@ class History:
             self.last_unknown = event
         return number
 
-    def delivered(self, event, lines):
+    def delivered(self, event: int, lines: List[List[str]]) -> Optional[int]:
         """Returns the number of the frame that is delivered in an event, by the schedule or the accepted terms; or
         none."""
         if self.schedule is not None:
@@ -117,7 +118,7 @@ class History:
         accepted = [words for words in lines if words[0] == 'accept']
         return self.carrier(event, accepted[0]) if accepted else None
 
-    def carrier(self, event, accept):
+    def carrier(self, event: int, accept: List[str]) -> Optional[int]:
         """Returns the number of the last frame before an event whose outermost sealed layer is an accepted term, or
         none."""
         for frame in reversed(self.by_seal[accept[-2]]):
@@ -127,23 +128,23 @@ class History:
                 return frame.number
         return None
 
-    def destination(self, frame):
+    def destination(self, frame: transcripts.Frame) -> Optional[str]:
         """Returns the node that has the short address to which a frame goes, or none."""
         return self.by_short.get(frame.data[2:4][::-1].hex().upper())
 
-    def targets(self, frame):
+    def targets(self, frame: transcripts.Frame) -> List[str]:
         """Returns the nodes to which the arrow of a frame goes: those that judged it, and else its destination."""
         judged = [verdict.node for verdict in self.verdicts[frame.number]]
         named = list(dict.fromkeys(name for name in judged if name not in (None, frame.sender)))
         return named or [name for name in [self.destination(frame)] if name not in (None, frame.sender)]
 
-    def unjudged(self, frame):
+    def unjudged(self, frame: transcripts.Frame) -> str:
         """Returns the word on a frame that nobody judged.
 
         A transcript alone doesn't show which frame a refusal at NWK is of."""
         return 'not accepted' if self.last_unknown > frame.event else 'lost'
 
-    def fate(self, frame):
+    def fate(self, frame: transcripts.Frame) -> str:
         """Returns in words what became of a frame."""
         texts = []
         for event, node, reason in self.verdicts[frame.number]:
@@ -152,12 +153,12 @@ class History:
         return ', '.join(texts) if texts else self.unjudged(frame)
 
 
-def deed(reason):
+def deed(reason: Optional[str]) -> Optional[str]:
     """Returns what a node did with a frame, by the reason for which it didn't accept it, or none."""
     return 'accepted' if reason is None else 'cut off' if reason in POWER.values() else 'refused'
 
 
-def check_schedule(history, path):
+def check_schedule(history: History, path: str) -> None:
     """Stops where a schedule can't be the one whose run a history is of."""
     declared = [[*words[1:]] for words in history.events[0] if words[0] == 'node']
     if history.schedule.nodes != declared:
@@ -176,7 +177,7 @@ def check_schedule(history, path):
             )
 
 
-def make_history(transcript, schedule_path=None):
+def make_history(transcript: transcripts.Transcript, schedule_path: Optional[str] = None) -> History:
     """Returns the history of a transcript, with the schedule that was played where its path is given."""
     if schedule_path is None:
         return History(transcript)
@@ -185,7 +186,7 @@ def make_history(transcript, schedule_path=None):
     return history
 
 
-def key_change(history, lines, words):
+def key_change(history: History, lines: List[List[str]], words: List[str]) -> Optional[str]:
     """Returns the words on one change of keys, or none where a line is no such change."""
     kind, key = words[0], frames.short_key(words[-1])
     if kind == 'install':
@@ -203,7 +204,7 @@ def key_change(history, lines, words):
     return None
 
 
-def other_change(history, words):
+def other_change(history: History, words: List[str]) -> Optional[str]:
     """Returns the words on one change of a state, or none where a line is no such change."""
     if words[0] == 'state':
         return f'state: {words[2]}'
@@ -212,7 +213,7 @@ def other_change(history, words):
     return f'rollover: {words[2]}' if words[0] == 'roll' else None
 
 
-def stored(history, lines):
+def stored(history: History, lines: List[List[str]]) -> List[str]:
     """Returns the words on what an event stores: limits of outgoing counters, and floors of incoming ones by their
     sender."""
     if not any(words[0] == 'commit' for words in lines):
@@ -227,7 +228,7 @@ def stored(history, lines):
     return ['stored' + (': ' if texts else '') + '; '.join(texts)]
 
 
-def special_box(words):
+def special_box(words: List[str]) -> Optional[Box]:
     """Returns the box of a line about power or a refusal, or none."""
     if words[0] == 'refuse':
         return Box('refusal', [f'refuses ({words[2]}): {" ".join(words[3:])}'])
@@ -238,7 +239,7 @@ def special_box(words):
     return Box('dump', [f'record: {len(words[2]) // 2} bytes']) if words[0] == 'dump' else None
 
 
-def boxes(history, event):
+def boxes(history: History, event: int) -> List[Box]:
     """Returns the boxes of an event at its node."""
     lines, number = history.events.get(event, []), history.frame_at.get(event)
     found = [it for it in map(special_box, lines) if it is not None]

@@ -4,8 +4,10 @@ import contextlib
 import json
 import os
 import re
+import shutil
 import sqlite3
-from typing import Iterator, Optional, Tuple
+import tempfile
+from typing import Dict, Iterator, List, Optional, Tuple, Union
 from urllib.parse import quote
 
 from ..errors import UNREADABLE, Stop
@@ -24,36 +26,36 @@ KNOWN = (
 )
 
 
-def printable(value):
+def printable(value: Union[int, str]) -> str:
     """Returns a foreign text in one line that a terminal takes, cut where it is long."""
     return ''.join(it for it in str(value) if it.isprintable())[:MOST_LABEL]
 
 
-def normal_key(text):
+def normal_key(text: Optional[Union[int, str]]) -> Optional[str]:
     """Returns a key as tc writes it, or none where a text is no key. Colons, dashes, spaces and 0x are passed over."""
     text = SEPARATORS.sub('', str(text)).upper()
     text = text[2:] if text.startswith('0X') else text
     return text if KEY.fullmatch(text) else None
 
 
-def members(value, name):
+def members(value: dict, name: str) -> dict:
     """Returns the object that a member of a JSON object is, or an empty one."""
     found = value.get(name)
     return found if isinstance(found, dict) else {}
 
 
-def objects(value, name):
+def objects(value: dict, name: str) -> List[dict]:
     """Returns the objects in the list that a member of a JSON object is."""
     found = value.get(name)
     return [it for it in found if isinstance(it, dict)] if isinstance(found, list) else []
 
 
-def key_in(value, name):
+def key_in(value: dict, name: str) -> Optional[Union[int, str]]:
     """Returns the member `key` of the object that a member is, or none."""
     return members(value, name).get('key')
 
 
-def keys_of_coordinator(backup):
+def keys_of_coordinator(backup: dict) -> Iterator[tuple]:
     """Yields the keys of an open coordinator backup: of the network, of its devices, and of the trust centre."""
     yield key_in(backup, 'network_key'), f'network key {members(backup, "network_key").get("sequence_number", 0)}'
     for device in objects(backup, 'devices'):
@@ -62,7 +64,7 @@ def keys_of_coordinator(backup):
     yield key_in(members(inside, 'network'), 'tc_link_key'), 'trust centre link key'
 
 
-def keys_of_zha(backup):
+def keys_of_zha(backup: dict) -> Iterator[tuple]:
     """Yields the keys of a backup as ZHA keeps it: network_info with network_key, tc_link_key and key_table."""
     info = members(backup, 'network_info')
     for name, words in (('network_key', 'network key'), ('tc_link_key', 'trust centre link key')):
@@ -71,7 +73,7 @@ def keys_of_zha(backup):
         yield entry.get('key'), f'link key of {entry.get("partner_ieee")}'
 
 
-def keys_of_centre(backup):
+def keys_of_centre(backup: dict) -> Iterator[Tuple[str, str]]:
     """Yields the keys of a backup of `tc admin` (docs/BACKUP.md)."""
     for name, words in (
         ('nets', 'network key {sequence}'),
@@ -82,7 +84,7 @@ def keys_of_centre(backup):
             yield row.get('key'), words.format_map({'sequence': '', 'partner': '', 'first': '', 'second': '', **row})
 
 
-def keys_of_json(value):
+def keys_of_json(value: Union[dict, list]) -> Iterator[tuple]:
     """Yields the keys of a JSON text of a known form."""
     while isinstance(value, dict) and isinstance(value.get('backup'), dict):
         value = value['backup']
@@ -96,12 +98,12 @@ def keys_of_json(value):
         yield from keys_of_coordinator(value)
 
 
-def number_of(word):
+def number_of(word: str) -> Optional[int]:
     """Returns the number that a word is, decimal or with 0x, or none."""
     return read_hexadecimal(word[2:]) if word[:2] in ('0x', '0X') else read_number(word)
 
 
-def listed_numbers(text):
+def listed_numbers(text: str) -> List[Optional[int]]:
     """Returns the numbers of a list of YAML that a text begins with, in brackets or a line each, or an empty list."""
     inline = re.match(r'\[([^\]]*)\]', text)
     block = re.match(r'[^\n]*\n((?:[ \t]*-[ \t]*\w+[ \t]*(?:#[^\n]*)?(?:\n|$))+)', text)
@@ -129,7 +131,7 @@ def place_of_secret(text: str, path: str) -> Tuple[str, Optional[re.Match]]:
     return text, member_of_settings(text, named[2])
 
 
-def keys_of_settings(text, path='-'):
+def keys_of_settings(text: str, path: str = '-') -> Iterator[Tuple[str, str]]:
     """Yields the network key of Zigbee2MQTT's settings, 16 numbers in a list or a text of digits."""
     text, place = place_of_secret(text, path)
     if not place:
@@ -141,14 +143,14 @@ def keys_of_settings(text, path='-'):
         yield place[1].split('#')[0].strip(' \'"\r}'), 'network key of the settings'
 
 
-def keys_of_wireshark(text):
+def keys_of_wireshark(text: str) -> Iterator[Tuple[str, str]]:
     """Yields the keys of lines of zigbee_pc_keys: a key, its byte order, a label."""
     for key, order, label in re.findall(r'^[ \t]*"([^"]*)","(Normal|Reverse)","([^"]*)"', text, re.M):
         key = normal_key(key)
         yield bytes.fromhex(key)[::-1].hex() if key and order == 'Reverse' else key, label or 'zigbee_pc_keys'
 
 
-def keys_of_report(lines):
+def keys_of_report(lines: List[List[str]]) -> Iterator[Tuple[str, str]]:
     """Yields the keys of the lines of a report, each with a word on where it comes from."""
     for words in lines:
         if words[0] == 'key' and words[3:] == ['given']:
@@ -157,7 +159,7 @@ def keys_of_report(lines):
             yield words[2], f'key {words[1]}, found in frame {words[4]}'
 
 
-def keys_of_transcript(lines):
+def keys_of_transcript(lines: List[List[str]]) -> Iterator[Tuple[str, str]]:
     """Yields the keys that nodes have from the start or take in, each with a word on where it comes from."""
     for event, kind, *words in (words for words in lines if len(words) > 3 and read_number(words[0]) is not None):
         if kind == 'given' and words[1] == 'net' and len(words) > 3:
@@ -172,7 +174,7 @@ def keys_of_transcript(lines):
             yield words[3], f'link key of {words[1]} with {words[2]}, event {event}'
 
 
-def fields_of_line(line):
+def fields_of_line(line: str) -> Optional[dict]:
     """Returns the fields of a JSON line, or none of one that is no JSON."""
     try:
         return json.loads(line)
@@ -180,7 +182,7 @@ def fields_of_line(line):
         return {}
 
 
-def keys_of_opened(text):
+def keys_of_opened(text: str) -> Iterator[tuple]:
     """Yields the keys of what `gabzetu open` writes: its listing, or its JSON lines."""
     for number, key, words in re.findall(r'^  key +(\d+) +([0-9A-F]{32})  (.+)$', text, re.M):
         yield key, f'key {number}, {words.split(", which key")[0]}'
@@ -189,9 +191,23 @@ def keys_of_opened(text):
         yield fields.get('key'), f'key {fields.get("k")}, {fields.get("origin")}'
 
 
+@contextlib.contextmanager
+def open_database(path: str) -> Iterator[sqlite3.Connection]:
+    """Yields a copy of a database, with what a running program wrote to its log but not yet to the file itself.
+
+    SQLite would write beside the file to read that log, so the copy is in a folder of its own."""
+    with tempfile.TemporaryDirectory(prefix='gabzetu-') as folder:
+        copy = os.path.join(folder, 'copy.db')
+        for ending in ('', '-wal'):
+            if os.path.exists(path + ending):
+                shutil.copyfile(path + ending, copy + ending)
+        with contextlib.closing(sqlite3.connect(f'file:{quote(copy)}', uri=True)) as database:
+            yield database
+
+
 def keys_of_database(path: str) -> Iterator[tuple]:
     """Yields the keys of the latest backup in zigbee.db, the database of zigpy."""
-    with contextlib.closing(sqlite3.connect(f'file:{quote(path)}?mode=ro&immutable=1', uri=True)) as database:
+    with open_database(path) as database:
         names = database.execute("select name from sqlite_master where name glob 'network_backups_v[0-9]*'").fetchall()
         for name in sorted((it[0] for it in names), key=lambda it: (len(it), it), reverse=True)[:1]:
             row = database.execute(f'select backup_json from "{name}" order by id desc limit 1').fetchone()
@@ -210,7 +226,7 @@ def labelled_keys(path: str) -> Iterator[tuple]:
         raise Stop(f'{path}: the database cannot be read: {error}', UNREADABLE) from error
 
 
-def keys_of_text(text, path='-'):
+def keys_of_text(text: str, path: str = '-') -> Iterator[tuple]:
     """Yields the keys of a text of any known form."""
     try:
         yield from keys_of_json(json.loads(text))
@@ -218,17 +234,14 @@ def keys_of_text(text, path='-'):
     except (ValueError, RecursionError):
         pass
     lines = [words for words in map(str.split, text.splitlines()) if words]
-    for reader, value in (
-        (keys_of_wireshark, text),
-        (keys_of_report, lines),
-        (keys_of_transcript, lines),
-        (keys_of_opened, text),
-    ):
-        yield from reader(value)
+    yield from keys_of_wireshark(text)
+    yield from keys_of_report(lines)
+    yield from keys_of_transcript(lines)
+    yield from keys_of_opened(text)
     yield from keys_of_settings(text, path)
 
 
-def read_key_file(path):
+def read_key_file(path: str) -> Optional[Dict[str, str]]:
     """Returns the keys of a file, each with a word on where it comes from. Stops where there is none."""
     try:
         found = list(labelled_keys(path))

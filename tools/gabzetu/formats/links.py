@@ -2,6 +2,7 @@
 those of IP, UDP and ZEP."""
 import collections
 import struct
+from typing import Any, Optional
 
 from .packets import import_scapy
 
@@ -23,7 +24,7 @@ class LeftOut(Exception):
     """Why a packet has no frame for tc."""
 
 
-def in_tap(kept, whole):
+def in_tap(kept: bytes, whole: int) -> Wrapped:
     """Returns the packet behind a TAP header: version, reserved, length, and entries of type, length and value."""
     if len(kept) < 4 or kept[0] != 0:
         raise LeftOut('no TAP header of version 0')
@@ -41,7 +42,7 @@ def in_tap(kept, whole):
     return Wrapped(kept[size:], whole - size, 'crc' if check == 1 else 'none', f'TAP {check}')
 
 
-def in_ppi(packet):
+def in_ppi(packet: Any) -> Any:
     """Returns the captured packet behind a PPI header: version, flags, length, and link type of what follows."""
     if len(packet.kept) < 8 or packet.kept[0] != 0:
         raise LeftOut('no PPI header of version 0')
@@ -51,7 +52,7 @@ def in_ppi(packet):
     return packet._replace(link=link, kept=packet.kept[size:], whole=packet.whole - size)
 
 
-def in_phy(kept, whole):
+def in_phy(kept: bytes, whole: int) -> Wrapped:
     """Returns the packet behind a PHY header: preamble of 4 bytes, start of frame, and the number of bytes."""
     if len(kept) < 6 or kept[4] != START_OF_FRAME:
         raise LeftOut('no PHY header')
@@ -59,7 +60,7 @@ def in_phy(kept, whole):
     return Wrapped(kept[6 : 6 + size], size, 'crc', f'link type {PHY}')
 
 
-def in_zep(data):
+def in_zep(data: bytes) -> Wrapped:
     """Returns the packet behind a ZEP header. By its mode the last two bytes are the check sequence or a TI chip's
     words."""
     if data[:2] != b'EX' or len(data) < 4 or data[2] not in ZEP_FORMS:
@@ -73,7 +74,7 @@ def in_zep(data):
     return Wrapped(data[size : size + data[length]], data[length], check, f'ZEP {check}')
 
 
-def looks_like_zep(data, whole):
+def looks_like_zep(data: bytes, whole: int) -> bool:
     """Returns whether a payload of UDP, of which the bytes `data` are there, begins with a ZEP header whose length is
     that of what is behind it."""
     if data[:2] != b'EX' or len(data) < 4 or data[2] not in ZEP_FORMS or (data[2] == 2 and data[3] != 1):
@@ -87,10 +88,11 @@ class Links:
 
     ZEP packets are those of one UDP port, or without one those of ZEP's port and what looks like ZEP on any other."""
 
-    def __init__(self, zep_port=None):
-        self.zep_port, self.scapy, self.other_ports = zep_port, None, collections.Counter()
+    def __init__(self, zep_port: Optional[int] = None) -> None:
+        self.zep_port, self.other_ports = zep_port, collections.Counter()
+        self.scapy: Any = None
 
-    def unwrap(self, packet):
+    def unwrap(self, packet: Any) -> Wrapped:
         """Returns the packet of IEEE 802.15.4 in a captured one, or raises LeftOut."""
         if packet.link in PLAIN:
             return Wrapped(packet.kept, packet.whole, PLAIN[packet.link], f'link type {packet.link}')
@@ -100,7 +102,7 @@ class Links:
             return in_phy(packet.kept, packet.whole)
         return self.unwrap(in_ppi(packet)) if packet.link == PPI else self.in_udp(packet)
 
-    def load(self):
+    def load(self) -> None:
         """Imports the layers of scapy that lead to UDP, once."""
         if self.scapy is None:
             self.scapy = import_scapy()
@@ -110,14 +112,14 @@ class Links:
 
             self.udp, self.ip, self.ip6 = scapy.layers.inet.UDP, scapy.layers.inet.IP, scapy.layers.inet6.IPv6
 
-    def layers_of(self, packet):
+    def layers_of(self, packet: Any) -> tuple:
         """Returns the reader of scapy for a captured packet, and the bytes that it reads."""
         if packet.link in BEFORE_IP:
             body = packet.kept[BEFORE_IP[packet.link] :]
             return (self.ip6 if body[:1] and body[0] >> 4 == 6 else self.ip), body
         return self.scapy.config.conf.l2types.num2layer.get(packet.link), packet.kept
 
-    def in_udp(self, packet):
+    def in_udp(self, packet: Any) -> Optional[Wrapped]:
         """Returns what the ZEP packet in a UDP packet holds. Raises LeftOut where there is none."""
         self.load()
         kind, body = self.layers_of(packet)

@@ -2,6 +2,7 @@
 files")."""
 import collections
 import struct
+from typing import Optional, Tuple
 
 from .links import LeftOut
 
@@ -14,12 +15,12 @@ ASSOCIATION_RESPONSE = 2
 Header = collections.namedtuple('Header', 'kind version is_secured pan to source payload')
 
 
-def digits(data):
+def digits(data: bytes) -> str:
     """Returns an address as it is written: most significant digit first."""
     return data[::-1].hex().upper()
 
 
-def read_address(packet, at, mode):
+def read_address(packet: bytes, at: int, mode: int) -> tuple:
     """Returns an address and the place behind it. A mode of 0 has none."""
     end = at + (0, 0, 2, 8)[mode]
     if mode == 1:
@@ -29,14 +30,14 @@ def read_address(packet, at, mode):
     return (digits(packet[at:end]) if mode else None), end
 
 
-def read_pan(packet, at):
+def read_pan(packet: bytes, at: int) -> Tuple[str, int]:
     """Returns the PAN at a place, and the place after it. Raises LeftOut where the header is cut."""
     if at + 2 > len(packet):
         raise LeftOut('MAC header cut')
     return digits(packet[at : at + 2]), at + 2
 
 
-def read_header(packet):
+def read_header(packet: bytes) -> Header:
     """Returns the header of a packet of version 0 or 1. Raises LeftOut where it isn't whole."""
     if len(packet) < 3:
         raise LeftOut('MAC header cut')
@@ -53,7 +54,7 @@ def read_header(packet):
     return Header(control & 7, control >> 12 & 3, bool(control & 8), pan or source_pan, to, source, packet[at:])
 
 
-def read_data(packet, check_size):
+def read_data(packet: bytes, check_size: int) -> Optional[Header]:
     """Returns the header of a data packet that has a payload for tc, or raises LeftOut with the reason why it has
     none."""
     if len(packet) + check_size > LONGEST:
@@ -73,7 +74,7 @@ def read_data(packet, check_size):
     return header
 
 
-def read_association(packet):
+def read_association(packet: bytes) -> Optional[tuple]:
     """Returns PAN, short address and EUI that an association response in clear gives, or none for another packet."""
     if len(packet) < 3 or packet[0] & 0x0F != COMMAND or packet[1] >> 4 & 3 > 1:
         return None

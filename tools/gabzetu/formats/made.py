@@ -3,24 +3,25 @@
 `tc make N` writes that of the start value 0. Run i of `tc campaign COUNT START JOBS` plays that of START + i for 1 +
 i mod 8."""
 import struct
+from typing import Any, Iterator, List, Tuple
 
 MASK = 0xFFFFFFFF
 MOST = 60
 
 
-def rotated(word, count):
+def rotated(word: int, count: int) -> int:
     """Returns a word of 32 bits, rotated to the left."""
     return (word << count | word >> 32 - count) & MASK
 
 
-def block(start, number):
+def block(start: int, number: int) -> List[int]:
     """Returns a block of ChaCha with 8 rounds: 16 words under the key that begins with the start value, on stream
     0."""
     constants = struct.unpack('<4I', b'expand 32-byte k')
     before = [*constants, start, 0, 0, 0, 0, 0, 0, 0, number & MASK, number >> 32, 0, 0]
     it = list(before)
 
-    def quarter(a, b, c, d):
+    def quarter(a: int, b: int, c: int, d: int) -> None:
         for first, second, third, count in ((a, b, d, 16), (c, d, b, 12), (a, b, d, 8), (c, d, b, 7)):
             it[first] = (it[first] + it[second]) & MASK
             it[third] = rotated(it[third] ^ it[first], count)
@@ -40,7 +41,7 @@ def block(start, number):
     return [(first + second) & MASK for first, second in zip(it, before)]
 
 
-def words_of(start):
+def words_of(start: int) -> Iterator[int]:
     """Yields the words of the generator without an end."""
     number = 0
     while True:
@@ -48,7 +49,7 @@ def words_of(start):
         number += 1
 
 
-def crc(data):
+def crc(data: bytes) -> int:
     """Returns the CRC of an install code: polynomial 1021, reflected, first value and last sum FFFF."""
     rest = 0xFFFF
     for bit in (byte >> place & 1 for byte in data for place in range(8)):
@@ -56,12 +57,12 @@ def crc(data):
     return rest ^ 0xFFFF
 
 
-def name(i):
+def name(i: int) -> str:
     """Returns the name of node i; 0 is the centre."""
     return f'd{i}' if i else 'c'
 
 
-def join_lines(i, code):
+def join_lines(i: int, code: str) -> List[str]:
     """Returns the events by which device i joins."""
     f, d = 5 * (i - 1), name(i)
     return [
@@ -78,7 +79,7 @@ def join_lines(i, code):
     ]
 
 
-def step_lines(n, a, b, p, q):
+def step_lines(n: int, a: int, b: int, p: int, q: int) -> List[str]:
     """Returns the events of one step among n devices, by four words."""
     kind, x = a % 8, name(b % (n + 1))
     if kind < 2:
@@ -92,10 +93,10 @@ def step_lines(n, a, b, p, q):
     return [f'stop {x} {p % 6} {q % 256:02X}', f'say {x} FFFF 00', f'boot {x}']
 
 
-def declarations(words, n):
+def declarations(words: Iterator[Any], n: int) -> Tuple[List[str], List[str]]:
     """Returns the declarations for n devices, and their install codes."""
 
-    def key():
+    def key() -> bytes:
         return b''.join(struct.pack('<I', next(words)) for _ in range(4))
 
     lines = ['node c centre 00124B0000000001 0000 8 4']
@@ -109,7 +110,7 @@ def declarations(words, n):
     return lines, codes
 
 
-def last_lines(words, n):
+def last_lines(words: Iterator[Any], n: int) -> List[str]:
     """Returns the events from the removal on."""
     deliveries = [(next(words), next(words)) for _ in range(10 * n)]
     return [
@@ -121,7 +122,7 @@ def last_lines(words, n):
     ]
 
 
-def made(start, n):
+def made(start: int, n: int) -> List[str]:
     """Returns the lines of the made schedule for n routers and devices. It may clash, which `tc play` says."""
     words = words_of(start)
     lines, codes = declarations(words, n)

@@ -5,7 +5,7 @@ LAST_SECOND = 0xFFFFFFFF
 HEADER = struct.pack('<IHHIIII', 0xA1B2C3D4, 2, 4, 0, 0, 65535, 230)
 
 
-def record(seconds, micros, kept, whole=None):
+def record(seconds: int, micros: int, kept: bytes, whole: None = None) -> bytes:
     """Returns the record of a packet of which the bytes `kept` are there, and which had `whole` bytes on the air."""
     return struct.pack('<IIII', seconds, micros, len(kept), len(kept) if whole is None else whole) + kept
 

@@ -1,6 +1,7 @@
 """Says in words why a layer of a frame stayed closed, by what the frame's headers show and what of its PAN did
 open."""
 import collections
+from typing import Any, Optional, Sequence, Union
 
 from . import headers
 from .addresses import payload_of
@@ -23,17 +24,17 @@ class Known:
     """What opened: the PANs of which something did, and the sequence numbers of the network keys that opened, PAN by
     PAN."""
 
-    def __init__(self):
+    def __init__(self) -> None:
         self.sequences, self.opened = collections.defaultdict(set), 0
 
-    def note(self, frame, layers):
+    def note(self, frame: Any, layers: tuple) -> None:
         """Takes the layers of a frame into account."""
         if layers and layers[0].key and frame.nwk:
             self.opened += 1
             self.sequences[frame.pan].add(frame.nwk.auxiliary.sequence)
 
 
-def level_words(auxiliary):
+def level_words(auxiliary: headers.Auxiliary) -> Optional[str]:
     """Returns the words on a security level that is not read, or none."""
     return (
         f'level {auxiliary.level} ({LEVELS[auxiliary.level]}), which is not read'
@@ -42,7 +43,7 @@ def level_words(auxiliary):
     )
 
 
-def why_malformed(payload):
+def why_malformed(payload: bytes) -> str:
     """Returns what kind of frame it is that tc does not read as NWK."""
     if len(payload) >= 1 and payload[0] >> 2 & 15 == headers.GREEN_POWER:
         return 'Green Power frame (NWK version 3), which is not read'
@@ -53,7 +54,7 @@ def why_malformed(payload):
     return 'broken NWK frame'
 
 
-def why_nwk(frame, known):
+def why_nwk(frame: Any, known: Known) -> str:
     """Returns why the NWK layer of a frame has no key."""
     auxiliary = frame.nwk.auxiliary
     if auxiliary.identifier != 1:
@@ -70,7 +71,7 @@ def why_nwk(frame, known):
     )
 
 
-def why_aps(frame, layers, reason):
+def why_aps(frame: Any, layers: Sequence[Any], reason: str) -> str:
     """Returns why the APS layer of a frame did not open."""
     nwk = frame.nwk
     if reason == 'no-source':
@@ -82,7 +83,7 @@ def why_aps(frame, layers, reason):
     return f'APS: {KINDS[aps.auxiliary.identifier]} of {nwk.source} and {nwk.to} is not known'
 
 
-def why_broken(frame, layers, kind):
+def why_broken(frame: Any, layers: Sequence[Any], kind: str) -> str:
     """Returns why tc does not read a layer within the NWK layer."""
     payload = payload_of(frame.nwk, layers) if kind == 'aps' else None
     try:
@@ -94,7 +95,7 @@ def why_broken(frame, layers, kind):
     return f'broken {kind.upper()} frame'
 
 
-def why_closed(frame, layers, known):
+def why_closed(frame: Any, layers: Union[list, tuple], known: Known) -> Optional[str]:
     """Returns the words for the first layer of a frame that tc did not open, or none where all are open."""
     if frame.nwk is None:
         return why_malformed(frame.payload)

@@ -2,8 +2,9 @@
 import collections
 import re
 import struct
+from typing import Any, Dict, List, Optional, Tuple
 
-from . import frames, headers, names
+from . import daintree, frames, headers, names
 from .checks import check_of
 from .fields import read_report_line
 from .links import LeftOut
@@ -27,12 +28,12 @@ NANOSECONDS = (b'\x4d\x3c\xb2\xa1', b'\xa1\xb2\x3c\x4d')
 WITH_CHECK, PACKET_NUMBER = 195, re.compile(r'#\s*packet\s+(\d+)', re.ASCII)
 
 
-def is_report(text):
+def is_report(text: str) -> bool:
     """Returns whether a text is a report, by its end line."""
     return END.search(text) is not None
 
 
-def parse_report(text, path):
+def parse_report(text: str, path: str) -> Report:
     """Returns the report of a text. The path is for messages."""
     layers, keys, end = collections.defaultdict(list), [], None
     for number, line in enumerate(text.splitlines(), 1):
@@ -55,13 +56,13 @@ def parse_report(text, path):
     return Report(text, dict(layers), keys, end)
 
 
-def is_digits(text, size=None):
+def is_digits(text: str, size: Optional[int] = None) -> bool:
     """Returns whether a text is bytes in digits, of a number of digits where it is given."""
     pattern = f'[0-9A-F]{{{size}}}' if size else '-|(?:[0-9A-F]{2})+'
     return re.fullmatch(pattern, text, re.ASCII) is not None
 
 
-def is_well_formed(fields):
+def is_well_formed(fields: dict) -> bool:
     """Returns whether the fields of a report's line are such as tc writes them."""
     numbers = [name for name in ('k', 'counter', 'round', 'frames', 'keys', 'rounds') if name in fields]
     if not all(isinstance(fields[name], int) for name in numbers):
@@ -71,7 +72,7 @@ def is_well_formed(fields):
     return fields['kind'] != 'key' or is_digits(fields['key'], 32)
 
 
-def read_text_capture(text):
+def read_text_capture(text: str) -> List[Heard]:
     """Returns what a text capture shows of its frames.
 
     A comment `packet N` before one gives the number of its packet."""
@@ -85,7 +86,7 @@ def read_text_capture(text):
     return found
 
 
-def read_pcap(data, path):
+def read_pcap(data: bytes, path: str) -> List[Heard]:
     """Returns what a pcap shows of the packets that have a payload, by the rule of `sniff` (docs/FORMATS.md, "Capture
     files")."""
     order, at, number, found = MAGICS[data[:4]], 24, 0, []
@@ -102,7 +103,7 @@ def read_pcap(data, path):
     return found
 
 
-def payload_of(packet, link):
+def payload_of(packet: bytes, link: int) -> Any:
     """Returns the MAC header of a packet that has a payload, or none."""
     size = 2 if link == WITH_CHECK else 0
     if len(packet) < size or (size and packet[-2:] != check_of(packet[:-2])):
@@ -113,14 +114,14 @@ def payload_of(packet, link):
         return None
 
 
-def read_any_capture(path):
+def read_any_capture(path: str) -> List[Heard]:
     """Returns what another capture shows, as `gabzetu open` reads it."""
     from ..capture import Capture
 
     return [Heard(it.number, it.time, it.pan, it.payload) for part in Capture(path).parts() for it in part]
 
 
-def read_heard(path):
+def read_heard(path: str) -> List[Heard]:
     """Returns what a capture shows of the frames that a report is of: a text capture, a pcap, or what `gabzetu open`
     reads."""
     data = read_input(path)
@@ -130,13 +131,15 @@ def read_heard(path):
         and struct.unpack_from(MAGICS[data[:4]] + 'I', data, 20)[0] & 0xFFFF in (195, 230)
     ):
         return read_pcap(data, path)
+    if data.startswith(daintree.MAGIC):
+        return read_any_capture(path)
     try:
         return read_text_capture(data.decode('ascii'))
     except ValueError:
         return read_any_capture(path)
 
 
-def content_of(fields):
+def content_of(fields: dict) -> Optional[bytes]:
     """Returns the content of a layer that opened, or none."""
     return bytes.fromhex(fields['content'].replace('-', '')) if fields and 'content' in fields else None
 
@@ -146,11 +149,11 @@ class Reader(frames.Reader):
 
     Frames are numbered as in the report."""
 
-    def __init__(self, report, heard, names):
+    def __init__(self, report: Report, heard: Dict[int, Heard], names: dict) -> None:
         self.names, self.keys = names, {it['k']: it['key'] for it in report.keys}
         self.set_terms({place: self.terms(report.layers.get(place, []), it.data) for place, it in heard.items()})
 
-    def describe_aps(self, event, data, counters):
+    def describe_aps(self, event: int, data: bytes, counters: List[str]) -> Tuple[List[str], List[str]]:
         """Returns the words on an APS frame, of a data frame those that `gabzetu open` has."""
         texts, counters = super().describe_aps(event, data, counters)
         aps = headers.read_aps(data)
@@ -158,7 +161,7 @@ class Reader(frames.Reader):
             return texts, counters
         return [names.data_words(aps.profile, aps.cluster, self.content(event, frames.read_aps(data)))], counters
 
-    def terms(self, layers, data):
+    def terms(self, layers: List[dict], data: bytes) -> Dict[str, frames.Term]:
         """Returns the terms of a frame by their headers.
 
         Without its bytes, they begin with the content of its NWK layer."""
@@ -173,11 +176,11 @@ class Reader(frames.Reader):
             pass
         return found
 
-    def payload(self, found, by_kind, data):
+    def payload(self, found: dict, by_kind: Dict[str, dict], data: bytes) -> Optional[bytes]:
         """Adds the term of the NWK layer, and returns the layer's payload or none."""
         return self.add(found, frames.read_nwk(data), by_kind.get('nwk'))
 
-    def add(self, found, part, fields):
+    def add(self, found: Dict[str, frames.Term], part: frames.Layer, fields: dict) -> Optional[bytes]:
         """Adds the term of a sealed layer, and returns the layer's content, or none where it stayed closed."""
         if part.payload is not None:
             return part.payload

@@ -3,6 +3,7 @@
 The reader follows docs/FORMATS.md. It judges nothing: whether a text is a schedule is said by tc."""
 import collections
 import itertools
+from typing import Any, Dict, List, Optional, Tuple
 
 from . import grammar
 from .grammar import Form, Grammar, by_other, mistake, number_of_end, split_line
@@ -56,12 +57,12 @@ KINDS = {
 ANY, JOINER, PARENT = 'any', 'joiner', 'parent'
 
 
-def declaration(text, about, **roles):
+def declaration(text: str, about: str, **roles: str) -> Form:
     """Returns the form of a declaration."""
     return Form('declaration', text, about, KINDS, roles)
 
 
-def event(text, about, **roles):
+def event(text: str, about: str, **roles: str) -> Form:
     """Returns the form of an event."""
     return Form('event', text, about, KINDS, roles)
 
@@ -167,13 +168,13 @@ End = collections.namedtuple('End', 'number')
 class Reader:
     """Finds the mistakes of a schedule. `link_key` returns the link key of an install code, or none."""
 
-    def __init__(self, link_key):
+    def __init__(self, link_key: Any) -> None:
         self.link_key = link_key
         self.nodes, self.codes, self.netkeys, self.draws, self.counters = {}, {}, [], [], {}
         self.events = 0
-        self.first_event = None
+        self.first_event: Optional[int] = None
 
-    def skim(self, number, text):
+    def skim(self, number: int, text: str) -> None:
         """Takes a line that tc took: a declaration whole, and of an event that there is one."""
         if text.partition(' ')[0] in DECLARED:
             self.fault(split_line(number, text))
@@ -181,16 +182,16 @@ class Reader:
             self.first_event = self.first_event or number
             self.events += 1
 
-    def fault(self, line):
+    def fault(self, line: grammar.Line) -> Optional[grammar.Mistake]:
         """Takes a line, and returns its mistake, or none."""
         found, line, fault = GRAMMAR.read(line)
         return self.with_short(fault) if fault else self.fault_of_meaning(found, line)
 
-    def fault_of_end(self, data):
+    def fault_of_end(self, data: bytes) -> Optional[grammar.Mistake]:
         """Returns what a text without other mistakes lacks, or none."""
         return None if any(it.role == 'centre' for it in self.nodes.values()) else self.no_centre(data)
 
-    def with_short(self, fault):
+    def with_short(self, fault: grammar.Mistake) -> grammar.Mistake:
         """Returns a mistake with the short address of the node whose name is in its place."""
         node = self.nodes.get(fault.text)
         if node is None or not fault.message.startswith('SHORT '):
@@ -198,7 +199,7 @@ class Reader:
         return fault._replace(message=f"{fault.message}; the short address of '{fault.text}' is {node.short}")
 
     @staticmethod
-    def no_centre(data):
+    def no_centre(data: bytes) -> grammar.Mistake:
         """Returns the mistake of a schedule without a centre."""
         end = mistake(End(number_of_end(data)), 1, '', '')
         return end._replace(
@@ -207,7 +208,7 @@ class Reader:
             cause='no-centre',
         )
 
-    def fault_of_meaning(self, found, line):
+    def fault_of_meaning(self, found: Form, line: grammar.Line) -> Optional[grammar.Mistake]:
         """Takes a line that is right by its form, and returns what is wrong with it here, or none."""
         values = found.values(line)
         if found.first not in DECLARED:
@@ -223,7 +224,9 @@ class Reader:
 
     # ---- declarations
 
-    def take_node(self, found, line, values):
+    def take_node(
+        self, found: Form, line: grammar.Line, values: Dict[str, grammar.Word]
+    ) -> Optional[grammar.Mistake]:
         """Notes a node, and returns the mistake of its line, or none."""
         name, role, eui, short = (values[it].text for it in ('NAME', 'ROLE', 'EUI', 'SHORT'))
         eui, short = eui.upper(), short.upper()
@@ -238,7 +241,7 @@ class Reader:
         return fault
 
     @staticmethod
-    def fault_of_short(line, role, word):
+    def fault_of_short(line: grammar.Line, role: str, word: grammar.Word) -> Optional[grammar.Mistake]:
         """Returns the mistake of a short address that this role has not, or none."""
         if role == 'centre' and word.text != '0000':
             return mistake(line, word.column, word.text, 'the short address of the centre is 0000')
@@ -246,7 +249,7 @@ class Reader:
             return mistake(line, word.column, word.text, f'the short address of a {role} is 0001 to FFF7')
         return None
 
-    def fault_of_taken(self, line, values):
+    def fault_of_taken(self, line: grammar.Line, values: Dict[str, grammar.Word]) -> Optional[grammar.Mistake]:
         """Returns the mistake of a name, address or centre that is there already, or none."""
         for name, old in self.nodes.items():
             word, what = taken(values, name, old.eui, old.short)
@@ -258,7 +261,7 @@ class Reader:
         return None
 
     @staticmethod
-    def fault_of_blocks(line, values):
+    def fault_of_blocks(line: grammar.Line, values: Dict[str, grammar.Word]) -> Optional[grammar.Mistake]:
         """Returns the mistake of a block out of its range, or none."""
         for key, most in BLOCKS.items():
             word = values[key]
@@ -266,7 +269,9 @@ class Reader:
                 return mistake(line, word.column, word.text, f'{key} is a block of 1 to {most} counters', 'block')
         return None
 
-    def take_code(self, found, line, values):
+    def take_code(
+        self, found: Form, line: grammar.Line, values: Dict[str, grammar.Word]
+    ) -> Optional[grammar.Mistake]:
         """Notes an install code, and returns the mistake of its line, or none."""
         name, word = values['NAME'].text, values['CODE']
         if name in self.codes:
@@ -276,7 +281,7 @@ class Reader:
             self.codes[name] = (line.number, word.text.upper())
         return fault
 
-    def fault_of_code(self, line, name, word):
+    def fault_of_code(self, line: grammar.Line, name: str, word: grammar.Word) -> Optional[grammar.Mistake]:
         """Returns why a code is none, or whose key its link key is, or none."""
         fault = fault_of_code(word.text)
         if fault:
@@ -289,7 +294,7 @@ class Reader:
                 )
         return self.fault_of_link(line, word, self.link_key(code))
 
-    def fault_of_link(self, line, word, key):
+    def fault_of_link(self, line: grammar.Line, word: grammar.Word, key: str) -> Optional[grammar.Mistake]:
         """Returns whose key the link key of a code is, where it may not be, or none."""
         if key == WELL_KNOWN:
             return mistake(line, word.column, word.text, 'its link key is the well-known one', 'duplicate-code')
@@ -299,7 +304,9 @@ class Reader:
                 return mistake(line, word.column, word.text, why, 'duplicate-code', number)
         return None
 
-    def take_netkey(self, found, line, values):
+    def take_netkey(
+        self, found: Form, line: grammar.Line, values: Dict[str, grammar.Word]
+    ) -> Optional[grammar.Mistake]:
         """Notes a network key, and returns the mistake of its line, or none."""
         name, word = values['NAME'].text, values['KEY']
         earlier = next((number for number, _, what in self.netkeys if what == f"netkey of '{name}'"), None)
@@ -309,13 +316,17 @@ class Reader:
         self.netkeys.append((line.number, word.text.upper(), f"netkey of '{name}'"))
         return fault
 
-    def take_draw(self, found, line, values):
+    def take_draw(
+        self, found: Form, line: grammar.Line, values: Dict[str, grammar.Word]
+    ) -> Optional[grammar.Mistake]:
         """Notes a key of the supply, and returns the mistake of its line, or none."""
         fault = self.fault_of_key(line, values['KEY'], self.draws + self.netkeys)
         self.draws.append((line.number, values['KEY'].text.upper(), 'draw'))
         return fault
 
-    def fault_of_key(self, line, word, earlier):
+    def fault_of_key(
+        self, line: grammar.Line, word: grammar.Word, earlier: List[Tuple[int, str, str]]
+    ) -> Optional[grammar.Mistake]:
         """Returns whose key a network key or draw is, where it may not be that key, or none."""
         key = word.text.upper()
         if key == WELL_KNOWN:
@@ -331,7 +342,9 @@ class Reader:
                 return mistake(line, word.column, word.text, why, 'draw-repeated', number)
         return None
 
-    def take_counter(self, found, line, values):
+    def take_counter(
+        self, found: Form, line: grammar.Line, values: Dict[str, grammar.Word]
+    ) -> Optional[grammar.Mistake]:
         """Notes a declared counter, and returns the mistake of its line, or none."""
         name, layer = values['NAME'].text, values['LAYER'].text
         earlier = self.counters.setdefault((name, layer), line.number)
@@ -343,7 +356,9 @@ class Reader:
 
     # ---- events
 
-    def fault_of_event(self, found, line, values):
+    def fault_of_event(
+        self, found: Form, line: grammar.Line, values: Dict[str, grammar.Word]
+    ) -> Optional[grammar.Mistake]:
         """Counts an event, and returns the mistake of its line, or none."""
         fault = None
         if found.first == 'provision':
@@ -354,7 +369,9 @@ class Reader:
             fault = mistake(line, 1, line.text, f'a schedule has at most {MOST_EVENTS} events', 'too-many')
         return fault
 
-    def fault_of_nodes(self, found, line, values):
+    def fault_of_nodes(
+        self, found: Form, line: grammar.Line, values: Dict[str, grammar.Word]
+    ) -> Optional[grammar.Mistake]:
         """Returns the first node of a line that isn't declared before it or has another role than the line wants, or
         none."""
         for key, role in found.roles.items():
@@ -368,7 +385,9 @@ class Reader:
             return mistake(line, word.column, word.text, message, 'unknown-node')
         return None
 
-    def fault_of_node(self, line, word, role, place):
+    def fault_of_node(
+        self, line: grammar.Line, word: grammar.Word, role: str, place: str
+    ) -> Optional[grammar.Mistake]:
         """Returns the mistake of a name at a place for this role, or none."""
         node = self.nodes.get(word.text)
         if node is None:
@@ -383,6 +402,6 @@ class Reader:
         return mistake(line, word.column, word.text, message, 'unknown-node', node.line)
 
 
-def find_mistakes(data, link_key, first=1, most=None):
+def find_mistakes(data: bytes, link_key: Any, first: int = 1, most: Optional[int] = None) -> List[grammar.Mistake]:
     """Returns the mistakes of a schedule from line `first` on, at most one a line, and no more than `most`."""
     return grammar.find_mistakes(Reader(link_key), data, first, most)

@@ -2,6 +2,7 @@
 text."""
 import collections
 import json
+from typing import Any, Dict, List, Optional
 
 from . import grammar
 from .grammar import Form, Grammar, by_other, mistake, number_of_end, split_line
@@ -72,12 +73,13 @@ Station = collections.namedtuple('Station', 'line role eui short')
 class Reader:
     """Finds the mistakes of a script."""
 
-    def __init__(self):
+    def __init__(self) -> None:
         self.stations = {}
-        self.centre = self.first_command = None
+        self.centre: Optional[int] = None
+        self.first_command: Optional[int] = None
         self.commands = 0
 
-    def skim(self, number, text):
+    def skim(self, number: int, text: str) -> None:
         """Takes a line that tc took: of a command only that there is one."""
         if text.startswith(('centre ', 'peer ')):
             self.fault(split_line(number, text))
@@ -85,19 +87,19 @@ class Reader:
             self.first_command = self.first_command or number
             self.commands += 1
 
-    def fault(self, line):
+    def fault(self, line: grammar.Line) -> Optional[grammar.Mistake]:
         """Takes a line, and returns its mistake, or none."""
         form, line, fault = GRAMMAR.read(line)
         return fault or self.fault_of_meaning(form, line)
 
-    def fault_of_end(self, data):
+    def fault_of_end(self, data: bytes) -> Optional[grammar.Mistake]:
         """Returns what a text without other mistakes lacks, or none."""
         if self.centre is not None:
             return None
         what = "no line is the centre, for example 'centre c 00124B0000000001 8 4'"
         return mistake(End(number_of_end(data)), 1, 'end', what, 'no-centre')
 
-    def fault_of_meaning(self, form, line):
+    def fault_of_meaning(self, form: Form, line: grammar.Line) -> Optional[grammar.Mistake]:
         """Returns the mistake of a line of a known form, or none."""
         values = form.values(line)
         if form.first == 'centre':
@@ -113,7 +115,7 @@ class Reader:
             fault = mistake(line, 1, line.text, f'a script has at most {MOST_COMMANDS} commands', 'too-many')
         return fault
 
-    def take_centre(self, line, values):
+    def take_centre(self, line: grammar.Line, values: Dict[str, grammar.Word]) -> Optional[grammar.Mistake]:
         """Notes the centre, and returns the mistake of its line, or none."""
         if self.centre is not None:
             return mistake(line, 1, line.text, 'there is a centre already', 'syntax', self.centre)
@@ -126,7 +128,7 @@ class Reader:
                 )
         return None
 
-    def take_peer(self, line, values):
+    def take_peer(self, line: grammar.Line, values: Dict[str, grammar.Word]) -> Optional[grammar.Mistake]:
         """Notes a router or device, and returns the mistake of its line, or none."""
         if self.first_command is not None:
             message = (
@@ -143,7 +145,7 @@ class Reader:
         self.stations.setdefault(values['NAME'].text, station)
         return fault
 
-    def fault_of_taken(self, line, values):
+    def fault_of_taken(self, line: grammar.Line, values: Dict[str, grammar.Word]) -> Optional[grammar.Mistake]:
         """Returns the mistake of a name or address that is taken, or none."""
         for name, old in self.stations.items():
             word, what = taken(values, name, old.eui, old.short)
@@ -151,7 +153,9 @@ class Reader:
                 return mistake(line, word.column, word.text, f'this {what} is taken', 'duplicate-node', old.line)
         return None
 
-    def fault_of_station(self, line, word, wanted):
+    def fault_of_station(
+        self, line: grammar.Line, word: grammar.Word, wanted: List[str]
+    ) -> Optional[grammar.Mistake]:
         """Returns the mistake of a name of no station with one of these roles, or none."""
         station = self.stations.get(word.text)
         if station is None:
@@ -162,7 +166,7 @@ class Reader:
             return mistake(line, word.column, word.text, message, 'unknown-node', station.line)
         return None
 
-    def fault_of_provision(self, line, values):
+    def fault_of_provision(self, line: grammar.Line, values: Dict[str, grammar.Word]) -> Optional[grammar.Mistake]:
         """Returns the mistake of a `provision` line, or none."""
         word = values['CODE']
         fault = self.fault_of_station(line, values['NAME'], ['router', 'device'])
@@ -170,7 +174,7 @@ class Reader:
             fault = mistake(line, word.column, word.text, fault_of_code(word.text), 'bad-code')
         return fault
 
-    def fault_of_remove(self, line, values):
+    def fault_of_remove(self, line: grammar.Line, values: Dict[str, grammar.Word]) -> Optional[grammar.Mistake]:
         """Returns the mistake of a `remove` line, or none."""
         name, parent = values['NAME'], values['PARENT']
         if name.text == parent.text:
@@ -180,7 +184,7 @@ class Reader:
         )
 
     @staticmethod
-    def fault_of_restore(line, values):
+    def fault_of_restore(line: grammar.Line, values: Dict[str, grammar.Word]) -> Optional[grammar.Mistake]:
         """Returns the mistake of a backup that is no JSON, or none."""
         word = values['BACKUP']
         try:
@@ -192,6 +196,8 @@ class Reader:
         return None
 
 
-def find_mistakes(data, link_key=None, first=1, most=None):
+def find_mistakes(
+    data: bytes, link_key: Any = None, first: int = 1, most: Optional[int] = None
+) -> List[grammar.Mistake]:
     """Returns the mistakes of a script from line `first` on, at most one a line, and no more than `most`."""
     return grammar.find_mistakes(Reader(), data, first, most)

@@ -1,11 +1,15 @@
 """The groups of lines of a transcript, and which event and rule gave each: by the schedule where there is one, else
 by the lines."""
 import collections
+from typing import Any, List, Optional, Tuple
 
 from . import frames, policy
 from .fields import read_transcript_line
 from .grammar import read_lines
 from .schedules import DECLARED
+
+# A node as the reader of frames takes it.
+Named = collections.namedtuple('Named', 'name eui')
 
 # number: of the line in the file, from 1; text; fields: by their names, or none where it is no line of a transcript
 Line = collections.namedtuple('Line', 'number text fields')
@@ -33,7 +37,7 @@ TRANSPORTED = {
 REQUESTED = {4: 'Request-Key, with the centre', 2: 'Request-Key, with a partner'}
 
 # Changes that only one event of a node's own makes.
-BY_CHANGE = [
+BY_CHANGE: List[Tuple[str, dict, str]] = [
     ('live', {}, 'provision'),
     ('removed', {}, 'remove'),
     ('roll', {'roll': 'sending'}, 'roll'),
@@ -63,23 +67,23 @@ BY_COMMAND = {
 }
 
 
-def lines_of(text):
+def lines_of(text: str) -> List[str]:
     """Returns the lines of a text, each of which ends with a line feed and nothing else."""
     lines = text.split('\n')
     return lines[:-1] if lines[-1] == '' else lines
 
 
-def read_text(text):
+def read_text(text: str) -> List[Line]:
     """Returns the lines of a transcript, also of one that breaks claims."""
     return [Line(number, it, read_transcript_line(it.split(' '))) for number, it in enumerate(lines_of(text), 1)]
 
 
-def event_of(line):
+def event_of(line: Line) -> Optional[int]:
     """Returns the event of a line, or none."""
     return line.fields.get('event') if line.fields else None
 
 
-def groups_of(lines):
+def groups_of(lines: List[Line]) -> List[Group]:
     """Returns the groups: the longest runs of lines with one event number. The end line is one of its own."""
     groups = []
     for line in lines:
@@ -91,7 +95,7 @@ def groups_of(lines):
     return groups
 
 
-def reader_of(lines):
+def reader_of(lines: List[Line]) -> frames.Reader:
     """Returns the reader of what frames and contents carry, by the terms of these lines."""
     events, nodes = collections.defaultdict(list), []
     for line in lines:
@@ -102,12 +106,12 @@ def reader_of(lines):
     return frames.Reader(events, nodes)
 
 
-def frames_node(fields):
+def frames_node(fields: dict) -> Any:
     """Returns a node as the reader of frames takes it."""
-    return collections.namedtuple('Named', 'name eui')(fields['name'], fields['eui'])
+    return Named(fields['name'], fields['eui'])
 
 
-def command_name(content):
+def command_name(content: bytes) -> Optional[str]:
     """Returns the name of an APS command as the policy has it, or none."""
     if not content:
         return None
@@ -118,7 +122,7 @@ def command_name(content):
     return COMMAND_NAMES.get(content[0])
 
 
-def carried(fields):
+def carried(fields: dict) -> Optional[str]:
     """Returns what a term carries: the name of a command, `data`, `sealed` where its APS part is sealed, or none."""
     try:
         content = bytes.fromhex(fields['content'].replace('-', ''))
@@ -132,7 +136,7 @@ def carried(fields):
         return None
 
 
-def carried_by_aps(content):
+def carried_by_aps(content: bytes) -> str:
     """Returns what an APS frame carries."""
     part = frames.read_aps(content)
     if part.payload is None:
@@ -143,37 +147,37 @@ def carried_by_aps(content):
 class Story:
     """What happened in a group. `words` are those of the event in the schedule, or none."""
 
-    def __init__(self, group, centre, words=None):
+    def __init__(self, group: Group, centre: Optional[str], words: Optional[List[str]] = None) -> None:
         self.fields = [it.fields for it in group.lines if it.fields]
         self.centre = centre
         self.words = words
 
-    def of_kind(self, *kinds):
+    def of_kind(self, *kinds: str) -> List[dict]:
         """Returns the fields of the lines of some kinds."""
         return [it for it in self.fields if it['kind'] in kinds]
 
-    def refusal(self):
+    def refusal(self) -> Optional[dict]:
         """Returns the fields of the refusal, or none."""
         return next(iter(self.of_kind('refuse')), None)
 
-    def is_delivery(self):
+    def is_delivery(self) -> bool:
         """Returns whether a frame was delivered."""
         if self.words:
             return self.words[0] == 'deliver'
         refused = self.refusal()
         return bool(self.of_kind('accept')) or bool(refused and refused['layer'] != 'event')
 
-    def command(self):
+    def command(self) -> Optional[str]:
         """Returns what the frame carried that was delivered, as far as it was accepted."""
         accepts = self.of_kind('accept')
         return carried(accepts[-1]) if accepts else None
 
-    def is_judged(self):
+    def is_judged(self) -> bool:
         """Returns whether a refusal came of judging the frame, before a rule was asked."""
         refused = self.refusal()
         return bool(refused) and refused['layer'] != 'event' and self.command() in (None, 'sealed', 'data')
 
-    def event(self):
+    def event(self) -> Optional[str]:
         """Returns the first word of the event in a schedule, or none where the lines don't tell it."""
         if self.words:
             return self.words[0]
@@ -184,7 +188,7 @@ class Story:
                 return event
         return self.event_by_seals()
 
-    def event_by_seals(self):
+    def event_by_seals(self) -> Optional[str]:
         """Returns the event by what was sealed, or none."""
         seals = self.of_kind('seal')
         if not seals:
@@ -195,14 +199,14 @@ class Story:
             return BY_COMMAND[command]
         return 'tell' if len(seals) > 1 else 'say' if found == ['data'] else None
 
-    def node(self):
+    def node(self) -> Optional[str]:
         """Returns the name of the node whose event it is, or none."""
         if self.is_delivery() and self.words:
             return self.words[2]
         named = [it['node'] for it in self.fields if it.get('node', '-') != '-']
         return named[-1] if named else self.centre
 
-    def rule(self):
+    def rule(self) -> Optional[Rule]:
         """Returns the rule that answered, or none."""
         event = self.event()
         if event == 'deliver':
@@ -225,20 +229,20 @@ class Story:
             refused,
         )
 
-    def heard(self, lines):
+    def heard(self, lines: List[Line]) -> Optional[Line]:
         """Returns the line with which the frame of a `deliver` event went on the air, or none."""
         if not self.words or self.words[0] != 'deliver':
             return None
         sent = (it for it in lines if it.fields and it.fields['kind'] in ('send', 'inject'))
         return next((it for it in sent if str(it.fields['frame']) == self.words[1]), None)
 
-    def note(self):
+    def note(self) -> Optional[str]:
         """Returns what else holds of the event: where a disk cut it, or where no rule answers it; or none."""
         if self.of_kind('stopped') or any(it['cause'] == 'disk' for it in self.of_kind('down')):
             return policy.CUT
         return policy.NOTES.get(self.event())
 
-    def rule_of_delivery(self):
+    def rule_of_delivery(self) -> Optional[Rule]:
         """Returns the rule that answered a frame, or none."""
         if self.command() == 'data' and not self.refusal():
             return Rule('data', 'Judging a frame', [('accepted', policy.DATA)], None)
@@ -250,7 +254,7 @@ class Story:
         return Rule(self.command(), 'Commands', rows, refused)
 
 
-def centre_of(lines):
+def centre_of(lines: List[Line]) -> Optional[str]:
     """Returns the name of the first centre that the lines declare, or none."""
     return next(
         (
@@ -262,21 +266,21 @@ def centre_of(lines):
     )
 
 
-def schedule_events(data):
+def schedule_events(data: bytes) -> List[Tuple[int, list]]:
     """Returns the words of the events of a schedule, in order, with the numbers of their lines."""
     return [
         (it.number, [word.text for word in it.words]) for it in read_lines(data) if it.words[0].text not in DECLARED
     ]
 
 
-def last_event(lines):
+def last_event(lines: List[Line]) -> int:
     """Returns how many events a run has: as the end line counts them, else the greatest number of a line."""
     ends = [it.fields['events'] for it in lines if it.fields and it.fields['kind'] == 'end']
     counted = ends[-1] if ends and isinstance(ends[-1], int) else 0
     return max([counted, *(event_of(it) or 0 for it in lines)])
 
 
-def mismatch(lines, data):
+def mismatch(lines: List[Line], data: bytes) -> Optional[str]:
     """Returns why a schedule is not that of a transcript, by the number of its events and its nodes, or none."""
     events = len(schedule_events(data))
     if events != last_event(lines):

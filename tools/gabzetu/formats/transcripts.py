@@ -2,6 +2,7 @@
 air."""
 import collections
 import re
+from typing import Dict, List, Tuple
 
 from ..errors import UNREADABLE, Stop
 from ..output import read_input
@@ -68,11 +69,11 @@ END = re.compile(f'end {NUMBER} {NUMBER} {NUMBER} {NUMBER} (?:yes|no) (?:yes|no)
 class NoTranscript(Stop):
     """Why a text is no transcript."""
 
-    def __init__(self, message):
+    def __init__(self, message: str) -> None:
         super().__init__(message, UNREADABLE)
 
 
-def is_line(line):
+def is_line(line: str) -> bool:
     """Returns whether a line, but the end line, has the form of a transcript's line."""
     number, _, rest = line.partition(' ')
     kind, _, words = rest.partition(' ')
@@ -80,7 +81,7 @@ def is_line(line):
     return is_event and kind in PATTERNS and PATTERNS[kind].fullmatch(words) is not None
 
 
-def parse_transcript(text, path):
+def parse_transcript(text: str, path: str) -> Transcript:
     """Returns the transcript of a text. The path is for messages."""
     events, end = {0: []}, None
     for number, line in enumerate(text.splitlines(), 1):
@@ -100,7 +101,7 @@ def parse_transcript(text, path):
     return Transcript(text, events, end)
 
 
-def read_transcript(path):
+def read_transcript(path: str) -> Transcript:
     """Returns the transcript of a file, or of the standard input where the path is `-`."""
     try:
         return parse_transcript(read_input(path).decode('ascii'), path)
@@ -108,13 +109,13 @@ def read_transcript(path):
         raise NoTranscript(f'{path}: byte {error.start + 1} is not ASCII') from error
 
 
-def read_events(path):
+def read_events(path: str) -> Tuple[Dict[int, list], List[str]]:
     """Returns the lines of each event as words without the event's number, and the words of the end line."""
     transcript = read_transcript(path)
     return transcript.events, transcript.end
 
 
-def read_nodes(events):
+def read_nodes(events: Dict[int, List[list]]) -> List[Node]:
     """Returns the nodes in the order of their first declarations."""
     found = {}
     for words in events[0]:
@@ -123,7 +124,7 @@ def read_nodes(events):
     return list(found.values())
 
 
-def frame_of(event, words):
+def frame_of(event: int, words: List[str]) -> Frame:
     """Returns the frame that a send or inject line puts on the air."""
     if words[0] == 'inject':
         return Frame(int(words[1]), event, None, 'inject', bytes.fromhex(words[2].replace('-', '')))
@@ -131,7 +132,7 @@ def frame_of(event, words):
     return Frame(int(words[2]), event, sender, kind, bytes.fromhex(words[3].replace('-', '')))
 
 
-def read_frames(events):
+def read_frames(events: Dict[int, List[list]]) -> List[Frame]:
     """Returns the frames in their order. Those of nobody are forged or injected."""
     return [
         frame_of(event, words)

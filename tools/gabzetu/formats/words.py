@@ -6,6 +6,7 @@ what is wrong with a word as text after it, or none. docs/FORMATS.md has the rul
 import difflib
 import functools
 import re
+from typing import Any, Dict, List, Optional, Union
 
 from .numbers import MOST_DIGITS, read_hexadecimal, read_number
 
@@ -17,7 +18,7 @@ CODE_SIZES = (8, 10, 14, 18)
 HEX_DIGITS = frozenset('0123456789abcdefABCDEF')
 
 
-def near(word, words):
+def near(word: str, words: Union[List[str], dict]) -> Optional[str]:
     """Returns the word that is nearest to another one, or none where none is near."""
     if len(word) > LONGEST_MEANT:
         return None
@@ -25,13 +26,13 @@ def near(word, words):
     return found[0] if found else None
 
 
-def suggestion(word, words):
+def suggestion(word: str, words: Union[List[str], dict]) -> str:
     """Returns `; did you mean ..?` with the nearest of some words, or nothing."""
     found = near(word, words)
     return f"; did you mean '{found}'?" if found else ''
 
 
-def counted(number, what):
+def counted(number: int, what: str) -> str:
     """Returns a number and what it counts, in the plural where it isn't 1."""
     return f'{number} {what}' + ('' if number == 1 else 's')
 
@@ -39,7 +40,7 @@ def counted(number, what):
 TAKEN = {'NAME': 'name', 'EUI': 'EUI', 'SHORT': 'short address'}
 
 
-def taken(values, name, eui, short):
+def taken(values: dict, name: str, eui: str, short: str) -> Optional[tuple]:
     """Returns the word of a line that is taken by another node, and what it is; or none and none."""
     old = {'NAME': name, 'EUI': eui, 'SHORT': short}
     same = (key for key in TAKEN if (values[key].text if key == 'NAME' else values[key].text.upper()) == old[key])
@@ -52,10 +53,10 @@ class Name:
 
     wanted = 'a name of 1 to 16 of a to z and 0 to 9'
 
-    def __init__(self, name='NAME'):
+    def __init__(self, name: str = 'NAME') -> None:
         self.name = name
 
-    def fault(self, word):
+    def fault(self, word: str) -> Optional[str]:
         """Returns what is wrong with a word, or none."""
         if len(word) > LONGEST_NAME:
             return f'a name has at most {LONGEST_NAME} characters, and this has {len(word)}'
@@ -70,11 +71,11 @@ class Name:
 class Number:
     """A decimal number between two limits."""
 
-    def __init__(self, name, low, high):
+    def __init__(self, name: str, low: int, high: int) -> None:
         self.name, self.low, self.high = name, low, high
         self.wanted = f'a number from {low} to {high}'
 
-    def fault(self, word):
+    def fault(self, word: str) -> Optional[str]:
         """Returns what is wrong with a word, or none."""
         if word[:2] in ('0x', '0X') and read_hexadecimal(word[2:]) is not None:
             return f'numbers are decimal: write {read_hexadecimal(word[2:])}'
@@ -86,7 +87,7 @@ class Number:
         return None if number is not None and self.low <= number <= self.high else f'{self.name} is {self.wanted}'
 
 
-def fault_of_digits(word):
+def fault_of_digits(word: str) -> Optional[str]:
     """Returns what keeps a word from being hexadecimal digits, or none."""
     if word[:2] in ('0x', '0X'):
         return f'digits have no 0x before them: write {word[2:].upper()}'
@@ -100,11 +101,11 @@ def fault_of_digits(word):
 class Digits:
     """A certain number of hexadecimal digits."""
 
-    def __init__(self, name, size, what):
+    def __init__(self, name: str, size: int, what: str) -> None:
         self.name, self.size = name, size
         self.wanted = f'{what} of {size} hexadecimal digits'
 
-    def fault(self, word):
+    def fault(self, word: str) -> Optional[str]:
         """Returns what is wrong with a word, or none."""
         fault = fault_of_digits(word)
         if fault or len(word) == self.size:
@@ -115,10 +116,10 @@ class Digits:
 class Eui(Digits):
     """An EUI that a node can have."""
 
-    def __init__(self, name='EUI'):
+    def __init__(self, name: str = 'EUI') -> None:
         super().__init__(name, 16, 'an EUI')
 
-    def fault(self, word):
+    def fault(self, word: str) -> Optional[str]:
         """Returns what is wrong with a word, or none."""
         fault = super().fault(word)
         if fault is None and word.upper() in ('0' * 16, 'F' * 16):
@@ -129,11 +130,11 @@ class Eui(Digits):
 class Bytes:
     """A string of bytes with limits on their number. `-` is none."""
 
-    def __init__(self, name, low, high):
+    def __init__(self, name: str, low: int, high: int) -> None:
         self.name, self.low, self.high = name, low, high
         self.wanted = f'{low} to {high} bytes of 2 hexadecimal digits each' + ('' if low else ', or - for none')
 
-    def fault(self, word):
+    def fault(self, word: str) -> Optional[str]:
         """Returns what is wrong with a word, or none."""
         if word == '-':
             return f'{self.name} is {self.wanted}, so not -' if self.low else None
@@ -153,7 +154,7 @@ class Code:
     name = 'CODE'
     wanted = 'an install code and its CRC'
 
-    def fault(self, word):
+    def fault(self, word: str) -> Optional[str]:
         """Returns what is wrong with a word, or none."""
         if word == '-':
             return None
@@ -166,11 +167,11 @@ class Code:
 class Choice:
     """One of some words. `others` are words that people use in their place."""
 
-    def __init__(self, name, words, others=None):
+    def __init__(self, name: str, words: List[str], others: Optional[Dict[str, str]] = None) -> None:
         self.name, self.words, self.others = name, words, others or {}
         self.wanted = ' or '.join(words) if len(words) < 3 else ', '.join(words[:-1]) + ' or ' + words[-1]
 
-    def fault(self, word):
+    def fault(self, word: str) -> Optional[str]:
         """Returns what is wrong with a word, or none."""
         if word in self.words:
             return None
@@ -182,11 +183,11 @@ class Choice:
 class Literal:
     """One certain word."""
 
-    def __init__(self, word):
+    def __init__(self, word: str) -> None:
         self.name = self.word = word
         self.wanted = f"the word '{word}'"
 
-    def fault(self, word):
+    def fault(self, word: str) -> Optional[str]:
         """Returns what is wrong with a word, or none."""
         return None if word == self.word else f"the word '{self.word}' belongs here"
 
@@ -197,7 +198,7 @@ class Seed:
     name = 'SEED'
     wanted = 'a word of letters and digits'
 
-    def fault(self, word):
+    def fault(self, word: str) -> Any:
         """Returns what is wrong with a word, or none."""
         return None if word.isalnum() else f'SEED is {self.wanted}'
 
@@ -205,15 +206,15 @@ class Seed:
 class Rest:
     """All that is left of a line."""
 
-    def __init__(self, name, wanted):
+    def __init__(self, name: str, wanted: str) -> None:
         self.name, self.wanted = name, wanted
 
-    def fault(self, word):
+    def fault(self, word: str) -> None:
         """Returns what is wrong with a word, or none."""
         return None
 
 
-def crc_after(crc, byte):
+def crc_after(crc: int, byte: int) -> int:
     """Returns the remainder so far after one more byte, whose lowest bit comes first."""
     crc ^= byte
     for _ in range(8):
@@ -221,12 +222,12 @@ def crc_after(crc, byte):
     return crc
 
 
-def crc_of(data):
+def crc_of(data: bytes) -> bytes:
     """Returns the CRC of an install code, as the two bytes after it."""
     return (functools.reduce(crc_after, data, 0xFFFF) ^ 0xFFFF).to_bytes(2, 'little')
 
 
-def fault_of_code(word):
+def fault_of_code(word: str) -> Optional[str]:
     """Returns why the bytes of a word are no install code, or none."""
     data = b'' if word == '-' else bytes.fromhex(word)
     if len(data) + 2 in CODE_SIZES and len(data) not in CODE_SIZES:

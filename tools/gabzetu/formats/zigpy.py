@@ -3,6 +3,7 @@ import collections
 import datetime
 import json
 import re
+from typing import Any, Dict, List, Optional, Union
 
 from ..errors import UNREADABLE, Stop
 from .keyfiles import printable
@@ -28,12 +29,12 @@ class Bad(Exception):
     """Which member of a backup is not as it should be."""
 
 
-def is_count(value, most):
+def is_count(value: Union[bool, float], most: int) -> bool:
     """Returns whether a value is a whole number from 0 to `most`."""
     return isinstance(value, int) and not isinstance(value, bool) and 0 <= value <= most
 
 
-def get_object(value, name, place=''):
+def get_object(value: dict, name: str, place: str = '') -> dict:
     """Returns the object that a member is."""
     found = value.get(name)
     if not isinstance(found, dict):
@@ -41,7 +42,7 @@ def get_object(value, name, place=''):
     return found
 
 
-def get_count(value, name, most, place=''):
+def get_count(value: dict, name: str, most: int, place: str = '') -> int:
     """Returns the whole number that a member is."""
     found = value.get(name)
     if not is_count(found, most):
@@ -49,7 +50,7 @@ def get_count(value, name, most, place=''):
     return found
 
 
-def get_digits(value, name, size, place=''):
+def get_digits(value: dict, name: str, size: int, place: str = '') -> str:
     """Returns a member of hexadecimal digits in upper case. Colons are passed over."""
     found = value.get(name)
     text = re.sub('[:]', '', found).upper() if isinstance(found, str) else ''
@@ -59,7 +60,7 @@ def get_digits(value, name, size, place=''):
     return text
 
 
-def read_device(value, place):
+def read_device(value: dict, place: str) -> Optional[Device]:
     """Returns a device of the list `devices`."""
     if not isinstance(value, dict):
         raise Bad(f'{place} should be an object')
@@ -80,7 +81,7 @@ def read_device(value, place):
     )
 
 
-def read_time(text):
+def read_time(text: Optional[str]) -> Optional[datetime.datetime]:
     """Returns the time that a text of ISO 8601 says, or none."""
     try:
         time = datetime.datetime.fromisoformat(str(text).replace('Z', '+00:00'))
@@ -89,7 +90,7 @@ def read_time(text):
     return time if time.tzinfo else time.replace(tzinfo=datetime.timezone.utc)
 
 
-def metadata_of(value):
+def metadata_of(value: Any) -> dict:
     """Returns the member `metadata` of a backup of the known format."""
     found = value.get('metadata') if isinstance(value, dict) else None
     if not isinstance(found, dict) or found.get('format') != FORMAT:
@@ -99,7 +100,7 @@ def metadata_of(value):
     return found
 
 
-def notes_of(value):
+def notes_of(value: dict) -> Dict[str, str]:
     """Returns what a backup says of the network that a centre's store doesn't keep."""
     names = {
         'pan_id': 'PAN',
@@ -114,7 +115,7 @@ def notes_of(value):
     }
 
 
-def seeds_of(value):
+def seeds_of(value: dict) -> List[str]:
     """Returns the names of the seeds of link keys that a backup has for a stack."""
     stacks = value.get('stack_specific') or {}
     return sorted(
@@ -124,7 +125,7 @@ def seeds_of(value):
     )
 
 
-def read_backup(value):
+def read_backup(value: Any) -> Optional[Backup]:
     """Returns the backup that a JSON value is, or raises Bad."""
     metadata = metadata_of(value)
     inside = metadata.get('internal') if isinstance(metadata.get('internal'), dict) else {}
@@ -146,7 +147,7 @@ def read_backup(value):
     )
 
 
-def list_of(value, name):
+def list_of(value: dict, name: str) -> list:
     """Returns the list that a member of zigpy's tables is, empty where it is missing."""
     found = value.get(name, [])
     if not isinstance(found, list):
@@ -154,7 +155,7 @@ def list_of(value, name):
     return found
 
 
-def devices_in_tables(network):
+def devices_in_tables(network: dict) -> List[dict]:
     """Returns the devices in zigpy's tables of short addresses, children and link keys, as objects of `devices`."""
     shorts = get_object(network, 'nwk_addresses', 'network_info.') if 'nwk_addresses' in network else {}
     found = {eui: {'ieee_address': eui, 'nwk_address': short} for eui, short in shorts.items()}
@@ -166,7 +167,7 @@ def devices_in_tables(network):
     return sorted(found.values(), key=lambda it: it['ieee_address'])
 
 
-def open_form(value):
+def open_form(value: dict) -> Optional[dict]:
     """Returns the open coordinator backup of a backup of zigpy's database, which is what ZHA hands out."""
     network, node = get_object(value, 'network_info'), get_object(value, 'node_info')
     key = get_object(network, 'network_key', 'network_info.')
@@ -190,7 +191,7 @@ def open_form(value):
     }
 
 
-def parse_json(text, path):
+def parse_json(text: str, path: str) -> Any:
     """Returns the JSON value of a text. Stops where it is none."""
     try:
         return json.loads(text)
@@ -198,7 +199,7 @@ def parse_json(text, path):
         raise Stop(f'{path}: this is no JSON: {error}', UNREADABLE) from error
 
 
-def parse_backup(data, path):
+def parse_backup(data: bytes, path: str) -> Backup:
     """Returns the backup that the bytes of a file are. ZHA puts it into an object with the one member `backup`,
     and either form of zigpy is read."""
     value = parse_json(data.decode('utf-8-sig', 'replace'), path)
@@ -212,7 +213,7 @@ def parse_backup(data, path):
         raise Stop(f'{path}: {why}', UNREADABLE) from why
 
 
-def object_of_device(device):
+def object_of_device(device: Device) -> dict:
     """Returns the object of a device, as zigpy writes it."""
     value = {
         'ieee_address': device.eui.lower(),
@@ -228,7 +229,7 @@ def object_of_device(device):
     return value
 
 
-def internal_of(backup, well_known):
+def internal_of(backup: Backup, well_known: str) -> dict:
     """Returns the member `metadata.internal`, as zigpy writes it."""
     coordinator = backup.coordinator.lower()
     return {
@@ -251,7 +252,7 @@ def internal_of(backup, well_known):
     }
 
 
-def object_of(backup, well_known):
+def object_of(backup: Backup, well_known: str) -> dict:
     """Returns the JSON object of a backup. Its notes have PAN, extended PAN and channel."""
     return {
         'metadata': {

@@ -1,4 +1,6 @@
 """The lines of scenarios: their forms with a sentence each. Every line of a schedule is one of a scenario too."""
+from typing import Any
+
 from ..formats import schedules
 from ..formats.grammar import Form, Grammar
 from ..formats.words import Literal, Name, Rest, Seed
@@ -9,10 +11,10 @@ WHAT = 'line of a scenario'
 class Names(Rest):
     """One or more names, up to the end of the line."""
 
-    def __init__(self):
+    def __init__(self) -> None:
         super().__init__('NAME ..', 'one or more names')
 
-    def fault(self, word):
+    def fault(self, word: str) -> Any:
         """Returns what is wrong with names, or none."""
         return next(filter(None, map(Name().fault, word.split(' '))), None)
 
@@ -20,7 +22,7 @@ class Names(Rest):
 KINDS = {**schedules.KINDS, 'NAMES': Names(), 'SEED': Seed(), 'TO': Name('TO')}
 
 
-def form(text, about):
+def form(text: str, about: str) -> Form:
     """Returns a form of a line of a scenario."""
     return Form(WHAT, text, about, KINDS)
 
@@ -73,7 +75,7 @@ OTHERS = {
 GRAMMAR = Grammar(PLAIN + DECLARATIONS + STEPS, OTHERS)
 
 
-def method_of(found):
+def method_of(found: Form) -> str:
     """Returns the name of the method that takes lines of a form: its words in lower case that aren't places."""
     fixed = [place.word for place in found.places if isinstance(place, Literal) and place.word in ('last', 'auto')]
     return '_'.join([found.first, *fixed])

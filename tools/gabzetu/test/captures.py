@@ -16,7 +16,7 @@ from gabzetu import TOP
 from gabzetu.formats.packets import import_scapy
 
 CODE, LINK = '83FED3407A939723A5C639B26916D505C3B5', '66B6900981E1EE3CA4206B6B861C02BB'
-MAGIC = 0xA1B2C3D4
+MAGIC, MODIFIED = 0xA1B2C3D4, 0xA1B2CD34
 
 
 def data(name):
@@ -84,6 +84,24 @@ def pcap(link, packets, order='<'):
     )
 
 
+def modified(link, packets, order='<'):
+    """Returns the bytes of a modified pcap: each record has 8 more bytes, of an interface and a protocol."""
+    out = struct.pack(order + 'IHHIIII', MODIFIED, 2, 4, 0, 0, 65535, link)
+    return out + b''.join(
+        struct.pack(order + 'IIIIIHBB', 1700000000 + at, 0, len(it), len(it), 2, 0x0809, 0, 0) + it
+        for at, it in enumerate(packets)
+    )
+
+
+def daintree(packets):
+    """Returns the bytes of a capture of Daintree: two lines of comment, and a line for each packet."""
+    rows = [
+        f'{at + 1} {1700000000 + at}.000000 {len(it) + 2} {(it + bytes([255, 255])).hex()} 208 1 -46 11 1 {at} 32767'
+        for at, it in enumerate(packets)
+    ]
+    return '\r\n'.join(['#Format=4', '# SNA v2.2.0.4 SUS:20070326 ACT:819705', *rows, '']).encode('ascii')
+
+
 def block(kind, body, order='<'):
     body += bytes(-len(body) % 4)
     return struct.pack(order + 'II', kind, len(body) + 12) + body + struct.pack(order + 'I', len(body) + 12)
@@ -135,6 +153,9 @@ def every_link(packets):
         '283': (pcap(283, map(tap, packets)), []),
         '215': (pcap(215, map(phy, packets)), []),
         '147': (pcap(147, map(with_check, packets)), user),
+        'modified pcap of 195': (modified(195, list(map(with_check, packets))), []),
+        'modified pcap of 230, other byte order': (modified(230, packets, '>'), []),
+        'Daintree': (daintree(packets), []),
         'pcapng of 195': (pcapng(195, list(map(with_check, packets))), []),
         'pcapng of 230': (pcapng(230, packets), []),
         '1, ZEP': (pcap(1, [ether + udp(it) for it in lone]), []),

@@ -70,7 +70,7 @@ class Campaigns(Folder):
     def test_captures_are_opened_with_keys(self):
         captures = self.path('captures')
         os.mkdir(captures)
-        for name in (data('mixed.pcap'), data('sniffers.pcapng'), example('join.capture')):
+        for name in (data('mixed.pcap'), example('sniffers.pcapng'), example('join.capture')):
             shutil.copy(name, captures)
         self.write('captures/bad.capture', 'boom\n')
         ran = run('campaigns', 'captures', captures, self.path('reports'), '--code', CODE)

@@ -7,6 +7,7 @@ import subprocess
 import unittest
 
 from gabzetu.formats import names
+from gabzetu.test import captures
 from gabzetu.test.captures import CODE, block, data, packets_of
 from gabzetu.test.support import Folder, needs_tc, run
 from gabzetu.test.test_open import needs_scapy, needs_tshark
@@ -50,6 +51,14 @@ class Page(Folder):
         words = {row[0]: page['texts'][row[4]] for row in page['frames']}
         wanted = '^data, cluster 0500 Intruder Alarm System Zone, command 00 of the cluster, 5 bytes'
         self.assertRegex(words[13], wanted)
+
+    def test_is_made_of_a_capture_of_daintree(self):
+        with open(self.path('x.dcf'), 'wb') as file:
+            file.write(captures.daintree(packets_of('mixed.pcap')))
+        self.assertEqual(run('explore', self.path('x.dcf'), self.path('page.html'), '--code', CODE).status, 0)
+        run('explore', data('mixed.pcap'), self.path('other.html'), '--code', CODE)
+        page, other = data_of(self.path('page.html')), data_of(self.path('other.html'))
+        self.assertEqual((page['frames'], page['keys']), (other['frames'], other['keys']))
 
     def test_says_what_keys_are_for(self):
         ran = run('explore', data('join.report'), self.path('page.html'), '--code', CODE)
@@ -111,14 +120,24 @@ class Pcapng(Folder):
         found = self.opened(SECTION + interface(options) + packet(packets_of('mixed.pcap')[6], time=2500000))
         self.assertEqual(found[0]['time'], 1700000002.5)
 
-    def test_counts_custom_blocks_as_wireshark_does(self):
+    def test_counts_blocks_as_wireshark_does(self):
+        """Custom blocks, journals and events have numbers; names, statistics, secrets and unknown ones have none."""
         body = packets_of('mixed.pcap')[6]
-        found = self.opened(SECTION + interface() + block(0x0BAD, bytes(8)) + packet(body))
-        self.assertEqual(found[0]['packet'], 2)
-        if shutil.which('tshark'):
-            words = ['tshark', '-r', self.path('x.pcapng'), '-T', 'fields', '-e', 'frame.number']
-            ran = subprocess.run(words, capture_output=True, check=True)
-            self.assertEqual(ran.stdout.split(), [b'1', b'2'])
+        counted = [(0x0BAD, bytes(8)), (0x40000BAD, bytes(8)), (9, b'__REALTIME_TIMESTAMP=1\n\n')]
+        counted += [(kind, bytes(44)) for kind in (0x204, 0x216, 0x221)]
+        others = [(4, bytes(4)), (5, bytes(12)), (10, struct.pack('<II', 0x544C534B, 4) + b'abc\n'), (0xDEF, bytes(4))]
+        numbers = []
+        for kind, content in [*counted, *others]:
+            found = self.opened(SECTION + interface() + block(kind, content) + packet(body))
+            numbers.append(found[0]['packet'])
+            if shutil.which('tshark'):
+                self.assertEqual(self.number_of_tshark(), found[0]['packet'], hex(kind))
+        self.assertEqual(numbers, [2] * len(counted) + [1] * len(others))
+
+    def number_of_tshark(self):
+        """Returns the number that tshark gives to the packet with a frame."""
+        words = ['tshark', '-r', self.path('x.pcapng'), '-Y', 'wpan', '-T', 'fields', '-e', 'frame.number']
+        return int(subprocess.run(words, capture_output=True, check=True).stdout)
 
     def test_says_which_interface_is_missing(self):
         body = packets_of('mixed.pcap')[6]

@@ -42,10 +42,23 @@ class OtherSources(Folder):
             database.commit()
         wanted = keyfiles.read_key_file(os.path.join(TOP, 'tools', 'data', 'zha.json'))
         self.assertEqual(keyfiles.read_key_file(path), wanted)
+        self.add_while_it_runs(path)
         broken = self.path('broken.db')
         with open(broken, 'wb') as file:
             file.write(keyfiles.SQLITE + bytes(100))
         self.assertRaises(Stop, keyfiles.read_key_file, broken)
+
+
+    def add_while_it_runs(self, path):
+        """A program that runs has its last backup in the log beside the database. Nothing is written there."""
+        with contextlib.closing(sqlite3.connect(path)) as database:
+            database.execute('pragma journal_mode = wal')
+            later = json.dumps({'network_key': {'key': KEY}})
+            database.execute('insert into network_backups_v13 (backup_json) values (?)', (later,))
+            database.commit()
+            beside = sorted(os.listdir(self.folder))
+            self.assertEqual(list(keyfiles.read_key_file(path)), [KEY])
+            self.assertEqual(sorted(os.listdir(self.folder)), beside)
 
 
 class KeyFiles(Folder):

@@ -21,7 +21,8 @@ from gabzetu.errors import Stop
 from gabzetu.formats import mac
 from gabzetu.formats.checks import Checks, check_of
 from gabzetu.formats.links import Wrapped
-from gabzetu.formats.packets import import_scapy
+from gabzetu.formats.packets import import_scapy, read_packets
+from gabzetu.formats.sources import open_source
 from gabzetu.opening import MOST_KEYS, WELL_KNOWN, Ring
 from gabzetu.test import captures, support
 from gabzetu.test.captures import CODE, LINK, data, packets_of, pcap
@@ -120,6 +121,46 @@ class Links(Folder):
                 path = self.write_bytes('blocks', captures.pcapng_of(kind, packets_of('mixed.pcap')))
                 ran = run('open', path, '--code', CODE, '--json')
                 self.assertEqual((ran.status, opened_of(objects_of(ran))), (0, OPENED))
+
+    @needs_tshark
+    def test_has_the_numbers_and_times_of_tshark(self):
+        packets = packets_of('mixed.pcap')
+        for name, content in (('daintree', captures.daintree(packets)), ('modified', captures.modified(230, packets))):
+            with self.subTest(name):
+                path = self.write_bytes(name, content)
+                fields = '-e frame.number -e frame.time_epoch -e frame.len'.split()
+                words = ['tshark', '-r', path, '-T', 'fields', *fields]
+                theirs = subprocess.run(words, capture_output=True, text=True, check=True).stdout
+                with contextlib.closing(open_source(path)) as source:
+                    packets_here = list(read_packets(path, source))
+                mine = [f'{it.number}\t{it.time:.9f}\t{it.whole}' for it in packets_here]
+                self.assertEqual(mine, theirs.splitlines())
+
+    @unittest.skipUnless(shutil.which('editcap'), 'editcap is missing')
+    def test_reads_the_modified_pcap_of_wireshark(self):
+        path = self.write_bytes('plain', pcap(230, packets_of('mixed.pcap')))
+        subprocess.run(['editcap', '-F', 'modpcap', path, self.path('modified')], check=True)
+        self.assertEqual(opened_of(objects_of(run('open', self.path('modified'), '--code', CODE, '--json'))), OPENED)
+
+    def test_reads_daintree_as_far_as_it_goes(self):
+        whole = captures.daintree(packets_of('mixed.pcap'))
+        lines = whole.splitlines(keepends=True)
+        later = [lines[0], lines[1], b'# a comment\n', b'\n', *lines[2:], lines[7].rstrip()]
+        self.assertEqual(opened_of(self.open_bytes(b''.join(later)))[31], (LINK,))
+        for bad, reason in (
+            ([b'1 2 3\r\n', *lines], 'its line has no number, time, length and bytes'),
+            ([b'1 2.5 1 0102030405\n', *lines], 'its line has 5 bytes, and says 1'),
+            ([b'1 2.5 99 010'], 'the file ends within it'),
+        ):
+            objects = self.open_bytes(b''.join([*lines[:8], *bad]))
+            self.assertEqual((list(opened_of(objects)), reasons_of(objects, 'left-out')[reason]), ([6], (1, 7)))
+        self.assertIn('a line of more than 4096 bytes', run('open', self.write('long', '#Format=4' + '9' * 5000)).said)
+        self.assertIn('gabzetu inspect', run('open', self.write('text', '#For us\nframe 0802\n')).said)
+        said = run('inspect', self.write('x', '#Format=4\n# \n1 2\n')).said
+        self.assertIn('a capture of Daintree: `gabzetu open`', said)
+
+    def open_bytes(self, content):
+        return objects_of(run('open', self.write_bytes('capture', content), '--code', CODE, '--json'))
 
     def test_says_what_a_file_is_that_is_no_capture(self):
         self.assertEqual(run('open', self.path('none')).status, 66)
@@ -266,7 +307,8 @@ class Live(Folder):
         command = [sys.executable, os.path.join(TOP, 'gabzetu'), 'open', *words, '--code', CODE, '--follow', '--json']
         # a shell lets what it runs in the background ignore interrupts
         heed = functools.partial(signal.signal, signal.SIGINT, signal.SIG_DFL)
-        how = {'stdout': subprocess.PIPE, 'stderr': subprocess.PIPE, 'preexec_fn': heed, **how}
+        # no buffer: what one reader takes into it another one misses
+        how = {'stdout': subprocess.PIPE, 'stderr': subprocess.PIPE, 'preexec_fn': heed, 'bufsize': 0, **how}
         process = subprocess.Popen(command, **how)
         self.addCleanup(process.wait)
         self.addCleanup(process.kill)

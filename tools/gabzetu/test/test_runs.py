@@ -166,8 +166,8 @@ class Admin(Folder):
             before = store.read()
             fcntl.flock(store, fcntl.LOCK_EX)
             ran = run('admin', self.path('hub.store'), example('admin.script'))
-        self.assertEqual((ran.status, ran.output), (7, ''))
-        self.assertIn('store fault: the store could not be read or written, or another process has it open', ran.said)
+        self.assertEqual((ran.status, ran.output), (13, ''))
+        self.assertIn('busy: another process has the store open. The file is as it was', ran.said)
         with open(self.path('hub.store'), 'rb') as store:
             self.assertEqual(store.read(), before)
 

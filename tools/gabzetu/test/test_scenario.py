@@ -93,6 +93,16 @@ class Scenario(Folder):
             ['roll', 'timer hub', 'deliver 11 lamp', 'timer hub', 'switch', 'deliver 13 lamp'],
         )
 
+    def test_sixty_joins_take_seconds(self):
+        names = [f'd{number}' for number in range(60)]
+        lines = ['centre hub', *(f'device {it}' for it in names), *(f'code {it} auto' for it in names), 'key auto']
+        lines += [*(f'join {it}' for it in names), *['rollover'] * 3]
+        begun = sum(os.times()[:4])
+        ran = run('scenario', self.write('x.scn', '\n'.join([*lines, ''])))
+        self.assertEqual((ran.status, ran.said), (0, ''))
+        self.assertLess(sum(os.times()[:4]) - begun, 30)
+        self.assertTrue(run('play', '-', given=ran.output).output.endswith('end 1146 843 1020 0 yes yes\n'))
+
     def test_a_lost_frame_is_delivered_to_nobody(self):
         text = HEAD + 'admit sensor\nchild hub sensor join\nlose last\n'
         self.assertIn('#! frame 1 is lost\n', self.written(text) and self.all)

@@ -3,9 +3,10 @@ import json
 import os
 import unittest
 
-from gabzetu.test import networks
+from gabzetu.opening import WELL_KNOWN
+from gabzetu.test import captures, networks
 from gabzetu.test.support import Folder, needs_tc, run
-from gabzetu.test.test_open import needs_scapy
+from gabzetu.test.test_open import needs_scapy, needs_tshark, opened_of
 
 COUNT = 40
 # What tc says of the findings that are verdicts: the claim of the audit that they break.
@@ -23,6 +24,12 @@ class Watch(Folder):
         keys = [word for key in network.known() for word in ('--key', key)]
         ran = run('watch', self.path('x.pcap'), *keys, '--json', *words)
         return ran, [json.loads(line) for line in ran.output.splitlines()]
+
+    def with_fault(self, seed):
+        """Returns a network with the fault of a seed."""
+        network = networks.lived(seed)
+        networks.FAULTS[seed % len(networks.FAULTS)](network)
+        return network
 
     def test_finds_each_planted_fault(self):
         for seed in range(COUNT):
@@ -44,6 +51,19 @@ class Watch(Folder):
                 ran, found = self.watched(networks.lived(seed))
                 self.assertEqual((ran.status, found), (0, []), ran.said)
                 self.assertIn('0 frames stayed closed. tc audit of the rest: sound 0 ', ran.said)
+
+    @needs_tshark
+    def test_what_is_watched_is_what_tshark_decrypts(self):
+        """Of some clean networks and one with each fault: the layers that are open, packet by packet, by their keys."""
+        clean = [networks.lived(seed) for seed in range(1000, 1004)]
+        for seed, network in enumerate([*clean, *map(self.with_fault, range(len(networks.FAULTS)))]):
+            with self.subTest(seed=seed), open(self.path('x.pcap'), 'wb') as file:
+                file.write(network.pcap())
+                file.flush()
+                keys = [word for key in network.known() for word in ('--key', key)]
+                objects = map(json.loads, run('open', file.name, *keys, '--json').output.splitlines())
+                theirs = captures.opened_by_tshark(file.name, [*network.known(), WELL_KNOWN], [])
+                self.assertEqual(opened_of(objects), theirs)
 
     def test_writes_a_page(self):
         network = networks.lived(1)

@@ -117,7 +117,7 @@ class Frames(Folder):
 @needs_scapy
 class Packets(Folder):
     def test_keep_their_numbers(self):
-        ran = run('wireshark', 'packets', data('sniffers.pcapng'), self.path('out'))
+        ran = run('wireshark', 'packets', example('sniffers.pcapng'), self.path('out'))
         self.assertEqual(ran.status, 0)
         self.assertIn('gabzetu: 7 of 13 packets written', ran.said)
         self.assertIn('1 left empty: wrong check sequence, says the chip (the first is packet 9)', ran.said)

@@ -1,4 +1,4 @@
-"""Tests of examples/hub.py: it continues after a refusal and after an empty frame; only its owner can read its log."""
+"""Tests of examples/hub.py: it continues at a refusal and at a frame without content; only its owner reads its log."""
 import contextlib
 import importlib.util
 import io

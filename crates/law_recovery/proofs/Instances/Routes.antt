@@ -32,17 +32,17 @@ use Rattle.zb_model.specs.Tools.{sealing_key}
 use Rattle.zb_model.proofs.Toy.{x, toy}
 use Rattle.std.proofs.lemmas.Bool.{ltb-true, leb-true}
 
-abbrev r : ℕ
+abbrev pub r : ℕ
 r = 5149012952875011
 
-abbrev router_code : Bytes
+abbrev pub router_code : Bytes
 router_code = x "A7576CD720766844FC1422177D9260D0"
 
 abbrev router_station : Station
 router_station = record { name = x "72"; eui = r; short = 15437; role = Router; out_block = 16; in_block = 4 }
 
 -- the nodes of the worked run, and a router that has the network key and an install code
-abbrev w : Schedule
+abbrev pub w : Schedule
 w = record worked.w {
   nodes = worked.w.nodes ++ (record {
     station = router_station;
@@ -54,7 +54,7 @@ w = record worked.w {
 }
 
 -- the codes of both are entered, and the device has knocked
-abbrev routed : Front
+abbrev pub routed : Front
 routed = record {
   lines = start w ++ (
       Changed 1 c (Moved (Row r router_code Provisional)) ∷

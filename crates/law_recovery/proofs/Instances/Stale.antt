@@ -29,7 +29,7 @@ use Rattle.zb_model.proofs.Toy.{toy}
 use Rattle.std.proofs.lemmas.Bool.{ltb-true, leb-true}
 
 -- the confirmed device was booted
-abbrev booted : Front
+abbrev pub booted : Front
 booted = record { lines = confirmed.lines ++ (DownReset 11 d ∷ Boot 12 d ∷ []); disks = []; number = 13 }
 
 unfoldable rejoins_later : RejoinsLater w booted c d 3
@@ -126,13 +126,13 @@ rounds = record {
 }
 
 -- The centre offered a key. Then the centre was booted, or the device.
-abbrev centre_booted : Front
+abbrev pub centre_booted : Front
 centre_booted = record { lines = (front 37 7).lines ++ (DownReset 7 c ∷ Boot 8 c ∷ []); disks = []; number = 9 }
 
-abbrev device_booted : Front
+abbrev pub device_booted : Front
 device_booted = record { lines = (front 37 7).lines ++ (DownReset 7 d ∷ Boot 8 d ∷ []); disks = []; number = 9 }
 
-abbrev keys : Keys
+abbrev pub keys : Keys
 keys = record { network = network; sequence = 0; link = code; drawn = drawn }
 
 -- Instance of stale_turns_are_fewer_than_a_block.

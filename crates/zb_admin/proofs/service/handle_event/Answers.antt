@@ -1,5 +1,5 @@
 use Rattle.std.proofs.Common.{◌∙◌, Some, ap, ◌++◌, refl}
-use Rattle.zb_centre_store.specs.Tasks.{task_of}
+use Rattle.zb_centre_store.specs.Events.{task_of}
 use Rattle.zb_centre_store.specs.declared.fault.AdminFault.TheVariants.{Disk}
 use Rattle.zb_centre_store.proofs.StoreLemmas.{same_fault}
 use Rattle.zb_model.specs.Answer.{answer}

@@ -47,8 +47,8 @@ returns-in-Err-clause-fallen g c = λ fallen cause s w down.
     (has_fallen_at_boot words s w a old m fault c.recover-fallen.result fallen down
     (subst (λ (x : Medium). IsBootFault memory_tells g.C.Core.restored (memory_view x) (memory_view m) fault) is
     c.in-Err.ensures.step.faults)
-    (λ changes of_disk. subst (λ (x : Medium). OpenStop memory_tells s (memory_view x) (memory_view m)) is
-    (c.in-Err.ensures.stopped changes of_disk
+    (λ of_disk. subst (λ (x : Medium). OpenStop memory_tells s (memory_view x) (memory_view m)) is
+    (c.in-Err.ensures.stopped of_disk
     (subst (λ (x : Medium). AllWhole (memory_view x)) (sym is) (all_whole s a old down.rest)) refl refl s there))
     (c.recover-fallen.ensures.fall ∙ ap (λ (b : Bool). fall_seen b (is_stopped m.arming)) c.is_off-was_off.ensures)
     (c.recover-fallen.ensures.fired ∙ ap (λ (b : Bool). fired_seen a b (is_stopped m.arming) (will_refuse m.arming))

@@ -1,5 +1,5 @@
+use Rattle.zb_core.specs.Events.{task_of}
 use Rattle.zb_model.specs.OwnEvents.{own_at_centre}
-use Rattle.zb_centre.specs.Tasks.{task_of}
 use Rattle.zb_centre.proofs.planning.plan_by_rule.Goals as goal
 
 pub returns : goal.returns

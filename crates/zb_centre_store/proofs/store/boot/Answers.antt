@@ -12,7 +12,7 @@ pub returns-in-Err-clause-booted : goal.returns-in-Err-clause-booted
 returns-in-Err-clause-booted g c =
     let step = c.in-Err.ensures.step in
     booted_failed g.D.Disk.tells _ (g.D.Disk.state c.args.disk.now) (g.D.Disk.state c.boot.new.disk) c.in-Err.fault
-    c.of_host.result c.of_host.ensures step.moments step.faults
+    c.from.result c.from.ensures step.moments step.faults
 
 pub returns-in-Ok-clause-configured : goal.returns-in-Ok-clause-configured
 returns-in-Ok-clause-configured g c = c.in-Ok.ensures.configured.2.setting

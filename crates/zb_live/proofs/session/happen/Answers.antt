@@ -1,5 +1,5 @@
 use Rattle.std.proofs.Common.{ap, refl}
-use Rattle.zb_centre_store.specs.Tasks.{task_of}
+use Rattle.zb_centre_store.specs.Events.{task_of}
 use Rattle.zb_centre_store.specs.declared.fault.AdminFault.TheVariants.{Disk}
 use Rattle.zb_centre_store.proofs.StoreLemmas.{same_fault}
 use Rattle.zb_stored_tables.specs.Cores.{CoreValue}
@@ -8,29 +8,32 @@ use Rattle.zb_live.proofs.session.happen.Goals as goal
 
 pub returns-in-Ok-clause-happened : goal.returns-in-Ok-clause-happened
 returns-in-Ok-clause-happened g c = λ told setting s up called centre.
-    let place = c.args.place.now in
-    event_lines_stand g.D.Disk.tells told setting s (task_of c.args.event.now) place.log place.event place.frame
-    place.me.bytes c.args.host.now c.handle.new.host (g.D.Disk.state c.args.disk.now)
+    let entry = c.args.entry.now in
+    event_lines_stand g.D.Disk.tells told setting s (task_of c.args.event.now) entry.log entry.group.event
+    entry.group.frame
+    entry.group.node.bytes c.args.host.now c.handle.new.host (g.D.Disk.state c.args.disk.now)
     (g.D.Disk.state c.handle.new.disk) up
-    c.in-Ok.plan c.tell.result c.args.page.now.items c.tell.new.page.items (c.in-Ok.ensures.handled setting)
-    c.tell.ensures.prints c.tell.ensures.sends called centre
+    c.in-Ok.plan c.put_answer.result c.args.page.now.items c.put_answer.new.page.items (c.in-Ok.ensures.handled
+    setting)
+    c.put_answer.ensures.prints c.put_answer.ensures.sends called centre
 
 pub returns-in-Ok-clause-store : goal.returns-in-Ok-clause-store
-returns-in-Ok-clause-store g c = always c.tell.result (c.in-Ok.ensures.handled no_setting).store
+returns-in-Ok-clause-store g c = always c.put_answer.result (c.in-Ok.ensures.handled no_setting).store
 
 pub returns-in-Ok-clause-unrisen : goal.returns-in-Ok-clause-unrisen
 returns-in-Ok-clause-unrisen g c = λ not. c.in-Ok.ensures.unrisen (λ is. cc is)
 
 pub returns-in-Ok-clause-faults : goal.returns-in-Ok-clause-faults
 returns-in-Ok-clause-faults g c = told_short g.D.Disk.tells (g.D.Disk.state c.args.disk.now)
-    (g.D.Disk.state c.handle.new.disk) c.args.host.now c.tell.result c.tell.ensures.short
+    (g.D.Disk.state c.handle.new.disk) c.args.host.now c.put_answer.result c.put_answer.ensures.short
     (c.in-Ok.ensures.unrisen (λ is. cc is))
 
 pub returns-in-Err-clause-happened : goal.returns-in-Err-clause-happened
 returns-in-Err-clause-happened g c = λ told setting s up called centre.
-    let place = c.args.place.now in
-    event_lines_lack g.D.Disk.tells told setting s (task_of c.args.event.now) place.log place.event place.frame
-    place.me.bytes c.args.host.now c.handle.new.host (g.D.Disk.state c.args.disk.now)
+    let entry = c.args.entry.now in
+    event_lines_lack g.D.Disk.tells told setting s (task_of c.args.event.now) entry.log entry.group.event
+    entry.group.frame
+    entry.group.node.bytes c.args.host.now c.handle.new.host (g.D.Disk.state c.args.disk.now)
     (g.D.Disk.state c.handle.new.disk) up
     _ c.args.page.now.items _ c.in-Err.fault (c.in-Err.ensures.handled setting)
 
@@ -45,19 +48,20 @@ returns-in-Err-clause-unrisen g c = λ not. c.in-Err.ensures.unrisen (same_fault
 pub returns-in-Ok-clause-configured : goal.returns-in-Ok-clause-configured
 returns-in-Ok-clause-configured g c =
     let core = c.args.host.now.core in
-    always c.tell.result
+    always c.put_answer.result
     (ap (λ (x : CoreValue). x.setting) ((c.in-Ok.ensures.handled core.setting).follows core.tables refl).1)
 
 pub returns-in-Ok-clause-answered : goal.returns-in-Ok-clause-answered
 returns-in-Ok-clause-answered g c = λ setting s core called centre.
-    let place = c.args.place.now in
-    lines_answered g.D.Disk.tells setting s (task_of c.args.event.now) place.log place.event place.frame
-    place.me.bytes c.args.host.now c.handle.new.host (g.D.Disk.state c.args.disk.now)
-    (g.D.Disk.state c.handle.new.disk) c.in-Ok.plan c.tell.result c.args.page.now.items c.tell.new.page.items core
-    (c.in-Ok.ensures.handled setting) c.tell.ensures.prints c.tell.ensures.sends called centre
+    let entry = c.args.entry.now in
+    lines_answered g.D.Disk.tells setting s (task_of c.args.event.now) entry.log entry.group.event entry.group.frame
+    entry.group.node.bytes c.args.host.now c.handle.new.host (g.D.Disk.state c.args.disk.now)
+    (g.D.Disk.state c.handle.new.disk) c.in-Ok.plan c.put_answer.result c.args.page.now.items
+    c.put_answer.new.page.items core
+    (c.in-Ok.ensures.handled setting) c.put_answer.ensures.prints c.put_answer.ensures.sends called centre
 
 pub returns-in-Ok-clause-worn : goal.returns-in-Ok-clause-worn
-returns-in-Ok-clause-worn g c = short_unworn _ c.tell.result c.tell.ensures.short
+returns-in-Ok-clause-worn g c = short_unworn _ c.put_answer.result c.put_answer.ensures.short
 
 pub returns-in-Err-clause-worn : goal.returns-in-Err-clause-worn
 returns-in-Err-clause-worn g c = λ is setting s core. ((c.in-Err.ensures.handled setting).worn is).1 s core

@@ -74,7 +74,7 @@ returns-in_err-hand_out-clause-swapped_front g c =
 
 pub loop-index-preserved : goal.loop-index-preserved
 loop-index-preserved g c = record {
-  clear = clear_of c.answer.new.self.ledger.page _ c.in_ok-hand_out.ensures.whole.1;
+  clear = clear_of c.answer.new.self.ledger.transcript.page _ c.in_ok-hand_out.ensures.whole.1;
   room = omega (arith, c.loop-index.invariant.room, c.in_ok-answer.ensures.few);
   still = λ s. c.in_ok-answer.ensures.still (c.loop-index.invariant.still s);
   seats = c.in_ok-answer.ensures.seats ∙ c.loop-index.invariant.seats;

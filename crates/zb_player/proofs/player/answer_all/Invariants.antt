@@ -10,7 +10,7 @@ use Rattle.zb_player.proofs.player.answer_all.Given as goal
 
 abbrev pub invariant-loop-index : goal.invariant-loop-index
 invariant-loop-index g l = record {
-  clear : IsClear l.run.ledger.page;
+  clear : IsClear l.run.ledger.transcript.page;
   room : lines_told l.run.ledger ≤ 400 + 24 * l.index;
   still : g.B.Bench.still l.initial.bench ≡ true → g.B.Bench.still l.bench ≡ true;
   seats : l.run.seats ≡ l.initial.run.seats;

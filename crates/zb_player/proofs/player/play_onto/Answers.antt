@@ -24,12 +24,13 @@ use Rattle.zb_sched_line.specs.Said.{Event}
 use Rattle.zb_sched_line.specs.Views.{event_of}
 
 pub answer_all-requires-clause-clear : goal.answer_all-requires-clause-clear
-answer_all-requires-clause-clear g c = clear_of c.in_ok-run.run'.ledger.page _ c.in_ok-hand_out.ensures.whole.1
+answer_all-requires-clause-clear g c = clear_of c.in_ok-run.run'.ledger.transcript.page _
+    c.in_ok-hand_out.ensures.whole.1
 
 pub answer_all-requires-clause-fit : goal.answer_all-requires-clause-fit
 answer_all-requires-clause-fit g c =
     let p = sched.schedule_of c.args.schedule.now in
-    still_for c.args.page c.in_ok-run.run'.ledger.page c.hand_out.new.self (text_in p (begin p))
+    still_for c.args.page c.in_ok-run.run'.ledger.transcript.page c.hand_out.new.self (text_in p (begin p))
     (g.W.Sink.taken c.args.out.now) (g.W.Sink.taken c.hand_out.new.out) c.in_ok-run.ensures.page
     c.in_ok-hand_out.ensures.whole.1 c.requires.fit c.in_ok-hand_out.ensures.whole.0
 
@@ -37,7 +38,8 @@ pub returns-in_err-hand_out-clause-front : goal.returns-in_err-hand_out-clause-f
 returns-in_err-hand_out-clause-front g c = λ s.
     let p = sched.schedule_of c.args.schedule.now in
     on_err _ _ (front_start p (g.W.Sink.taken c.args.out.now) (g.W.Sink.taken c.hand_out.new.out)
-    (handed_front c.args.page c.in_ok-run.run'.ledger.page (text_in p (begin p)) (g.W.Sink.taken c.args.out.now)
+    (handed_front c.args.page c.in_ok-run.run'.ledger.transcript.page (text_in p (begin p)) (g.W.Sink.taken
+    c.args.out.now)
     (g.W.Sink.taken c.hand_out.new.out) c.in_ok-run.ensures.page c.requires.clear
     c.in_err-hand_out.ensures.front.0))
 
@@ -53,9 +55,12 @@ returns-in_err-answer_all-clause-front g c = λ s.
       draws = c.in_ok-run.run'.draws;
       ledger =
           record {
-            alloc = c.in_ok-run.run'.ledger.alloc;
-            scribe = c.in_ok-run.run'.ledger.scribe;
-            page = c.hand_out.new.self;
+            transcript =
+                record {
+                  alloc = c.in_ok-run.run'.ledger.transcript.alloc;
+                  scribe = c.in_ok-run.run'.ledger.transcript.scribe;
+                  page = c.hand_out.new.self;
+                };
             plan = c.in_ok-run.run'.ledger.plan;
           };
     } in
@@ -64,7 +69,8 @@ returns-in_err-answer_all-clause-front g c = λ s.
     (paged p (begin p) [] 1 c.in_ok-run.run' run1 c.start.new.disks.items
     (record { nodes = refl; seats = refl; draws = refl; scribe = refl }) c.in_ok-run.ensures.stands) in
     let out : Appends before (g.W.Sink.taken c.hand_out.new.out) (text_in p (begin p)) =
-    handed c.args.page c.in_ok-run.run'.ledger.page (text_in p (begin p)) before (g.W.Sink.taken c.hand_out.new.out)
+    handed c.args.page c.in_ok-run.run'.ledger.transcript.page (text_in p (begin p)) before (g.W.Sink.taken
+    c.hand_out.new.out)
     c.in_ok-run.ensures.page c.requires.clear c.requires.fit
     c.in_ok-hand_out.ensures.whole.0 in
     on_err _ _
@@ -84,9 +90,12 @@ returns-in_err-print-clause-front g c = λ s.
       draws = c.in_ok-run.run'.draws;
       ledger =
           record {
-            alloc = c.in_ok-run.run'.ledger.alloc;
-            scribe = c.in_ok-run.run'.ledger.scribe;
-            page = c.hand_out.new.self;
+            transcript =
+                record {
+                  alloc = c.in_ok-run.run'.ledger.transcript.alloc;
+                  scribe = c.in_ok-run.run'.ledger.transcript.scribe;
+                  page = c.hand_out.new.self;
+                };
             plan = c.in_ok-run.run'.ledger.plan;
           };
     } in
@@ -95,7 +104,8 @@ returns-in_err-print-clause-front g c = λ s.
     (paged p (begin p) [] 1 c.in_ok-run.run' run1 c.start.new.disks.items
     (record { nodes = refl; seats = refl; draws = refl; scribe = refl }) c.in_ok-run.ensures.stands) in
     let out : Appends before (g.W.Sink.taken c.hand_out.new.out) (text_in p (begin p)) =
-    handed c.args.page c.in_ok-run.run'.ledger.page (text_in p (begin p)) before (g.W.Sink.taken c.hand_out.new.out)
+    handed c.args.page c.in_ok-run.run'.ledger.transcript.page (text_in p (begin p)) before (g.W.Sink.taken
+    c.hand_out.new.out)
     c.in_ok-run.ensures.page c.requires.clear c.requires.fit
     c.in_ok-hand_out.ensures.whole.0 in
     let ended : Ended p c.answer_all.new.run c.answer_all.new.disks before (g.W.Sink.taken c.answer_all.new.out) =
@@ -118,9 +128,12 @@ returns-in_err-hand_out-2-clause-front g c = λ s.
       draws = c.in_ok-run.run'.draws;
       ledger =
           record {
-            alloc = c.in_ok-run.run'.ledger.alloc;
-            scribe = c.in_ok-run.run'.ledger.scribe;
-            page = c.hand_out.new.self;
+            transcript =
+                record {
+                  alloc = c.in_ok-run.run'.ledger.transcript.alloc;
+                  scribe = c.in_ok-run.run'.ledger.transcript.scribe;
+                  page = c.hand_out.new.self;
+                };
             plan = c.in_ok-run.run'.ledger.plan;
           };
     } in
@@ -129,7 +142,8 @@ returns-in_err-hand_out-2-clause-front g c = λ s.
     (paged p (begin p) [] 1 c.in_ok-run.run' run1 c.start.new.disks.items
     (record { nodes = refl; seats = refl; draws = refl; scribe = refl }) c.in_ok-run.ensures.stands) in
     let out : Appends before (g.W.Sink.taken c.hand_out.new.out) (text_in p (begin p)) =
-    handed c.args.page c.in_ok-run.run'.ledger.page (text_in p (begin p)) before (g.W.Sink.taken c.hand_out.new.out)
+    handed c.args.page c.in_ok-run.run'.ledger.transcript.page (text_in p (begin p)) before (g.W.Sink.taken
+    c.hand_out.new.out)
     c.in_ok-run.ensures.page c.requires.clear c.requires.fit
     c.in_ok-hand_out.ensures.whole.0 in
     let ended : Ended p c.answer_all.new.run c.answer_all.new.disks before (g.W.Sink.taken c.answer_all.new.out) =
@@ -142,13 +156,13 @@ returns-in_err-hand_out-2-clause-front g c = λ s.
     c.of-summary.result (length events) ended
     (sym (length-map events event_of) ∙ ap (λ (es : List Event). length es) played.events_are) c.of-summary.ensures in
     let known = stations (schedule_of p) in
-    let shown : c.print.new.self ≡ append_known c.answer_all.new.run.ledger.page (text_in p (last p ∷ [])) =
-    c.in_ok-print.ensures ∙ ap (append_known c.answer_all.new.run.ledger.page)
+    let shown : c.print.new.self ≡ append_known c.answer_all.new.run.ledger.transcript.page (text_in p (last p ∷ [])) =
+    c.in_ok-print.ensures ∙ ap (append_known c.answer_all.new.run.ledger.transcript.page)
     (last_text known c.line.result (last_line c.of-summary.result) (last p) (c.line.ensures known) summed_up) in
     on_err _ _
     (front_end p c.answer_all.new.run c.answer_all.new.disks before (g.W.Sink.taken c.answer_all.new.out)
     (g.W.Sink.taken c.hand_out-2.new.out)
-    ended (handed_front c.answer_all.new.run.ledger.page c.print.new.self (text_in p (last p ∷ []))
+    ended (handed_front c.answer_all.new.run.ledger.transcript.page c.print.new.self (text_in p (last p ∷ []))
     (g.W.Sink.taken c.answer_all.new.out) (g.W.Sink.taken c.hand_out-2.new.out) shown
     c.in_ok-answer_all.ensures.clear c.in_err-hand_out-2.ensures.front.0))
 
@@ -164,9 +178,12 @@ returns-clause-whole g c = λ s.
       draws = c.in_ok-run.run'.draws;
       ledger =
           record {
-            alloc = c.in_ok-run.run'.ledger.alloc;
-            scribe = c.in_ok-run.run'.ledger.scribe;
-            page = c.hand_out.new.self;
+            transcript =
+                record {
+                  alloc = c.in_ok-run.run'.ledger.transcript.alloc;
+                  scribe = c.in_ok-run.run'.ledger.transcript.scribe;
+                  page = c.hand_out.new.self;
+                };
             plan = c.in_ok-run.run'.ledger.plan;
           };
     } in
@@ -175,7 +192,8 @@ returns-clause-whole g c = λ s.
     (paged p (begin p) [] 1 c.in_ok-run.run' run1 c.start.new.disks.items
     (record { nodes = refl; seats = refl; draws = refl; scribe = refl }) c.in_ok-run.ensures.stands) in
     let out : Appends before (g.W.Sink.taken c.hand_out.new.out) (text_in p (begin p)) =
-    handed c.args.page c.in_ok-run.run'.ledger.page (text_in p (begin p)) before (g.W.Sink.taken c.hand_out.new.out)
+    handed c.args.page c.in_ok-run.run'.ledger.transcript.page (text_in p (begin p)) before (g.W.Sink.taken
+    c.hand_out.new.out)
     c.in_ok-run.ensures.page c.requires.clear c.requires.fit
     c.in_ok-hand_out.ensures.whole.0 in
     let ended : Ended p c.answer_all.new.run c.answer_all.new.disks before (g.W.Sink.taken c.answer_all.new.out) =
@@ -188,12 +206,12 @@ returns-clause-whole g c = λ s.
     c.of-summary.result (length events) ended
     (sym (length-map events event_of) ∙ ap (λ (es : List Event). length es) played.events_are) c.of-summary.ensures in
     let known = stations (schedule_of p) in
-    let shown : c.print.new.self ≡ append_known c.answer_all.new.run.ledger.page (text_in p (last p ∷ [])) =
-    c.in_ok-print.ensures ∙ ap (append_known c.answer_all.new.run.ledger.page)
+    let shown : c.print.new.self ≡ append_known c.answer_all.new.run.ledger.transcript.page (text_in p (last p ∷ [])) =
+    c.in_ok-print.ensures ∙ ap (append_known c.answer_all.new.run.ledger.transcript.page)
     (last_text known c.line.result (last_line c.of-summary.result) (last p) (c.line.ensures known) summed_up) in
     whole_run p c.answer_all.new.run c.answer_all.new.disks before (g.W.Sink.taken c.answer_all.new.out)
     (g.W.Sink.taken c.hand_out-2.new.out)
-    ended (handed c.answer_all.new.run.ledger.page c.print.new.self (text_in p (last p ∷ []))
+    ended (handed c.answer_all.new.run.ledger.transcript.page c.print.new.self (text_in p (last p ∷ []))
     (g.W.Sink.taken c.answer_all.new.out) (g.W.Sink.taken c.hand_out-2.new.out) shown
     c.in_ok-answer_all.ensures.clear ended.page c.in_ok-hand_out-2.ensures.whole.0)
 
@@ -209,9 +227,12 @@ returns-clause-summary g c = λ s.
       draws = c.in_ok-run.run'.draws;
       ledger =
           record {
-            alloc = c.in_ok-run.run'.ledger.alloc;
-            scribe = c.in_ok-run.run'.ledger.scribe;
-            page = c.hand_out.new.self;
+            transcript =
+                record {
+                  alloc = c.in_ok-run.run'.ledger.transcript.alloc;
+                  scribe = c.in_ok-run.run'.ledger.transcript.scribe;
+                  page = c.hand_out.new.self;
+                };
             plan = c.in_ok-run.run'.ledger.plan;
           };
     } in
@@ -220,7 +241,8 @@ returns-clause-summary g c = λ s.
     (paged p (begin p) [] 1 c.in_ok-run.run' run1 c.start.new.disks.items
     (record { nodes = refl; seats = refl; draws = refl; scribe = refl }) c.in_ok-run.ensures.stands) in
     let out : Appends before (g.W.Sink.taken c.hand_out.new.out) (text_in p (begin p)) =
-    handed c.args.page c.in_ok-run.run'.ledger.page (text_in p (begin p)) before (g.W.Sink.taken c.hand_out.new.out)
+    handed c.args.page c.in_ok-run.run'.ledger.transcript.page (text_in p (begin p)) before (g.W.Sink.taken
+    c.hand_out.new.out)
     c.in_ok-run.ensures.page c.requires.clear c.requires.fit
     c.in_ok-hand_out.ensures.whole.0 in
     let ended : Ended p c.answer_all.new.run c.answer_all.new.disks before (g.W.Sink.taken c.answer_all.new.out) =
@@ -246,9 +268,12 @@ returns-clause-disks g c = λ s.
       draws = c.in_ok-run.run'.draws;
       ledger =
           record {
-            alloc = c.in_ok-run.run'.ledger.alloc;
-            scribe = c.in_ok-run.run'.ledger.scribe;
-            page = c.hand_out.new.self;
+            transcript =
+                record {
+                  alloc = c.in_ok-run.run'.ledger.transcript.alloc;
+                  scribe = c.in_ok-run.run'.ledger.transcript.scribe;
+                  page = c.hand_out.new.self;
+                };
             plan = c.in_ok-run.run'.ledger.plan;
           };
     } in
@@ -257,7 +282,8 @@ returns-clause-disks g c = λ s.
     (paged p (begin p) [] 1 c.in_ok-run.run' run1 c.start.new.disks.items
     (record { nodes = refl; seats = refl; draws = refl; scribe = refl }) c.in_ok-run.ensures.stands) in
     let out : Appends before (g.W.Sink.taken c.hand_out.new.out) (text_in p (begin p)) =
-    handed c.args.page c.in_ok-run.run'.ledger.page (text_in p (begin p)) before (g.W.Sink.taken c.hand_out.new.out)
+    handed c.args.page c.in_ok-run.run'.ledger.transcript.page (text_in p (begin p)) before (g.W.Sink.taken
+    c.hand_out.new.out)
     c.in_ok-run.ensures.page c.requires.clear c.requires.fit
     c.in_ok-hand_out.ensures.whole.0 in
     let ended : Ended p c.answer_all.new.run c.answer_all.new.disks before (g.W.Sink.taken c.answer_all.new.out) =
@@ -297,7 +323,8 @@ returns-in_err-hand_out-clause-swapped_front g c =
     let p = sched.schedule_of c.args.schedule.now in
     on_err _ _ (for_gifts p (g.B.Bench.gave c.args.bench.now) _ (λ gifts given told fits.
     given_start p gifts (g.W.Sink.taken c.args.out.now) (g.W.Sink.taken c.hand_out.new.out)
-    (handed_front c.args.page c.in_ok-run.run'.ledger.page (text_in p (begin p)) (g.W.Sink.taken c.args.out.now)
+    (handed_front c.args.page c.in_ok-run.run'.ledger.transcript.page (text_in p (begin p)) (g.W.Sink.taken
+    c.args.out.now)
     (g.W.Sink.taken c.hand_out.new.out) c.in_ok-run.ensures.page c.requires.clear
     c.in_err-hand_out.ensures.front.0)))
 
@@ -313,9 +340,12 @@ returns-in_err-answer_all-clause-swapped_front g c =
       draws = c.in_ok-run.run'.draws;
       ledger =
           record {
-            alloc = c.in_ok-run.run'.ledger.alloc;
-            scribe = c.in_ok-run.run'.ledger.scribe;
-            page = c.hand_out.new.self;
+            transcript =
+                record {
+                  alloc = c.in_ok-run.run'.ledger.transcript.alloc;
+                  scribe = c.in_ok-run.run'.ledger.transcript.scribe;
+                  page = c.hand_out.new.self;
+                };
             plan = c.in_ok-run.run'.ledger.plan;
           };
     } in
@@ -324,7 +354,8 @@ returns-in_err-answer_all-clause-swapped_front g c =
     (paged p (begin p) [] 1 c.in_ok-run.run' run1 c.start.new.disks.items
     (record { nodes = refl; seats = refl; draws = refl; scribe = refl }) c.in_ok-run.ensures.stands) in
     let out : Appends before (g.W.Sink.taken c.hand_out.new.out) (text_in p (begin p)) =
-    handed c.args.page c.in_ok-run.run'.ledger.page (text_in p (begin p)) before (g.W.Sink.taken c.hand_out.new.out)
+    handed c.args.page c.in_ok-run.run'.ledger.transcript.page (text_in p (begin p)) before (g.W.Sink.taken
+    c.hand_out.new.out)
     c.in_ok-run.ensures.page c.requires.clear c.requires.fit
     c.in_ok-hand_out.ensures.whole.0 in
     let gave = g.B.Bench.gave c.answer_all.new.bench in
@@ -345,9 +376,12 @@ returns-in_err-print-clause-swapped_front g c =
       draws = c.in_ok-run.run'.draws;
       ledger =
           record {
-            alloc = c.in_ok-run.run'.ledger.alloc;
-            scribe = c.in_ok-run.run'.ledger.scribe;
-            page = c.hand_out.new.self;
+            transcript =
+                record {
+                  alloc = c.in_ok-run.run'.ledger.transcript.alloc;
+                  scribe = c.in_ok-run.run'.ledger.transcript.scribe;
+                  page = c.hand_out.new.self;
+                };
             plan = c.in_ok-run.run'.ledger.plan;
           };
     } in
@@ -356,7 +390,8 @@ returns-in_err-print-clause-swapped_front g c =
     (paged p (begin p) [] 1 c.in_ok-run.run' run1 c.start.new.disks.items
     (record { nodes = refl; seats = refl; draws = refl; scribe = refl }) c.in_ok-run.ensures.stands) in
     let out : Appends before (g.W.Sink.taken c.hand_out.new.out) (text_in p (begin p)) =
-    handed c.args.page c.in_ok-run.run'.ledger.page (text_in p (begin p)) before (g.W.Sink.taken c.hand_out.new.out)
+    handed c.args.page c.in_ok-run.run'.ledger.transcript.page (text_in p (begin p)) before (g.W.Sink.taken
+    c.hand_out.new.out)
     c.in_ok-run.ensures.page c.requires.clear c.requires.fit
     c.in_ok-hand_out.ensures.whole.0 in
     let gave = g.B.Bench.gave c.answer_all.new.bench in
@@ -382,9 +417,12 @@ returns-in_err-hand_out-2-clause-swapped_front g c =
       draws = c.in_ok-run.run'.draws;
       ledger =
           record {
-            alloc = c.in_ok-run.run'.ledger.alloc;
-            scribe = c.in_ok-run.run'.ledger.scribe;
-            page = c.hand_out.new.self;
+            transcript =
+                record {
+                  alloc = c.in_ok-run.run'.ledger.transcript.alloc;
+                  scribe = c.in_ok-run.run'.ledger.transcript.scribe;
+                  page = c.hand_out.new.self;
+                };
             plan = c.in_ok-run.run'.ledger.plan;
           };
     } in
@@ -393,7 +431,8 @@ returns-in_err-hand_out-2-clause-swapped_front g c =
     (paged p (begin p) [] 1 c.in_ok-run.run' run1 c.start.new.disks.items
     (record { nodes = refl; seats = refl; draws = refl; scribe = refl }) c.in_ok-run.ensures.stands) in
     let out : Appends before (g.W.Sink.taken c.hand_out.new.out) (text_in p (begin p)) =
-    handed c.args.page c.in_ok-run.run'.ledger.page (text_in p (begin p)) before (g.W.Sink.taken c.hand_out.new.out)
+    handed c.args.page c.in_ok-run.run'.ledger.transcript.page (text_in p (begin p)) before (g.W.Sink.taken
+    c.hand_out.new.out)
     c.in_ok-run.ensures.page c.requires.clear c.requires.fit
     c.in_ok-hand_out.ensures.whole.0 in
     let gave = g.B.Bench.gave c.answer_all.new.bench in
@@ -410,15 +449,16 @@ returns-in_err-hand_out-2-clause-swapped_front g c =
     (sym (length-map events event_of) ∙ ap (λ (es : List Event). length es) played.events_are) c.of-summary.ensures in
     let known = stations (schedule_of p) in
     let shown : (gifts : ℕ → Option Stood) (given : ℕ → Option Medium) → gave ≡ Some given → AreGifts p gifts given
-    → c.print.new.self ≡ append_known c.answer_all.new.run.ledger.page (text_in p (given_last p gifts ∷ [])) =
+    → c.print.new.self ≡ append_known c.answer_all.new.run.ledger.transcript.page (text_in p (given_last p gifts ∷
+    [])) =
     λ gifts given told fits.
-    c.in_ok-print.ensures ∙ ap (append_known c.answer_all.new.run.ledger.page)
+    c.in_ok-print.ensures ∙ ap (append_known c.answer_all.new.run.ledger.transcript.page)
     (last_text known c.line.result (last_line c.of-summary.result) (given_last p gifts) (c.line.ensures known)
     (summed_up gifts given told fits)) in
     on_err _ _ (for_gifts p gave _ (λ gifts given told fits.
     given_end p gifts c.answer_all.new.run before (g.W.Sink.taken c.answer_all.new.out)
     (g.W.Sink.taken c.hand_out-2.new.out) (ended gifts given told fits)
-    (handed_front c.answer_all.new.run.ledger.page c.print.new.self (text_in p (given_last p gifts ∷ []))
+    (handed_front c.answer_all.new.run.ledger.transcript.page c.print.new.self (text_in p (given_last p gifts ∷ []))
     (g.W.Sink.taken c.answer_all.new.out) (g.W.Sink.taken c.hand_out-2.new.out) (shown gifts given told fits)
     c.in_ok-answer_all.ensures.clear c.in_err-hand_out-2.ensures.front.0)))
 
@@ -434,9 +474,12 @@ returns-clause-swapped g c =
       draws = c.in_ok-run.run'.draws;
       ledger =
           record {
-            alloc = c.in_ok-run.run'.ledger.alloc;
-            scribe = c.in_ok-run.run'.ledger.scribe;
-            page = c.hand_out.new.self;
+            transcript =
+                record {
+                  alloc = c.in_ok-run.run'.ledger.transcript.alloc;
+                  scribe = c.in_ok-run.run'.ledger.transcript.scribe;
+                  page = c.hand_out.new.self;
+                };
             plan = c.in_ok-run.run'.ledger.plan;
           };
     } in
@@ -445,7 +488,8 @@ returns-clause-swapped g c =
     (paged p (begin p) [] 1 c.in_ok-run.run' run1 c.start.new.disks.items
     (record { nodes = refl; seats = refl; draws = refl; scribe = refl }) c.in_ok-run.ensures.stands) in
     let out : Appends before (g.W.Sink.taken c.hand_out.new.out) (text_in p (begin p)) =
-    handed c.args.page c.in_ok-run.run'.ledger.page (text_in p (begin p)) before (g.W.Sink.taken c.hand_out.new.out)
+    handed c.args.page c.in_ok-run.run'.ledger.transcript.page (text_in p (begin p)) before (g.W.Sink.taken
+    c.hand_out.new.out)
     c.in_ok-run.ensures.page c.requires.clear c.requires.fit
     c.in_ok-hand_out.ensures.whole.0 in
     let gave = g.B.Bench.gave c.answer_all.new.bench in
@@ -462,15 +506,16 @@ returns-clause-swapped g c =
     (sym (length-map events event_of) ∙ ap (λ (es : List Event). length es) played.events_are) c.of-summary.ensures in
     let known = stations (schedule_of p) in
     let shown : (gifts : ℕ → Option Stood) (given : ℕ → Option Medium) → gave ≡ Some given → AreGifts p gifts given
-    → c.print.new.self ≡ append_known c.answer_all.new.run.ledger.page (text_in p (given_last p gifts ∷ [])) =
+    → c.print.new.self ≡ append_known c.answer_all.new.run.ledger.transcript.page (text_in p (given_last p gifts ∷
+    [])) =
     λ gifts given told fits.
-    c.in_ok-print.ensures ∙ ap (append_known c.answer_all.new.run.ledger.page)
+    c.in_ok-print.ensures ∙ ap (append_known c.answer_all.new.run.ledger.transcript.page)
     (last_text known c.line.result (last_line c.of-summary.result) (given_last p gifts) (c.line.ensures known)
     (summed_up gifts given told fits)) in
     for_gifts p gave _ (λ gifts given told fits.
     given_whole p gifts c.answer_all.new.run before (g.W.Sink.taken c.answer_all.new.out)
     (g.W.Sink.taken c.hand_out-2.new.out) (ended gifts given told fits)
-    (handed c.answer_all.new.run.ledger.page c.print.new.self (text_in p (given_last p gifts ∷ []))
+    (handed c.answer_all.new.run.ledger.transcript.page c.print.new.self (text_in p (given_last p gifts ∷ []))
     (g.W.Sink.taken c.answer_all.new.out) (g.W.Sink.taken c.hand_out-2.new.out) (shown gifts given told fits)
     c.in_ok-answer_all.ensures.clear (ended gifts given told fits).page c.in_ok-hand_out-2.ensures.whole.0))
 
@@ -486,9 +531,12 @@ returns-clause-swapped_summary g c =
       draws = c.in_ok-run.run'.draws;
       ledger =
           record {
-            alloc = c.in_ok-run.run'.ledger.alloc;
-            scribe = c.in_ok-run.run'.ledger.scribe;
-            page = c.hand_out.new.self;
+            transcript =
+                record {
+                  alloc = c.in_ok-run.run'.ledger.transcript.alloc;
+                  scribe = c.in_ok-run.run'.ledger.transcript.scribe;
+                  page = c.hand_out.new.self;
+                };
             plan = c.in_ok-run.run'.ledger.plan;
           };
     } in
@@ -497,7 +545,8 @@ returns-clause-swapped_summary g c =
     (paged p (begin p) [] 1 c.in_ok-run.run' run1 c.start.new.disks.items
     (record { nodes = refl; seats = refl; draws = refl; scribe = refl }) c.in_ok-run.ensures.stands) in
     let out : Appends before (g.W.Sink.taken c.hand_out.new.out) (text_in p (begin p)) =
-    handed c.args.page c.in_ok-run.run'.ledger.page (text_in p (begin p)) before (g.W.Sink.taken c.hand_out.new.out)
+    handed c.args.page c.in_ok-run.run'.ledger.transcript.page (text_in p (begin p)) before (g.W.Sink.taken
+    c.hand_out.new.out)
     c.in_ok-run.ensures.page c.requires.clear c.requires.fit
     c.in_ok-hand_out.ensures.whole.0 in
     let gave = g.B.Bench.gave c.answer_all.new.bench in

@@ -1,7 +1,7 @@
 -- The two lines are told in turn.
 use Rattle.zb_model.specs.Data.{Nwk, Aps}
 use Rattle.zb_model.specs.Play.{limit_line}
-use Rattle.zb_player_scribe.proofs.Telling.{told_in_turn}
+use Rattle.zb_player_scribe.specs.Turns.{told_in_turn}
 use Rattle.zb_player_start.proofs.Turns.{ok_map}
 use Rattle.zb_player_start.proofs.line.tell_limits.Goals as goal
 

@@ -1,5 +1,5 @@
 -- A node without a network key has no such line.
-use Rattle.zb_player_scribe.proofs.Telling.{none_told}
+use Rattle.zb_player_scribe.specs.Turns.{none_told}
 use Rattle.zb_player_start.proofs.line.tell_network.Goals as goal
 
 pub returns-in-None-clause-tells : goal.returns-in-None-clause-tells

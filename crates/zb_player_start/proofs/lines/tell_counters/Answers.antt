@@ -1,6 +1,6 @@
 -- The lines of each node are told after those of the nodes before it.
 use Rattle.std.proofs.Common.{arith}
-use Rattle.zb_player_scribe.proofs.Telling.{none_told}
+use Rattle.zb_player_scribe.specs.Turns.{none_told}
 use Rattle.zb_player_start.specs.Starts.{counter_lines}
 use Rattle.zb_player_start.proofs.Turns.{all_told, turn}
 use Rattle.zb_player_start.proofs.lines.tell_counters.Goals as goal

@@ -1,5 +1,5 @@
 use Rattle.zb_aes.proofs.state.State.bytes.Goals as goal
-use Rattle.zb_aes.proofs.Rounds.{bytes-built}
+use Rattle.zb_aes.proofs.Blocks.{bytes-built}
 
 pub returns : goal.returns
 returns c =

@@ -1,5 +1,5 @@
 use Rattle.zb_aes.proofs.state.State.plus.Goals as goal
-use Rattle.zb_aes.proofs.Rounds.{xored-built}
+use Rattle.zb_aes.proofs.Blocks.{xored-built}
 
 pub returns : goal.returns
 returns c =

@@ -1,5 +1,5 @@
 use Rattle.zb_aes.proofs.state.State.read.Goals as goal
-use Rattle.zb_aes.proofs.Rounds.{read-built}
+use Rattle.zb_aes.proofs.Blocks.{read-built}
 
 pub returns : goal.returns
 returns c =

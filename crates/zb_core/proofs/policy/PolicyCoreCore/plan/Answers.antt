@@ -6,7 +6,6 @@ use Rattle.zb_core.proofs.policy.PolicyCoreCore.plan.Goals as goal
 
 pub returns : goal.returns
 returns g c =
-    subst (λ (v : CoreValue). IsCorePlan g.P.Policy.of g.P.Policy.stands_for v c.args.event.now c.plan.new.plan)
-    c.self.view_is
-    (core_plan g.P.Policy.of g.P.Policy.stands_for c.self.inside.node c.args.event.now c.plan.new.plan c.self.invariant
-    (g.met.P.Policy.some c.args.event.now) c.plan.ensures c.keep.ensures)
+    subst (λ (v : CoreValue). IsCorePlan g.P.Policy.of v c.args.event.now c.plan.new.plan) c.self.view_is
+    (core_plan g.P.Policy.of c.self.inside.node c.args.event.now c.plan.new.plan c.self.invariant c.plan.ensures
+    c.keep.ensures)

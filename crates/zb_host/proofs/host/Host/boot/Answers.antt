@@ -5,7 +5,7 @@ pub returns-in-Ok-restore-clause-step : goal.returns-in-Ok-restore-clause-step
 returns-in-Ok-restore-clause-step g c = record {
   answer = search rules;
   ready = search rules;
-  moments = c.in-Ok-open.ensures.moments;
+  moments = c.in-Ok.ensures.moments;
   faults = tt;
 }
 

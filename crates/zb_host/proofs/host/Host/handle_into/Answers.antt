@@ -2,9 +2,8 @@ use Rattle.std.proofs.Common.{rules, ◌≡◌, ◌≢◌, ◌==◌, ◌||◌, L
 use Rattle.arrayvec.specs.declared.array_vec.ArrayVec.{ArrayVec}
 use Rattle.zb_node_types.specs.declared.change.Change.{Change}
 use Rattle.zb_store.specs.Store.{Place}
-use Rattle.zb_host.specs.declared.fault.CommitFault.TheVariants as commit
+use Rattle.zb_host.specs.declared.fault.RecordFault.TheVariants as why
 use Rattle.zb_store.specs.declared.fault.StoreFault.{StoreFault}
-use Rattle.zb_host.specs.HostFaults.{IsUnstored}
 use Rattle.zb_host.specs.Hosts.{Hosted, HasStopped, IsCommit, is_full, writes_whole}
 use Rattle.zb_host.proofs.Commits.{Leading, host_moments, host_kept, host_stopped, host_leads, went_not_worn, disk_not_worn, of_disk, of_worn, same_fault, unstored}
 use Rattle.zb_host.proofs.host.Host.handle_into.Goals as goal
@@ -109,7 +108,8 @@ returns-in-Err g c =
       idle_store = tt;
       idle_whole = tt;
       stopped = λ fault s current told steady.
-          let disk = of_disk f (sym c.fault_of.ensures ∙ same_fault c.fault_of.result commit.Disk _ _ refl refl fault)
+          let disk = of_disk f c.fault_of.result c.fault_of.ensures
+          (same_fault c.fault_of.result why.Disk _ _ refl refl fault)
           in
           subst (λ (l : List Change). HasStopped g.D.Disk.tells g.C.Core.restored (writes_whole host) s
           (g.C.Core.recorded after) (g.C.Core.payload l) old new) (sym kept) (
@@ -122,14 +122,15 @@ returns-in-Err g c =
       not_worn = tt;
       worn = λ fault. it.untouched
           (ap (λ (x : StoreFault). Err x)
-          (of_worn (writes_whole host) c.unwrap-store.result old new f
-          (sym c.fault_of.ensures ∙ same_fault c.fault_of.result commit.Worn _ _ refl refl fault) it.faults));
+          (of_worn f c.fault_of.result c.fault_of.ensures
+          (same_fault c.fault_of.result why.Worn _ _ refl refl fault)));
       not_worn_disk = λ fault worn. disk_not_worn g.D.Disk.tells host c.unwrap-store.result (g.C.Core.recorded after)
           payload old new f is
-          (of_disk f (sym c.fault_of.ensures ∙ same_fault c.fault_of.result commit.Disk _ _ refl refl fault)) it worn;
+          (of_disk f c.fault_of.result c.fault_of.ensures
+          (same_fault c.fault_of.result why.Disk _ _ refl refl fault)) it worn;
       up = tt;
-      faults = subst (IsUnstored (writes_whole host) host.store old new) (sym c.fault_of.ensures)
-          (unstored (writes_whole host) c.unwrap-store.result host.store old new f is it.faults);
+      faults = unstored (writes_whole host) c.unwrap-store.result host.store old new f c.fault_of.result
+          c.fault_of.ensures is it.faults;
       count = it.count;
       unrisen = tt;
       asked = it.asked;

@@ -9,18 +9,18 @@ use Rattle.zb_model.specs.Data.{Bytes, DoRoll}
 use Rattle.zb_model.specs.Play.{ArmFail, ArmStop, Deliver, Own, PowerOn, Reset, RollOver, ShowRecord}
 use Rattle.zb_model_real.specs.Real.{real}
 use Rattle.law_run_steps.specs.Turns.{task_turn}
-use Rattle.zb_player_node.specs.Tasks.{model_task}
+use Rattle.zb_player_node.specs.Events.{task_of}
 use Rattle.zb_trace_watch.proofs.Starting.{on_ok}
 
 pub returns-in-Own-clause-goes : goal.returns-in-Own-clause-goes
 returns-in-Own-clause-goes c =
     on_ok c.handle.result _ _
     (λ goes w h x latest n event before draws is fits.
-    by_event w h x latest c.args.number n (Own n (model_task c.in-Own.task)) event c.args.self.now c.handle.new.self
+    by_event w h x latest c.args.number n (Own n (task_of c.in-Own.what)) event c.args.self.now c.handle.new.self
     c.handle.new.node c.handle.new.disk
-    (event_is n c.args.act (act.Own c.in-Own.task) (Own n (model_task c.in-Own.task)) event c.in-Own.is refl is)
-    (λ suits. own_goes w h x latest c.args.number n (model_task c.in-Own.task) c.args.self.now c.handle.new.self
-    c.handle.new.node c.handle.new.disk (goes w h x latest n before suits)) fits)
+    (event_is n c.args.act (act.Own c.in-Own.what) (Own n (task_of c.in-Own.what)) event c.in-Own.is refl is)
+    (λ counts. own_goes w h x latest c.args.number n (task_of c.in-Own.what) c.args.self.now c.handle.new.self
+    c.handle.new.node c.handle.new.disk (goes w h x latest n before)) fits)
     c.handle.ensures.goes
 
 pub returns-in-Roll-clause-goes : goal.returns-in-Roll-clause-goes
@@ -30,13 +30,13 @@ returns-in-Roll-clause-goes c =
     by_event w h x latest c.args.number n (RollOver n) event c.args.self.now c.handle-in-Roll.new.self
     c.handle-in-Roll.new.node c.handle-in-Roll.new.disk
     (event_is n c.args.act act.Roll (RollOver n) event c.in-Roll.is refl is)
-    (λ suits. roll_goes w h x latest c.args.number n c.args.self.now c.handle-in-Roll.new.self
+    (λ counts. roll_goes w h x latest c.args.number n c.args.self.now c.handle-in-Roll.new.self
     c.handle-in-Roll.new.node
     c.handle-in-Roll.new.disk
     (subst (λ (draw : Option Bytes). Goes w (task_turn real h x c.args.number n (DoRoll draw)) h
     latest c.args.self.now c.handle-in-Roll.new.self c.handle-in-Roll.new.node c.handle-in-Roll.new.disk)
     (draw_is w h c.args.self.now c.args.draws.now c.draw-draw.result before.told draws c.draw-draw.ensures)
-    (goes w h x latest n before suits))) fits)
+    (goes w h x latest n before))) fits)
     c.handle-in-Roll.ensures.goes
 
 pub returns-in-Deliver-clause-goes : goal.returns-in-Deliver-clause-goes
@@ -47,7 +47,7 @@ returns-in-Deliver-clause-goes c =
     c.deliver.new.node c.deliver.new.disk
     (event_is n c.args.act (act.Deliver c.in-Deliver.frame) (Deliver c.in-Deliver.frame n) event c.in-Deliver.is
     refl is)
-    (λ suits. frame_goes w h x latest c.args.number c.in-Deliver.frame n c.args.self.now c.deliver.new.self
+    (λ counts. frame_goes w h x latest c.args.number c.in-Deliver.frame n c.args.self.now c.deliver.new.self
     c.deliver.new.node c.deliver.new.disk (goes w h x latest n before draws)) fits)
     c.deliver.ensures.goes
 
@@ -58,7 +58,7 @@ returns-in-Reset-clause-goes c =
     by_event w h x latest c.args.number n (Reset n) event c.args.self.now c.reset.new.self c.reset.new.node
     c.reset.new.disk
     (event_is n c.args.act act.Reset (Reset n) event c.in-Reset.is refl is)
-    (λ suits. goes w h x latest n before) fits)
+    (λ counts. goes w h x latest n before) fits)
     c.reset.ensures.goes
 
 pub returns-in-Boot-clause-goes : goal.returns-in-Boot-clause-goes
@@ -68,7 +68,7 @@ returns-in-Boot-clause-goes c =
     by_event w h x latest c.args.number n (PowerOn n) event c.args.self.now c.boot.new.self c.boot.new.node
     c.boot.new.disk
     (event_is n c.args.act act.Boot (PowerOn n) event c.in-Boot.is refl is)
-    (λ suits. goes w h x latest n before) fits)
+    (λ counts. goes w h x latest n before) fits)
     c.boot.ensures.goes
 
 pub returns-in-Dump-clause-goes : goal.returns-in-Dump-clause-goes
@@ -78,7 +78,7 @@ returns-in-Dump-clause-goes c =
     by_event w h x latest c.args.number n (ShowRecord n) event c.args.self.now c.dump.new.self c.args.node.now
     c.dump.new.disk
     (event_is n c.args.act act.Dump (ShowRecord n) event c.in-Dump.is refl is)
-    (λ suits. goes w h x latest n before) fits)
+    (λ counts. goes w h x latest n before) fits)
     c.dump.ensures.goes
 
 pub returns-in-Stop-clause-goes : goal.returns-in-Stop-clause-goes
@@ -88,7 +88,7 @@ returns-in-Stop-clause-goes c =
     c.args.self.now c.arm_stop.new.self c.args.disk.now
     (event_is n c.args.act (act.Stop c.in-Stop.calls c.in-Stop.torn) (ArmStop n c.in-Stop.calls c.in-Stop.torn.items)
     event c.in-Stop.is refl is)
-    (λ suits. stop_goes w h x latest c.args.number n c.in-Stop.calls c.in-Stop.torn.items c.args.self.now
+    (λ counts. stop_goes w h x latest c.args.number n c.in-Stop.calls c.in-Stop.torn.items c.args.self.now
     c.args.node.now
     c.arm_stop.new.self c.args.disk.now before c.arm_stop.ensures.leaves) fits
 
@@ -107,9 +107,9 @@ pub returns-in-Own-clause-calls : goal.returns-in-Own-clause-calls
 returns-in-Own-clause-calls c =
     on_ok c.handle.result _ _
     (λ calls w h x latest n event before draws is fits.
-    let same = event_is n c.args.act (act.Own c.in-Own.task) (Own n (model_task c.in-Own.task)) event c.in-Own.is refl
+    let same = event_is n c.args.act (act.Own c.in-Own.what) (Own n (task_of c.in-Own.what)) event c.in-Own.is refl
     is in
-    own_calls w h x n (model_task c.in-Own.task) event c.args.disk.now c.handle.new.disk same fits
+    own_calls w h x n (task_of c.in-Own.what) event c.args.disk.now c.handle.new.disk same
     (calls w h x latest n before))
     c.handle.ensures.calls
 
@@ -118,7 +118,7 @@ returns-in-Roll-clause-calls c =
     on_ok c.handle-in-Roll.result _ _
     (λ calls w h x latest n event before draws is fits.
     let same = event_is n c.args.act act.Roll (RollOver n) event c.in-Roll.is refl is in
-    roll_calls w h x n c.draw-draw.result event c.args.disk.now c.handle-in-Roll.new.disk same fits
+    roll_calls w h x n c.draw-draw.result event c.args.disk.now c.handle-in-Roll.new.disk same
     (draw_is w h c.args.self.now c.args.draws.now c.draw-draw.result before.told draws c.draw-draw.ensures)
     (calls w h x latest n before))
     c.handle-in-Roll.ensures.calls

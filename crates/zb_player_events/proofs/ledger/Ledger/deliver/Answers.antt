@@ -9,7 +9,7 @@ use Rattle.zb_model.specs.Play.{supply}
 use Rattle.zb_player_events.specs.Calls.{frame_calls}
 use Rattle.zb_model_real.specs.Real.{real}
 use Rattle.law_run_steps.specs.Turns.{deliver_turn}
-use Rattle.zb_player_scribe.specs.Outcomes.{items_of}
+use Rattle.zb_trace_model.specs.AnswerLines.{frame_bytes}
 use Rattle.zb_trace_watch.proofs.Starting.{on_ok}
 
 pub returns-in-None-clause-goes : goal.returns-in-None-clause-goes
@@ -18,8 +18,8 @@ returns-in-None-clause-goes c =
     (λ goes w h x latest n before draws.
     subst (λ (found : Option Bytes). Goes w (deliver_turn real w h x c.args.event n found) h latest
     c.args.self.now c.miss.new.self c.miss.new.node c.args.disk.now)
-    (sym (frame_is w h c.args.self.now c.args.frame (items_of c.frame.result) before.told c.frame.ensures ∙ ap
-    items_of c.in-None.is)) (goes w h x latest n c.args.disk.now before))
+    (sym (frame_is w h c.args.self.now c.args.frame (frame_bytes c.frame.result) before.told c.frame.ensures ∙ ap
+    frame_bytes c.in-None.is)) (goes w h x latest n c.args.disk.now before))
     c.miss.ensures.goes
 
 pub returns-in-None-clause-calls : goal.returns-in-None-clause-calls
@@ -27,8 +27,8 @@ returns-in-None-clause-calls c =
     ok_so c.miss.result _ (λ w h x latest n before draws.
     subst (λ (found : Option Bytes). Calls (frame_calls real x (supply w h) found)
     c.args.disk.now c.args.disk.now)
-    (sym (frame_is w h c.args.self.now c.args.frame (items_of c.frame.result) before.told c.frame.ensures ∙ ap
-    items_of c.in-None.is)) refl)
+    (sym (frame_is w h c.args.self.now c.args.frame (frame_bytes c.frame.result) before.told c.frame.ensures ∙ ap
+    frame_bytes c.in-None.is)) refl)
 
 pub returns-in-Some-clause-calls : goal.returns-in-Some-clause-calls
 returns-in-Some-clause-calls c =
@@ -36,8 +36,8 @@ returns-in-Some-clause-calls c =
     (λ calls w h x latest n before draws.
     subst (λ (found : Option Bytes). Calls (frame_calls real x (supply w h) found)
     c.args.disk.now c.receive.new.disk)
-    (sym (frame_is w h c.args.self.now c.args.frame (items_of c.frame.result) before.told c.frame.ensures ∙ ap
-    items_of c.in-Some.is)) (calls w h x latest n before draws))
+    (sym (frame_is w h c.args.self.now c.args.frame (frame_bytes c.frame.result) before.told c.frame.ensures ∙ ap
+    frame_bytes c.in-Some.is)) (calls w h x latest n before draws))
     c.receive.ensures.calls
 
 pub returns-in-Some-clause-goes : goal.returns-in-Some-clause-goes
@@ -46,6 +46,6 @@ returns-in-Some-clause-goes c =
     (λ goes w h x latest n before draws.
     subst (λ (found : Option Bytes). Goes w (deliver_turn real w h x c.args.event n found) h latest
     c.args.self.now c.receive.new.self c.receive.new.node c.receive.new.disk)
-    (sym (frame_is w h c.args.self.now c.args.frame (items_of c.frame.result) before.told c.frame.ensures ∙ ap
-    items_of c.in-Some.is)) (goes w h x latest n before draws))
+    (sym (frame_is w h c.args.self.now c.args.frame (frame_bytes c.frame.result) before.told c.frame.ensures ∙ ap
+    frame_bytes c.in-Some.is)) (goes w h x latest n before draws))
     c.receive.ensures.goes

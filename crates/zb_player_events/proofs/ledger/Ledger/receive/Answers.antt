@@ -1,5 +1,5 @@
 -- The key that is drawn is the next one of the supply.
-use Rattle.std.proofs.Common.{Option, refl, subst}
+use Rattle.std.proofs.Common.{Option, subst}
 use Rattle.zb_player_events.proofs.Going.{draw_is}
 use Rattle.zb_player_events.proofs.ledger.Ledger.receive.Goals as goal
 use Rattle.zb_player_events.specs.Told.{Calls, Goes}
@@ -17,7 +17,7 @@ returns-clause-goes c =
     (task_turn real h x c.args.event n (Received c.args.bytes.items draw)) h latest
     c.args.self.now c.handle.new.self c.handle.new.node c.handle.new.disk)
     (draw_is w h c.args.self.now c.args.draws.now c.draw-draw.result before.told draws c.draw-draw.ensures)
-    (goes w h x latest n before refl))
+    (goes w h x latest n before))
     c.handle.ensures.goes
 
 pub returns-clause-calls : goal.returns-clause-calls
@@ -27,5 +27,5 @@ returns-clause-calls c =
     subst (λ (draw : Option Bytes). Calls (task_calls real x (Received c.args.bytes.items draw))
     c.args.disk.now c.handle.new.disk)
     (draw_is w h c.args.self.now c.args.draws.now c.draw-draw.result before.told draws c.draw-draw.ensures)
-    (calls w h x latest n before refl))
+    (calls w h x latest n before))
     c.handle.ensures.calls
