@@ -1,5 +1,5 @@
--- The seals of an answer, one after the other: a claim on each that holds of APS and of NWK terms with the answer's
--- counters holds all along.
+-- The seals of an answer, one after the other: if a claim is true of APS and of NWK terms with the answer's counters,
+-- it is true of each seal.
 use Rattle.std.proofs.Common.{◌≡◌, ℕ, ◌<◌, ◌+◌, Bool, true, false, not, ◌&&◌, ◌||◌, if◌then◌else◌, List, [], ◌∷◌, ◌++◌, Option, Some, None, refl, sym, ap, ◌∙◌, subst, leb-false}
 use Rattle.std.specs.Prelude.{find, is_some, nat_le}
 use Rattle.std.proofs.lemmas.Bool.{not-true}

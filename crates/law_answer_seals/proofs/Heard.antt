@@ -12,7 +12,7 @@ use Rattle.zb_model.specs.Answer.{nwk_command, heard_clear, heard_sealed, aps_co
 use Rattle.law_answer_storable.specs.Storing.{OpensAsJudged}
 use Rattle.law_answer_seals.specs.Sealing.{IsHeard, AreHeard}
 
--- what judging finds
+-- what verification finds
 
 abbrev OnGood : {A : Type 0} → (A → Type 0) → Verdict A → Type 0
 OnGood P (Not place reason) = Unit {0}

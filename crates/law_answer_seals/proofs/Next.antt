@@ -1,5 +1,5 @@
--- The counters that an answer's seals take are the next ones of the state after its changes and accepted terms: no
--- change touches a next counter but a first counter, which isn't above that of the active key.
+-- The counters that an answer's seals use are the next ones of the state after its changes and accepted terms. Only a
+-- first counter changes a next counter, and it isn't above that of the active key.
 use Rattle.std.proofs.Common.{◌≡◌, ℕ, ◌≤◌, Bool, true, false, if◌then◌else◌, List, [], ◌∷◌, ◌++◌, filter, find, flat_map, Option, Some, None, option_map, option_to_list, refl, sym, ap, ◌∙◌, subst, arith, le_refl, zero-le}
 use Rattle.std.specs.Prelude.{nat_le}
 use Rattle.std.specs.List.{AllByRecursion}
@@ -90,7 +90,7 @@ edits_gentle c s p =
     (reserve_gentle n Aps (k.reserve Aps)))
     (rest_gentle c s p)
 
--- the counter that comes next
+-- the next counter
 
 abbrev Next : ℕ → ℕ → ℕ → Type 0
 Next n next limit = next ≡ n

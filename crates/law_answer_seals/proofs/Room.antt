@@ -1,4 +1,4 @@
--- The counters that an answer's seals take were reserved: where a counter has reached its limit, a reserve makes room.
+-- The counters that an answer's seals use were reserved: if a counter has reached its limit, a reserve makes room.
 use Rattle.std.proofs.Common.{◌≡◌, ℕ, ◌<◌, ◌≤◌, ◌+◌, min, Bool, true, false, if◌then◌else◌, ◌&&◌, List, [], ◌∷◌, ◌++◌, find, Option, Some, None, option_map, option_to_list, refl, sym, ap, ◌∙◌, subst, arith}
 use Rattle.std.specs.Prelude.{nat_eq}
 use Rattle.std.proofs.lemmas.Bool.{eqb-false}
@@ -31,7 +31,7 @@ reserve_test true true e value p q = refl
 reserve_test false m e value p q = absurd (cc)
 reserve_test true false e value p q = absurd (cc)
 
--- where a frame is sealed at a layer, a limit is reserved just where the counter has reached it
+-- if a frame is sealed at a layer, a limit is reserved exactly if the counter has reached it
 reserve_is : (c : Setting) (s : NodeState) (send : Option Sending) (layer : Layer) → seals_at layer send ≡ true
     → may_seal s send ≡ true
     → reserve_of c s send layer

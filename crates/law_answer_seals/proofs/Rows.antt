@@ -1,4 +1,4 @@
--- The outgoing counters of a state: what of them stands after changes, accepted terms, and what tables show.
+-- The outgoing counters of a state: which of them stay after changes, accepted terms, and what tables show.
 use Rattle.std.proofs.Common.{◌≡◌, ℕ, ◌≤◌, min, max, Bool, true, false, List, [], ◌∷◌, ◌++◌, map, Option, Some, None, option_map, refl, sym, ap, ◌∙◌, subst, arith}
 use Rattle.std.specs.Prelude.{find, if◌then◌else◌}
 use Rattle.std.specs.List.{AllByRecursion}
@@ -6,7 +6,7 @@ use Rattle.zb_model.specs.Data.{Bytes, Layer, Nwk, Aps, Move, DropNet, Install, 
 use Rattle.zb_model.specs.State.{greatest_counter, NetKey, NodeState, same_key, has_net, at_net, of_active, new_net, reserved, started_at, dropped_net, net_floor, net_kept, applied, applied_all, moved, shown, shown_net, after_hearing, after_accepting}
 use Rattle.zb_model.specs.Answer.{accepted_all}
 
--- a row is found, and Q holds of its next counter and its limit
+-- a row is found, and Q is true of its next counter and its limit
 unfoldable pub Holds : (ℕ → ℕ → Type 0) → Option NetKey → Type 0
 Holds Q None = ⊥
 Holds Q (Some r) = Q r.next r.limit
@@ -78,7 +78,7 @@ on_added : (Q : ℕ → ℕ → Type 0) (b : Bool) (key : Bytes) (nets more : Li
 on_added Q true key nets more h = h
 on_added Q false key nets more h = on_append Q key nets more h
 
--- where each row of a key comes to meet Q, the one that is found does
+-- if each row of a key meets Q afterwards, the one that is found does
 pub made_found : (Q : ℕ → ℕ → Type 0) (f : NetKey → NetKey) → ((r : NetKey) → (f r).key ≡ r.key)
     → ((r : NetKey) → Q (f r).next (f r).limit) → (key : Bytes) (nets : List NetKey) (r : NetKey)
     → find (with_key key) nets ≡ Some r → On Q key (at_net key f nets)
@@ -93,7 +93,7 @@ made_found Q f keyed made key (x ∷ xs) r e = by_test (same_key x.key key) refl
     by_test true is e later = rw (ap (λ k. same_key k key) (keyed x) ∙ is) (made x)
     by_test false is e later = rw is (later e)
 
--- Q stands when a limit rises, and when a key gets a first counter of at most c
+-- Q stays true when a limit rises, and when a key gets a first counter of at most c
 
 abbrev pub Rises : (ℕ → ℕ → Type 0) → Type 0
 Rises Q = (next limit more : ℕ) → limit ≤ more → Q next limit → Q next more

@@ -1,16 +1,16 @@
--- What the terms are that an answer accepts and seals, and which counters the sealed ones take.
+-- Which terms an answer accepts and seals, and which counters the sealed ones use.
 use Rattle.std.specs.Prelude.{◌≡◌, ◌<◌, ◌≤◌, ◌⊎◌, ℕ, List, [], ◌∷◌, Option, Some, None, option_map, ⊤}
 use Rattle.zb_model.specs.Data.{Bytes, Layer, Nwk, Aps, Term}
 use Rattle.zb_model.specs.State.{greatest_counter, NetKey, NodeState, net_of, after_sealing, applied_all, shown}
 use Rattle.zb_model.specs.Rules.{Setting}
 use Rattle.zb_model.specs.Answer.{Answer, accepted_all}
 
--- The state in which an answer's seals are made: after its changes, as the tables then show it, and its accepted
--- terms.
+-- The state in which an answer's seals are made: after its changes, as the tables then show it, and after its
+-- accepted terms.
 abbrev pub before_seals : Answer → NodeState → NodeState
 before_seals a s = accepted_all a.accepts (shown (applied_all a.edits s))
 
--- Which counters are taken
+-- Which counters are used
 
 -- the outgoing counter of the next term under a base key: that of its row at NWK, and at APS the node's own
 abbrev pub next_under : Layer → Bytes → NodeState → Option ℕ
@@ -35,7 +35,7 @@ IsBelow counter (Some limit) = counter < limit
 abbrev pub IsReserved : NodeState → Term → Type 0
 IsReserved s t = IsBelow t.counter (limit_under t.layer t.base s)
 
--- P holds of each term in the state after those before it are sealed
+-- P is true of each term in the state after those before it are sealed
 abbrev pub SealsAlong : (NodeState → Term → Type 0) → NodeState → List Term → Type 0
 SealsAlong P s [] = ⊤
 SealsAlong P s (t ∷ ts) = P s t × SealsAlong P (after_sealing t s) ts

@@ -1,4 +1,4 @@
-//! What an answer seals takes the next counters of the state after its changes and accepted terms. It is a crate of
+//! What an answer seals uses the next counters of the state after its changes and accepted terms. It is a crate of
 //! definitions (`specs/`), and its code carries the laws: each is the contract of a function with an empty body.
 #![tactic(auto)]
 
@@ -12,19 +12,20 @@ ghost use Rattle.zb_model.specs.Tools.{Tools};
 ghost use Rattle.law_answer_seals.specs.Sealing.{AreHeard, AreSeals, IsWithinLimits, SealsNext, SealsReserved, before_seals};
 ghost use Rattle.law_answer_storable.specs.Storing.{OpensAsJudged};
 
-/// States that what an answer seals takes the next counters of the state after its changes and accepted terms.
+/// States that an answer's seals use the next counters of the state after its changes and accepted terms.
 ///
-/// It holds of every state. Which key the answer makes active, drops or gives its first counter doesn't matter: the
-/// seal at NWK is under the key that was active before.
+/// This is true of every state. It doesn't matter which key the answer makes active, drops or gives its first
+/// counter: the seal at NWK is under the key that was active before.
 #[tactic(auto, using(crate::proofs::Next::answer_next))]
 pub fn an_answer_seals_with_the_next_counters()
     ensures { (tools : Tools) (c : Setting) (s : NodeState) (task : Task)
         → SealsNext (before_seals (answer tools c s task) s) (answer tools c s task).seals }
 {}
 
-/// States that the counters of what an answer seals are below the limits that are stored by then.
+/// States that the counters of an answer's seals are below the limits that are stored by then.
 ///
-/// No next counter is above its limit before, and a block is 1 or more: then a reserve makes room.
+/// This asks that no next counter is above its limit before, and that a block is 1 or more: then a reserve makes
+/// room.
 #[tactic(auto, using(crate::proofs::Room::answer_reserved))]
 pub fn an_answer_seals_with_reserved_counters()
     ensures { (tools : Tools) (c : Setting) (s : NodeState) (task : Task) → IsWithinLimits s → 1 ≤ c.me.out_block
@@ -33,8 +34,8 @@ pub fn an_answer_seals_with_reserved_counters()
 
 /// States that no next counter passes its limit in an answer: not by its changes, accepted terms and seals.
 ///
-/// A boot sets each counter to its limit, so from then on it holds. Nor does a counter pass its limit by one change
-/// alone, as when a journal is read, or by what tables forget.
+/// A boot sets each counter to its limit, so this is true from then on. A counter doesn't pass its limit either by a
+/// single change, for example when a journal is read, or by what tables forget.
 #[tactic(auto, using(crate::proofs::Limits::limits_stand))]
 pub fn no_counter_passes_its_limit()
     ensures answer { (tools : Tools) (c : Setting) (s : NodeState) (task : Task)
@@ -47,7 +48,7 @@ pub fn no_counter_passes_its_limit()
 
 /// States that an answer seals at most one term of APS and then one of NWK.
 ///
-/// The one of NWK is under the key that was active before. Both have the node itself as their source.
+/// The NWK term is under the key that was active before. Both have the node itself as their source.
 #[tactic(auto, using(crate::proofs::SealLayers::answer_seals))]
 pub fn an_answer_seals_once_at_each_layer()
     ensures { (tools : Tools) (c : Setting) (s : NodeState) (task : Task)
@@ -67,7 +68,7 @@ pub fn an_answer_accepts_once_at_each_layer()
 
 /// States that terms may be accepted and sealed in two parts, one after the other.
 ///
-/// So may the terms of one layer and then those of the other.
+/// These are the terms of one layer and then those of the other.
 #[tactic(auto, using(crate::proofs::InParts::parts))]
 pub fn terms_go_in_parts()
     ensures next { (first second : List Term) (s : NodeState) → SealsNext s (first ++ second)

@@ -1,5 +1,5 @@
--- What judging accepts has its row: a floor for it has a live row to be stored in, and room there. And the plan of
--- every event: what it accepts, and moves that may be made.
+-- An accepted term has its row: there is a live row in which its floor can be stored, and room there. Also the plan
+-- of every event: what it accepts, and moves that may be made.
 use Rattle.std.proofs.Common.{◌≡◌, ℕ, ◌<◌, Bool, true, false, not, if◌then◌else◌, ◌&&◌, ◌||◌, List, [], ◌∷◌, ◌++◌, length, Option, Some, None, refl, sym, ap, ◌∙◌, arith, ◌⊎◌, inl, inr}
 use Rattle.std.specs.Prelude.{find, filter, reverse, option_to_list, nat_eq, nat_lt, nat_le}
 use Rattle.std.specs.List.{list_any}
@@ -23,7 +23,7 @@ use Rattle.law_answer_storable.proofs.Outcomes.{Fitting, stopped, no_moves}
 use Rattle.law_answer_storable.proofs.OwnMoves.{own_fits}
 use Rattle.law_answer_storable.proofs.CommandMoves.{command_fits, leave_fits}
 
--- an accepted NWK term: its key is live, and where a floor is to be stored, its sender has one or there is room
+-- an accepted NWK term: its key is live, and if a floor is to be stored, its sender has one or there is room
 pub record HeardNwk (s : NodeState) (t : Term) : Type 0 where
   pub layer : t.layer ≡ Nwk
   pub live : live_net t.base s ≡ true

@@ -1,4 +1,5 @@
--- Terms that are accepted or sealed move the counters and floors in memory alone, for which no rule asks.
+-- Terms that are accepted or sealed change only the counters and floors in memory, which no rule for records
+-- mentions.
 use Rattle.std.proofs.Common.{◌≡◌, ℕ, ◌+◌, List, [], ◌∷◌, length, refl, ap, ◌∙◌, arith, Bool, true, false, if◌then◌else◌}
 use Rattle.std.specs.Prelude.{nat_lt, nat_le, nat_eq}
 use Rattle.std.specs.List.{list_all}

@@ -1,5 +1,5 @@
--- The changes of an answer, one after the other: reserves, floors, and the moves of the rule. Each fits, and there are
--- fourteen at most.
+-- The changes of an answer, one after the other: reserves, floors, and the moves of the rule. Each fits, and there
+-- are at most fourteen.
 use Rattle.std.proofs.Common.{◌≡◌, ℕ, ◌+◌, ◌<◌, ◌≤◌, min, List, [], ◌∷◌, ◌++◌, length, map, refl, sym, ap, ◌∙◌, arith, Bool, true, false, not, if◌then◌else◌, ◌&&◌, ◌||◌, Option, Some, None, option_map, inl, inr, length-append, subst}
 use Rattle.std.specs.Prelude.{find, filter, flat_map, option_to_list, is_some, nat_eq, nat_le}
 use Rattle.std.specs.List.{list_any, list_all}
@@ -536,7 +536,7 @@ unfolding answer answer_by
 all_stored tools opens c s task kept role block = plan_stored c s (plan_of tools c s task) kept
     (plan_fits tools opens c s task (rules_of s kept) role) block
 
--- and the rules stand after them
+-- and the rules are kept after them
 pub kept_stored : (tools : Tools) → OpensAsJudged tools → (c : Setting) (s : NodeState) (task : Task) → keeps_rules s
     ≡ true → s.role ≡ c.me.role → 1 ≤ c.me.in_block → keeps_rules (applied_all (answer tools c s task).edits s) ≡ true
 kept_stored tools opens c s task kept role block = kept_all (answer tools c s task).edits s kept

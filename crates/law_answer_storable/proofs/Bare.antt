@@ -1,5 +1,5 @@
--- What the moves of a rule ask of a state is asked of its bare rows: without limits, counters and floors. Reserves,
--- floors and first counters leave these as they are.
+-- What the moves of a rule ask of a state concerns only its bare rows, which are without limits, counters and floors.
+-- Reserves, floors and first counters leave these as they are.
 use Rattle.std.proofs.Common.{◌≡◌, ℕ, suc, List, [], ◌∷◌, ◌++◌, length, map, refl, sym, ap, ◌∙◌, Bool, true, false, not, if◌then◌else◌, ◌&&◌, Option, Some, None, option_map}
 use Rattle.std.specs.Prelude.{filter}
 use Rattle.std.proofs.lemmas.List.{length-map, map-append}

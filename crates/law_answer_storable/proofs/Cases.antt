@@ -1,5 +1,5 @@
--- That each premise is needed, computed: small answers that meet the others alone, and have a change that doesn't fit.
--- And one that meets all.
+-- Each premise is needed, computed: small answers that meet only the other premises, and have a change that doesn't
+-- fit. And one answer that meets all.
 use Rattle.std.specs.Prelude.{◌≡◌, ℕ, true, false, List, [], ◌∷◌, length, replicate, Some, None, refl}
 use Rattle.std.proofs.Common.{sym, ap, ◌∙◌}
 use Rattle.zb_model.specs.Data.{Bytes, Role, Centre, Device, Joined, Provisional, ForNetwork, Nwk, Station, Term, Pair, Edit, Moved, DoKnock, Received}

@@ -1,4 +1,4 @@
--- Changes one after the other: where each fits, the rules stand after all of them.
+-- Changes one after the other: if each fits, the rules are kept after all of them.
 use Rattle.std.proofs.Common.{◌≡◌, List, [], ◌∷◌, ◌++◌, refl, ◌∙◌, true}
 use Rattle.zb_model.specs.Data.{Draw, Edit, Reserve, Floor, Start, Moved}
 use Rattle.zb_model.specs.State.{NodeState, applied, applied_all}
@@ -12,7 +12,7 @@ pub change_fits : (e : Edit) (s : NodeState) → keeps_rules s ≡ true → may_
     → fits e s ≡ true
 change_fits e s kept may leaves = fits_is e s kept ∙ rw (may, leaves) refl
 
--- and the rules stand after it
+-- and the rules are kept after it
 pub kept_after : (e : Edit) (s : NodeState) → keeps_rules s ≡ true → fits e s ≡ true → keeps_rules (applied e s) ≡ true
 unfolding fits applied
 kept_after (Reserve layer limit) s kept fit = (both (may_change (Reserve layer limit) s) _ fit).1
@@ -38,7 +38,7 @@ fit_append (e ∷ es) b s one two =
     let parts = both (fits e s) (all_fit es (applied e s)) one in
     rw parts.0 (fit_append es b (applied e s) parts.1 two)
 
--- the rules stand after all changes that fit
+-- the rules are kept after all changes that fit
 pub kept_all : (es : List Edit) (s : NodeState) → keeps_rules s ≡ true → all_fit es s ≡ true
     → keeps_rules (applied_all es s) ≡ true
 unfolding all_fit applied_all

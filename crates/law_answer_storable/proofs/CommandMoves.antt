@@ -18,7 +18,7 @@ use Rattle.law_answer_storable.proofs.NetRows.{live_found, old_then, few_old, ac
 use Rattle.law_answer_storable.proofs.Outcomes.{Fitting, stopped, no_moves, after_unless, after_found, after_choice}
 use Rattle.law_answer_storable.proofs.OwnMoves.{held_by_none}
 
--- who passes the first test of a rule is of that part
+-- a node that passes the first test of a rule has that role
 first_of : (a b : Bool) → not (a && b) ≡ false → a ≡ true
 first_of true b e = refl
 first_of false b e = absurd (cc)
@@ -76,7 +76,7 @@ net_key_fits c s m key sequence destination source r role =
     part : (b : Bool) → not (is_member c && b) ≡ false → is_centre s.role ≡ false
     part b e = member_of c s role (first_of (is_member c) b e)
 
--- a key that is taken in: its row has room
+-- a key that is installed: its row has room
 taken : (s : NodeState) (partner : ℕ) (key : Bytes) (moves : List Move)
     → (room_for partner key s ≡ true → moves_fit s moves s ≡ true) → length moves ≤ 5
     → Fitting s (take_row s partner key moves)

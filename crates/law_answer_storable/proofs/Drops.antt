@@ -18,7 +18,7 @@ abbrev pub dropped_each : List LinkKey → List LinkKey → List LinkKey
 dropped_each [] links = links
 dropped_each (x ∷ xs) links = dropped_each xs (at_link x.partner x.key dropped_link links)
 
--- What stands after all rows were dropped that pass a test: nothing else changed, and none passes it any more.
+-- The state after all rows that pass a test were dropped: nothing else changed, and no row passes it any more.
 pub record Dropped (q : LinkKey → Bool) (links left : List LinkKey) : Type 0 where
   pub same : (u : LinkKey → Bool) → ((r : LinkKey) → u (dropped_link r) ≡ u r) → list_any u left ≡ list_any u links
   pub gone : (t : LinkKey → Bool) → ((r : LinkKey) → t (dropped_link r) ≡ false)
@@ -106,7 +106,7 @@ dropped_all q links = record {
   room = room_each (filter q links) links;
 }
 
--- where none passes, nothing is to be dropped
+-- if no row passes, nothing is to be dropped
 pub dropped_none : (q : LinkKey → Bool) (links : List LinkKey) → list_any q links ≡ false → Dropped q links links
 dropped_none q links none = record {
   same = λ u same. refl;
@@ -114,7 +114,7 @@ dropped_none q links none = record {
   room = refl;
 }
 
--- Each is live when its turn comes: no two keys are the same.
+-- Each is live when its turn comes, because no two keys are the same.
 
 abbrev lives : List LinkKey → LinkKey → Bool
 lives links x = list_any (λ (r : LinkKey). is_link x.partner x.key r && r.live) links

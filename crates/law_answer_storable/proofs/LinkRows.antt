@@ -35,7 +35,7 @@ row_after partner key attribute s q left d room rivals =
     )
     (rw room refl)
 
--- what the rules that take a key in have asked
+-- what the rules that install a key have asked
 pub room_asked : (partner : ℕ) (key : Bytes) (s : NodeState) → (not (has_link partner key s.links) && links_full s)
     ≡ false → other_user s partner key ≡ None → room_for partner key s ≡ true
 unfolding other_user
@@ -121,7 +121,7 @@ kind_of_offered partner r e = tests (is_live_of partner r) (is_unverified r.attr
     tests a true e = e
     tests a false e = e
 
--- a row alone, or with what stands after it
+-- a row alone, or with what comes after it
 
 pub row_alone : (start u : NodeState) (partner : ℕ) (key : Bytes) (attribute : Attribute)
     → move_fits (Row partner key attribute) u ≡ true → moves_fit start (Row partner key attribute ∷ []) u ≡ true

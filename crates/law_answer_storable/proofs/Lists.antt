@@ -7,7 +7,7 @@ use mathlib.Core.List.{reverse_aux}
 use Rattle.zb_model.specs.Fits.{all_apart}
 use Rattle.law_change_fits.proofs.Tests.{both, neither, never, none_where, or_true}
 
--- what is found passes the test, and makes any other test that it passes hold somewhere
+-- what is found passes the test, and if it passes another test, some item passes that test
 
 abbrev Passes : {X : Type 0} → (X → Bool) → Option X → Type 0
 Passes q None = Unit {0}
@@ -70,7 +70,7 @@ found_map {X} test f same (x ∷ xs) = ap (λ b. if b then Some (f x) else find 
     by_test true e = refl
     by_test false e = e
 
--- lists turned round, and filtered
+-- lists reversed, and filtered
 
 any_turned : {X : Type 0} (f : X → Bool) (xs ys : List X) → list_any f (reverse_aux xs ys) ≡ true
     → (list_any f xs || list_any f ys) ≡ true
@@ -124,14 +124,14 @@ heads_of {X} q (x ∷ xs) = by_test (q x) refl (heads_later q x xs (filter q xs)
     by_test true e h = (e, λ f k. or_first (f x) (list_any f xs) k)
     by_test false e h = h
 
--- where none passes, none is left
+-- if none passes, none is left
 pub none_left : {X : Type 0} (q : X → Bool) (xs : List X) → list_any q xs ≡ false → filter q xs ≡ []
 none_left q [] e = refl
 none_left q (x ∷ xs) e =
     let parts = neither (q x) (list_any q xs) e in
     rw parts.0 (none_left q xs parts.1)
 
--- where any two that pass are alike and no two items are, one passes at most, and is found
+-- if any two that pass are alike and no two items are alike, at most one passes, and it is found
 pub one_left : {X : Type 0} (alike : X → X → Bool) (q : X → Bool)
     → ((x y : X) → q x ≡ true → q y ≡ true → alike x y ≡ true)
     → (xs : List X) → all_apart alike xs ≡ true → filter q xs ≡ option_to_list (find q xs)

@@ -17,12 +17,12 @@ use Rattle.law_answer_storable.proofs.Moves.{move_fits, moves_fit}
 abbrev of_key : Bytes → NetKey → Bool
 of_key key r = same_key r.key key
 
--- what is found and has something
+-- what is found and has a property
 abbrev pub has : (NetKey → Bool) → Option NetKey → Bool
 has q None = false
 has q (Some r) = q r
 
--- a row of a key that has something: it is the one that is found, as no two have one key
+-- a row of a key that has a property: it is the one that is found, because no two have one key
 pub found_has : (q : NetKey → Bool) (key : Bytes) (nets : List NetKey) → all_apart nets_alike nets ≡ true
     → list_any (λ (r : NetKey). q r && same_key r.key key) nets ≡ true
     → has q (find (λ (r : NetKey). same_key r.key key) nets) ≡ true
@@ -98,7 +98,7 @@ one_less key (x ∷ xs) e = by_tests (same_key x.key key) x.live refl e (fewer_l
     by_tests false true is e le later = rw is (omega (arith, later e))
     by_tests false false is e le later = rw is (later e)
 
--- of two live rows one isn't the active one
+-- if two rows are live, one isn't the active one
 not_all_active : (active : Option Bytes) (rows : List NetKey) → all_apart nets_alike rows ≡ true → 2 ≤ length rows
     → filter (λ (r : NetKey). not (is_active_key active r.key)) rows ≡ [] → ⊥
 not_all_active active [] apart two none = absurd (omega (arith, two))
@@ -136,7 +136,7 @@ new_live key sequence (x ∷ xs) none =
     let parts = neither (same_key x.key key) (has_net key xs) none in
     rw parts.0 (new_live key sequence xs parts.1)
 
--- a key that is installed, and what stands after it
+-- a key that is installed, and what comes after it
 abbrev Behind : NodeState → NodeState → Bytes → List Move → Type 0
 Behind start s key rest = (nets : List NetKey) → row_is_live (find (λ (r : NetKey). same_key r.key key) nets) ≡ true
     → moves_fit start rest (record s { nets = nets }) ≡ true

@@ -1,5 +1,5 @@
--- What an outcome of a rule is to be: its moves may be made one after the other, and are five at most. A rule is a
--- chain of refusals, so it is asked of what stands after them.
+-- What an outcome of a rule must be: its moves may be made one after the other, and are at most five. A rule is a
+-- chain of refusals, so this is asked of what comes after them.
 use Rattle.std.proofs.Common.{◌≡◌, ◌≤◌, [], length, refl, arith, Bool, true, false, Option, Some, None}
 use Rattle.zb_model.specs.Data.{Reason}
 use Rattle.zb_model.specs.State.{NodeState}

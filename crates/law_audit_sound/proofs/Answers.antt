@@ -1,5 +1,5 @@
--- What stands in the answer of a node to a task: what each change is stored for, and what each accepted and each
--- sealed term calls for.
+-- The parts of a node's answer to a task: what each change is stored for, and what each accepted and each sealed term
+-- calls for.
 use Rattle.std.proofs.Common.{◌≡◌, ℕ, ◌<◌, ◌≤◌, ◌+◌, min, Bool, true, false, cond, ◌&&◌, ◌⊎◌, inl, inr, List, [], ◌∷◌, ◌++◌, map, Option, Some, None, nat_eq, nat_lt, nat_le, flat_map, refl, sym, ap, ◌∙◌, subst, arith, lt-ltb, leb-true, leb-false}
 use Rattle.std.proofs.lemmas.Bool.{false≢true, and_parts}
 use Rattle.std.specs.List.{AllByRecursion}
@@ -96,7 +96,7 @@ apart_layers t u a b e =
 
 -- ---- what is stored for what
 
--- A floor is one incoming block ahead of each accepted counter of its layer, none of which is below the stored floor;
+-- A floor is one incoming block above each accepted counter of its layer, none of which is below the stored floor;
 -- one of these terms is of its key and sender.
 pub record FloorFits (block : ℕ) (s : NodeState) (accepts : List Term) (layer : Layer) (key : Bytes)
     (from value : ℕ) : Type 0 where
@@ -109,7 +109,7 @@ pub record FloorFits (block : ℕ) (s : NodeState) (accepts : List Term) (layer 
       × (value ≡ min (u.counter + block) greatest_counter)
   pub rises : nat_lt (stored_floor term s) value ≡ true
 
--- A reserve is for a sealed term of its layer, where the next counter has reached the limit. A start comes with the
+-- A reserve is for a sealed term of its layer, if the next counter has reached the limit. A start comes with the
 -- change that makes its key active, and that change has one unless the key has started.
 unfoldable pub EditFits : Schedule → List Line → ℕ → Answer → Edit → Type 0
 EditFits w h n a (Reserve layer value) =
@@ -127,7 +127,7 @@ abbrev pub AcceptFits : List Line → ℕ → Answer → Term → Type 0
 AcceptFits h n a t = (nat_lt t.counter (stored_floor t (state_of h n)) ≡ true)
     ⊎ ((value : ℕ) × In (Floor t.layer t.base t.source value) a.edits)
 
--- A sealed term has the next counter, at NWK under the active key, and a reserve where that counter has reached the
+-- A sealed term has the next counter, at NWK under the active key, and a reserve if that counter has reached the
 -- limit.
 pub record SealFits (h : List Line) (n : ℕ) (a : Answer) (t : Term) : Type 0 where
   pub counter : t.counter ≡ next_counter t.layer (state_of h n)
@@ -149,7 +149,7 @@ there_map f (x ∷ xs) e = refl
 abbrev SealOf : Layer → List Term → Type 0
 SealOf layer ts = (t : Term) × In t ts × (t.layer ≡ layer)
 
--- where a reserve is called for, one of the terms is of the layer
+-- if a reserve is called for, one of the terms is of the layer
 called_by : (due rest : List Line) (layer : Layer) (t : Term) (ts : List Term) (b : Bool) → same_layer t.layer layer
     ≡ b → (is_there rest ≡ true → SealOf layer ts) → is_there (cond b due [] ++ rest) ≡ true → SealOf layer (t ∷ ts)
 unfolding In
@@ -197,7 +197,7 @@ unfolding In
 listed_in layer None e = absurd (false≢true e)
 listed_in layer (Some v) e = (v, inl refl)
 
--- a sealed term calls for a reserve of its layer where the next counter has reached the limit
+-- a sealed term calls for a reserve of its layer if the next counter has reached the limit
 seal_calls : (w : Schedule) (h : List Line) (number n : ℕ) (t : Term) (ts : List Term) → In t ts → (o : Option ℕ)
     → (is_there (flat_map (λ u. reserve_called w h t.layer (Seal number n u)) ts) ≡ true
     → is_there (reserve_list t.layer o) ≡ true)
@@ -425,7 +425,7 @@ unfolding disk_of
 whole_taken h number n a true up all = taken_in h number n a all
 whole_taken h number n a false up all = absurd (false≢true up)
 
--- each sealed term takes the next counter
+-- each sealed term uses the next counter
 seals_taken : (tools : Tools) → Opens tools → (w : Schedule) (h : List Line) (number n : ℕ) (task : Task) → Bridged h
     → is_up h n ≡ true → Taken h number n (answer_to tools w h n task).seals
 unfolding step step_by task_step
@@ -481,7 +481,7 @@ reserve_in w h n p rest Aps e i =
     let o = reserve_of (setting_of w n) (state_of h n) (sending_of p.outcome) in
     in_left e (reserves w h n p) rest (in_right e (reserve_list Nwk (o Nwk)) (reserve_list Aps (o Aps)) i)
 
--- what is called for by the sealed terms are the reserves
+-- the sealed terms call for exactly the reserves
 calls_are : (tools : Tools) (w : Schedule) (h : List Line) (number n : ℕ) (task : Task) (layer : Layer)
     → flat_map (λ t. reserve_called w h layer (Seal number n t)) (answer_to tools w h n task).seals
     ≡ map (Changed number n)

@@ -1,5 +1,5 @@
--- Whatever lines follow the start of a run, the first node that they declare by the name of one of its nodes is that
--- node.
+-- Whatever lines follow the start of a run, the first node that they declare with the name of one of its nodes is
+-- that node.
 use Rattle.std.proofs.Common.{◌≡◌, Bool, true, false, cond, ℕ, List, [], ◌∷◌, ◌++◌, map, fold, find, Option, Some, None, is_some, nat_eq, bytes_eq, refl, sym, ap, ◌∙◌, append_assoc}
 use Rattle.std.proofs.lemmas.Bool.{false≢true}
 use Rattle.std.proofs.lemmas.Slice.Eq.{bytes_eq-Decides}
@@ -154,7 +154,7 @@ own_station (p ∷ ps) n differ found = by_first (nat_eq p.eui n) (each_name (na
 
 -- ---- along a run
 
--- Whatever lines follow these, the first node of the name of a declared node is that node.
+-- Whatever lines follow these, the first node with the name of a declared node is that node.
 unfoldable pub KnowsNodes : Schedule → List log.Line → Type 0
 KnowsNodes w h = (n : ℕ) → Names w n → (rest : List Line)
     → station_named (declared_in (printed (stations w) h ++ rest)) (name_of (stations w) n) ≡ Some (setting_of w n).me

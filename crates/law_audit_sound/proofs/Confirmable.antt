@@ -110,7 +110,7 @@ record Setting (w : Schedule) : Type 0 where
   differ : euis_differ w ≡ true
   fits : AreNamed (stations w)
 
--- lines of a run, after all that declare: these begin it, and these follow
+-- lines of a run, after all declarations: these begin it, and these follow
 record IsBehind (w : Schedule) (h g : List Line) : Type 0 where
   begins : h ≡ map Declared (stations w) ++ g
   plain : AllByRecursion NotDeclared g

@@ -1,4 +1,4 @@
--- Who is declared by the printed lines of a run: its start declares all nodes, and no other line declares one.
+-- Which nodes the printed lines of a run declare: its start declares all nodes, and no other line declares one.
 use Rattle.std.proofs.Common.{◌≡◌, ℕ, ◌+◌, ◌<◌, ◌^◌, ◌||◌, not, Bool, true, false, cond, List, [], ◌∷◌, ◌++◌, map, find, flat_map, fold, length, Option, Some, None, nat_eq, bytes_eq, refl, sym, ap, ◌∙◌, subst, append_assoc, eqb-true, eq-eqb, lt_irrefl, option_map}
 use Rattle.std.specs.List.{AllByRecursion, list_any}
 use Rattle.std.proofs.lemmas.Bool.{false≢true, and_parts}
@@ -175,7 +175,7 @@ plain_given w =
     (plain_limit m.station.eui Nwk m.start_nwk) (plain_limit m.station.eui Aps m.start_aps))
     w.nodes))
 
--- the disks are no matter
+-- the disks don't matter
 abbrev Any : List Disk → Type 0
 Any ds = Unit {0}
 
@@ -262,7 +262,7 @@ none_alike n test (q ∷ ps) p none found =
     by_test true e later = subst (λ (k : ℕ). nat_eq n k ≡ false) (ap eui_in e) both.0
     by_test false e later = later e
 
--- EUIs differ, so who is found by a test is found by its own EUI
+-- EUIs differ, so a node that is found by a test is found by its own EUI
 found_again : (test : Station → Bool) (ps : List Station) → all_apart (λ (a b : Station). nat_eq a.eui b.eui) ps
     ≡ true → (p : Station) → find test ps ≡ Some p → find (λ (x : Station). nat_eq x.eui p.eui) ps ≡ Some p
 found_again test [] apart p found = found
@@ -291,11 +291,11 @@ found_again test (q ∷ ps) apart p found =
         (none_alike q.eui test ps p (negated (list_any (λ (x : Station). nat_eq q.eui x.eui) ps) parts.0) e)
         ∙ later e
 
--- of the declared nodes that one is the centre, by their names
+-- of the declared nodes, that one is the centre, by their names
 abbrev pub Centred : List Station → ℕ → Type 0
 Centred known c = (j : ℕ) → IsDeclared known j → is_centres known (name_of known j) ≡ nat_eq j c
 
--- the first centre is called as the node of its EUI
+-- the first centre has the name of the node of its EUI
 centre_called : (w : Schedule) → euis_differ w ≡ true → (n : ℕ) → n < 2 ^ 64 → n ≡ centre_of (stations w)
     → is_centres (stations w) (name_of (stations w) n) ≡ true
 unfolding is_centres centre_name name_of station_of centre_of euis_differ

@@ -1,4 +1,4 @@
--- Each kind of line adds up where what is read of its node before its group is what the node's state says.
+-- Each kind of line adds up, if what is read of its node before its group is what the node's state says.
 use Rattle.std.proofs.Common.{◌≡◌, ℕ, ◌+◌, min, Bool, true, false, not, ◌&&◌, ◌||◌, ◌⊎◌, inl, inr, List, [], ◌∷◌, ◌++◌, fold, Option, Some, None, is_some, nat_eq, nat_lt, bytes_eq, flat_map, refl, sym, ap, ◌∙◌, eq-eqb}
 use Rattle.std.proofs.lemmas.Bool.{and_from, and_parts, false≢true, or_left, or_right}
 use Rattle.std.proofs.lemmas.Slice.Eq.{bytes_eq-Decides}

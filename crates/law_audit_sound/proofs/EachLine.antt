@@ -44,7 +44,7 @@ all_three true false c d x e = refl
 all_three false true c d x e = refl
 all_three false false c d x e = refl
 
--- names tell the nodes apart, as their addresses do
+-- names distinguish the nodes as their addresses do
 abbrev pub TellsApart : List Station → ℕ → Type 0
 TellsApart known n = (j : ℕ) → IsDeclared known j → bytes_eq (name_of known j) (name_of known n) ≡ nat_eq j n
 

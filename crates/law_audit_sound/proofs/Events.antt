@@ -219,7 +219,7 @@ of_start w =
 
 -- ---- before the group of a line
 
--- the lines are of events before this one, and none goes on with it
+-- the lines are of events before this one, and none is of this event
 record Ahead (known : List Station) (number : ℕ) (h : List Line) : Type 0 where
   early : AllByRecursion (λ (m : Line). event_of m < number) h
   other : (e : ℕ) → number ≤ e → same_event (last_event (printed known h)) (Some e) ≡ false

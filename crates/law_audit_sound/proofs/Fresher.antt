@@ -1,4 +1,4 @@
--- No line of a run seals under a key and nonce again, as the audit reads it.
+-- No line of a run seals under a key and nonce that was used before, as the audit reads it.
 use Rattle.std.proofs.Common.{◌≡◌, ℕ, ◌&&◌, ◌||◌, not, true, false, List, [], ◌∷◌, ◌++◌, nat_eq, bytes_eq, refl, sym, ap, ◌∙◌, eqb-true}
 use Rattle.std.specs.List.{AllByRecursion, list_any}
 use Rattle.std.proofs.lemmas.Bool.{and_parts}
@@ -65,7 +65,7 @@ unlike u t apart =
 
 -- ---- a line before others
 
--- what it seals is apart from all that they seal
+-- what it seals differs from all that they seal
 abbrev ApartFrom : Line → List Line → Type 0
 ApartFrom (log.Seal event n u) ms = AllByRecursion (Apart u) (sealed_terms ms)
 ApartFrom _ ms = Unit {0}

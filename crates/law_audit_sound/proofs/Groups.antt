@@ -1,4 +1,4 @@
--- The lines of a node's answer add up, of a whole group and of one that a stop or a failure cut.
+-- The lines of a node's answer add up, for a whole group and for one that a stop or a failure cut.
 use Rattle.std.proofs.Common.{◌≡◌, ℕ, ◌+◌, Bool, true, false, cond, ◌&&◌, ◌||◌, ◌⊎◌, inl, inr, List, [], ◌∷◌, ◌++◌, map, length, Option, Some, None, is_some, nat_eq, nat_le, bytes_eq, flat_map, refl, sym, ap, ◌∙◌, subst, append_assoc, eq-eqb}
 use Rattle.std.proofs.lemmas.Bool.{and_from, and_parts, false≢true, or_left, or_right}
 use Rattle.std.specs.List.{AllByRecursion, list_all, list_any}
@@ -30,7 +30,7 @@ EachCounts known before group front [] = Unit {0}
 EachCounts known before group front (m ∷ ms) = (is_counted before group front (line_for known m) ≡ true)
     × EachCounts known before group (front ++ line_for known m ∷ []) ms
 
--- wherever it stands in the group after those
+-- wherever it is in the group after those
 abbrev pub CountsBehind : List Station → List (List Line) → List Line → List Line → log.Line → Type 0
 CountsBehind known before group first m = (more : List Line)
     → is_counted before group (first ++ more) (line_for known m) ≡ true
@@ -76,12 +76,12 @@ none_uncounted known before group front number (m ∷ ms) all =
 
 -- ---- after the stored changes
 
--- all seals and accepts of the answer stand there
+-- all seals and accepts of the answer are there
 pub record Whole (number n : ℕ) (a : Answer) (tail : List log.Line) : Type 0 where
   pub seals : (t : Term) → In t a.seals → In (log.Seal number n t) tail
   pub accepts : (t : Term) → In t a.accepts → In (log.Accept number n t) tail
 
--- a stop or failure stands there
+-- a stop or failure is there
 abbrev pub Cut : List Station → List log.Line → Type 0
 Cut known tail = (m : log.Line) × In m tail × (cuts (line_for known m) ≡ true)
 
@@ -192,7 +192,7 @@ from_is t layer key sender l b f =
     ∙ ap (λ x. read.is_from (layer_of t.layer) t.base x (layer_of t.layer) t.base t.source) (sym f)
     ∙ from_same t.layer t.base t.source
 
--- an accepted counter is one of those for which the floor stands, or of another layer, key or sender
+-- an accepted counter is one of those for which the floor is stored, or of another layer, key or sender
 counter_passes : (w : Schedule) (h : List log.Line) (number n : ℕ) (a : Answer) (name : Bytes) (layer : model.Layer)
     (key : Bytes) (sender value : ℕ)
     (fits : FloorFits (setting_of w n).me.in_block (state_of h n) a.accepts layer key sender value)
@@ -225,7 +225,7 @@ counter_passes w h number n a name layer key sender value fits t i =
         (eq-eqb value (ahead t.counter block) facts.1)) refl
     by_test false is = refl
 
--- an accepted counter stands in the group
+-- an accepted counter is in the group
 one_accepted : (known : List Station) (number n : ℕ) (a : Answer) (tail : List log.Line) (layer : model.Layer)
     (key : Bytes) (sender : ℕ) (t : Term) → t.layer ≡ layer → t.base ≡ key → t.source ≡ sender
     → In (log.Accept number n t) tail
@@ -373,7 +373,7 @@ stored_count w h before number n a tail told ends fits =
     (commit_lines number n a.edits) (edits_count w h before number n a tail told ends a.edits fits)
     (commit_counts (stations w) before group number n a.edits))
 
--- a group is counted where the lines after its stored changes are
+-- a group is counted if the lines after its stored changes are
 group_counts : (w : Schedule) (h : List log.Line) (before : List (List Line)) (number n : ℕ) (a : Answer)
     (tail : List log.Line) → Told w h before n → Tail (stations w) number n a tail
     → AllByRecursion (EditFits w h n a) a.edits
@@ -417,7 +417,7 @@ all_mapped : (P : log.Line → Type 0) (f : Term → log.Line) (ts : List Term) 
 all_mapped P f [] all = tt
 all_mapped P f (t ∷ ts) all = (all.0, all_mapped P f ts all.1)
 
--- what holds of each line after the stored changes: of accepts and seals, and of others
+-- what is true of each line after the stored changes: of accepts and seals, and of others
 told_all : (P : log.Line → Type 0) (h : List log.Line) (number n : ℕ) (a : Answer)
     → ((t : Term) → In t a.accepts → P (log.Accept number n t)) → ((t : Term) → In t a.seals → P (log.Seal number n t))
     → ((place : Place) (reason : Reason) → P (log.Refuse number n place reason))

@@ -1,4 +1,4 @@
--- Who holds which keys, by names and by addresses.
+-- Which nodes hold which keys, by names and by addresses.
 use Rattle.std.proofs.Common.{◌≡◌, ℕ, ◌&&◌, ◌||◌, cond, List, [], ◌∷◌, ◌++◌, fold, flat_map, nat_eq, refl, sym, ap, ◌∙◌, subst}
 use Rattle.std.specs.List.{list_any}
 use Rattle.zb_audit_names.specs.Naming.{declared_in, declares, is_centres, is_of}

@@ -1,4 +1,4 @@
--- No line of a run takes a counter twice, as the audit reads it.
+-- No line of a run accepts a counter twice, as the audit reads it.
 use Rattle.std.proofs.Common.{◌≡◌, ℕ, ◌<◌, ◌≤◌, ◌&&◌, ◌||◌, not, true, false, List, [], ◌∷◌, ◌++◌, nat_eq, nat_le, bytes_eq, refl, sym, ap, ◌∙◌, eqb-true, arith}
 use Rattle.std.specs.List.{AllByRecursion, list_any}
 use Rattle.std.proofs.lemmas.Bool.{and_parts, false≢true, leb-true}

@@ -1,4 +1,4 @@
--- Lines whose node lines come first, and who is who after them.
+-- Lines whose node lines come first, and which node is which after them.
 use Rattle.std.proofs.Common.{◌≡◌, ℕ, ◌&&◌, ◌||◌, ◌⊎◌, Bool, true, false, cond, not, List, [], ◌∷◌, ◌++◌, fold, find, Option, Some, None, is_some, nat_eq, bytes_eq, unwrap_or, refl, sym, ap, ◌∙◌, subst, append_assoc, eqb-true, eq-eqb, ⊎_elim}
 use Rattle.std.specs.List.{AllByRecursion, list_any}
 use Rattle.std.specs.Option.{option_map}
@@ -31,7 +31,7 @@ abbrev pub NotNode : log.Line → Type 0
 NotNode (log.Declared p) = ⊥
 NotNode _ = Unit {0}
 
--- the line of the next node; or a line after all node lines, of one of these nodes or of none
+-- the line of the next node; or a line after all node lines, of one of these nodes or of no node
 abbrev pub IsNext : List Station → List Station → log.Line → Type 0
 IsNext known front m = (p : Station) × (m ≡ log.Declared p) × (more : List Station) × (known ≡ front ++ p ∷ more)
 
@@ -61,7 +61,7 @@ pub leads_right : (known front : List Station) (g h : List log.Line) → Leads k
 leads_right known front [] h all = all
 leads_right known front (m ∷ g) h all = leads_right known (station_line front m) g h all.1
 
--- such lines are of these nodes
+-- lines of this form are of these nodes
 one_of_nodes : (known front : List Station) (m : log.Line) → IsNext known front m ⊎ IsBehind known front m
     → IsOfNodes known m
 one_of_nodes known front m is = by_line (λ f x. IsOfNodes known x) known front m is (λ p. tt) (λ of. of)
@@ -178,7 +178,7 @@ bool_same true false f g = sym (f refl)
 bool_same false true f g = g refl
 bool_same false false f g = refl
 
--- names tell the nodes apart, as their addresses do
+-- names distinguish the nodes as their addresses do
 abbrev pub TellsApart : List Station → ℕ → Type 0
 TellsApart known n = (j : ℕ) → IsDeclared known j → bytes_eq (name_of known j) (name_of known n) ≡ nat_eq j n
 
@@ -207,7 +207,7 @@ nobody_named : (name : Bytes) → station_named [] name ≡ None
 unfolding station_named
 nobody_named name = refl
 
--- who has the name of a node is that node
+-- a node that has the name of a node is that node
 pub named_front : (front more : List Station) (n : ℕ) → NamesDiffer (front ++ more) → IsDeclared (front ++ more) n
     → station_named front (name_of (front ++ more) n) ≡ station_of front n
 unfolding station_of name_of
@@ -261,7 +261,7 @@ none_passes test f (q ∷ qs) p none e = by_test (test q) (f q) refl none e (λ 
     by_test true false is none e more = ap f (sym (ap (λ o. unwrap_or o q) e)) ∙ is
     by_test false false is none e more = more none e
 
--- who is found is the node of its address
+-- the node that is found is the node of its address
 found_first : (test : Station → Bool) (ps : List Station) (p : Station)
     → all_apart (λ (a b : Station). nat_eq a.eui b.eui) ps ≡ true → find test ps ≡ Some p → station_of ps p.eui
     ≡ Some p
@@ -327,7 +327,7 @@ centres_same known front n fits apart is its = by_found (find (λ (s : Station).
     by_found None e = rw e refl
     by_found (Some p) e = rw e (centre_named known front p n fits apart is e its)
 
--- ---- all of it
+-- ---- all of it together
 
 -- whether the node of a name has an address
 pub whose_same : (front : List Station) (name : Bytes) (n d : ℕ) → station_named front name ≡ station_of front n

@@ -1,4 +1,4 @@
--- Each line of a run that gives or installs a network key meets no row of that key at its node.
+-- If a line of a run gives or installs a network key, its node has no row of that key yet.
 use Rattle.std.proofs.Common.{◌≡◌, ℕ, ◌+◌, ◌||◌, Bool, true, false, cond, not, List, [], ◌∷◌, ◌++◌, fold, map, flat_map, length, Option, Some, None, nat_eq, refl, sym, ap, ◌∙◌}
 use Rattle.std.specs.List.{AllByRecursion, list_any}
 use Rattle.std.proofs.lemmas.Bool.{and_parts, false≢true, not-true}
@@ -26,13 +26,13 @@ use Rattle.law_run_steps.proofs.Walks.{OfTold, commit-all, fallen-all, map-all, 
 use Rattle.law_answer_storable.specs.Storing.{OpensAsJudged}
 use Rattle.law_answer_storable.proofs.Answers.{all_stored}
 
--- a line that gives or installs a network key meets no row of it
+-- a line that gives or installs a network key finds no row of it
 abbrev pub IsLively : List Line → Line → Type 0
 IsLively h (GivenNet n key sequence) = has_net key (state_of h n).nets ≡ false
 IsLively h (Changed e n (Moved (Install key sequence))) = has_net key (state_of h n).nets ≡ false
 IsLively h _ = Unit {0}
 
--- ---- lines that say nothing of it
+-- ---- lines that say nothing about it
 
 abbrev Quiet : Line → Type 0
 Quiet l = (h : List Line) → IsLively h l

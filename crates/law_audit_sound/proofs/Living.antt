@@ -1,4 +1,4 @@
--- A node's live network keys, as its lines say them one after the other.
+-- A node's live network keys, as its lines state them one after the other.
 use Rattle.std.proofs.Common.{◌≡◌, ℕ, ◌+◌, max, Option, Some, None, ◌&&◌, ◌||◌, Bool, true, false, cond, List, [], ◌∷◌, ◌++◌, fold, map, filter, nat_eq, refl, sym, ap, ◌∙◌, append_assoc, eqb-true}
 use Rattle.std.specs.List.{list_any}
 use Rattle.std.proofs.lemmas.Bool.{false≢true}
@@ -11,7 +11,7 @@ use Rattle.zb_model.specs.State.{NodeState, NetKey, same_key, has_net, live_nets
 use Rattle.law_run.proofs.Basics.{append-nil', same_key-eq, state-snoc}
 use Rattle.law_audit_sound.proofs.Lively.{IsLively}
 
--- whether the last line of a node that speaks of a network key gives or installs it
+-- whether the last line of a node about a network key gives or installs it
 abbrev pub lives_in : Bytes → Bool → Line → Bool
 lives_in key was (GivenNet n k sequence) = cond (same_key k key) true was
 lives_in key was (Changed e n (Moved (Install k sequence))) = cond (same_key k key) true was
@@ -89,7 +89,7 @@ declared_leaves v = record { key = λ r. key_ r.started r; live = λ r. live_ r.
     live_ true r = refl
     live_ false r = refl
 
--- a row more
+-- one more row
 added : (b c : Bool) → cond c true b ≡ (b || ((true && c) || false))
 added true true = refl
 added true false = refl

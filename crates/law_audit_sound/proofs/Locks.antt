@@ -1,5 +1,5 @@
--- Removed devices are locked out of the printed lines of a run, as the audit reads them, since they are locked out of
--- the run.
+-- Removed devices are locked out of the printed lines of a run, as the audit reads them, because they are locked out
+-- of the run.
 use Rattle.std.proofs.Common.{◌≡◌, ℕ, Bool, true, false, cond, not, ◌||◌, List, [], ◌∷◌, ◌++◌, flat_map, ◌⊎◌, inl, inr, refl, sym, ap, ◌∙◌}
 use Rattle.std.specs.List.{AllByRecursion, Any, list_any}
 use Rattle.std.proofs.lemmas.List.Folds.{Any-from_list_any, list_any-append}
@@ -141,7 +141,7 @@ behind d [] = record { rest = []; whole = refl }
 behind d (m ∷ ms) = behind_one (is_live_line d m) m (claims.until_live d ms) ms (behind d ms)
 
 module _ (tools : Tools) (known : List Station) where
-  -- ---- no key that is drawn in a window comes out for its device
+  -- ---- no key that is drawn in a window becomes known to its device
 
   pub keeps_so : (h u : List Line) (d : ℕ) → ReadSame tools known (h ++ u)
       → ((key : Bytes) → Among (flat_map claims.drawn_in u) key → Obtains tools (h ++ u) d key → ⊥)

@@ -12,7 +12,7 @@ use Rattle.law_run.proofs.FreshLines.{all-append}
 use Rattle.law_run_steps.proofs.Walks.{Asked, OfNode, OfOutside, OfStart, start-all, step-has}
 use Rattle.zb_trace_model.specs.Said.{line_for}
 
--- The printed line is of an event, whose number is at most that one; an end line is of none.
+-- The printed line is of an event whose number is at most that one; an end line has no event.
 pub record IsWithin (known : List Station) (most : ℕ) (m : Line) : Type 0 where
   pub event : ℕ
   pub event_is : event_of (line_for known m) ≡ Some event
@@ -54,7 +54,7 @@ change_within known most number n small (model.Moved (model.Told device)) =
 change_within known most number n small (model.Moved (model.Untold device)) =
     record { event = number; event_is = refl; small = small }
 
--- the disks are no matter
+-- the disks don't matter
 abbrev Any : List Disk → Type 0
 Any ds = Unit {0}
 

@@ -1,6 +1,5 @@
--- Where removed devices are locked out of lines, they are locked out of each prefix of them: more lines expose no
--- fewer keys, and the windows of a prefix are prefixes of the windows. So no line is the first with which lockout
--- fails.
+-- If removed devices are locked out of lines, they are locked out of each prefix of them: more lines expose no fewer
+-- keys, and the windows of a prefix are prefixes of the windows. So no line is the first with which lockout fails.
 use Rattle.std.proofs.Common.{◌≡◌, ℕ, ◌+◌, Bool, true, false, cond, List, [], ◌∷◌, ◌++◌, length, ◌⊎◌, inl, inr, Some, None, refl, ap, sym, ◌∙◌, subst, append_assoc, flat_map}
 use Rattle.std.specs.List.{AllByRecursion, list_any}
 use Rattle.std.proofs.lemmas.Grind.{flat_map-append}

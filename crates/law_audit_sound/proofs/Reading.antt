@@ -57,7 +57,7 @@ flat_of : (known : List Station) (gs : List (List log.Line)) → AllGroups known
 flat_of known [] all = tt
 flat_of known (g ∷ gs) all = all-append (IsOfNodes known) g (said.flat gs) all.0 (flat_of known gs all.1)
 
--- ---- the last line that speaks of a thing
+-- ---- the last line about a thing
 
 last_from : {A : Type 0} (known : List Station) (n : ℕ) (f : Line → Option A) (g : log.Line → Option A)
     → ((m : log.Line) → IsOfNodes known m → f (line_for known m) ≡ said_by n g m)

@@ -215,7 +215,7 @@ told_by w fits before all knows n named up reads =
 
 -- ---- the group of an event
 
--- what is needed of the node of an event
+-- what the proof needs of the node of an event
 record IsReady (w : Schedule) (h : List log.Line) (before : List (List Line)) : Type 0 where
   told : (n : ℕ) → Names w n → is_up h n ≡ true → Told w h before n
   bridged : Bridged h

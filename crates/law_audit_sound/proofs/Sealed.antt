@@ -27,7 +27,7 @@ true_after : (b : Bool) → b ≡ (b && true)
 true_after true = refl
 true_after false = refl
 
--- whether a term is sealed so, in both words
+-- whether a term is sealed under this key, in both readings
 abbrev is_so : model.Layer → Bytes → Option Bytes → Term → Type 0
 is_so layer key o t = read.is_sealed_at (layer_of layer) o (term_of t)
     ≡ (state.same_layer t.layer layer && said.is_under layer key t.base)
@@ -54,7 +54,7 @@ last_none : (f : Speaks) → read.last f [] ≡ None
 unfolding read.last
 last_none f = refl
 
--- the run goes on by a line that boots nothing
+-- the run continues with a line that boots nothing
 goes_on : (f : Speaks) (run : List Line) (l : Line) (found : Option ℕ) (o : Option ℕ) → following (read.last f run)
     ≡ found → f l ≡ o → following (read.last f (run ++ l ∷ [])) ≡ following (option_or o (read.last f run))
 goes_on f run l found o is e = ap following (last_more f run l ∙ ap (λ x. option_or x (read.last f run)) e)
@@ -84,7 +84,7 @@ run_on name run l = cond (read.boots name l) [] (run ++ l ∷ [])
 abbrev pub found_on : ℕ → model.Layer → Bytes → Option ℕ → log.Line → Option ℕ
 found_on n layer key found l = cond (nat_eq (speaker l) n) (said.sealed_in layer key found l) found
 
--- one line more
+-- one more line
 line_on : (known : List Station) (n : ℕ) → TellsApart known n → (layer : model.Layer) (key : Bytes) (o : Option Bytes)
     → ((t : Term) → is_so layer key o t) → (run : List Line) (found : Option ℕ)
     → following (read.last (read.sealed_in (name_of known n) (layer_of layer) o) run) ≡ found → (m : log.Line)

@@ -1,4 +1,4 @@
--- What printed lines show of keys, whatever their nodes are called.
+-- What printed lines show of keys, whatever the names of their nodes.
 use Rattle.std.proofs.Common.{◌≡◌, ℕ, suc, Bool, true, false, cond, List, [], ◌∷◌, ◌++◌, flat_map, length, refl, ap, ◌∙◌}
 use Rattle.std.specs.List.{AllByRecursion, list_any}
 use Rattle.zb_audit_names.specs.Secrets as audit
@@ -26,7 +26,7 @@ printed_length : (known : List Station) (h : List log.Line) → length (printed 
 printed_length known [] = refl
 printed_length known (m ∷ h) = ap suc (printed_length known h)
 
--- what each line says, they all say
+-- what is true of each line is true of all of them
 pub flat_each : {A : Type 0} (known : List Station) (f : Line → List A) (g : log.Line → List A)
     → ((m : log.Line) → f (line_for known m) ≡ g m) → (h : List log.Line) → flat_map f (printed known h) ≡ flat_map g h
 flat_each known f g each [] = refl

@@ -1,4 +1,4 @@
--- What the audit makes of a link row of the centre, along lines that declare nothing.
+-- How the audit follows a link row of the centre, along lines that declare nothing.
 use Rattle.std.proofs.Common.{◌≡◌, ℕ, ◌&&◌, Bool, true, false, cond, List, [], ◌∷◌, ◌++◌, map, fold, nat_eq, bytes_eq, refl, sym, ap, ◌∙◌, subst, append_assoc, eqb-true, eq-eqb}
 use Rattle.std.specs.List.{AllByRecursion}
 use Rattle.std.proofs.lemmas.Bool.{and_parts}
@@ -34,7 +34,7 @@ abbrev others : List Line → List Line
 others [] = []
 others (l ∷ ls) = ls
 
--- a line that declares nothing stands after those that declare
+-- a line that declares nothing comes after those that declare
 behind_declared : (ps : List Station) (g before tail : List Line) (m : Line) → NotDeclared m → map Declared ps ++ g
     ≡ before ++ m ∷ tail → (front : List Line) × (g ≡ front ++ m ∷ tail)
 behind_declared [] g before tail m plain is = (before, is)
@@ -213,7 +213,7 @@ there_kept Absent there = absurd there
 there_kept Made there = refl
 there_kept Kept there = refl
 
--- the row's line, that commit, and what stands between and after them
+-- the row's line, that commit, and what comes between and after them
 kept_by : (known : List Station) (c d : ℕ) (b : Bytes) → Centred known c → IsDeclared known c
     → (row_event commit_event : ℕ) (front between later : List Line)
     → AllByRecursion NotDeclared (front ++ log.Changed row_event c (model.Moved (model.Row d b model.Verified))
@@ -267,7 +267,7 @@ kept_by known c d b centred its row_event commit_event front between later plain
     its_row = ap (λ (x : Bool). x && is_row d b d b) its_own ∙
         (ap (λ (x : Bool). x && bytes_eq b b) (eq-eqb d d refl) ∙ (bytes_eq-Decides b b).1 refl)
 
--- what the model calls stored as verified is kept as the audit reads it
+-- what the model calls stored as verified is kept in the audit's reading
 pub stored_kept : (known : List Station) → NamesDiffer known → (c d : ℕ) (b : Bytes) → Centred known c
     → IsDeclared known c → (g h : List Line) → h ≡ map Declared known ++ g → AllByRecursion NotDeclared g
     → AllByRecursion (IsOfNodes known) g

@@ -1,4 +1,4 @@
--- What an audit of the lines of a run counts, and says of its two words.
+-- What an audit counts in the lines of a run, and what it says of its two words.
 use Rattle.std.proofs.Common.{◌≡◌, ℕ, Bool, true, not, ◌&&◌, List, [], ◌∷◌, ◌++◌, fold, flat_map, length, Option, Some, None, Result, Ok, Err, refl, sym, ap, ◌∙◌, subst}
 use Rattle.std.specs.List.{list_any}
 use Rattle.std.proofs.lemmas.List.Sums.{fold-append}
@@ -103,7 +103,7 @@ abbrev IsNothing : Option BadLine → Type 0
 IsNothing None = Unit {0}
 IsNothing (Some bad) = ⊥
 
--- where no line is bad, an audit has this verdict
+-- if no line is bad, an audit has this verdict
 pub answered : (w : Schedule) → WordsSame real (stations w) (transcript real w) → first_fault real (lines_of w) ≡ None
     → (result : Result Verdict AuditFault) → IsAnswer real (lines_of w) result → IsVerdict w result
 answered w same whole (Ok v) is =

@@ -1,4 +1,4 @@
--- All claims of the audit, of a run.
+-- All claims of the audit, for a run.
 use Rattle.std.proofs.Common.{◌≡◌, ℕ, List, [], Option, None, ap, ◌∙◌}
 use Rattle.zb_audit.specs.Confirming.{is_confirmable}
 use Rattle.zb_audit.specs.Ending.{ill_ended}

@@ -1,4 +1,4 @@
--- Where what the audit reads by names, from the printed lines of a run, is what the model reads by addresses.
+-- What the audit reads by names, from the printed lines of a run, is what the model reads by addresses.
 use Rattle.std.specs.Prelude.{ℕ, ◌≡◌, ◌&&◌, Bool, false, List, ◌++◌, nat_eq, is_some, flat_map}
 use Rattle.std.specs.List.{list_any}
 use Rattle.std.specs.Option.{option_map}
@@ -19,7 +19,8 @@ use Rattle.zb_model.specs.Tools.{Tools}
 use Rattle.zb_model.specs.Transcript.{transcript}
 use Rattle.zb_trace_model.specs.Naming.{IsDeclared, name_of}
 
--- What no name decides: the terms, the removed devices, the network's keys, and what comes out for somebody.
+-- What depends on no name: the terms, the removed devices, the network's keys, and the keys that become known to
+-- somebody.
 pub record ShowSame (tools : Tools) (known : List Station) (h : List log.Line) : Type 0 where
   pub terms : audit.terms_of (printed known h) ≡ model.terms_of h
   pub forged : flat_map audit.forged_in (printed known h) ≡ flat_map model.forged_in h
@@ -34,7 +35,7 @@ pub record ShowSame (tools : Tools) (known : List Station) (h : List log.Line) :
 abbrev pub nodes_in : List Station → List log.Line → List Station
 nodes_in known h = naming.declared_in (printed known h)
 
--- Who is who: names tell nodes apart as addresses do, and the first centre is the model's.
+-- Which node is which: names distinguish nodes as addresses do, and the first centre is the model's.
 pub record NameSame (known : List Station) (h : List log.Line) : Type 0 where
   pub declared : nodes_in known h ≡ stations_of h
   pub named : (n : ℕ) → IsDeclared known n
@@ -49,7 +50,7 @@ pub record NameSame (known : List Station) (h : List log.Line) : Type 0 where
       → naming.is_centres (nodes_in known h) (name_of known n) ≡ model.is_the_centre (stations_of h) n
   pub joining : (n : ℕ) → IsDeclared known n → audit.joins (nodes_in known h) (name_of known n) ≡ model.joins h n
 
--- Which keys a node ever held, came by and has the rows of, what outsiders may hold, and what a device sealed.
+-- Which keys a node ever held, came by and has in its rows, what outsiders may hold, and what a device sealed.
 pub record HoldSame (tools : Tools) (known : List Station) (h : List log.Line) : Type 0 where
   pub ever : (d : ℕ) → audit.ever (printed known h) d ≡ model.ever h d
   pub outside : audit.outside (printed known h) ≡ model.outside h

@@ -7,6 +7,6 @@ use Rattle.zb_model.specs.Play.{Schedule, stations}
 use Rattle.zb_model.specs.Transcript.{transcript}
 use Rattle.zb_model_real.specs.Real.{real}
 
--- the third claim, of real frames: only stored keys are confirmed
+-- the third claim, with real frames: only stored keys are confirmed
 abbrev pub KeepsThird : Schedule → Type 0
 KeepsThird w = failing is_confirmable (printed (stations w) (transcript real w)) ≡ []

@@ -9,7 +9,7 @@ use Rattle.zb_model.specs.Tools.{Tools}
 use Rattle.zb_model.specs.Transcript.{transcript}
 use Rattle.zb_model_real.specs.Real.{real}
 
--- the first claim, of real frames: no node seals twice under one key and nonce
+-- the first claim, with real frames: no node seals twice under one key and nonce
 abbrev pub KeepsFirst : Schedule → Type 0
 KeepsFirst w = failing is_fresh (printed (stations w) (transcript real w)) ≡ []
 

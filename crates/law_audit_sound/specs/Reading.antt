@@ -1,4 +1,4 @@
--- Where what the audit reads from the printed lines of whole groups is what the states of their nodes say.
+-- What the audit reads from the printed lines of whole groups is what the states of their nodes say.
 use Rattle.std.specs.Prelude.{ℕ, ◌≡◌, ◌+◌, true, List, [], ◌∷◌, ◌++◌}
 use Rattle.zb_audit_names.specs.Groups.{flat}
 use Rattle.law_audit_groups.specs.Printing.{all_printed}
@@ -15,7 +15,7 @@ use Rattle.zb_model_real.specs.Terms.{layer_of}
 use Rattle.zb_audit_counters.specs.Readings as read
 use Rattle.zb_trace_model.specs.Naming.{name_of}
 
--- What is read of a node after these groups is what its state says: of the next counters, where it has power.
+-- What is read of a node after these groups is what its state says; its next counters only if it has power.
 pub record Reads (known : List Station) (before : List (List log.Line)) (n : ℕ) : Type 0 where
   pub active_is : read.active (flat (all_printed known before)) (name_of known n)
       ≡ (state_of (said.flat before) n).active
@@ -31,7 +31,7 @@ pub record Reads (known : List Station) (before : List (List log.Line)) (n : ℕ
 abbrev pub AllRead : Schedule → List (List log.Line) → Type 0
 AllRead w before = (n : ℕ) → Names w n → Reads (stations w) before n
 
--- before each of these events and after the last one, of each declared node
+-- before each of these events and after the last one, for each declared node
 abbrev pub ReadFrom : Tools → Schedule → List (List log.Line) → List Disk → ℕ → List Event → Type 0
 ReadFrom tools w before disks number [] = AllRead w before
 ReadFrom tools w before disks number (event ∷ events) =

@@ -11,7 +11,7 @@ use Rattle.zb_model.specs.Transcript.{accept_count, run_lines, seal_count, trans
 use Rattle.zb_model_real.specs.Real.{real}
 use Rattle.zb_trace.specs.declared.line.Line.{Line}
 
--- the lines of a run of real frames, as they are printed
+-- the lines of a run with real frames, as they are printed
 abbrev pub lines_of : Schedule → List Line
 lines_of w = printed (stations w) (transcript real w)
 

@@ -9,7 +9,7 @@ ghost use Rattle.zb_trace_model.specs.Naming.{AreNamed};
 
 /// States that no line of a run breaks the third claim of the audit: only stored keys are confirmed.
 ///
-/// A key is confirmed by the centre alone, which has stored it as the device's verified one.
+/// Only the centre confirms a key, which it has stored as the device's verified one.
 #[tactic(auto, using(crate::proofs::Confirmable::keeps_third))]
 pub fn runs_keep_the_third_claim()
     ensures { (w : Schedule) → Premises w → euis_differ w ≡ true → AreNamed (stations w) → KeepsThird w }

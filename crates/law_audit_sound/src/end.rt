@@ -10,7 +10,7 @@ ghost use Rattle.law_tables_suffice.specs.Along.{euis_differ};
 ghost use Rattle.law_answer_storable.specs.Storing.{OpensAsJudged};
 ghost use Rattle.zb_trace_model.specs.Naming.{AreNamed};
 
-/// States that no line of a run breaks the sixth claim of the audit: it ends well.
+/// States that no line of a run breaks the sixth claim of the audit: its end is right.
 ///
 /// The last line ends it, and no other does. Its number of events is at least that of each event, its counts are
 /// right, and its two words are those that the audit reads by names.

@@ -1,5 +1,5 @@
-//! No line of the run of a schedule breaks a claim of the audit, which so returns the verdict on it. The laws stand as
-//! the contracts of functions that do nothing; docs/THEOREMS.md says them in words.
+//! No line of the run of a schedule breaks a claim of the audit, so the audit returns the verdict on the run. The
+//! laws are the contracts of functions that do nothing; docs/THEOREMS.md says them in words.
 #![tactic(auto)]
 
 mod confirms;
@@ -32,15 +32,15 @@ pub use readings::readings_of_a_run_are_its_states;
 
 /// States that no line of the run of a schedule is bad, with real frames, whatever happens in it.
 ///
-/// So an audit of its printed lines returns just the verdict on it, unless it runs out of memory. That is the seals
-/// and accepts that its end line counts, and lockout where both words of that line hold.
+/// So an audit of its printed lines returns exactly the verdict on the run, unless it runs out of memory. The verdict
+/// has the seals and accepts that the end line counts, and lockout if both words of that line hold.
 pub fn runs_are_sound()
     ensures { (p : Schedule) → IsSchedule p → IsSound (schedule_of p) }
 {
     frames_show_their_own_keys();
 }
 
-/// States that where a text is a schedule, no line of its run is bad.
+/// States that no line of the run is bad, for each text that is a schedule.
 ///
 /// So an audit returns the verdict on it.
 pub fn runs_of_texts_are_sound(text: &[u8])

@@ -1,4 +1,4 @@
-//! Removed devices are locked out of the printed lines of each run, as the audit reads them. The laws stand as the
+//! Removed devices are locked out of the printed lines of each run, as the audit reads them. The laws are the
 //! contracts of functions with empty bodies; docs/THEOREMS.md says them in words.
 ghost use Rattle.std.specs.Prelude.{◌≡◌, true, List};
 ghost use Rattle.law_audit_sound.specs.Beginnings.{RunBegins};
@@ -15,15 +15,15 @@ ghost use Rattle.law_answer_storable.specs.Storing.{OpensAsJudged};
 ghost use Rattle.zb_trace_model.specs.Naming.{AreNamed};
 ghost use Rattle.zb_trace.specs.declared.line.Line.{Line};
 
-/// States that lockout of any lines, whoever wrote them, is lockout of each prefix of them.
+/// States that lockout of any lines, whoever wrote them, implies lockout of each prefix of them.
 ///
-/// So no line is the first with which lockout fails exactly where it holds of all.
+/// So lockout is true of all lines exactly if no line is the first with which it fails.
 #[tactic(auto, using(crate::proofs::Prefixes::locks_fronts))]
 pub fn fronts_of_locked_lines_are_locked()
     ensures { (tools : Tools) (lines : List Line) → LocksFronts tools lines }
 {}
 
-/// States that what an audit has before the group of a run's line is the run before its event.
+/// States that the lines before a group, as an audit finds them, are the run before the group's event.
 #[tactic(auto, using(crate::proofs::Events::begins))]
 pub fn groups_of_a_run_begin_with_their_events()
     ensures { (tools : Tools) (w : Schedule) → RunBegins tools w }
@@ -31,9 +31,9 @@ pub fn groups_of_a_run_begin_with_their_events()
 
 /// States that no line of a run breaks the fifth claim of the audit, which is lockout.
 ///
-/// Where both words of the end line hold, removed devices are locked out of the printed lines and of each prefix of
-/// them. `ShowsKeys` is of the frames: what a node's own frame shows of a key is the key of the command that is in it.
-/// `KeysApart` is of the schedule: its keys are different keys.
+/// If both words of the end line hold, removed devices are locked out of the printed lines and of each prefix of
+/// them. `ShowsKeys` is about the frames: if a node's own frame shows a key, it is the key of the command in that
+/// frame. `KeysApart` is about the schedule: its keys are different keys.
 #[tactic(auto, using(crate::proofs::Fifth::keeps_fifth))]
 pub fn runs_keep_the_fifth_claim()
     ensures { (tools : Tools) → Opens tools → OpensAsJudged tools → ShowsKeys tools → (w : Schedule) → IsSchedule w

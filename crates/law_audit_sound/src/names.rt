@@ -1,6 +1,6 @@
-//! What the audit reads by names from the printed lines of a run is what the model reads by addresses. That is who is
-//! who, which keys the lines show and who holds them, and the two words of the end line. The law is the contract of a
-//! function with an empty body; docs/THEOREMS.md says it in words.
+//! The audit reads by names, from the printed lines of a run, what the model reads by addresses. That is which node
+//! is which, which keys the lines show and which nodes hold them, and the two words of the end line. The law is the
+//! contract of a function with an empty body; docs/THEOREMS.md says it in words.
 ghost use Rattle.std.specs.Prelude.{◌≡◌, true};
 ghost use Rattle.law_audit_sound.specs.Agreeing.{RunReadSame};
 ghost use Rattle.zb_model.specs.Play.{Schedule, stations};
@@ -13,9 +13,9 @@ ghost use Rattle.zb_trace_model.specs.Naming.{AreNamed};
 
 /// States that the audit reads a run by names as the model reads it by addresses.
 ///
-/// That holds of each prefix of the run's printed lines. Both say the same of these:
+/// This is true for each prefix of the run's printed lines. Both readings agree on these:
 /// - the declared nodes and the centre
-/// - the terms, and the keys that come out
+/// - the terms, and the keys that become known
 /// - what devices ever held and sealed
 /// - live network keys that are known outside
 /// - the two words of the end line

@@ -8,7 +8,7 @@ ghost use Rattle.law_run.specs.Commanding.{OneCentre};
 ghost use Rattle.law_run.specs.Opening.{Opens};
 ghost use Rattle.zb_trace_model.specs.Naming.{AreNamed};
 
-/// States that no line of a run breaks the first claim of the audit: no nonce comes again.
+/// States that no line of a run breaks the first claim of the audit: no nonce is used twice.
 ///
 /// No node seals twice under one key and nonce.
 #[tactic(auto, using(crate::proofs::Fresher::keeps_first))]
@@ -16,7 +16,7 @@ pub fn runs_keep_the_first_claim()
     ensures { (w : Schedule) → IsSchedule w → KeepsFirst w }
 {}
 
-/// States that no line of a run breaks the second claim of the audit: no counter is taken twice.
+/// States that no line of a run breaks the second claim of the audit: no counter is accepted twice.
 ///
 /// No receiver accepts a sender's counter twice under one key.
 #[tactic(auto, using(crate::proofs::Later::keeps_second))]

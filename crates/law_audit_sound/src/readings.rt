@@ -13,9 +13,9 @@ ghost use Rattle.zb_trace_model.specs.Naming.{AreNamed};
 
 /// States that the audit's readings of a run agree with the model.
 ///
-/// After the start and after each whole group, what is read of a declared node from the printed lines is what its
-/// state says. That is the active network key, the stored limits, the stored floors, and where the node has power the
-/// next counters.
+/// This is true after the start and after each whole group. What is read of a declared node from the printed lines is
+/// what its state says: the active network key, the stored limits and the stored floors. If the node has power, it is
+/// also the next counters.
 #[tactic(auto, using(crate::proofs::Reading::run_reads))]
 pub fn readings_of_a_run_are_its_states()
     ensures { (tools : Tools) → Opens tools → OpensAsJudged tools → (w : Schedule) → IsSchedule w

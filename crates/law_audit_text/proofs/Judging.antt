@@ -1,4 +1,4 @@
--- An audit judges lines as it judges the plain ones.
+-- An audit checks lines as it checks the plain ones.
 use Rattle.std.proofs.Common.{◌≡◌, ℕ, Bool, not, ◌&&◌, List, [], ◌∷◌, ◌++◌, Option, Some, None, refl, sym, ap, ◌∙◌}
 use Rattle.zb_audit.specs.Confirming.{RowState, Absent, confirmed, is_confirmable, row_becomes, row_from, row_in, stands_for}
 use Rattle.zb_audit.specs.Ending.{accept_count, accepts_in, ends_from, ends_well, front, greater_event, greatest_event, ill_ended, is_no_end, refusals_in, refuse_count, seal_count, seals_in, sums_up}
@@ -172,7 +172,7 @@ fault_plain tools lines =
       ill_plain tools lines,
     ) refl
 
--- what is the same of lines and of their plain ones is the same of lines with one words
+-- what is the same for lines and their plain ones is the same for lines with the same words
 by_plain : {A : Type 0} (reads : List Line → A) → ((lines : List Line) → reads (plains lines) ≡ reads lines)
     → (lines others : List Line) → plains lines ≡ plains others → reads lines ≡ reads others
 by_plain reads each lines others same = sym (each lines) ∙ (ap reads same ∙ each others)

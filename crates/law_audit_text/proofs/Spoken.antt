@@ -1,4 +1,4 @@
--- What the words of a line say: the line, but for the room of its name.
+-- What the words of a line say: the line, except for the room of its name.
 use Rattle.std.proofs.Common.{◌≡◌, List, [], ◌∷◌, map, refl, sym, ap, ◌∙◌}
 use Rattle.arrayvec.specs.ArrayString.{ArrayString}
 use Rattle.zb_model.specs.Data.{Bytes}

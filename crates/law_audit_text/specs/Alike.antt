@@ -11,8 +11,8 @@ use Rattle.zb_trace.specs.declared.line.Line.{Line}
 abbrev pub HaveSameWords : List Line → List Line → Type 0
 HaveSameWords lines others = map words lines ≡ map words others
 
--- Both have the same first bad line, which breaks the same claim first, or none; and the verdict on them would be the
--- same.
+-- Both have the same first bad line, which breaks the same claim first, or no bad line; and the verdict on them would
+-- be the same.
 pub record AreJudgedAlike (tools : Tools) (lines others : List Line) : Type 0 where
   pub fault : first_fault tools lines ≡ first_fault tools others
   pub seals : seals_in lines ≡ seals_in others

@@ -1,4 +1,4 @@
--- A line whose name leaves no room unused: what is after the end of a name, in the room for one, is left out.
+-- A line whose name leaves no room unused: what is after the end of a name, in its room, is left out.
 use Rattle.std.specs.Prelude.{List, map}
 use Rattle.arrayvec.specs.ArrayString.{ArrayString}
 use Rattle.zb_trace.specs.declared.line.Line.{Line}
@@ -8,7 +8,7 @@ use Rattle.zb_trace_model.specs.Said.{name_in}
 abbrev pub bare : ArrayString → ArrayString
 bare name = name_in name.bytes
 
--- the line with such a name, and else the same line
+-- the line with this plain name; a line without a name is the same
 abbrev pub plain : Line → Line
 plain (line.Node name r eui short out_block in_block) = line.Node (bare name) r eui short out_block in_block
 plain (line.GivenNet node key sequence) = line.GivenNet (bare node) key sequence

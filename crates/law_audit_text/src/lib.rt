@@ -1,4 +1,4 @@
-//! An audit judges lines by their words alone. The law is the contract of a function with an empty body;
+//! An audit checks lines by their words alone. The law is the contract of a function with an empty body;
 //! docs/THEOREMS.md says it in words.
 #![tactic(auto)]
 
@@ -11,9 +11,9 @@ ghost use Rattle.zb_trace.specs.declared.line.Line.{Line};
 
 pub use line_texts::a_text_fixes_its_lines;
 
-/// States that lines with the same words are judged alike, whoever wrote them.
+/// States that an audit treats lines with the same words alike, whoever wrote them.
 ///
-/// What a name leaves unused of its room is no word, so an audit doesn't see it.
+/// The unused room after a name is in no word, so an audit doesn't see it.
 pub fn lines_are_judged_by_their_words()
     ensures { (tools : Tools) (lines others : List Line) → HaveSameWords lines others
         → AreJudgedAlike tools lines others }

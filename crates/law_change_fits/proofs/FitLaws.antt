@@ -13,7 +13,7 @@ use Rattle.law_change_fits.proofs.Links.{link_rules, links_kept, link_floor_kept
 use Rattle.law_change_fits.proofs.Rows.{row_kept}
 use Rattle.law_change_fits.proofs.Pairs.{removed_kept, paired_kept, staged_kept, rolled_kept}
 
--- the stored limit of the application support layer is none of the rules
+-- no rule mentions the stored limit of the application support layer
 aps_kept : (limit : ℕ) (s : NodeState) → Rules s → keeps_rules (record s { aps_limit = limit }) ≡ true
 unfolding role_is_kept active_is_live
 aps_kept limit s r = rules_back (record s { aps_limit = limit }) (record {
@@ -37,7 +37,7 @@ aps_kept limit s r = rules_back (record s { aps_limit = limit }) (record {
 centre_in : (b c : Bool) → (b && c) ≡ true → b ≡ true
 centre_in b c e = (both b c e).0
 
--- where it begins, no row is told
+-- when a rollover begins, no row is told
 rolled : (sending : Bool) (s : NodeState) → Rules s
     → keeps_rules (record s { sending = sending; links = if sending then map (told_as false) s.links else s.links })
     ≡ (not sending || is_centre s.role)

@@ -1,4 +1,4 @@
--- A floor is stored: the rules stand after it where its sender has one, or where there is room and it isn't 0.
+-- A floor is stored: the rules are kept after it if its sender has one, or if there is room and it isn't 0.
 use Rattle.std.proofs.Common.{◌≡◌, ℕ, suc, ◌+◌, ◌<◌, ◌≤◌, List, [], ◌∷◌, length, refl, sym, ap, ◌∙◌, arith, Bool, true, false, not, if◌then◌else◌, ◌&&◌, ◌||◌, Option, Some, None, max}
 use Rattle.std.specs.Prelude.{find, nat_le, nat_lt, nat_eq}
 use Rattle.std.specs.List.{list_any, list_all}
@@ -178,7 +178,7 @@ row_after sender value r kept =
     at_test true c room = rw room refl
     at_test false c room = rw next (swap (nat_lt (length r.floors) most_senders) c)
 
--- one row alone has the key
+-- only one row has the key
 none_at : (key : Bytes) (f : NetKey → NetKey) (nets : List NetKey)
     → list_any (λ (r : NetKey). same_key r.key key) nets ≡ false → at_net key f nets ≡ nets
 none_at key f [] none = refl

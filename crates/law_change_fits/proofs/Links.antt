@@ -1,4 +1,4 @@
--- Changes of link rows, and whether the rules stand after them.
+-- Changes of link rows, and whether the rules are kept after them.
 use Rattle.std.proofs.Common.{◌≡◌, ℕ, ◌≤◌, List, length, map, refl, ap, ◌∙◌, arith, Bool, true, false, not, if◌then◌else◌, ◌&&◌, ◌||◌}
 use Rattle.std.specs.Prelude.{nat_eq}
 use Rattle.std.specs.List.{list_all}
@@ -10,7 +10,7 @@ use Rattle.zb_model.specs.Fits.{keeps_rules, role_is_kept, all_apart, like_rows,
 use Rattle.law_change_fits.proofs.Tests.{both, all_map, apart_map}
 use Rattle.law_change_fits.proofs.Parts.{Rules, rules_back, links_alike, kinds_alike, told_apart, link_rule}
 
--- other link rows in the place of those that stand
+-- other link rows instead of the present ones
 pub record LinkRules (role : Role) (links : List LinkKey) : Type 0 where
   pub room : length links ≤ most_links role
   pub keys : all_apart links_alike links ≡ true
@@ -49,7 +49,7 @@ keys_left g key links a =
     apart_map links_alike links_alike g
     (λ x y e. ap (λ k. same_key k (g y).key) (key x) ∙ ap (same_key x.key) (key y) ∙ e) links a
 
--- A change of link rows in their floors alone
+-- A change only of the floors of link rows
 abbrev bare : LinkKey → LinkKey
 bare r = record r { kept = 0; stored = 0 }
 

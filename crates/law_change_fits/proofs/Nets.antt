@@ -1,4 +1,4 @@
--- Changes of network rows, and whether the rules stand after them.
+-- Changes of network rows, and whether the rules are kept after them.
 use Rattle.std.proofs.Common.{◌≡◌, ℕ, ◌+◌, ◌<◌, List, [], ◌∷◌, ◌++◌, length, map, refl, sym, ap, ◌∙◌, arith, Bool, true, false, not, if◌then◌else◌, ◌&&◌, Option, Some, None, length-append}
 use Rattle.std.specs.Prelude.{find, nat_lt}
 use Rattle.std.specs.List.{list_all}
@@ -227,7 +227,7 @@ dropped_net_kept key s r =
       pair_names = r.pair_names;
     }))
 
--- A network key is installed: there is room, and one live key at most.
+-- A network key is installed: there is room, and at most one live key.
 
 found_first : (key : Bytes) (nets more : List NetKey) → row_is_live (find (has_key key) nets) ≡ true
     → row_is_live (find (has_key key) (nets ++ more)) ≡ true

@@ -1,4 +1,4 @@
--- Changes of pairs, of the state and of the rollover, and whether the rules stand after them.
+-- Changes of pairs, of the state and of the rollover, and whether the rules are kept after them.
 use Rattle.std.proofs.Common.{◌≡◌, ℕ, ◌+◌, ◌<◌, ◌≤◌, List, [], ◌∷◌, ◌++◌, length, filter, refl, sym, ap, ◌∙◌, arith, Bool, true, false, not, if◌then◌else◌, ◌&&◌, ◌||◌, Some, min, max, length-append}
 use Rattle.std.specs.Prelude.{find, nat_lt, nat_eq, is_none}
 use Rattle.std.specs.List.{list_any, list_all}
@@ -10,7 +10,7 @@ use Rattle.zb_model.specs.Fits.{keeps_rules, role_is_kept, active_is_live, all_a
 use Rattle.law_change_fits.proofs.Tests.{both, same_both, any_same, all_filter, apart_filter, apart_snoc, filter_shorter}
 use Rattle.law_change_fits.proofs.Parts.{Rules, rules_of, rules_back, pairs_alike, pair_rule}
 
--- what the rules ask of pairs, and of the part that the node plays
+-- what the rules ask of pairs, and of the role that the node has
 pub record PairRules (s : NodeState) (pairs : List PairKey) : Type 0 where
   pub room : length pairs ≤ most_pairs
   pub command : list_all pair_rule pairs ≡ true

@@ -1,4 +1,4 @@
--- A link row is new or comes back into use, and whether the rules stand after it.
+-- A link row is new or is used again, and whether the rules are kept after it.
 use Rattle.std.proofs.Common.{◌≡◌, ℕ, ◌<◌, List, [], ◌∷◌, ◌++◌, length, refl, sym, ap, ◌∙◌, arith, Bool, true, false, not, if◌then◌else◌, ◌&&◌, ◌||◌, length-append}
 use Rattle.std.specs.Prelude.{nat_lt, nat_eq}
 use Rattle.std.specs.List.{list_any, list_all}
@@ -21,7 +21,7 @@ same_bool_sym false false = refl
 
 -- The rows of a partner in use are reported as the partner is.
 
--- a row of the partner in use that isn't told so
+-- a row of the partner in use whose mark as told differs
 abbrev is_odd : ℕ → Bool → LinkKey → Bool
 is_odd partner told r = is_live_of partner r && not (same_bool r.told told)
 
@@ -85,7 +85,7 @@ none_odd partner true links is apart = by_test (list_any (is_odd partner true) l
         absurd (not_apart told_apart (λ (r : LinkKey). is_live_of partner r && r.told) (is_odd partner true) one_way
         other_way not_both links is e apart)
 
--- where a partner is told, the node is the centre
+-- if a partner is told, the node is the centre
 told_centre : (role : Role) (partner : ℕ) (links : List LinkKey) → list_all (link_rule role) links ≡ true
     → list_any (λ (r : LinkKey). is_live_of partner r && r.told) links ≡ true → is_centre role ≡ true
 told_centre role partner links marks some =
@@ -159,7 +159,7 @@ module _ (partner : ℕ) (key : Bytes) (attribute : Attribute) (told : Bool) (ro
   back_keys x y e = ap (λ k. same_key k (back y).key) (back_key (is_link partner key x) x) ∙ ap (same_key x.key)
       (back_key (is_link partner key y) y) ∙ e
 
-  -- the row of the key beside another of the partner
+  -- the row of the key in addition to another row of the partner
   of_key : (x : LinkKey) → is_link partner key x ≡ true → (x.partner ≡ partner) × (x.key ≡ key)
   of_key x e =
       let parts = both (nat_eq x.partner partner) (same_key x.key key) e in
@@ -247,7 +247,7 @@ module _ (partner : ℕ) (key : Bytes) (attribute : Attribute) (told : Bool) (ro
     marks = all_map (link_rule role) (link_rule role) back back_mark links l.marks;
   }
 
-  -- and where it has a rival, the rules break
+  -- and if it has a rival, the rules break
   pub revived_broken : has_link partner key links ≡ true → list_any (is_rival partner key attribute) links ≡ true
       → all_apart kinds_alike (at_link partner key (revived attribute told) links) ≡ true → ⊥
   unfolding back

@@ -1,4 +1,4 @@
--- What tables forget, the floors of dropped network keys, is asked by no change.
+-- No change needs what tables forget, which are the floors of dropped network keys.
 use Rattle.std.proofs.Common.{◌≡◌, ℕ, List, [], ◌∷◌, length, map, filter, refl, sym, ap, ◌∙◌, Bool, true, false, not, if◌then◌else◌, ◌&&◌, Option, Some, None}
 use Rattle.std.specs.Prelude.{find, nat_le, nat_lt, option_map, is_some}
 use Rattle.std.proofs.lemmas.List.{length-map}

@@ -1,4 +1,4 @@
--- Tests of lists: what holds of their answers when a list grows, shrinks or is changed item by item.
+-- Tests of lists: what is true of their answers when a list grows, shrinks or is changed item by item.
 use Rattle.std.proofs.Common.{◌≡◌, ◌≤◌, List, [], ◌∷◌, ◌++◌, length, map, refl, sym, ap, ◌∙◌, arith, Bool, true, false, not, if◌then◌else◌, ◌&&◌, ◌||◌}
 use Rattle.std.specs.Prelude.{filter}
 use Rattle.std.specs.List.{list_any, list_all}
@@ -123,7 +123,7 @@ filter_shorter q (x ∷ xs) = at_test (q x) (filter_shorter q xs)
     at_test true le = omega (arith, le)
     at_test false le = omega (arith, le)
 
--- items that are apart
+-- items that differ
 
 -- one more item at the end
 pub apart_snoc : {X : Type 0} (alike : X → X → Bool) (xs : List X) (x : X) → all_apart alike (xs ++ x ∷ [])
@@ -140,7 +140,7 @@ apart_snoc alike (y ∷ ys) x =
     shuffle false true false d = refl
     shuffle false false c d = refl
 
--- a change of each item after which two are alike only where they were, where their keys agree, or where one is marked
+-- a change of each item after which two are alike only if they were before, if their keys agree, or if one is marked
 none_from : {X Y : Type 0} (p q r : X → Bool) (t : Y → Bool) (g : X → Y)
     → ((y : X) → p y ≡ false → q y ≡ false → r y ≡ false → t (g y) ≡ false)
     → (xs : List X) → list_any p xs ≡ false → list_any q xs ≡ false → list_any r xs ≡ false → list_any t (map g xs)
@@ -167,7 +167,7 @@ apart_from alike keyed new marked g each (x ∷ xs) a k m =
     (not-true _ two.0) three.1 in
     rw none (apart_from alike keyed new marked g each xs one.1 two.1 three.1)
 
--- a change of each item after which two are alike only where they were
+-- a change of each item after which two are alike only if they were before
 pub apart_map : {X Y : Type 0} (alike : X → X → Bool) (new : Y → Y → Bool) (g : X → Y)
     → ((x y : X) → alike x y ≡ false → new (g x) (g y) ≡ false)
     → (xs : List X) → all_apart alike xs ≡ true → all_apart new (map g xs) ≡ true
@@ -209,7 +209,7 @@ apart_filter alike q (x ∷ xs) a =
     at_test true here later = rw here later
     at_test false here later = later
 
--- two items that are alike both ways, wherever they stand, are not apart
+-- two items that are alike both ways, wherever they are, are not apart
 pub not_apart : {X : Type 0} (alike : X → X → Bool) (p q : X → Bool)
     → ((x y : X) → p x ≡ true → q y ≡ true → alike x y ≡ true)
     → ((x y : X) → p x ≡ true → q y ≡ true → alike y x ≡ true)

@@ -1,5 +1,5 @@
--- What a change asks of a state that keeps the rules for records, beside that it may be made: that the rules stand
--- after it. Each question speaks of the rows that the change touches.
+-- What a change asks of a state that keeps the rules for records, in addition to that it may be made: the rules are
+-- kept after it. Each question is about the rows that the change touches.
 use Rattle.std.specs.Prelude.{ℕ, Bool, true, not, ◌&&◌, ◌||◌, List, length, Option, Some, None, nat_eq, nat_lt}
 use Rattle.std.specs.List.{list_any}
 use Rattle.zb_model.specs.Data.{Bytes, Attribute, Nwk, Move, DropNet, Install, Row, Pair, Became, Roll, Edit, Floor, Moved}
@@ -15,7 +15,7 @@ floor_has_room sender value None = true
 floor_has_room sender value (Some r) = has_floor sender r.floors
     || (nat_lt 0 value && nat_lt (length r.floors) most_senders)
 
--- another row of the partner in use, which is offered where this one is to be, or else isn't
+-- another row of the partner in use, which is offered if and only if this one is to be offered
 abbrev pub is_rival : ℕ → Bytes → Attribute → LinkKey → Bool
 is_rival partner key attribute r = (is_live_of partner r && not (is_link partner key r))
     && same_bool (is_unverified r.attribute) (is_unverified attribute)

@@ -1,4 +1,4 @@
-//! When a change fits a state that keeps the rules for records: what is left to be asked, row by row, in place of all
+//! When a change fits a state that keeps the rules for records: the questions that remain, row by row, instead of all
 //! rules after the change. It is a crate of definitions (`specs/`), and its code carries the law.
 #![tactic(auto)]
 
@@ -10,7 +10,7 @@ ghost use Rattle.zb_model.specs.Fits.{keeps_rules, may_change, fits};
 
 /// States when a change fits a state that keeps the rules for records.
 ///
-/// It does exactly where it may be made and its own questions are answered well.
+/// It fits exactly if it may be made and its own questions have the right answers.
 #[tactic(auto, using(crate::proofs::FitLaws::fits_is))]
 pub fn fits_where_rules_stand()
     ensures { (e : Edit) (s : NodeState) → keeps_rules s ≡ true → fits e s ≡ (may_change e s && leaves_rules e s) }

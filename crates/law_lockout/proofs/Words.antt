@@ -115,7 +115,7 @@ pub locked_out : (tools : Tools) (lines : List Line) → Fresh tools lines → i
     → Locked tools lines → LockedOut tools lines
 locked_out tools lines apart all locked = out_from tools lines [] lines refl apart all locked
 
--- the reverse: what was sealed before an acceptance is sealed after the removal
+-- ---- the reverse: what was sealed before an acceptance is sealed after the removal
 
 back_line : (tools : Tools) (d : ℕ) (h after since : List Line) (l : Line) (later : List Line) → after ≡ since ++ l
     ∷ later → TakesNoneOf tools d h after since l → RefusesLine tools d h since l

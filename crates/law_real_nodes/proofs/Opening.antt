@@ -1,4 +1,4 @@
--- A real frame opens to what it was judged by, whichever source it leaves out.
+-- A real frame opens to the values by which it was verified, whichever source it leaves out.
 use Rattle.std.proofs.Common.{◌≡◌, ℕ, Option, Some, None, refl, ◌∙◌}
 use Rattle.std.specs.Prelude.{unwrap_or}
 use Rattle.zb_model_real.proofs.Showing.{aps-opens, nwk-opens}

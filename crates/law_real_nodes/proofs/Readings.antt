@@ -1,4 +1,4 @@
--- What the lines of a run say last of its nodes, for each schedule.
+-- What the last lines of a run say of its nodes, for each schedule.
 use Rattle.zb_model_real.specs.Real.{real}
 use Rattle.law_real_nodes.proofs.Euis.{different}
 use Rattle.law_real_nodes.proofs.Opening.{opens_as_judged, opens_real}

@@ -1,4 +1,4 @@
--- Each rule refuses for what it names, given what holds before each event of a run.
+-- Each rule refuses for the reason that it names, given what is true before each event of a run.
 use Rattle.std.proofs.Common.{◌≡◌, ℕ, ◌≤◌, ◌<◌, min, Bool, true, false, cond, not, ◌&&◌, ◌||◌, List, [], ◌∷◌, ◌++◌, filter, Option, Some, None, option_to_list, is_some, nat_eq, nat_le, eq-eqb, leb-true, arith, refl, sym, ap, ◌∙◌, subst, ◌⊎◌, inl, inr}
 use Rattle.std.proofs.Math.Nat.{min-eq_left, min-eq_right}
 use Rattle.std.proofs.lemmas.Bool.{false≢true, and_parts, leb-false}
@@ -77,7 +77,7 @@ unfolding member_timer
 timer-why tools c s there = gi (why_timer s) (usable_active s) _ _ (λ e x. e)
     (λ net e. timer-by tools c s s.state refl there)
 
--- the member that comes next is live
+-- the next member is live
 lt_le : {n m : ℕ} → n < m → n ≤ m
 lt_le less = omega (arith, less)
 
@@ -142,7 +142,7 @@ member-live s d e = by-case (next-live s.links None d e)
     by-case (inl f) = absurd (false≢true (ap is_some f))
     by-case (inr f) = f
 
--- the newest key, where there is an active row
+-- the newest key, if there is an active row
 abbrev Newest : NodeState → Type 0
 Newest s = is_some (active_row s) ≡ true → is_some (newest s) ≡ true
 
@@ -260,7 +260,7 @@ app-request-why c s m draw partner =
         (and_parts (is_verified_row (current s m.sender)) (is_verified_row (current s partner))
         (not-false (is_verified_row (current s m.sender) && is_verified_row (current s partner)) z)).0
 
--- what a hash proves is there
+-- a key that a hash proves is there
 not-proved : (tools : Tools) (hash : Bytes) (o : Option LinkKey) → o ≡ None → proves tools hash o ≡ true → ⊥
 not-proved tools hash o e f = false≢true (sym (ap (proves tools hash) e) ∙ f)
 

@@ -1,5 +1,6 @@
--- For what a rule refuses. Where a rule looks for what is there in every run, it names a refusal for where it isn't.
--- That refusal decides nothing: each reason comes only for what it is named for elsewhere in the rule.
+-- The reasons for which a rule refuses. If a rule looks for what is there in every run, it also names a refusal for
+-- its absence. That refusal decides nothing: each reason is given only for what it is named for elsewhere in the
+-- rule.
 use Rattle.std.specs.Prelude.{ℕ, ◌≡◌, ◌⊎◌, true, false, not, ◌&&◌, ◌||◌, List, Option, Some, None, nat_eq, ⊤}
 use Rattle.zb_model.specs.Data.{Bytes, Offered, NoKey, NotMember, WrongState, RowsFull, WrongHash, Policy, Place, AtNwk, Reason, Received}
 use Rattle.zb_model.specs.Lines.{Line}
@@ -16,13 +17,13 @@ abbrev pub RefusedFor : (Reason → Type 0) → Outcome → Type 0
 RefusedFor why (Stop reason) = why reason
 RefusedFor why (Does moves sending) = ⊤
 
--- the timer of a router or device in Offered: for want of a key only where it may use no active row
+-- the timer of a router or device in Offered: refuses as no-key only if it may use no active row
 abbrev pub why_timer : NodeState → Reason → Type 0
 why_timer s NoKey = s.state ≡ Offered → usable_active s ≡ None
 why_timer s _ = ⊤
 
--- the timer of the centre: for want of a key only where there is no active row; as out of place only where nothing is
--- being sent, or each member was
+-- the timer of the centre: refuses as no-key only if there is no active row; as wrong-state only if no key is being
+-- sent, or each member was sent it
 abbrev pub why_rollover : NodeState → Reason → Type 0
 why_rollover s NoKey = active_row s ≡ None
 why_rollover s WrongState = (s.sending ≡ false) ⊎ (next_member s ≡ None)
@@ -32,18 +33,18 @@ abbrev pub why_switch : NodeState → Reason → Type 0
 why_switch s NoKey = active_row s ≡ None
 why_switch s _ = ⊤
 
--- only where one of the two isn't live
+-- only if one of the two isn't live
 abbrev pub why_share : NodeState → ℕ → ℕ → Reason → Type 0
 why_share s device partner NotMember = (is_live s device && is_live s partner) ≡ false
 why_share s device partner _ = ⊤
 
--- only while it rejoins, or where another row than the offered one opened the command
+-- only while it rejoins, or if another row than the offered one opened the command
 abbrev pub why_confirm : Setting → NodeState → Heard → Reason → Type 0
 why_confirm c s m WrongState = (in_rejoining s.state ≡ true)
     ⊎ (row_is m.row (offered s (centre_of c.stations)) ≡ false)
 why_confirm c s m _ = ⊤
 
--- only where the request isn't one that the centre takes
+-- only if the request isn't one that the centre accepts
 abbrev pub why_request : Setting → NodeState → Heard → Reason → Type 0
 why_request c s m Policy = (is_centre c.me.role && under_current s m) ≡ false
 why_request c s m _ = ⊤
@@ -53,7 +54,7 @@ why_app_request c s m partner Policy =
     (is_centre c.me.role && (under_current s m && not (nat_eq partner m.sender || nat_eq partner c.me.eui))) ≡ false
 why_app_request c s m partner _ = ⊤
 
--- only where the hash proves neither key
+-- only if the hash proves neither key
 abbrev pub why_verify : Tools → NodeState → ℕ → Bytes → Reason → Type 0
 why_verify tools s device hash WrongHash = (proves tools hash (offered s device) ≡ false)
     × (proves tools hash (verified_current s device) ≡ false)

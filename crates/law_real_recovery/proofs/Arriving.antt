@@ -81,7 +81,7 @@ head f =
       extended = None;
     }
 
--- with the level that counts, and as it stands on the air
+-- with the level that counts, and as the term is on the air
 abbrev pub sealed_aux : KeyFrame → ApsAux
 sealed_aux f = record { control = 53; counter = f.counter; source = Some (eui_of f.centre) }
 

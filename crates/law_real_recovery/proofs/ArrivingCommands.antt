@@ -37,7 +37,7 @@ use Rattle.law_run_text.proofs.Ciphers.{crypted_length}
 
 -- ---- commands
 
--- a command that is spelled so, and isn't long, is understood
+-- a command that has this spelling, and isn't long, is understood
 pub record IsSpelled (c : Command) : Type 0 where
   pub means : real.read_command (real.spelled c) ≡ Known c
   pub short : length (command (command_for c)) ≤ 64

@@ -39,7 +39,7 @@ use Rattle.zb_sched.specs.Valid.{IsSchedule}
 
 -- ---- a run up to a front
 
--- a claim before each event holds before the events that are left
+-- a claim before each event is true before the events that are left
 pub left_over : (P : List Line → Event → Type 0) (tools : Tools) (w : Schedule) (xs ys : List Event) (x : Front)
     → BeforeEach P tools w x.lines x.disks x.number (xs ++ ys)
     → BeforeEach P tools w (after_events tools w x xs).lines (after_events tools w x xs).disks
@@ -74,7 +74,7 @@ front_in_range w xs ys e all =
     (subst (AllByRecursion LineInRange)
     (ap (λ l. start w ++ groups real w (start w) [] 1 l) e ∙ same_lines real w xs ys (first_front w)) run)
 
--- ---- the frame is in its ranges
+-- ---- the values of the frame are in their ranges
 
 net_among : (o : Option Bytes) (s : NodeState) (r : NetKey) → net_of_active o s ≡ Some r → In r s.nets
 net_among None s r e = absurd (false≢true (ap is_some e))

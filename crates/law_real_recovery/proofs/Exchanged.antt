@@ -138,7 +138,7 @@ drawn_fits p is h key e = drawn_at (schedule_of p).draws (draws_used h) key (sch
 
 -- ---- all of it
 
--- what is claimed of the node of an event, before each of the events that are left
+-- the claim on the node of an event, before each of the events that are left
 pub exchanged_at_the_end : (p : sched.Schedule) → IsSchedule p
     → (before : List Event) (c d : ℕ) (key : Bytes) (sequence : ℕ) (link drawn : Bytes)
     → (schedule_of p).events ≡ before

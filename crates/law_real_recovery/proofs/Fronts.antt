@@ -26,7 +26,7 @@ use Rattle.zb_model_real.specs.Real.{real}
 use Rattle.zb_sched.specs.Schedules as sched
 use Rattle.zb_sched.specs.Valid.{IsSchedule}
 
--- a named node is steady at the start: so it is before the one event of a schedule with these nodes
+-- a named node is steady at the start, because it is before the one event of a schedule with these nodes
 at_start : (w : model.Schedule) → model_schedules.IsSchedule w → euis_differ w ≡ true → (n : ℕ) → Names w n
     → IsSteady (setting_of w n) (state_of (start w) n)
 unfolding start setting_of euis_differ

@@ -1,4 +1,4 @@
--- A device is let in anew at the end of a schedule's run: what the laws over runs know of its front.
+-- A device is admitted again at the end of a schedule's run: what the laws over runs know of its front.
 use Rattle.std.proofs.Common.{◌≡◌, ℕ, ◌<◌, ◌^◌, ◌&&◌, Bool, true, false, List, [], ◌∷◌, ◌++◌, fold, length, nat_eq, sym, ap, ◌∙◌, subst, eqb-true}
 use Rattle.std.specs.List.{AllByRecursion}
 use Rattle.std.proofs.lemmas.Bool.{false≢true}

@@ -74,7 +74,7 @@ declared w n named = by_found (find (λ (p : Station). nat_eq p.eui n) (stations
     by_found (Some p) e some = let f = found-element (λ (p : Station). nat_eq p.eui n) (stations w) p e in
         record { station = p; found = e; among = f.0; mine = eqb-true p.eui n f.1; me = ap station_or e }
 
--- what every station keeps that is known of every node
+-- what every station keeps and what is known of every node
 pub of_nodes : (P : Station → Type 0) (Q : Node → Type 0) → ((m : Node) → Q m → P m.station) → (ms : List Node)
     → AllByRecursion Q ms → AllByRecursion P (map (λ (m : Node). m.station) ms)
 of_nodes P Q k [] all = tt

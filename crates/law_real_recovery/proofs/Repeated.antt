@@ -1,4 +1,4 @@
--- An exchange goes on at the end of a schedule's run: by turns that lose frames, where nodes are stopped, and by
+-- An exchange continues at the end of a schedule's run: by turns that lose frames, when nodes are stopped, and by
 -- rounds of rejoining that are stale.
 use Rattle.std.proofs.Common.{◌≡◌, ℕ, zero, suc, ◌<◌, List, [], ◌∷◌, ◌++◌, fold, length, refl, sym, ap, ◌∙◌, subst}
 use Rattle.std.specs.List.{AllByRecursion}
@@ -68,7 +68,7 @@ rounds_lead tools w c d (suc n) x =
     fold-append (after_event tools w) x (rejoin_events x c d) (round_events tools w c d n y)
     ∙ rounds_lead tools w c d n y
 
--- where the events of a schedule end with these, its run ends where they lead
+-- if the events of a schedule end with these, its run ends at the front that they lead to
 ends_there : (w : model.Schedule) (before rest : List Event) (y : Front) → w.events ≡ before ++ rest
     → after_events real w (after_events real w (first_front w) before) rest ≡ y
     → after_events real w (first_front w) w.events ≡ y
@@ -87,7 +87,7 @@ lines_in_range p is before rest e =
 
 -- ---- turns that lose frames
 
--- the key is drawn in the first turn that the centre hears
+-- the key is drawn in the first turn that the centre accepts
 drawn_in_turns : (p : sched.Schedule) → IsSchedule p → (x : Front) (c d : ℕ) (k : Keys) (turns : List Turn)
     → far_after_all Asking turns ≡ Done → AreFree real (schedule_of p) c d k x Asking turns → length k.drawn ≡ 16
 drawn_in_turns p is x c d k [] e free = absurd (cc)

@@ -1,5 +1,5 @@
--- A device gets a link key of its own at the end of a schedule's run. What is asked of the two nodes before the last
--- events: six where it has joined, and eight where it knocked.
+-- A device gets a link key of its own at the end of a schedule's run. This is what the law asks of the two nodes
+-- before the last events: six if the device has joined, and eight if it knocked.
 use Rattle.std.specs.Prelude.{ℕ, ◌≡◌, true, false, None}
 use Rattle.zb_model.specs.Data.{Aps, Bytes}
 use Rattle.zb_model.specs.Play.{Schedule, setting_of}
@@ -24,8 +24,8 @@ pub record MayExchange (w : Schedule) (x : Front) (c d : ℕ) (key : Bytes) (seq
   pub joined : HaveJoined w x c d key sequence link
 
 -- The centre c of a schedule and a device d of it, which knocked, have power, and nothing is armed on their disks.
--- Both have the link key of the device's code, and none is offered. The centre's network key is new to the device,
--- and nothing is in the way of its joining.
+-- Both have the link key of the device's code, and no key is offered. The centre's network key is new to the device,
+-- and nothing prevents the device from joining.
 pub record MayJoin (w : Schedule) (x : Front) (c d : ℕ) : Type 0 where
   pub centre_named : Names w c
   pub device_named : Names w d

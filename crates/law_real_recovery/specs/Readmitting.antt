@@ -1,5 +1,5 @@
--- A device is let in anew at the end of a schedule's run. What is asked of the two nodes before the last events, which
--- are eleven where the device is live at the centre, and ten where it isn't.
+-- A device is admitted again at the end of a schedule's run. This is what the law asks of the two nodes before the
+-- last events: eleven if the device is live at the centre, and ten if it isn't.
 use Rattle.std.specs.Prelude.{ℕ, ◌≡◌, true, false, Some, None}
 use Rattle.zb_model.specs.Data.{Aps, Bytes}
 use Rattle.zb_model.specs.Play.{Schedule, setting_of}
@@ -14,8 +14,8 @@ use Rattle.law_recovery.specs.Rejoining.{why_not_taken}
 use Rattle.law_recovery.specs.Fronts.{Front, IsReady}
 
 -- The centre c of a schedule and a device d of it have power, and nothing is armed on their disks. The device has the
--- key of its code, which is entered; the centre has a network key, which is new to the device, or which it knows.
--- Nothing is in the way of the first five events.
+-- key of its code, which is entered. The centre has a network key that is new to the device, or that the device
+-- knows. Nothing prevents the first five events.
 pub record MayReadmit (w : Schedule) (x : Front) (c d : ℕ) (network : Bytes) (sequence : ℕ) (key : Bytes) : Type 0
   where
     pub centre_named : Names w c

@@ -1,5 +1,5 @@
--- An exchange goes on at the end of a schedule's run, though frames are lost, nodes are stopped, or answers are stale:
--- the events, and what is asked of the two nodes before them.
+-- An exchange continues at the end of a schedule's run, although frames are lost, nodes are stopped, or answers are
+-- stale: the events, and what the laws ask of the two nodes before them.
 use Rattle.std.specs.Prelude.{ℕ, zero, suc, ◌≡◌, ◌<◌, ◌+◌, ◌-◌, true, false, List, [], ◌∷◌, ◌++◌, map, length, None}
 use Rattle.zb_model.specs.Commands.{dropped_at}
 use Rattle.zb_model.specs.Data.{Aps}
@@ -22,11 +22,11 @@ turns_events tools w c d x [] = []
 turns_events tools w c d x (turn ∷ turns) = turn_events x c d turn
     ++ turns_events tools w c d (after_turn tools w c d x turn) turns
 
--- those of an exchange in which nodes are stopped
+-- the events of an exchange in which nodes are stopped
 abbrev pub happening_events : ℕ → ℕ → List Happening → List Event
 happening_events c d happenings = map (happening_event c d) happenings
 
--- the events of that number of rounds of rejoining
+-- the events of that many rounds of rejoining
 abbrev pub round_events : Tools → Schedule → ℕ → ℕ → ℕ → Front → List Event
 round_events tools w c d zero x = []
 round_events tools w c d (suc n) x = rejoin_events x c d
@@ -50,8 +50,8 @@ pub record MayRejoinLater (w : Schedule) (x : Front) (c d n : ℕ) : Type 0 wher
   pub stale : linked.own.kept - next_counter Aps (state_of x.lines c) ≡ n
   pub counters : next_counter Aps (state_of x.lines c) + n < greatest_counter
 
--- The centre c of a schedule and a device d of it have power, and nothing is armed on their disks. They have come this
--- far in an exchange with these keys, which have 16 bytes.
+-- The centre c of a schedule and a device d of it have power, and nothing is armed on their disks. They are at this
+-- stage of an exchange with these keys, which have 16 bytes.
 pub record MayGoOn (w : Schedule) (x : Front) (c d : ℕ) (k : Keys) (far : Far) : Type 0 where
   pub centre_named : Names w c
   pub device_named : Names w d

@@ -1,5 +1,5 @@
--- A device joins through a router at the end of a schedule's run: what is asked of the three nodes before the last ten
--- events.
+-- A device joins through a router at the end of a schedule's run: what the law asks of the three nodes before the
+-- last ten events.
 use Rattle.std.specs.Prelude.{ℕ, ◌≡◌, true, false, nat_eq}
 use Rattle.zb_model.specs.Data.{Bytes}
 use Rattle.zb_model.specs.Play.{Schedule, setting_of}
@@ -15,8 +15,8 @@ use Rattle.law_recovery.specs.KeyExchange.{eui_of}
 use Rattle.law_recovery.specs.Relaying.{IsRouting}
 
 -- The centre c of a schedule, a router r of it that is a member, and a device d of it that knocked have power, and
--- nothing is armed on their disks. The centre and the device have the link key of the device's code, and none is
--- offered; the centre's network key is new to the device, or it knows the key.
+-- nothing is armed on their disks. The centre and the device have the link key of the device's code, and no key is
+-- offered. The centre's network key is new to the device, or the device knows the key.
 pub record MayRoute (w : Schedule) (x : Front) (c r d : ℕ) (router_link : Bytes) : Type 0 where
   pub centre_named : Names w c
   pub router_named : Names w r

@@ -1,4 +1,4 @@
--- A member rejoins at the end of a schedule's run: what is asked of the two nodes before the last three events.
+-- A member rejoins at the end of a schedule's run: what the law asks of the two nodes before the last three events.
 use Rattle.std.specs.Prelude.{ℕ, ◌≡◌, true, false, [], None}
 use Rattle.zb_model.specs.Data.{Aps}
 use Rattle.zb_model.specs.Play.{Schedule, setting_of, start}

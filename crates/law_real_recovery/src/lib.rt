@@ -1,5 +1,5 @@
-//! Nothing wedges, of real frames and of each schedule that a text gives. Each law is the contract of a function with
-//! an empty body; docs/THEOREMS.md says it in words.
+//! Nothing wedges, with real frames and for each schedule that a text gives. Each law is the contract of a function
+//! with an empty body; docs/THEOREMS.md says it in words.
 #![tactic(auto)]
 
 ghost use Rattle.std.specs.Prelude.{◌≡◌, ◌<◌, ℕ, suc, ◌++◌, true, false, List};
@@ -61,7 +61,7 @@ pub fn a_member_rejoins_in_each_schedule()
 
 /// States that the real frames of the exchange of link keys are understood as they were sealed.
 ///
-/// They are read, opened and understood so.
+/// They are read, opened and understood as sealed.
 pub fn real_frames_deliver_commands()
     ensures { DeliversCommands real }
 {}
@@ -84,7 +84,7 @@ pub fn a_device_is_confirmed_in_each_schedule()
 
 /// States that a device that knocked ends confirmed at the end of each schedule's run, unless an obstacle holds.
 ///
-/// The schedule ends with the eight events from the centre's answer on, and may have any events before them.
+/// The schedule ends with the eight events that begin with the centre's answer, and may have any events before them.
 pub fn a_device_joins_and_is_confirmed_in_each_schedule()
     ensures { (p : Schedule) → IsSchedule p → (before : List Event) (c d : ℕ) (drawn : Bytes)
         → (schedule_of p).events
@@ -99,10 +99,10 @@ pub fn a_device_joins_and_is_confirmed_in_each_schedule()
         may.introduced.net.key may.introduced.net.sequence drawn }
 {}
 
-/// States that a device is let in anew at the end of each schedule's run.
+/// States that a device is admitted again at the end of each schedule's run.
 ///
-/// That is so unless one of the named obstacles holds. The schedule ends with the removal where the device is live,
-/// its code, its knock, and the eight events of joining, and may have any events before them.
+/// This is so unless one of the named obstacles holds. The schedule ends with the removal if the device is live, its
+/// code, its knock, and the eight events of joining, and may have any events before them.
 pub fn a_device_is_readmitted_in_each_schedule()
     ensures { (p : Schedule) → IsSchedule p → (before : List Event) (c d : ℕ) (network : Bytes) (sequence : ℕ)
         (key drawn : Bytes) → (schedule_of p).events
@@ -121,15 +121,15 @@ pub fn a_device_is_readmitted_in_each_schedule()
 
 /// States that the real frames of a router's report and of a Tunnel are understood as they were sent.
 ///
-/// They are read, opened and understood so.
+/// They are read, opened and understood as sent.
 pub fn real_frames_deliver_relays()
     ensures { DeliversRelays real }
 {}
 
 /// States that a device joins through a router and is confirmed at the end of each schedule's run.
 ///
-/// The router is a member, and none of the named obstacles holds. The schedule ends with the ten events of joining so,
-/// and may have any events before them.
+/// The router is a member, and none of the named obstacles holds. The schedule ends with the ten events of this way
+/// of joining, and may have any events before them.
 pub fn a_device_joins_through_a_router_in_each_schedule()
     ensures { (p : Schedule) → IsSchedule p → (before : List Event) (c r d : ℕ) (router_link drawn : Bytes)
         → (schedule_of p).events
@@ -148,7 +148,7 @@ pub fn a_device_joins_through_a_router_in_each_schedule()
         may.introduced.net.key may.introduced.net.sequence drawn }
 {}
 
-/// States that lost frames cost a repeat each at the end of each schedule's run, and nothing else.
+/// States that each lost frame costs only a repeat at the end of each schedule's run.
 ///
 /// The schedule ends with turns of the exchange of link keys that may lose any frame, and may have any events before.
 pub fn lost_frames_cost_repeats_in_each_schedule()
@@ -166,10 +166,10 @@ pub fn lost_frames_cost_repeats_in_each_schedule()
         k.network k.sequence k.drawn }
 {}
 
-/// States that stops within the exchange of link keys cost repeats alone at the end of each schedule's run.
+/// States that stops during the exchange of link keys only cost repeats at the end of each schedule's run.
 ///
-/// The schedule ends with an exchange of link keys in which nodes are reset, stopped at any device call and booted. At
-/// its end both have power, and nothing is armed.
+/// The schedule ends with an exchange of link keys in which nodes are reset, stopped at any device call and booted.
+/// At its end both nodes have power, and nothing is armed.
 pub fn stops_cost_repeats_in_each_schedule()
     ensures { (p : Schedule) → IsSchedule p → (before : List Event) (c d : ℕ) (k : Keys) (happenings : List Happening)
         → (schedule_of p).events ≡ before ++ happening_events c d happenings
@@ -188,8 +188,9 @@ pub fn stops_cost_repeats_in_each_schedule()
 
 /// States that a member whose floor is above its centre's counter rejoins at the end of each schedule's run.
 ///
-/// The schedule ends with as many stale rounds, and one more. They are fewer than the member's incoming block where
-/// all that it accepted under its link key came from its centre.
+/// The schedule ends with as many stale rounds as the floor is above the counter, and one more round. The stale
+/// rounds are fewer than the member's incoming block, if all that it accepted under its link key came from its
+/// centre.
 pub fn stale_rounds_end_in_each_schedule()
     ensures rounds { (p : Schedule) → IsSchedule p → (before : List Event) (c d n : ℕ)
         → (schedule_of p).events
@@ -206,10 +207,11 @@ pub fn stale_rounds_end_in_each_schedule()
         → n < (setting_of (schedule_of p) d).me.in_block }
 {}
 
-/// States that stale turns are fewer than the incoming block of who refuses them, in each schedule's run.
+/// States that stale turns are fewer than the incoming block of the node that refuses them, in each schedule's run.
 ///
-/// After any events the two are at any stage of an exchange of link keys. Turn by turn the centre refuses the device's
-/// frame as stale, or the device the centre's answer. All that the one accepted of the other came from it.
+/// After any events the two are at any stage of an exchange of link keys. Turn by turn the centre refuses the
+/// device's frame as stale, or the device the centre's answer. All that the refusing node accepted from the other
+/// came from it.
 pub fn stale_turns_are_fewer_in_each_schedule()
     ensures at_centre { (p : Schedule) → IsSchedule p → (before : List Event) (c d : ℕ) (k : Keys) (far : Far) (n : ℕ)
         → MayGoOn (schedule_of p) (after_events real (schedule_of p) (first_front (schedule_of p)) before) c d k far

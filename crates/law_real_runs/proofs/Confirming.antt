@@ -103,7 +103,7 @@ verify-none cut bytes =
     follow-none Eui (eui_at cut r) (λ s r. follow (bytes_at 16 cut r) (λ h r. Ok (Verify k s h, r))) (λ s r.
     follow-none (List ℕ) (bytes_at 16 cut r) (λ h r. Ok (Verify k s h, r)) (λ h r. tt)))
 
--- what was read is shown, where no bytes are left
+-- what was read is shown, if no bytes are left
 known-none : (c : Command) → NoConfirm c → IsNone (Known (model_command c))
 known-none (TransportNetwork k q d s) n = tt
 known-none (TransportApplication k p i) n = tt

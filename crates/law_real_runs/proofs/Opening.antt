@@ -1,4 +1,4 @@
--- What a frame opens to is what it shows, as the laws ask for it.
+-- A frame opens to what it shows, as the laws ask.
 use Rattle.std.proofs.Common.{◌≡◌, ℕ, Option, Some, None, refl, ◌∙◌}
 use Rattle.std.specs.Prelude.{unwrap_or}
 use Rattle.law_run.specs.Opening.{Opens, shown_source}

@@ -1,4 +1,4 @@
--- What a frame of a node's own shows of keys, of the real tools.
+-- What a node's own frame shows of keys, with the real tools.
 use Rattle.law_run.specs.Commanding.{ShowsKeys}
 use Rattle.zb_model_real.specs.Real.{real}
 use Rattle.law_real_runs.proofs.Keys.{shows-plain, shows-clear, shows-command, shows-telling}

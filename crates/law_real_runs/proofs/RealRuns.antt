@@ -1,4 +1,4 @@
--- The laws over every run, of real frames.
+-- The laws over every run, for real frames.
 use Rattle.std.proofs.Common.{◌≡◌, List, [], ◌∷◌, ◌++◌, length, true}
 use Rattle.law_run_counters.proofs.Floors.{floors-are-for}
 use Rattle.law_run_counters.proofs.Unique.{counted, unique}

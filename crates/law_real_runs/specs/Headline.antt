@@ -1,5 +1,5 @@
--- What holds of the run of a schedule with real frames, as one record: the claims on transcripts. But for the two
--- words of the end line they ask nothing of the air, of the disks, or of the strength of the cipher.
+-- What is true of the run of a schedule with real frames, as one record: the claims on transcripts. Except for the
+-- two words of the end line, they ask nothing of the air, of the disks, or of the strength of the cipher.
 use Rattle.std.specs.Prelude.{ℕ, ◌≡◌, true, List, [], ◌∷◌}
 use Rattle.law_run_counters.specs.Counted.{Counted}
 use Rattle.law_run_counters.specs.Floors.{FloorsAreFor}
@@ -35,9 +35,9 @@ pub record Holds (w : Schedule) : Type 0 where
   pub floors : FloorsAreFor w (transcript real w)
   -- a node that answers counter-spent is at the greatest counter, 2^32 - 1, at one of the layers
   pub spent : Each SpentLine [] (transcript real w)
-  -- before each event every node has what the rules take for granted, so none is refused for want of it
+  -- before each event every node has what the rules take for granted, so no rule refuses because it is missing
   pub granted : BeforeEach (λ (h : List Line) (event : Event). (n : ℕ) → Granted w h n) real w (start w) [] 1 w.events
-  -- so the centre answers no-draw only where the supply is empty
+  -- so the centre answers no-draw only if the supply is empty
   pub draws : BeforeEach (λ (h : List Line) (event : Event). (n : ℕ) → DrawsAreThere real w h n) real w (start w) [] 1
       w.events
   -- no event of a node's own is refused as policy
@@ -50,5 +50,5 @@ pub record Holds (w : Schedule) : Type 0 where
   pub once : Once (transcript real w)
   -- only stored keys are confirmed
   pub confirms : Confirms real (transcript real w)
-  -- where the end line says `yes yes`, a removed device that isn't admitted again is locked out
+  -- if the end line says `yes yes`, a removed device that isn't admitted again is locked out
   pub locked : EndsYesYes (transcript real w) → Locked real (transcript real w)

@@ -57,7 +57,7 @@ free_plan tools m t f own draw x knocked fresh none =
 abbrev last_moves : Bytes → ℕ → List Move
 last_moves key sequence = Install key sequence ∷ Active key ∷ Became Joined ∷ []
 
--- where the last two moves lead
+-- the state after the last two moves
 record Leads (t : NodeState) (key : Bytes) (sequence : ℕ) (ms : List Move) : Type 0 where
   of : AllByRecursion OfExchange ms
   rows : List NetKey

@@ -40,7 +40,7 @@ refuses tools c s device via role =
 
 -- ---- what a frame that is sent leaves
 
--- the network rows are the same but for limits, counters and floors; link rows, state and active key are the same
+-- the network rows are the same except limits, counters and floors; link rows, state and active key are the same
 pub record Same (s u : NodeState) : Type 0 where
   pub nets : map bare_net u.nets ≡ map bare_net s.nets
   pub active : u.active ≡ s.active

@@ -32,7 +32,7 @@ key_test key r = same_key r.key key
 abbrev pub of_sender : ℕ → SenderFloor → Bool
 of_sender source f = nat_eq f.sender source
 
--- the row of a key is there, and has such floors
+-- the row of a key is there, and its floors have a property
 pub record AtKey (P : List SenderFloor → Type 0) (key : Bytes) (rs : List NetKey) : Type 0 where
   pub row : NetKey
   pub found : find (key_test key) rs ≡ Some row

@@ -81,7 +81,7 @@ pub record IsNew (w : Schedule) (x : Front) (c d : ℕ) (can : CanJoin w x c d) 
   pub none_offered : offered (state_of x.lines c) (eui_of w d) ≡ None
   pub key_is_new : has_net can.introduced.net.key (state_of x.lines d).nets ≡ false
 
--- the front at which such a device has joined, and the eight events that begin with the knock
+-- the front at which this device has joined, and the eight events after the knock
 abbrev pub joined_front : Tools → Schedule → Front → ℕ → ℕ → Front
 joined_front tools w x c d = after_events tools w x (join_events x c d)
 

@@ -21,7 +21,7 @@ entry_events live c d key =
 abbrev pub entry_events_at : Front → ℕ → ℕ → Bytes → List Event
 entry_events_at x c d key = entry_events (is_live (state_of x.lines c) d) c d key
 
--- the front at which such a device has knocked
+-- the front at which this device has knocked
 abbrev pub knocked_front : Tools → Schedule → Front → ℕ → ℕ → Bytes → Front
 knocked_front tools w x c d key = after_events tools w x (entry_events_at x c d key)
 

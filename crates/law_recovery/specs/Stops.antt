@@ -30,7 +30,7 @@ pub record HaveKept (w : Schedule) (x : Front) (c d : ℕ) (k : Keys) (far : Far
 
 -- ---- what happens
 
--- What happens in such an exchange.
+-- What happens in this exchange.
 pub data Happening : Type 0 where
   -- the device's timer runs
   Timer : Happening

@@ -84,7 +84,7 @@ pub fn the_centre_offers_its_key_again()
 
 /// States that a joined device keeps the key that is offered to it, and when it doesn't.
 ///
-/// The key is new to it: it has no row of the centre with that key. No frame goes out.
+/// The key is new to it: it has no row of the centre with that key. No frame is sent.
 pub fn a_joined_device_keeps_an_offered_key()
     ensures refused { (tools : Tools) → DeliversCommands tools → (c m : Setting) (t : NodeState) (k : Seals)
         (key : Bytes) (draw : Option Bytes) → AreDeclared c m → StationsInRange c m → NwkInRange k → ApsInRange k

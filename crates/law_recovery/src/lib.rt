@@ -72,7 +72,7 @@ pub fn a_rollover_stops_at_a_spent_counter()
         → LacksCounters s (length (untold s)) → SpentWithin tools c (length (untold s)) s }
 {}
 
-/// States that a member that rejoins waits for a network key afterwards, and that nothing else changes.
+/// States that a member that rejoins waits for a network key afterwards, and nothing else changes.
 ///
 /// A node that hasn't joined is refused as wrong-state. So is one that already waits, and it still waits.
 pub fn a_member_asks_to_rejoin()

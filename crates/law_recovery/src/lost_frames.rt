@@ -107,7 +107,7 @@ pub fn a_stop_costs_a_repeat()
         → EndsConfirmed w (after_turns tools w c d x turns) c d k.network k.sequence k.drawn }
 {}
 
-/// States that, if no disk stops or fails, frames of the exchange are on the air and stay there.
+/// States that frames of the exchange are on the air and stay there, if no disk stops or fails.
 ///
 /// The device's timer sends its frame, and the centre that receives it sends its own. Each is the next on the air.
 pub fn frames_of_the_exchange_are_on_the_air()
@@ -143,7 +143,7 @@ pub fn stale_rounds_are_fewer_than_a_block()
 
 /// States that the turns whose frames the centre refuses as stale are fewer than its incoming block.
 ///
-/// All that it accepted from the device came from the device. Both nodes are at the same stage afterwards.
+/// This asks that all that the centre accepted from the device came from it. Both nodes keep their stage.
 pub fn stale_turns_are_fewer_than_a_block()
     ensures fewer { (tools : Tools) → DeliversCommands tools → OpensAsJudged tools → (w : Schedule) (x : Front)
         (c d : ℕ) (k : Keys) (far : Far) (n : ℕ) → KeysInRange k.network k.sequence k.link → length k.drawn ≡ 16
@@ -156,8 +156,8 @@ pub fn stale_turns_are_fewer_than_a_block()
 
 /// States that the turns whose answers the device refuses as stale are fewer than its incoming block.
 ///
-/// All that it accepted from the centre came from the centre. If the centre answered before, both nodes are at the
-/// same stage afterwards, so the next answer that isn't stale leads to the next stage.
+/// This asks that all that the device accepted from the centre came from it. If the centre answered before, both
+/// nodes keep their stage, so the next answer that isn't stale leads to the next stage.
 pub fn stale_answers_are_fewer_than_a_block()
     ensures fewer { (tools : Tools) → DeliversCommands tools → OpensAsJudged tools → (w : Schedule) (x : Front)
         (c d : ℕ) (k : Keys) (far : Far) (n : ℕ) → KeysInRange k.network k.sequence k.link → length k.drawn ≡ 16

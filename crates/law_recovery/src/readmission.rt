@@ -22,7 +22,7 @@ ghost use Rattle.zb_model.specs.Rules.{Setting, centre_of};
 ghost use Rattle.zb_model.specs.State.{LinkKey, NodeState, code_row, is_centre, is_live, next_counter};
 ghost use Rattle.zb_model.specs.Tools.{Tools};
 
-/// States that the centre removes a live device, and that none of the device's rows is live then.
+/// States that the centre removes a live device, and none of the device's rows is live then.
 ///
 /// The active network key stays, and so does what the rule for a code looks up among the rows. If the centre itself
 /// is the device's parent, nothing is sealed at APS.

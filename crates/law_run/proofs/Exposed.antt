@@ -47,7 +47,7 @@ holds-one k = or-left (same_key k k) false (same_key-refl k)
 one-holds : (x k : Bytes) → holds (x ∷ []) k ≡ true → k ≡ x
 one-holds x k e = ⊎_elim (λ a. same_key-eq k x a) (λ a. absurd (false≢true a)) (or_cases (same_key k x) false e)
 
--- one key more
+-- one more key
 
 with-grows-by : (b : Bool) (xs : List Bytes) (x : Bytes) → Within xs (cond b xs (xs ++ x ∷ []))
 with-grows-by true xs x k e = e

@@ -456,7 +456,7 @@ codes-ever : (h : List Line) (d : ℕ) (k : Bytes) → In k (codes_of h d) → I
 unfolding codes_of ever
 codes-ever h d k i = from-ever code_in code-ever [] d h k i
 
--- what comes to a device is not a safe key, if the run is ideal
+-- a key that comes to a device is not safe, if the run is ideal
 
 any-term : (test : Term → Bool) (ts : List Term) → list_any test ts ≡ true → (t : Term) × In t ts × (test t ≡ true)
 unfolding In

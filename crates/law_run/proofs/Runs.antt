@@ -67,7 +67,7 @@ unfolding setting_of station_of
 me-of w i n named = me-by (map without_blocks (stations w)) n (station_of (stations w) n) named
     (found-is IsStation (λ p. nat_eq p.eui n) (stations w) (are-stations w.nodes i.nodes))
 
--- Others are known as they are declared, but for their blocks.
+-- Others are known as they are declared, except their blocks.
 
 pub some-map : {X Y : Type 0} (f : X → Y) (o : Option X) → is_some (option_map f o) ≡ is_some o
 some-map f None = refl

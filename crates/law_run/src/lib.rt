@@ -98,9 +98,9 @@ pub fn outsiders_are_refused()
 ///
 /// The two words say that the run was ideal and forgery private. Until the device is admitted again, it obtains no
 /// key that is drawn after its removal:
-/// - No such key is installed at it.
-/// None can be opened in what was sealed or forged, by somebody who holds the well-known key and all keys that the
-/// device ever held.
+/// - None of these keys is installed at the device.
+/// - None can be opened in what was sealed or forged, by somebody who holds the well-known key and all keys that the
+///   device ever held.
 ///
 /// `KeysApart` is about the schedule: its keys are different keys. `ShowsKeys` is about the frames: if a node's own
 /// frame shows a key, it is the key of the command in that frame.
@@ -149,7 +149,7 @@ pub fn who_has_spent_its_counters_stands_at_the_end()
 
 /// States that a reserved limit is one outgoing block ahead of the counter, or the greatest counter.
 ///
-/// It is reserved only where the next counter has reached the stored limit.
+/// It is reserved only if the next counter has reached the stored limit.
 pub fn a_reserve_is_one_block()
     ensures { (c : Setting) (s : NodeState) (send : Option Sending) (layer : Layer) (v : ℕ)
         → reserve_of c s send layer ≡ Some v

@@ -1,4 +1,4 @@
--- The frames that a node sends are of bytes, and at most 127.
+-- The frames that a node sends consist of bytes, at most 127 of them.
 use Rattle.std.proofs.Common.{◌≡◌, ℕ, zero, suc, ◌+◌, ◌≤◌, ◌/◌, ◌^◌, mod-lt, Bool, true, false, cond, not, ◌&&◌, ◌||◌, [], ◌∷◌, ◌++◌, length, nat_le, is_some, Option, Some, None, IfSome, refl, sym, ap, ◌∙◌, arith, length-append, leb-false}
 use Rattle.std.specs.List.{AllByRecursion}
 use Rattle.std.specs.Int.{bytes_low_first, byte_at}
@@ -119,7 +119,7 @@ aps_term_in front l key source counter content f le k e n b = record {
 
 -- ---- what is sealed at APS, and the bytes at NWK
 
--- so many bytes go into a frame that is secured at NWK, and into one that isn't
+-- that many bytes fit in a frame that is secured at NWK, and in one that isn't
 abbrev room : Bool → ℕ
 room true = 101
 room false = 119
@@ -198,7 +198,7 @@ part_in tools me to nwk aps false (Relayed bytes) keeps e b n =
     record { seals = tt; bytes = b.1; fits = omega (arith, b.2) }
 part_in tools me to nwk aps true (Relayed bytes) keeps e b n = absurd (false≢true (sym b.0))
 
--- ---- what goes out
+-- ---- what is sent
 
 pub record OutInRange (out : Outgoing) : Type 0 where
   pub seals : AllByRecursion TermInRange out.seals

@@ -1,4 +1,4 @@
--- A delivered frame comes to what is in its range.
+-- The outcome of a delivered frame is in its range.
 use Rattle.std.proofs.Common.{◌≡◌, ℕ, Bool, true, false, nat_eq, List, [], ◌∷◌, ◌++◌, find, reverse, length, Option, Some, None, IfSome, refl, arith}
 use Rattle.std.specs.List.{AllByRecursion}
 use Rattle.std.specs.Prelude.{option_to_list}
@@ -58,7 +58,7 @@ net_in tools c s bytes aux keeps is b =
     (λ t is_term.
     reject_in TermInRange _ _ _ _ tt (reject_in TermInRange _ _ _ _ tt (reject_in TermInRange _ _ _ _ tt is_term))))))
 
--- what stands at the NWK layer once it passed
+-- what the NWK layer gives after it passed
 abbrev CarrierInRange : Carrier → Type 0
 CarrierInRange k = IsShort k.frame.body × IfSome k.term TermInRange
 

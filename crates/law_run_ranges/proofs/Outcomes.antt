@@ -1,4 +1,4 @@
--- What rules come to: the steps of their chains.
+-- The outcomes of rules: the steps of their chains.
 use Rattle.std.proofs.Common.{◌≡◌, ◌≤◌, Bool, true, false, length, Option, Some, None, IfSome, refl}
 use Rattle.std.specs.Prelude.{⊤}
 use Rattle.std.specs.List.{AllByRecursion}

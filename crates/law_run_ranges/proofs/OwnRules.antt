@@ -1,4 +1,4 @@
--- What each event of a node's own comes to is in its range.
+-- The outcome of each event of a node's own is in its range.
 use Rattle.std.proofs.Common.{ℕ, Bool, true, false, cond, not, ◌&&◌, nat_eq, is_some, List, [], ◌∷◌, find, Option, Some, None, IfSome, arith}
 use Rattle.std.specs.List.{AllByRecursion}
 use Rattle.zb_model.specs.Data.{Bytes, Nwk, ForData, RemoveDevice, Active, Roll, State, Joined, Offered, Move, Task, SayTo, TellTo, DoKnock, DoRejoin, DoTimer, AskFor, HasChild, DoProvision, DoRemove, DoRoll, DoSwitch, DoAgain, DoShare}

@@ -101,7 +101,7 @@ drop_old_in s is =
     (first_in _
     (filtered NetInRange (λ (r : NetKey). not (is_active_key s.active r.key)) (live_nets s) (live_in s is))) tt
 
--- ---- whom a rollover reaches next
+-- ---- the device that a rollover reaches next
 
 least_in : (o : Option ℕ) (n : ℕ) → IfSome o IsEui → IsEui n → IfSome (least o n) IsEui
 least_in None n is e = e

@@ -1,5 +1,5 @@
--- All lines of a run are in their ranges: what the lines so far say of a node is in its range, so what its next answer
--- says is.
+-- All lines of a run are in their ranges: what the lines so far say of a node is in its range, and so is what its
+-- next answer says.
 use Rattle.std.proofs.Common.{◌≡◌, ℕ, ◌+◌, ◌*◌, ◌-◌, ◌≤◌, Bool, true, false, cond, nat_eq, List, [], ◌∷◌, ◌++◌, map, find, fold, flat_map, length, slice_get, Option, Some, None, IfSome, option_map, is_some, refl, sym, ap, ◌∙◌, subst, arith, length-append}
 use Rattle.std.specs.List.{AllByRecursion}
 use Rattle.std.proofs.lemmas.Bool.{false≢true}
@@ -31,7 +31,7 @@ use Rattle.law_run_ranges.proofs.Outcomes.{SettingInRange, StationHasEui}
 use Rattle.law_run_ranges.proofs.Records.{few_nets, record_in}
 use Rattle.law_run_ranges.proofs.States.{state_in, air_in}
 
--- ---- how many lines tell of frames, terms and refusals
+-- ---- how many lines are about frames, terms and refusals
 
 abbrev one : Line → ℕ
 one (Accept e n t) = 1
@@ -80,7 +80,7 @@ air_bounded : (h : List Line) → length (air h) ≤ told h
 unfolding air
 air_bounded h = omega (arith, frames_bounded [] h)
 
--- ---- the lines of a group: in their ranges, and at most six of them tell
+-- ---- the lines of a group: in their ranges, and at most six of them are about these
 
 record GroupInRange (g : List Line) : Type 0 where
   lines : AllByRecursion LineInRange g

@@ -1,5 +1,5 @@
--- What is asked so that all values in the lines of a run are in their ranges: of the values that a schedule declares
--- and its events bring, and of the tools.
+-- What the law asks so that all values in the lines of a run are in their ranges: of the values that a schedule
+-- declares and its events bring, and of the tools.
 use Rattle.std.specs.Prelude.{◌≡◌, ◌≤◌, ◌+◌, ℕ, length, IfSome, ⊤}
 use Rattle.std.specs.List.{AllByRecursion}
 use Rattle.zb_model.specs.Data.{Bytes, Term, Command, TransportNet, TransportApp, TransportLink, UpdateDevice, RemoveDevice, RequestApp, RequestLink, SwitchKey, Tunnel, VerifyKey, ConfirmKey, Task, SayTo, TellTo, DoKnock, DoRejoin, DoTimer, AskFor, HasChild, DoProvision, DoRemove, DoRoll, DoSwitch, DoAgain, DoShare, Received}
@@ -11,7 +11,7 @@ use Rattle.law_run_ranges.specs.Ranges.{IsCount, IsEui, IsByte, AreBytes, IsKey,
 
 -- ---- the schedule
 
--- the longest application data, and what an outsider forges at most, in bytes
+-- the longest application data, and the most that an outsider forges, in bytes
 abbrev pub longest_content : ℕ
 longest_content = 64
 
@@ -23,7 +23,7 @@ most_events = 100000
 abbrev pub longest_tunnelled : ℕ
 longest_tunnelled = 118
 
--- the longest command but a Tunnel, in bytes
+-- the longest command other than a Tunnel, in bytes
 abbrev pub longest_plain : ℕ
 longest_plain = 35
 
@@ -88,7 +88,7 @@ CommandInRange (Tunnel destination inner) = IsEui destination × AreBytes inner 
 CommandInRange (VerifyKey kind source hash) = IsByte kind × IsEui source × IsKey hash
 CommandInRange (ConfirmKey status kind destination) = IsByte status × IsByte kind × IsEui destination
 
--- every command but a Tunnel
+-- every command other than a Tunnel
 abbrev pub IsPlain : Command → Type 0
 IsPlain (Tunnel destination inner) = ⊥
 IsPlain _ = ⊤
@@ -98,12 +98,13 @@ ShownInRange (Known command) = CommandInRange command
 ShownInRange Unknown = ⊤
 ShownInRange Broken = ⊤
 
--- what an APS frame shows: the source that may stand in it, and its payload where that isn't secured
+-- what an APS frame shows: the source that may be in it, and its payload if that isn't secured
 abbrev pub ApsInRange : ApsShown → Type 0
 ApsInRange a = IsShort a.body × IfSome a.auxiliary (λ (x : ApsAuxiliary). IfSome x.source IsEui)
 
--- What is sealed, spelled and hashed is of bytes; a sealed term has 4 bytes more than its header and its content, and
--- a command but a Tunnel at most 35. What is read of such bytes, and what they open to, is in its range.
+-- What is sealed, spelled and hashed consists of bytes. A sealed term has 4 bytes more than its header and its
+-- content, and a command other than a Tunnel has at most 35. What is read from such bytes, and what they open to, is
+-- in its range.
 pub record KeepsRanges (tools : Tools) : Type 0 where
   pub wire : (t : Term) → TermInRange t → AreBytes (tools.wire t)
   pub wire_length : (t : Term) → TermInRange t → length (tools.wire t) ≡ length t.header + length t.content + 4

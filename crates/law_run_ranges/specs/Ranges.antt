@@ -1,5 +1,5 @@
--- The ranges of what stands in lines: addresses have 64 and 16 bits, counters and numbers 32, sequences of network
--- keys 8, keys 16 bytes, and what goes on the air at most 127.
+-- The ranges of the values in lines. Addresses have 64 and 16 bits, counters and numbers 32, sequences of network
+-- keys 8. Keys have 16 bytes, and a frame on the air has at most 127 bytes.
 use Rattle.std.specs.Prelude.{◌≡◌, ◌<◌, ◌≤◌, ◌^◌, ℕ, length, ⊤}
 use Rattle.std.specs.List.{AllByRecursion}
 use Rattle.zb_model.specs.Data.{Bytes, Station, Term, Move, Draw, DropNet, DropLink, Install, Active, Row, Pair, Became, Live, Removed, Roll, Told, Untold, Edit, Reserve, Floor, Start, Moved, Reason, Stale, KeyOld, KeyInUse}
@@ -72,7 +72,7 @@ ReasonInRange (KeyOld place) = IsCount place
 ReasonInRange (KeyInUse partner) = IsEui partner
 ReasonInRange _ = ⊤
 
--- The values in a line are in their ranges. An accepted counter isn't the greatest, so that the floor above it is a
+-- The values in a line are in their ranges. An accepted counter isn't the greatest, so the floor above it is a
 -- counter.
 abbrev pub LineInRange : Line → Type 0
 LineInRange (Declared p) = StationInRange p

@@ -12,10 +12,10 @@ ghost use Rattle.law_answer_storable.specs.Storing.{OpensAsJudged};
 
 /// States that in each line of a run the values are in the ranges of their fields.
 ///
-/// That is so where the schedule's values are.
+/// This is so if the schedule's values are in their ranges.
 ///
-/// Counters, limits, floors, numbers and addresses fit; keys have 16 bytes; frames, headers and contents are of bytes,
-/// at most 127 each.
+/// Counters, limits, floors, numbers and addresses fit; keys have 16 bytes; frames, headers and contents consist of
+/// bytes, at most 127 each.
 #[tactic(auto, using(crate::proofs::Runs::in_range))]
 pub fn the_values_of_lines_are_in_their_ranges()
     ensures { (tools : Tools) → OpensAsJudged tools → KeepsRanges tools → (w : Schedule) → IsSchedule w

@@ -354,5 +354,5 @@ unfolding role last_said state_of
 role_said h n = last_own n role_in h None Device ∙ sym
     (along (λ (s : NodeState). s.role) role_after role_line h n (new_node Device))
 
--- what the law of rows stands on
+-- what the law of rows rests on
 pub ruleset rows_decide = (rolling_said, keys_said, nets_said, rows_said, links_said, lives_said, role_said)

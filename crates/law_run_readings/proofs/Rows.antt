@@ -51,7 +51,7 @@ has_row key (r ∷ rs) e = by_test (same_key r.key key) e (has_row key rs)
     by_test true e k = absurd (none-some r (sym e))
     by_test false e k = k e
 
--- one row more
+-- one more row
 pub new_row_other : (x : NetKey) (key : Bytes) (nets : List NetKey) → same_key x.key key ≡ false
     → row_at key (nets ++ x ∷ []) ≡ row_at key nets
 new_row_other x key [] other = ap (λ b. cond b (Some x) None) other

@@ -12,7 +12,7 @@ use Rattle.law_run_readings.specs.RowLines.{tells}
 
 -- ---- what is asked of lines
 
--- by the line the node makes the device live; such a line is still to come
+-- the node makes the device live by the line; a line that does this is still to come
 abbrev pub MakesLive : ℕ → ℕ → Line → Type 0
 MakesLive n d (Changed e m (Moved (Live x))) = (m ≡ n) × (x ≡ d)
 MakesLive n d _ = ⊥

@@ -1,4 +1,4 @@
--- What the cipher, the hash and the seal make of bytes is bytes.
+-- The cipher, the hash and the seal turn bytes into bytes.
 use Rattle.std.proofs.Common.{◌≡◌, ℕ, zero, suc, ◌+◌, ◌*◌, ◌/◌, ◌%◌, ◌^◌, ◌<◌, ◌≤◌, List, [], ◌∷◌, ◌++◌, map, take, drop, length, replicate, get_or, slice_index, fold, flat_map, bit_xor, mod-lt, refl, ap, ◌∙◌, arith, add-one, length-append, length-take, length-drop}
 use Rattle.std.specs.Int.{w16, w32, w64, bytes_low_first, bytes_high_first, byte_at, to_be_bytes, to_le_bytes}
 use Rattle.std.specs.List.{range_with_len}

@@ -1,4 +1,4 @@
--- Each line of a run is of a declared node, or of none.
+-- Each line of a run is of a declared node, or of no node.
 use Rattle.std.proofs.Common.{◌≡◌, ℕ, ◌+◌, ◌||◌, Bool, true, false, cond, List, [], ◌∷◌, ◌++◌, map, find, flat_map, length, Option, Some, None, is_some, nat_eq, refl, sym, ap, ◌∙◌, eqb-true, eq-eqb}
 use Rattle.std.specs.List.{AllByRecursion, list_any}
 use Rattle.std.proofs.lemmas.Bool.{false≢true}

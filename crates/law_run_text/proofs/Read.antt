@@ -1,4 +1,4 @@
--- What is read of bytes, and what they open to, is in its range.
+-- What is read from bytes, and what they open to, is in its range.
 use Rattle.std.proofs.Common.{◌≡◌, ℕ, ◌+◌, ◌^◌, ◌<◌, ◌≤◌, Bool, true, false, cond, List, [], ◌∷◌, ◌++◌, flat_map, length, bytes_eq, Option, Some, None, IfSome, option_map, Result, Ok, Err, refl, ap, subst, arith, length-append}
 use Rattle.std.specs.Int.{w16, w32}
 use Rattle.zb_aps.specs.Reading as aps

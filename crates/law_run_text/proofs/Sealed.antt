@@ -1,4 +1,4 @@
--- What is sealed and spelled is of bytes, and how long it is.
+-- What is sealed and spelled consists of bytes; and its length.
 use Rattle.std.proofs.Common.{◌≡◌, ℕ, zero, suc, ◌+◌, ◌-◌, ◌≤◌, Bool, true, false, cond, List, [], ◌∷◌, ◌++◌, length, nat_le, refl, arith, length-append}
 use Rattle.std.specs.Int.{w16, w64, to_le_bytes}
 use Rattle.zb_ccm.specs.Ccm.{sealed, crypted, mic_of}

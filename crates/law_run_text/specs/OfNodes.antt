@@ -1,4 +1,4 @@
--- Lines of a run are of nodes that its schedule declares, or of none.
+-- Lines of a run are of nodes that its schedule declares, or of no node.
 use Rattle.std.specs.Prelude.{◌≡◌, Bool, true, List, ⊤}
 use Rattle.std.specs.List.{AllByRecursion}
 use Rattle.zb_model.specs.Data.{Station}
@@ -16,7 +16,7 @@ abbrev pub DeclaresOne : List Station → Line → Type 0
 DeclaresOne known (Declared p) = IsOneOf known p
 DeclaresOne known _ = ⊤
 
--- a line is of one of these nodes or of none, and a node that it declares is one of them
+-- a line is of one of these nodes or of no node, and a node that it declares is one of them
 abbrev pub IsOfSchedule : List Station → Line → Type 0
 IsOfSchedule known l = IsOfNodes known l × DeclaresOne known l
 

@@ -5,7 +5,7 @@ use Rattle.zb_model.specs.Lines as log
 use Rattle.zb_trace_model.specs.Said.{line_for}
 use Rattle.zb_trace.specs.Text.{Word, Called, CalledOrNobody, MayStand, words}
 
--- which words may stand in a line, but for names
+-- which words may be in a line, except for names
 abbrev pub MayBe : Word → Type 0
 MayBe (Called name) = Unit {0}
 MayBe (CalledOrNobody name) = Unit {0}

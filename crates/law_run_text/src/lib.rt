@@ -23,8 +23,8 @@ use zb_trace_read::{TraceError, read_lines};
 
 /// States that real frames keep to the ranges.
 ///
-/// What is sealed, spelled and hashed is of bytes and as long as it must be; what is read of bytes, and what they open
-/// to, is in its range.
+/// What is sealed, spelled and hashed consists of bytes and has the right length; what is read from bytes, and what
+/// they open to, is in its range.
 #[tactic(auto, using(crate::proofs::Tools::real_keeps))]
 pub fn real_frames_keep_to_the_ranges()
     ensures { KeepsRanges real }
@@ -36,15 +36,15 @@ pub fn schedules_are_in_their_ranges()
     ensures { (p : Schedule) → IsSchedule p → ScheduleInRange (schedule_of p) }
 {}
 
-/// States that the lines of each schedule's run are proper, and that no other such lines have their text.
+/// States that the lines of each schedule's run are proper, and that no other proper lines have their text.
 #[tactic(auto, using(crate::proofs::Wide::are_their_own))]
 pub fn the_lines_of_each_run_are_proper()
     ensures { (p : Schedule) → IsSchedule p → AreTheirOwn (schedule_of p) }
 {}
 
-/// States that where a text is a schedule, the lines of its run are proper.
+/// States that the lines of the run are proper, for each text that is a schedule.
 ///
-/// No other such lines have their text.
+/// No other proper lines have their text.
 pub fn the_lines_of_each_text_are_proper(text: &[u8])
     ensures { (p : Schedule) → schedule_in text.now ≡ Ok p → AreTheirOwn (schedule_of p) }
 {
@@ -63,7 +63,7 @@ pub fn the_text_of_a_run_reads_back()
 /// Reads lines as `read_lines` does, and so the text of a run as exactly the lines of that run.
 ///
 /// # Errors
-/// Those of `read_lines`; of the text of a run out of memory alone.
+/// Those of `read_lines`; for the text of a run, only out of memory.
 pub fn read_run(alloc: Global, bytes: &[u8]) -> Result<Vec<Line>, OrMemory<TraceError>>
     requires { length bytes.now < 2 ^ 32 }
     ensures { (p : Schedule) → IsSchedule p → bytes.now ≡ text_of_run (schedule_of p)

@@ -1,4 +1,4 @@
--- A schedule with each form of line: what it reads as, and what it is in the model.
+-- A schedule with each form of line: what is read from it, and what it is in the model.
 use Rattle.std.specs.Prelude.{◌≡◌, ℕ, ◌+◌, ◌-◌, ◌*◌, if◌then◌else◌, List, [], ◌∷◌, ◌++◌, Some, None, true, false, nat_lt, codes, refl}
 use Rattle.std.specs.Result.{result_ok}
 use Prim.Native.String.{String}
@@ -33,7 +33,7 @@ pairs_of (a ∷ b ∷ rest) = (16 * digit a + digit b) ∷ pairs_of rest
 abbrev x : String → Bytes
 x text = pairs_of (codes text)
 
--- The centre isn't the first node, so that what is the centre's is seen to be.
+-- The centre isn't the first node, so that the example shows what is the centre's.
 abbrev text : List ℕ
 text =
     codes "# each form of line\n"
@@ -95,7 +95,7 @@ d_station = record { name = codes "d"; eui = d; short = 6699; role = Role.Device
 abbrev e_station : Station
 e_station = record { name = codes "e"; eui = e; short = 24175; role = Role.Device; out_block = 4; in_block = 1 }
 
--- what the text reads as
+-- what is read from the text
 
 abbrev r_name : Bytes
 r_name = codes "r"

@@ -1,4 +1,4 @@
--- The laws of each schedule.
+-- The laws for each schedule.
 use Rattle.law_run.specs.Premises.{Premises}
 use Rattle.zb_sched.specs.Schedules.{Schedule}
 use Rattle.zb_sched.specs.Valid.{IsSchedule}

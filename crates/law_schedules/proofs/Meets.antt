@@ -1,4 +1,4 @@
--- What every schedule keeps gives what the laws over runs ask of its model.
+-- What every schedule keeps implies what the laws over runs ask of its model.
 use Rattle.std.proofs.Common.{◌≡◌, ℕ, ◌&&◌, ◌||◌, not, Bool, true, false, cond, List, [], ◌∷◌, ◌++◌, map, find, Option, Some, None, option_to_list, nat_eq, bytes_eq, refl, sym, ap, ◌∙◌, subst, arith, eq-eqb, eqb-true, ◌≤◌}
 use Rattle.std.specs.Prelude.{is_some, IfSome}
 use Rattle.std.specs.List.{AllByRecursion, list_any}
@@ -59,7 +59,7 @@ names_apart : (name : Bytes) (m n : Node) → Apart m n → NotBoth (has_that_na
 names_apart name m n apart e f =
     apart.0 ((bytes_eq-Decides m.name name).0 e ∙ sym ((bytes_eq-Decides n.name name).0 f))
 
--- each node of a name is the one for which the name stands
+-- the node that a name gives is the one that the name represents
 pub of_that_name : (name : Bytes) (ms : List Node) → Pairwise Apart ms
     → AllByRecursion (λ (m : Node). bytes_eq m.name name ≡ true → m.eui ≡ named (map station_for ms) name) ms
 of_that_name name ms apart =
@@ -217,7 +217,7 @@ centre_alone p is =
     passes is_a_centre (stations_for p) (related_map Apart EuisDiffer station_for euis_apart p.nodes is.so_far.apart)
     (found_centre p.nodes is.centre)
 
--- what each declared node has, the one that is found has, and it passes the test
+-- what is true of each declared node is true of the one that is found, and it passes the test
 found_role_by : (Q : Station → Type 0) (test : Station → Bool) (s : Station) (o : Option Station) (b : Bool) → test s
     ≡ b → Q s → (is_some o ≡ true → Q (model.station_or o) × (test (model.station_or o) ≡ true))
     → is_some (cond b (Some s) o) ≡ true → Q (model.station_or (cond b (Some s) o))

@@ -1,4 +1,4 @@
--- Who is found among declared nodes, by a test that one of them passes.
+-- Which of the declared nodes is found, by a test that one of them passes.
 use Rattle.std.proofs.Common.{◌≡◌, ℕ, Bool, true, false, cond, List, [], ◌∷◌, find, Option, Some, nat_eq, refl, sym, ◌∙◌, eq-eqb}
 use Rattle.std.specs.Prelude.{is_some}
 use Rattle.std.specs.List.{AllByRecursion}
@@ -30,7 +30,7 @@ unfolding model_station
 declared test [] found = absurd (false≢true found)
 declared test (p ∷ ps) found = declared_by test p ps (test p) refl (declared test ps) found
 
--- where at most one node passes the test, each that does is the one that is found
+-- if at most one node passes the test, each that does is the one that is found
 abbrev pub NotBoth : (Station → Bool) → Station → Station → Type 0
 NotBoth test p q = test p ≡ true → test q ≡ true → ⊥
 
@@ -52,7 +52,7 @@ pub the_one : (test : Station → Bool) (ps : List Station) → Pairwise (NotBot
 the_one test [] apart = tt
 the_one test (p ∷ ps) apart = the_one_by test p ps (test p) refl apart.0 (the_one test ps apart.1)
 
--- where EUIs differ, a node with the EUI of the one that is found passes the test too
+-- if EUIs differ, a node with the EUI of the one that is found passes the test too
 abbrev pub EuisDiffer : Station → Station → Type 0
 EuisDiffer p q = p.eui ≡ q.eui → ⊥
 

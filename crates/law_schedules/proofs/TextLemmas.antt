@@ -23,7 +23,7 @@ use Rattle.zb_text.specs.Words.{Shows, first_of}
 abbrev pub LineFits : List ℕ → Type 0
 LineFits line = (s : Sentence) → meaning_of line ≡ Some s → FitsSentence s
 
--- an Ok is no Err, a Some no None, and what stands in two that are equal is the same
+-- an Ok is no Err, a Some no None, and if two of them are equal, so are their contents
 
 abbrev good : (A E : Type 0) → A → Result A E
 good A E a = Ok a
@@ -65,7 +65,7 @@ pub shown_fits : (r : Option Line) (line : List ℕ) → Shows sentence_of r (me
 shown_fits None line shows fits s says = absurd (no_none s (sym shows ∙ says))
 shown_fits (Some l) line shows fits s says = subst FitsSentence (some_same (sentence_of l) s (sym shows ∙ says)) fits
 
--- one line more in front
+-- one more line in front
 pub one_more : (line : List ℕ) (ls more : List (List ℕ)) → first_of ls ≡ Some (line, more) → LineFits line
     → AllByRecursion LineFits more → AllByRecursion LineFits ls
 one_more line [] more first fits all = absurd (no_none (line, more) first)
@@ -73,12 +73,12 @@ one_more line (l ∷ ls) more first fits all =
     subst (λ (x : List ℕ × List (List ℕ)). AllByRecursion LineFits (x.0 ∷ x.1))
     (sym (some_same (l, ls) (line, more) first)) (fits, all)
 
--- no line more
+-- no more lines
 pub no_more : (ls : List (List ℕ)) → first_of ls ≡ None → AllByRecursion LineFits ls
 no_more [] first = tt
 no_more (l ∷ ls) first = absurd (no_none (l, ls) (sym first))
 
--- a line that was taken keeps what every schedule keeps
+-- a line that was accepted keeps what every schedule keeps
 meant : (seen next : Seen) (line : List ℕ) (o : Option Sentence) → meaning_of line ≡ o → LineFits line
     → after_meaning seen o ≡ Ok next → IsSoFar (finished seen) → IsSoFar (finished next)
 meant seen next line None says fits step so_far = absurd (no_err Seen SchedCause Syntax next step)

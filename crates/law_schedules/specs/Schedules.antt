@@ -1,6 +1,6 @@
 -- The model of a schedule: its nodes, its supply of keys and its events, as the model of whole runs has them. A
--- schedule names nodes; the model knows a node by its EUI. A schedule has install codes; the model has the link keys
--- that they give. And some events of a schedule name no node that they are of: these are the centre's.
+-- schedule names nodes; the model identifies a node by its EUI. A schedule has install codes; the model has the link
+-- keys that they give. Some events of a schedule name no node that they are of: these are the centre's.
 use Rattle.std.specs.Prelude.{ℕ, List, map, find, bytes_eq}
 use Rattle.std.specs.Option.{option_map}
 use Rattle.zb_node_types.specs.Changes.{model_role}
@@ -41,7 +41,7 @@ node_for m =
       start_aps = m.start_aps;
     }
 
--- the EUI of the node of a name
+-- the EUI of the node with a name
 abbrev pub named : List Station → Bytes → ℕ
 named nodes name = eui_or nobody (find (λ (s : Station). bytes_eq s.name name) nodes)
 
@@ -72,7 +72,7 @@ event_for nodes (Boots name) = model.PowerOn (named nodes name)
 event_for nodes (Dumps name) = model.ShowRecord (named nodes name)
 event_for nodes (Stops name calls torn) = model.ArmStop (named nodes name) calls torn
 event_for nodes (Fails name call) = model.ArmFail (named nodes name) call
--- of nobody: bytes on the air, and forged frames
+-- of no node: bytes on the air, and forged frames
 event_for nodes (Injects bytes) = model.InjectBytes bytes
 event_for nodes (ForgesNet to from source key sequence counter content) = model.ForgeNet to from source key sequence
     counter content

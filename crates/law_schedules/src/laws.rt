@@ -1,4 +1,4 @@
-//! Laws of each schedule, on functions that do nothing.
+//! Laws for each schedule, on functions that do nothing.
 
 ghost use Rattle.law_run.specs.Premises.{Premises};
 ghost use Rattle.law_schedules.specs.Schedules.{schedule_of};
@@ -6,7 +6,7 @@ ghost use Rattle.zb_sched.specs.Schedules.{Schedule};
 ghost use Rattle.zb_sched.specs.Valid.{IsSchedule};
 ghost use Rattle.law_real_runs.specs.Headline.{Holds};
 
-/// States that the model of each schedule is as the laws over runs ask.
+/// States that the model of each schedule meets what the laws over runs ask.
 ///
 /// Its numbers are in their ranges, its events are of declared nodes, it has one centre, and its keys are different
 /// keys.
@@ -14,10 +14,10 @@ pub fn schedules_meet_the_premises()
     ensures { (p : Schedule) → IsSchedule p → Premises (schedule_of p) }
 {}
 
-/// States that all laws over runs hold of the run of each schedule.
+/// States that all laws over runs hold for the run of each schedule.
 ///
-/// The run is lawful and counted, and no other lines are. Its nonces are fresh, its counters taken once, its keys
-/// confirmed, and where the end line says `yes yes` who is removed is locked out.
+/// The run is lawful and counted, and no other lines are. No nonce is used twice, no counter is accepted twice, and
+/// only stored keys are confirmed. If the end line says `yes yes`, removed devices are locked out.
 pub fn each_schedule_holds()
     ensures { (p : Schedule) → IsSchedule p → Holds (schedule_of p) }
 {}

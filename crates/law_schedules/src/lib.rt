@@ -1,6 +1,6 @@
-//! The laws over every run hold of each schedule that a text gives. Here a schedule, as zb_sched reads it, is made
-//! the schedule of the model: `specs/Schedules.antt` says by one clause for each form of line what that line means
-//! there. What every schedule keeps gives what the laws ask, so they hold of each with no premise left.
+//! The laws over every run hold for each schedule that a text gives. Here a schedule, as zb_sched reads it, is
+//! converted to the schedule of the model: `specs/Schedules.antt` has one clause for each form of line, with its
+//! meaning there. What every schedule keeps implies what the laws ask, so they hold for each with no premise left.
 #![tactic(auto)]
 
 mod laws;

@@ -1,5 +1,5 @@
-//! Laws of each text. Their calls read the text line by line and keep nothing, since what the lines of a text may say
-//! is a clause of the call that reads one.
+//! Laws for each text. Their calls read the text line by line and keep nothing, because the call that reads a line
+//! has a clause with what that line may say.
 
 ghost use Rattle.std.specs.Prelude.{◌≡◌, Ok};
 ghost use Rattle.law_schedules.specs.Schedules.{schedule_of};
@@ -12,7 +12,7 @@ use crate::laws::each_schedule_holds;
 use zb_sched_line::read_line;
 use zb_text::lines::next_line;
 
-/// States that where a text is a schedule, it keeps what every schedule keeps.
+/// States that each text that is a schedule keeps what every schedule keeps.
 pub fn texts_read_as_schedules(text: &[u8])
     ensures { (p : Schedule) → schedule_in text.now ≡ Ok p → IsSchedule p }
 {
@@ -23,7 +23,7 @@ pub fn texts_read_as_schedules(text: &[u8])
     }
 }
 
-/// States that where a text is a schedule, all laws over runs hold of its run.
+/// States that all laws over runs hold for the run of each text that is a schedule.
 pub fn each_text_holds(text: &[u8])
     ensures { (p : Schedule) → schedule_in text.now ≡ Ok p → Holds (schedule_of p) }
 {

@@ -1,4 +1,4 @@
--- The whole answer at what is shown of a state: the counters that it takes, what is stored, and what goes out.
+-- The whole answer at what is shown of a state: the counters that it uses, what is stored, and what is sent.
 use Rattle.std.proofs.Common.{◌≡◌, ℕ, List, [], ◌∷◌, filter, flat_map, option_map, option_to_list, refl, ap, ◌∙◌, Bool, true, false, Option, Some, None}
 use Rattle.zb_model.specs.Data.{Bytes, Layer, Nwk, Aps, Term, Move, Draw, DropNet, DropLink, Install, Active, Row, Pair, Became, Live, Removed, Roll, Told, Untold, Edit, Task}
 use Rattle.zb_model.specs.State.{NodeState, NetKey, shown, shown_net, active_row, net_of}
@@ -110,7 +110,7 @@ start_same c s p =
 
 -- ---- what is stored
 
--- the counters that two nodes take are alike, and with them what is stored
+-- the counters that two nodes use are alike, and with them what is stored
 record AreAlike (k j : Counting) : Type 0 where
   counter : (layer : Layer) → k.counter layer ≡ j.counter layer
   reserve : (layer : Layer) → k.reserve layer ≡ j.reserve layer
@@ -156,7 +156,7 @@ counting_alike c s p live = record {
   start = start_same c s p;
 }
 
--- ---- what goes out
+-- ---- what is sent
 
 framed_shown : (tools : Tools) (c : Setting) (to nwk : ℕ) (secured : Bool) (o : Option NetKey) (part : Part)
     → framed tools c to nwk secured (option_map shown_net o) part ≡ framed tools c to nwk secured o part

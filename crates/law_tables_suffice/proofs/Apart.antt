@@ -1,4 +1,4 @@
--- Items that are apart are each found by what sets them apart.
+-- Items that differ in a property are each found by that property.
 use Rattle.std.proofs.Common.{◌≡◌, List, [], ◌∷◌, find, ap, ◌∙◌, Bool, true, false, not, if◌then◌else◌, Some}
 use Rattle.std.specs.List.{AllByRecursion, list_any}
 use Rattle.std.proofs.lemmas.Bool.{not-true}

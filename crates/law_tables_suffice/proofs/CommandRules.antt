@@ -1,4 +1,4 @@
--- A received command comes to the same outcome at a state and at what is shown of it.
+-- A received command has the same outcome at a state and at what is shown of it.
 use Rattle.std.proofs.Common.{◌≡◌, ℕ, [], refl, ap, true, not, ◌&&◌, Option, Some, None}
 use Rattle.zb_model.specs.Data.{Bytes, Nwk, NoKey, NotMember, CounterSpent, Policy, Command, TransportNet, TransportApp, TransportLink, UpdateDevice, RemoveDevice, RequestApp, RequestLink, SwitchKey, Tunnel, VerifyKey, ConfirmKey}
 use Rattle.zb_model.specs.State.{NodeState, NetKey, LinkKey, PairKey, shown, is_centre, active_row, current, offered, is_live, other_user, pair_of}

@@ -1,4 +1,4 @@
--- A term that is accepted has a live network key as its base key, where network rows have different keys.
+-- A term that is accepted has a live network key as its base key, if network rows have different keys.
 use Rattle.std.proofs.Common.{◌≡◌, ℕ, List, [], ◌∷◌, ◌++◌, filter, reverse, find, option_to_list, refl, sym, ap, ◌∙◌, subst, Bool, true, false, if◌then◌else◌, Option, Some, None, nat_eq}
 use Rattle.std.specs.List.{AllByRecursion}
 use Rattle.std.proofs.lemmas.Slice.Eq.{bytes_eq-Decides}
@@ -76,7 +76,7 @@ unfolding usable_of
 usable_is_live s differ sequence = found_all (IsLiveIn s.nets) (λ (r : NetKey). nat_eq r.sequence sequence)
     (reverse (usable_nets s)) (all_reverse (IsLiveIn s.nets) (usable_nets s) (usable_live s differ))
 
--- ---- what judging finds
+-- ---- what verification finds
 
 abbrev OnGood : {A : Type 0} → (A → Type 0) → Verdict A → Type 0
 OnGood P (Not place reason) = Unit {0}

@@ -1,4 +1,4 @@
--- What each step keeps holds all along a run.
+-- What each step keeps is true during the whole run.
 use Rattle.std.proofs.Common.{ℕ, ◌+◌, List, [], ◌∷◌, ◌++◌}
 use Rattle.std.specs.List.{AllByRecursion}
 use Rattle.zb_model.specs.Lines.{Line}

@@ -1,4 +1,4 @@
--- What accepted terms, seals and boots change is in memory alone: the rules for records and the role stay.
+-- Accepted terms, seals and boots change only what is in memory: the rules for records and the role stay.
 use Rattle.std.proofs.Common.{◌≡◌, ℕ, ◌+◌, List, [], ◌∷◌, length, map, refl, ap, ◌∙◌, arith, Bool, true, false, if◌then◌else◌, ◌&&◌, nat_eq, nat_lt, nat_le}
 use Rattle.std.specs.List.{list_all}
 use Rattle.std.proofs.lemmas.List.{length-map}
@@ -41,7 +41,7 @@ links_ruled g each s kept = let r = rules_of s kept in links_kept s (map g s.lin
 
 -- ---- network rows
 
--- a floor that moves in memory alone
+-- a floor that changes only in memory
 abbrev unkept : SenderFloor → SenderFloor
 unkept f = record f { kept = 0 }
 
@@ -115,7 +115,7 @@ pub accepted_ruled : (t : Term) (s : NodeState) → keeps_rules s ≡ true → k
 unfolding after_accepting
 accepted_ruled t s kept = heard_ruled t.layer t.base t.source t.counter s kept
 
--- the next counter at APS is in no rule
+-- no rule mentions the next counter at APS
 next_unruled : (s : NodeState) (next : ℕ) → keeps_rules (record s { aps_next = next }) ≡ keeps_rules s
 unfolding keeps_rules rows_have_room keys_differ at_most_two_live active_is_live partners_agree links_are_marked
     floors_are_kept limits_are_started role_is_kept pairs_are_kept

@@ -1,4 +1,4 @@
--- A node's own events come to the same outcome at a state and at what is shown of it.
+-- A node's own events have the same outcome at a state and at what is shown of it.
 use Rattle.std.proofs.Common.{◌≡◌, ℕ, option_map, refl, ap, ◌∙◌, Bool, Option, Some, None}
 use Rattle.zb_model.specs.Data.{Bytes, Nwk, Aps, State, Fresh, Knocked, Joined, Offered, Confirmed, Rejoining, Gone, Reason, NoKey, Task, SayTo, TellTo, DoKnock, DoRejoin, DoTimer, AskFor, HasChild, DoProvision, DoRemove, DoRoll, DoSwitch, DoAgain, DoShare, Received}
 use Rattle.zb_model.specs.State.{NodeState, NetKey, LinkKey, shown, shown_net, active_row, usable_active, current, offered, code_row, is_live, is_told, other_user, pair_of}

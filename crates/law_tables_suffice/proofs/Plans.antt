@@ -1,4 +1,4 @@
--- What is judged, and the plan of every event, are the same of a state and of what is shown of it.
+-- What is verified, and the plan of every event, are the same for a state and for what is shown of it.
 use Rattle.std.proofs.Common.{◌≡◌, List, [], ◌∷◌, ◌++◌, option_to_list, refl, ap, ◌∙◌, if◌then◌else◌, Option, Some, None}
 use Rattle.zb_model.specs.Data.{Bytes, Term, Place, Reason, Task, SayTo, TellTo, DoKnock, DoRejoin, DoTimer, AskFor, HasChild, DoProvision, DoRemove, DoRoll, DoSwitch, DoAgain, DoShare, Received, AtEvent, AtAps}
 use Rattle.zb_model.specs.State.{NodeState, shown, is_known, is_live}
@@ -12,7 +12,7 @@ use Rattle.law_tables_suffice.proofs.Questions.{usable_of_same}
 use Rattle.law_tables_suffice.proofs.OwnRules.{own_same}
 use Rattle.law_tables_suffice.proofs.CommandRules.{command_same}
 
--- ---- judging
+-- ---- verification
 
 net_same : (tools : Tools) (c : Setting) (s : NodeState) (bytes : Bytes) (aux : NwkAuxiliary)
     → judge_net tools c (shown s) bytes aux ≡ judge_net tools c s bytes aux

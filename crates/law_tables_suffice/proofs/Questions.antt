@@ -1,4 +1,4 @@
--- What rules ask of the network rows is answered alike of a state and of what is shown of it.
+-- What rules ask of the network rows has the same answer for a state and for what is shown of it.
 use Rattle.std.proofs.Common.{◌≡◌, ℕ, ◌+◌, List, [], ◌∷◌, length, map, filter, reverse, find, option_map, is_some, refl, ap, ◌∙◌, Bool, true, false, not, if◌then◌else◌, ◌&&◌, Option, Some, None, nat_eq}
 use Rattle.std.specs.Prelude.{nat_le}
 use Rattle.std.proofs.lemmas.List.{length-map}

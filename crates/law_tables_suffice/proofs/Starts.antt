@@ -1,5 +1,5 @@
--- What the start lines say of a declared node: of all start lines its own alone, and these give a state that keeps the
--- rules.
+-- What the start lines say of a declared node: only its own start lines say anything, and these give a state that
+-- keeps the rules.
 use Rattle.std.proofs.Common.{◌≡◌, ℕ, max, ◌||◌, List, [], ◌∷◌, ◌++◌, map, fold, find, flat_map, refl, sym, ap, ◌∙◌, eqb-true, eq-eqb, Bool, true, false, not, if◌then◌else◌, Option, Some, None, nat_eq}
 use Rattle.std.specs.List.{AllByRecursion, list_any}
 use Rattle.std.proofs.lemmas.Bool.{false≢true, not-true}

@@ -1,4 +1,4 @@
--- Claims on a run as it goes on, in a form that a loop over its events carries.
+-- Claims that stay true during a run, in a form that a loop over its events carries.
 use Rattle.std.specs.Prelude.{ℕ, ◌≡◌, ◌<◌, ◌+◌, true, Bool, List, [], ◌∷◌, ◌++◌, nat_eq, ⊤}
 use Rattle.zb_model.specs.Data.{Nwk, Aps, Station}
 use Rattle.zb_model.specs.Lines.{Line, Declared}
@@ -10,7 +10,8 @@ use Rattle.zb_model.specs.Readings.{state_of}
 use Rattle.law_run.specs.Events.{BeforeEach}
 use Rattle.zb_model.specs.Play.{Schedule, Node, Event, Own, RollOver, Deliver, Reset, PowerOn, ShowRecord, ArmStop, ArmFail, Disk, setting_of, stations, net_line, link_line, limit_line, start, step}
 
--- What is carried along: it holds of the start; before an event it gives the claim, and it holds after that event.
+-- What is carried along: it is true at the start; before an event it implies the claim, and it is true after that
+-- event.
 pub record IsCarried (tools : Tools) (w : Schedule) (Q : Event → Type 0) (I : List Line → List Disk → ℕ → Type 0)
     (P : List Line → Event → Type 0) : Type 0 where
   pub begins : I (start w) [] 1
@@ -39,7 +40,7 @@ NodesAllAlong P tools w = BeforeEach (λ h event. OfNode (λ n. P (state_of h n)
 unfoldable pub euis_differ : Schedule → Bool
 euis_differ w = all_apart (λ (a b : Station). nat_eq a.eui b.eui) (stations w)
 
--- A node is what it was declared as, with its own EUI and role, and its blocks aren't empty.
+-- A node is as it was declared, with its own EUI and role, and its blocks aren't empty.
 pub record IsAsDeclared (s : NodeState) (c : Setting) (n : ℕ) : Type 0 where
   pub mine : c.me.eui ≡ n
   pub role : s.role ≡ c.me.role
@@ -57,6 +58,6 @@ own_start centre m =
     ∷ (net_line m.station.eui m.network ++ (link_line centre m.station.eui m.code
     ++ (limit_line m.station.eui Nwk m.start_nwk ++ limit_line m.station.eui Aps m.start_aps)))
 
--- Of all start lines of a run, the node's own alone say what it is.
+-- Of all start lines of a run, only the node's own say what it is.
 abbrev pub StartsAlone : Schedule → Node → Type 0
 StartsAlone w m = state_of (start w) m.station.eui ≡ state_of (own_start (centre_of (stations w)) m) m.station.eui

@@ -5,7 +5,7 @@ use Rattle.zb_model.specs.Data.{Layer, Nwk, Aps, Term}
 use Rattle.zb_model.specs.State.{NetKey, NodeState, same_key}
 use Rattle.zb_model.specs.Fits.{all_apart, live_net}
 
--- the base key of a NWK term is a live network key; of APS terms nothing is asked
+-- the base key of a NWK term is a live network key; for APS terms there is no condition
 abbrev pub IsUnderLive : NodeState → Layer → Term → Type 0
 IsUnderLive s Nwk t = live_net t.base s ≡ true
 IsUnderLive s Aps t = ⊤

@@ -1,5 +1,5 @@
-//! What a node's tables show of its state is enough: they forget the floors of dropped network keys, and nothing asks
-//! for them. Each law is the contract of a function with an empty body.
+//! What a node's tables show of its state is enough: they forget the floors of dropped network keys, and no answer
+//! needs these. Each law is the contract of a function with an empty body.
 #![tactic(auto)]
 
 ghost use Rattle.std.specs.Prelude.{◌≡◌, ℕ, true, List};
@@ -20,7 +20,7 @@ ghost use Rattle.zb_model.specs.Tools.{Tools};
 
 /// States that every event has the same plan at a state and at what is shown of it.
 ///
-/// That is the accepted terms, the refusal, the changes and what is sent, and it holds of every state.
+/// That is the accepted terms, the refusal, the changes and what is sent, for every state.
 pub fn what_is_shown_gives_the_plan()
     ensures { (tools : Tools) (c : Setting) (s : NodeState) (task : Task)
         → plan_of tools c (shown s) task ≡ plan_of tools c s task }
@@ -30,8 +30,8 @@ pub fn what_is_shown_gives_the_plan()
 ///
 /// The counters are the same too.
 ///
-/// A floor is stored where the accepted counter has reached the one that is stored; so the base keys of accepted NWK
-/// terms must be live, since the floors of a dropped key aren't shown.
+/// A floor is stored if the accepted counter has reached the stored floor. So the base keys of accepted NWK terms
+/// must be live, because the floors of a dropped key aren't shown.
 pub fn what_is_shown_gives_the_answer()
     ensures { (tools : Tools) (c : Setting) (s : NodeState) (task : Task)
         → AreUnderLive s (plan_of tools c s task).accepts
@@ -49,15 +49,15 @@ pub fn network_keys_differ_after_any_lines()
     ensures { (h : List Line) (n : ℕ) → nets_differ (state_of h n) ≡ true }
 {}
 
-/// States that no answer asks for what tables forget, in the state that any lines give.
+/// States that no answer needs what tables forget, in the state that any lines give.
 pub fn what_tables_forget_is_asked_by_none()
     ensures { (tools : Tools) → OpensAsJudged tools → (c : Setting) (h : List Line) (n : ℕ) (task : Task)
         → answer tools c (shown (state_of h n)) task ≡ answer tools c (state_of h n) task }
 {}
 
-/// States that what is shown after an answer depends on what was shown before alone.
+/// States that what is shown after an answer depends only on what was shown before.
 ///
-/// It holds of every answer and state, so also where an event drops the key under which its frame was accepted.
+/// This is true for every answer and state, so also if an event drops the key under which its frame was accepted.
 pub fn what_is_shown_goes_on()
     ensures answer { (a : Answer) (s : NodeState) → shown (answered a (shown s)) ≡ shown (answered a s) }
     ensures change { (e : Edit) (s : NodeState) → shown (applied e (shown s)) ≡ shown (applied e s) }
@@ -68,13 +68,14 @@ pub fn what_is_shown_goes_on()
 
 /// States that before each event of a run its node is as it was declared.
 ///
-/// It has its EUI and its role, and its blocks aren't empty. No two nodes of the schedule may have one EUI.
+/// It has its EUI and its role, and its blocks aren't empty. This asks that no two nodes of the schedule have one
+/// EUI.
 pub fn nodes_are_as_declared_all_along()
     ensures { (tools : Tools) (w : Schedule) → IsSchedule w → euis_differ w ≡ true
         → NodesAllAlong IsAsDeclared tools w }
 {}
 
-/// States that of all start lines of a run each node's own alone say what it is.
+/// States that of all start lines of a run, only a node's own say what it is.
 pub fn nodes_start_by_their_own_lines()
     ensures { (w : Schedule) → euis_differ w ≡ true → AllByRecursion (StartsAlone w) w.nodes }
 {}
@@ -87,7 +88,7 @@ pub fn nodes_start_by_the_rules()
 
 /// States that before each event of a run its node's state keeps the rules for records.
 ///
-/// In such a state all changes of an answer fit (law_answer_storable).
+/// In this state all changes of an answer fit (law_answer_storable).
 pub fn states_keep_the_rules_all_along()
     ensures { (tools : Tools) → OpensAsJudged tools → (w : Schedule) → IsSchedule w → euis_differ w ≡ true
         → NodesAllAlong IsRuled tools w }

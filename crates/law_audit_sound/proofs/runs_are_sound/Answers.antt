@@ -1,4 +1,4 @@
--- What a node's own frame shows of a key is asked of real frames by lockout alone.
+-- Only lockout asks of real frames what a node's own frame shows of a key.
 use Rattle.law_audit_sound.proofs.Whole.{sound}
 use Rattle.law_audit_sound.proofs.runs_are_sound.Goals as goal
 

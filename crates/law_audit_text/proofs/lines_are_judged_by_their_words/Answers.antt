@@ -1,4 +1,4 @@
--- What a name leaves unused of its room is seen by no definition of the audit.
+-- No definition of the audit sees the unused room of a name.
 use Rattle.law_audit_text.proofs.Judging.{judged_alike}
 use Rattle.law_audit_text.proofs.lines_are_judged_by_their_words.Goals as goal
 

@@ -1,4 +1,4 @@
--- One lemma a rule.
+-- One lemma per rule.
 use Rattle.law_real_nodes.proofs.Refusing.{app-request-why, confirm-why, request-why, verify-why}
 use Rattle.law_real_nodes.proofs.commands_find_the_rows_that_they_tested.Goals as goal
 

@@ -1,4 +1,4 @@
--- What every schedule keeps has it.
+-- It is part of what every schedule keeps.
 use Rattle.law_real_nodes.proofs.Euis.{different}
 use Rattle.law_real_nodes.proofs.nodes_have_different_euis.Goals as goal
 

@@ -1,4 +1,4 @@
--- A node starts with one network key and one link key at most.
+-- A node starts with at most one network key and at most one link key.
 use Rattle.law_tables_suffice.proofs.Ready.{start_rules}
 use Rattle.law_tables_suffice.proofs.nodes_start_by_the_rules.Goals as goal
 
