@@ -281,7 +281,7 @@ accepts_heard c s p (t ∷ u ∷ []) used sound block is (i, j) h =
     (all_append (λ v. Rises v u) used (t ∷ []) (all_above s used u Aps sound j h.heard)
     (differ_rise t u i.at j.at, tt)) in (
       subst (AllByRecursion (IsHeard (after_accepting u (after_accepting t here)))) (append_assoc used (t ∷ []) (u ∷
-      []))
+          []))
           second,
       subst AllRise (append_assoc used (t ∷ []) (u ∷ [])) rise,
     )
