@@ -1,9 +1,9 @@
 -- What was accepted stays below the floors that the tables keep, as long as its key is live.
-use Rattle.std.proofs.Common.{◌≡◌, ◌⊎◌, inl, inr, ℕ, ◌<◌, ◌≤◌, ◌+◌, Bool, true, false, if◌then◌else◌, List, [], ◌∷◌, ◌++◌, map, filter, find, Option, Some, None, nat_eq, refl, sym, ap, ◌∙◌, subst, arith, append-nil, append_assoc}
+use Rattle.std.proofs.Common.{◌≡◌, ◌⊎◌, inl, inr, ℕ, ◌<◌, ◌+◌, Bool, true, false, if◌then◌else◌, List, [], ◌∷◌, ◌++◌, filter, find, Option, Some, None, refl, sym, ap, ◌∙◌, subst, arith, append-nil, append_assoc}
 use Rattle.std.proofs.lemmas.Bool.{false≢true}
 use Rattle.std.specs.List.{AllByRecursion}
 use Rattle.law_run.proofs.Finds.{Finds, HoldsOf, IfOf, finds-map}
-use Rattle.law_run.proofs.FloorRows.{FloorAt, NotStale, Over, Sorted, booted-over, kept-new, kept-over, of_sender, sorted-booted, sorted-kept}
+use Rattle.law_run.proofs.FloorRows.{FloorAt, NotStale, Over, Sorted, kept-new, kept-over, of_sender, sorted-kept}
 use Rattle.law_run.proofs.Judged.{AcceptsFit, In, Judged, LiveAt, LinkPre, PreAt, RowPre, all-in, in-filter, plan-accepts}
 use Rattle.law_run.proofs.Nets.{Closed, Holds, Keeps, Mild, On, at_key, on-applied, on-at, on-map, on-map-found}
 use Rattle.law_run.proofs.Counters.{on-sealed}
@@ -14,10 +14,10 @@ use Rattle.law_run.specs.Opening.{Opens}
 use Rattle.law_sessions.proofs.Used.{all_map}
 use Rattle.law_sessions.proofs.Stamps.{all_append}
 use Rattle.law_sessions.specs.Accepts.{AllRise, Rises}
-use Rattle.zb_model.specs.Answer.{Answer, accepted_all, answer, answer_by, answered, counting_of, plan_of, sealed_all}
+use Rattle.zb_model.specs.Answer.{Answer, accepted_all, answer, answer_by, answered, plan_of, sealed_all}
 use Rattle.zb_model.specs.Data.{Bytes, Layer, Nwk, Aps, Task, Term, Edit, Reserve, Floor, Start, Moved}
 use Rattle.zb_model.specs.Rules.{Plan, Setting}
-use Rattle.zb_model.specs.State.{LinkKey, NetKey, NodeState, SenderFloor, after_accepting, after_boot, after_hearing, after_sealing, applied, applied_all, booted_link, booted_net, is_link, link_kept, live_nets, net_floor, net_kept, next_at, reserved, sealed_at, shown, shown_net, started_at}
+use Rattle.zb_model.specs.State.{LinkKey, NetKey, NodeState, SenderFloor, after_accepting, after_boot, after_hearing, after_sealing, applied, applied_all, booted_link, booted_net, is_link, link_kept, net_floor, net_kept, next_at, reserved, sealed_at, shown, shown_net, started_at}
 use Rattle.zb_model.specs.Tools.{Tools}
 
 -- ---- a row

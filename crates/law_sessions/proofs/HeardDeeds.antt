@@ -1,5 +1,5 @@
 -- What the centre accepted so far is below the floors, line after line and deed after deed.
-use Rattle.std.proofs.Common.{◌≡◌, ℕ, ◌<◌, Bool, true, false, if◌then◌else◌, List, [], ◌∷◌, ◌++◌, Option, Some, None, Result, Ok, Err, refl, sym, ap, ◌∙◌, subst, arith, append_assoc, append-nil}
+use Rattle.std.proofs.Common.{◌≡◌, ℕ, Bool, true, false, if◌then◌else◌, List, [], ◌∷◌, ◌++◌, Option, Some, None, Result, Ok, Err, refl, sym, subst, arith, append_assoc, append-nil}
 use Rattle.law_sessions.specs.Accepts.{AllRise, all_accepts, deed_accepts, event_accepts, line_accepts, lines_accept, meaning_accepts}
 use Rattle.law_sessions.specs.Deeds.{AreDeeds, Deed, IsLeft, Lived, Ran, last_left, left}
 use Rattle.law_sessions.specs.Runs as runs

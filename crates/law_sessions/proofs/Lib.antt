@@ -25,3 +25,4 @@ mod Done
 mod DoneSince
 mod Heard
 mod HeardDeeds
+mod Instances
