@@ -1,5 +1,5 @@
 -- What was accepted stays below the floors that the tables keep, as long as its key is live.
-use Rattle.std.proofs.Common.{◌≡◌, ◌⊎◌, inl, inr, ℕ, ◌<◌, ◌+◌, Bool, true, false, if◌then◌else◌, List, [], ◌∷◌, ◌++◌, filter, find, Option, Some, None, refl, sym, ap, ◌∙◌, subst, arith, append-nil, append_assoc}
+use Rattle.std.proofs.Common.{◌≡◌, ◌⊎◌, inl, inr, ℕ, ◌<◌, ◌+◌, Bool, true, false, if◌then◌else◌, List, [], ◌∷◌, ◌++◌, map, filter, find, Option, Some, None, refl, sym, ap, ◌∙◌, subst, arith, append-nil, append_assoc}
 use Rattle.std.proofs.lemmas.Bool.{false≢true}
 use Rattle.std.specs.List.{AllByRecursion}
 use Rattle.law_run.proofs.Finds.{Finds, HoldsOf, IfOf, finds-map}
@@ -14,10 +14,11 @@ use Rattle.law_run.specs.Opening.{Opens}
 use Rattle.law_sessions.proofs.Used.{all_map}
 use Rattle.law_sessions.proofs.Stamps.{all_append}
 use Rattle.law_sessions.specs.Accepts.{AllRise, Rises}
+use Rattle.zb_centre_store.specs.Skipping.{skipped, skipped_limit, skipped_net}
 use Rattle.zb_model.specs.Answer.{Answer, accepted_all, answer, answer_by, answered, plan_of, sealed_all}
 use Rattle.zb_model.specs.Data.{Bytes, Layer, Nwk, Aps, Task, Term, Edit, Reserve, Floor, Start, Moved}
 use Rattle.zb_model.specs.Rules.{Plan, Setting}
-use Rattle.zb_model.specs.State.{LinkKey, NetKey, NodeState, SenderFloor, after_accepting, after_boot, after_hearing, after_sealing, applied, applied_all, booted_link, booted_net, is_link, link_kept, net_floor, net_kept, next_at, reserved, sealed_at, shown, shown_net, started_at}
+use Rattle.zb_model.specs.State.{LinkKey, NetKey, NodeState, SenderFloor, after_accepting, after_boot, after_hearing, after_sealing, applied, applied_all, booted_link, booted_net, is_link, link_kept, net_floor, net_kept, next_at, reserved, sealed_at, shown, shown_net, started_at, stored_limit}
 use Rattle.zb_model.specs.Tools.{Tools}
 
 -- ---- a row
@@ -308,6 +309,32 @@ boot_heard s used h = record {
   heard = all_map (IsHeard s) (IsHeard (shown (after_boot s)))
       (λ t is. heard_shown t.layer t.counter t.base t.source (after_boot s)
       (heard_boot t.layer t.counter t.base t.source s is)) used h.heard;
+  rise = h.rise;
+}
+
+-- a restore skips counters of seals, and leaves all floors
+heard_raised : (layer : Layer) (c : ℕ) (base : Bytes) (source by : ℕ) (s : NodeState) → HeardAt layer c base source s
+    → HeardAt layer c base source (record s {
+      aps_limit = skipped_limit by s.aps_limit;
+      nets = map (skipped_net by (stored_limit Nwk s)) s.nets;
+    })
+unfolding HeardAt
+heard_raised Nwk c base source by s h =
+    on-map (RowHeard c source) (skipped_net by (stored_limit Nwk s))
+    (heard_row c source (skipped_net by (stored_limit Nwk s)) (record { key = λ r. refl; kept = λ r o. o }) (λ r.
+    refl))
+    base s.nets h
+heard_raised Aps c base source by s h = h
+
+pub skipped_heard : (by : ℕ) (s : NodeState) (used : List Term) → AreHeard used s → AreHeard used (skipped by s)
+unfolding skipped
+skipped_heard by s used h = record {
+  heard = all_map (IsHeard s) (IsHeard (after_boot (record s {
+    aps_limit = skipped_limit by s.aps_limit;
+    nets = map (skipped_net by (stored_limit Nwk s)) s.nets;
+  })))
+      (λ t is. heard_boot t.layer t.counter t.base t.source _
+      (heard_raised t.layer t.counter t.base t.source by s is)) used h.heard;
   rise = h.rise;
 }
 

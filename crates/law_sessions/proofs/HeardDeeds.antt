@@ -37,11 +37,11 @@ use Rattle.zb_script.specs.declared.script.Step.{Step}
 -- ---- what is found, and a session
 
 -- the terms were accepted over these tables; before there are any, nothing was
-abbrev IsHeardBy : List Term → Option NodeState → Type 0
+abbrev pub IsHeardBy : List Term → Option NodeState → Type 0
 IsHeardBy terms None = terms ≡ []
 IsHeardBy terms (Some s) = AreHeard terms s
 
-abbrev IsFoundHeard : List Term → Found → Type 0
+abbrev pub IsFoundHeard : List Term → Found → Type 0
 IsFoundHeard terms (Ok standing) = IsHeardBy terms standing
 IsFoundHeard terms (Err fault) = terms ≡ []
 
@@ -196,13 +196,13 @@ unfolding carried_out
 step_heard c step None terms is = empty_heard step.line step.order terms is
 step_heard c step (Some s) terms is = store_heard c step.line step.order s terms is
 
-steps_heard : (c : Setting) (steps : List Step) (standing : Option NodeState) (terms : List Term)
+pub steps_heard : (c : Setting) (steps : List Step) (standing : Option NodeState) (terms : List Term)
     → IsHeardBy terms standing → IsHeardBy terms (served_steps c steps standing).after
 steps_heard c [] standing terms is = is
 steps_heard c (step ∷ steps) standing terms is =
     steps_heard c steps (carried_out c step standing).after terms (step_heard c step standing terms is)
 
-kept_heard : (standing : Option NodeState) (image : List ℕ) (terms : List Term) → KeepsTables standing image
+pub kept_heard : (standing : Option NodeState) (image : List ℕ) (terms : List Term) → KeepsTables standing image
     → IsHeardBy terms standing → IsFoundHeard terms (found_on image)
 unfolding found_on
 kept_heard None image terms none is = subst (λ i. IsFoundHeard terms (found_on i)) (sym none) is
@@ -231,7 +231,7 @@ deed_heard image (Ran r) terms (script, is) heard =
     subst (λ ts. IsFoundHeard ts (found_on r.left)) (sym (append-nil terms))
     (run_heard r (found_on image) terms is heard)
 
-deeds_heard : (image : List ℕ) (deeds : List Deed) (terms : List Term) → AreDeeds image deeds
+pub deeds_heard : (image : List ℕ) (deeds : List Deed) (terms : List Term) → AreDeeds image deeds
     → IsFoundHeard terms (found_on image)
     → IsFoundHeard (terms ++ all_accepts image deeds) (found_on (last_left image deeds))
 deeds_heard image [] terms are heard = subst (λ ts. IsFoundHeard ts (found_on image)) (sym (append-nil terms)) heard
@@ -241,12 +241,12 @@ deeds_heard image (deed ∷ more) terms (is, are) heard =
     (deeds_heard (left deed) more (terms ++ deed_accepts deed (found_on image)) are
     (deed_heard image deed terms is heard))
 
-first_heard : (found : Found) → IsFoundHeard [] found
+pub first_heard : (found : Found) → IsFoundHeard [] found
 first_heard (Ok None) = refl
 first_heard (Ok (Some s)) = record { heard = tt; rise = tt }
 first_heard (Err fault) = refl
 
-rise_found : (terms : List Term) (found : Found) → IsFoundHeard terms found → AllRise terms
+pub rise_found : (terms : List Term) (found : Found) → IsFoundHeard terms found → AllRise terms
 rise_found terms (Ok None) none = subst AllRise (sym none) tt
 rise_found terms (Ok (Some s)) heard = heard.rise
 rise_found terms (Err fault) none = subst AllRise (sym none) tt

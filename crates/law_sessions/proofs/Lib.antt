@@ -26,3 +26,4 @@ mod DoneSince
 mod Heard
 mod HeardDeeds
 mod Instances
+mod HeardSince

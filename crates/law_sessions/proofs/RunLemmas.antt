@@ -129,7 +129,7 @@ runs_apart image runs are =
 
 -- ---- a restore
 
-take_first : (n : ℕ) (step : Step) (steps : List Step) → 1 ≤ n
+pub take_first : (n : ℕ) (step : Step) (steps : List Step) → 1 ≤ n
     → (k : ℕ) × (take n (step ∷ steps) ≡ step ∷ take k steps)
 take_first zero step steps some = absurd (omega (arith, some))
 take_first (suc k) step steps some = (k, refl)

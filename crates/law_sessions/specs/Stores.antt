@@ -1,6 +1,7 @@
 -- A life: all that is done to a centre's store and to the stores that were restored from its backups.
 use Rattle.std.specs.Prelude.{◌≡◌, ◌⊎◌, ℕ, true, is_some, List, [], ◌∷◌, ◌++◌, Some, None, Ok, Err, ⊤}
 use Rattle.std.specs.List.{AllByRecursion}
+use Rattle.law_sessions.specs.Accepts.{all_accepts}
 use Rattle.law_sessions.specs.Deeds.{AreDeeds, Deed, Lived, Ran, all_seals, last_left}
 use Rattle.law_sessions.specs.Runs.{Restores, backup_tables}
 use Rattle.zb_centre_store.specs.Freshness.{HasUsed}
@@ -71,3 +72,23 @@ restored_seals (r ∷ more) = all_seals [] r.deeds ++ restored_seals more
 
 abbrev pub life_seals : List ℕ → List Deed → List Restored → List Term
 life_seals image deeds more = all_seals image deeds ++ restored_seals more
+
+-- ---- what a restore doesn't undo
+
+-- A store was restored from a backup of what the store before it held. Of a life this is the part that no restore
+-- undid: what was done to a store after the backup is left out.
+pub record IsInLine (before : Found) (r : Restored) : Type 0 where
+  pub deeds : AreDeeds [] r.deeds
+  pub some : r.deeds ≡ [] → ⊥
+  pub begins : BeginsRestored r.skip r.backup r.deeds
+  pub backup : before ≡ Ok (Some (backup_tables r.backup))
+
+-- each store was restored from a backup of the one before it
+abbrev pub AreInLine : Found → List Restored → Type 0
+AreInLine before [] = ⊤
+AreInLine before (r ∷ more) = IsInLine before r × AreInLine (found_on (last_left [] r.deeds)) more
+
+-- what the centre accepts with all of them
+abbrev pub restored_accepts : List Restored → List Term
+restored_accepts [] = []
+restored_accepts (r ∷ more) = all_accepts [] r.deeds ++ restored_accepts more

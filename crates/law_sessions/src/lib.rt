@@ -36,7 +36,7 @@ pub use admin_runs::{
 };
 pub use deeds::{
     no_counter_comes_twice_in_a_life, no_counter_comes_twice_on_one_store,
-    no_counter_is_accepted_twice_on_one_store,
+    no_counter_is_accepted_twice_on_one_store, no_counter_is_accepted_twice_unless_it_was_undone,
 };
 use law_real_runs::only_confirmations_read_as_such;
 pub use programs::{what_live_leaves_is_a_session, what_serve_leaves_is_a_run};
