@@ -234,6 +234,17 @@ def states_between(old: dict, new: dict, name: str) -> Iterator[str]:
             yield f"{'told' if after else 'untold'} {it}"
 
 
+def came_back(old: dict, new: dict) -> Optional[str]:
+    """Returns the device that is a member again by a link key that was dropped, or None.
+
+    Only a device that is provisioned takes a dropped row again, and then as provisional. So the store was restored."""
+    for row in new['links']:
+        before = links_of(old, row['partner'], row['key'])
+        if before and row['live'] and row['attribute'] and not before[0]['live']:
+            return row['partner']
+    return None
+
+
 def between(old: dict, new: dict, name: str) -> List[str]:
     """Returns the change lines that lead from tables to others, in the order of a group; none where they are equal.
 

@@ -71,6 +71,12 @@ class Transcript:
     def stand(self, found: dict, end: str, why: str) -> bool:
         """Writes what leads to the tables that a session found as an event that was cut short, and returns whether
         there is such a thing."""
+        back = tables.came_back(self.tables, found)
+        if back is not None:
+            raise BadLog(
+                f'{why}: {back} is a member again by a key that was dropped, so a backup was restored. '
+                'A transcript has no restore: make one of the sessions since then'
+            )
         try:
             lines = tables.between(self.tables, found, self.name)
         except tables.Apart:

@@ -89,6 +89,15 @@ class HubLog(unittest.TestCase):
                 with self.assertRaisesRegex(log.BadLog, why):
                     transcript_of(bad)
 
+    def test_a_restore_is_no_admission(self):
+        whole, event, restart = example('removal'), 'remove d via c', '\nreset c\nboot c\n'
+        earlier = HostLog(whole[: whole.index(f'\n{event}\n') + 1] + restart).lines
+        backup = earlier[len(earlier) - 1 - earlier[::-1].index('> backup') + 1]
+        lines = HostLog(whole.replace(f'\n{event}\n', f'\n{event}{restart}', 1)).lines
+        place = lines.index('start', 1) + lines[lines.index('start', 1) :].index('> backup') + 1
+        with self.assertRaisesRegex(log.BadLog, 'a backup was restored'):
+            transcript_of([*lines[:place], backup, *lines[place + 1 :]])
+
     def test_as_a_command(self):
         with tempfile.TemporaryDirectory() as folder:
             path, out = os.path.join(folder, 'log'), os.path.join(folder, 'out')
