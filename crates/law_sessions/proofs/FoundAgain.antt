@@ -1,4 +1,4 @@
--- What stands in a store after a session is what the next one finds: the tables that it left, as after a boot.
+-- The next session finds what the one before left in the store: its tables, as after a boot.
 use Rattle.std.proofs.Common.{◌≡◌, ℕ, ◌<◌, Bool, true, false, not, if◌then◌else◌, List, [], ◌∷◌, length, Some, Result, Ok, Err, refl, sym, ap, ◌∙◌, subst, arith}
 use Rattle.std.specs.List.{concat}
 use Rattle.zb_centre_store.specs.Standing.{StandsAs, found_on, found_store, found_tables}

@@ -55,7 +55,7 @@ pub record IsReady (n : ℕ) (s : NodeState) (h : List Line) (ds : List Disk) : 
   pub disk : disk_of ds n ≡ new_disk
   pub tables : shown (state_of h n) ≡ s
 
--- from every such place these events give these lines
+-- from every place of this kind these events give these lines
 abbrev pub Leads : Tools → Schedule → ℕ → NodeState → List Event → List Line → Type 0
 Leads tools w n s events lines = (h : List Line) (ds : List Disk) (number : ℕ) → IsReady n s h ds
     → without_numbers (groups tools w h ds number events) ≡ lines

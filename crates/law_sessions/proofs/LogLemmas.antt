@@ -40,7 +40,7 @@ lines_of_both c n s (t ∷ ts) us =
 
 -- ---- a line of an open session
 
--- a line with these tasks and lines goes on from these tables
+-- a line with these tasks and lines continues from these tables
 record Goes (c : Setting) (s : NodeState) (v after : Living) (ts : List Task) (ls : List Line) : Type 0 where
   pub lines : without_numbers ls ≡ tasks_lines real c c.me.eui s ts
   pub tables : after.tables ≡ Some (tables_after_all real c s ts)

@@ -1,4 +1,5 @@
--- What neither draws an offered key nor is refused for want of one is the same with any key that may be drawn.
+-- An answer that neither draws an offered key nor is refused because there is none is the same with any key that may
+-- be drawn.
 use Rattle.std.proofs.Common.{◌≡◌, ℕ, Bool, true, false, not, cond, List, [], ◌∷◌, ◌++◌, Option, Some, None, option_to_list, refl, ap, ◌∙◌}
 use Rattle.std.specs.Prelude.{◌&&◌, ◌||◌, nat_eq}
 use Rattle.law_sessions.specs.Offers.{IsFree, IsUndrawn}

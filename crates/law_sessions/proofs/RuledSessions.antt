@@ -452,7 +452,7 @@ lines_ruled : (found : Found) (lines : List Bytes) (v : Living) → IsRuledIn fo
 lines_ruled found [] v is = is
 lines_ruled found (line ∷ more) v is = lines_ruled found more (done found line v).after (line_ruled found line v is)
 
--- ---- what an image stands for
+-- ---- what an image holds
 
 booted_again : (u t : NodeState) → t ≡ after_boot u → IsRuled Centre u → IsRuled Centre t
 unfolding after_boot

@@ -42,7 +42,7 @@ block_of r is =
     (own_block config.peers.items config.out_block config.in_block
     (subst (λ n. n < length config.peers.items) is.me is.config.place) is.config.out_least)
 
--- ---- what stands, and what was used in it
+-- ---- the tables, and what was used in them
 
 first_within : (key : Bytes) → IsWithinLimits (first_tables key)
 unfolding first_state with_declared with_given_net after_boot
@@ -134,7 +134,7 @@ pub take_first : (n : ℕ) (step : Step) (steps : List Step) → 1 ≤ n
 take_first zero step steps some = absurd (omega (arith, some))
 take_first (suc k) step steps some = (k, refl)
 
--- terms that were used in the tables with which a restored centre goes on stay used in its first run
+-- terms that were used in the tables with which a restored centre begins stay used in its first run
 pub restored_used_in : (r : Run) (by : ℕ) (bytes : List ℕ) (used : List Term)
     → AreUsed used (skipped by (backup_tables bytes)) → IsScript r.script → IsLeft r (Ok None)
     → Restores by bytes (r ∷ []) → IsFoundUsed (used ++ run_seals r (Ok None)) (found_on r.left)

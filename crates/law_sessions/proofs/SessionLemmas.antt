@@ -270,7 +270,7 @@ all_used (lines ∷ more) found used is =
     (append_assoc used (lines_seal found lines fresh) (sessions_seal (left_by found lines) more))
     (all_used more (left_by found lines) (used ++ lines_seal found lines fresh) (session_used found lines used is))
 
--- ---- what an image stands for
+-- ---- what an image holds
 
 behind_within : (before total : ℕ) (t : NodeState) (r : Result (List ℕ) ℕ)
     → IfOk (behind before total t r) IsWithinLimits
@@ -318,7 +318,7 @@ sessions_apart image sessions =
 
 -- ---- a restore
 
--- what goes on from a backup, with the skip
+-- what continues from a backup, with the skip
 abbrev restored_found : ℕ → NodeState → Found
 restored_found by backup = Ok (Some (skipped by backup))
 

@@ -253,7 +253,7 @@ row_restored by active c (Some r) (Some l) some h above =
     let low : c < skipped_limit by (counted_from active r) = omega (arith, h.1, a.within, a.greatest) in
     (low, low)
 
--- What the lost store used, under a key that the backup has, is below where the counters go on.
+-- What the lost store used, under a key that the backup has, is below where the counters continue.
 pub restored_used : (by : ℕ) (backup lost : NodeState) (layer : Layer) (t : Term) → HasUsed by backup lost
     → IsUnderKept layer t.base backup → IsUsedAt layer t lost → IsUsedAt layer t (skipped by backup)
 unfolding skipped after_boot

@@ -10,7 +10,7 @@ DrawsNone [] = ⊤
 DrawsNone (Draw key ∷ moves) = ⊥
 DrawsNone (move ∷ moves) = DrawsNone moves
 
--- An outcome neither draws a key nor is refused for want of one.
+-- An outcome neither draws a key nor is refused because there is none.
 abbrev pub IsUndrawn : Outcome → Type 0
 IsUndrawn (Stop NoDraw) = ⊥
 IsUndrawn (Stop reason) = ⊤

@@ -22,7 +22,7 @@ use Rattle.zb_stored_tables.specs.Stored.{IsKept}
 
 -- ---- what is sealed
 
--- Where a store stands, `provision` and `remove` seal what the policy's answer seals. No other command seals.
+-- If there is a store, `provision` and `remove` seal what the policy's answer seals. No other command seals.
 abbrev pub order_seals : Setting → Order → NodeState → List Term
 order_seals c (Init key) s = []
 order_seals c (Provision device code) s = (answer real c s (DoProvision device.0 (code_key code))).seals
@@ -55,11 +55,11 @@ setting_of r = setting_for r.script.config
 abbrev pub commands_of : Run → List Step
 commands_of r = take r.stored r.script.steps
 
--- what stands after these commands, over what the run found
+-- the tables after these commands, over what the run found
 abbrev pub after_run : Run → Option NodeState → Option NodeState
 after_run r standing = (served (setting_of r) (commands_of r) standing).after
 
--- The image holds the tables that stand, or nothing where none do. Tables of a centre keep the rules for records and
+-- The image holds the tables, or nothing if there are none. Tables of a centre keep the rules for records and
 -- the widths of a record.
 abbrev pub KeepsTables : Option NodeState → List ℕ → Type 0
 KeepsTables None image = image ≡ []

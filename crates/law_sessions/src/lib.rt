@@ -171,8 +171,8 @@ pub fn the_log_of_sessions_on_one_disk_is_that_of_their_lines()
 
 /// States that an answer that draws no key is the same with any other key that may be drawn.
 ///
-/// The frame's outcome neither draws the key that comes with it nor is refused for want of one, and no row of the node
-/// has the other key. So such an answer doesn't tell which key of a supply came with its frame.
+/// The frame's outcome neither draws the key that comes with it nor is refused because there is none, and no row of
+/// the node has the other key. So such an answer doesn't tell which key of a supply came with its frame.
 #[tactic(auto, using(crate::proofs::Offered::answer_same))]
 pub fn a_key_that_is_not_drawn_decides_nothing()
     ensures { (tools : Tools) (c : Setting) (s : NodeState) (bytes : Bytes) (draw : Option Bytes) (key : Bytes)

@@ -39,7 +39,7 @@ number_of TooLong = 9
 number_of (BadStore at) = 11
 number_of Worn = 12
 
--- what is said of a fault beside its number
+-- what is said of a fault besides its number
 abbrev pub told : CallFault → TcUsed → TcUsed
 told Usage used = used
 told (Short needed) used = record used { answer = needed }
@@ -52,7 +52,7 @@ told Worn used = used
 
 -- ---- what is written
 
--- these bytes, and after them what stood there
+-- these bytes, and after them what was there
 abbrev pub over : List ℕ → List ℕ → List ℕ
 over bytes old = bytes ++ drop (length bytes) old
 

@@ -47,7 +47,7 @@ pub record ServesScript (text old : List ℕ) (made : Made) : Type 0 where
   pub ends : EndsScript text old (Ok tt) disk page
   pub store_is : made.store ≡ disk.bytes
   pub answer_is : made.answer ≡ page.text
-  -- a centre's record stands in the store, or the store is empty
+  -- the store holds a centre's record, or is empty
   pub standing : Option NodeState
   pub found : found_on old ≡ Ok standing
   -- the answer is the text of the commands

@@ -24,11 +24,11 @@ pub enum CallFault {
     },
     /// There was no memory left.
     NoMemory,
-    /// The store isn't empty, and no slot of it stands open.
+    /// The store isn't empty, and neither slot is open.
     NoStore,
     /// The script or a line is too long.
     TooLong,
-    /// What stands in the store is no record of a centre.
+    /// What is in the store isn't a record of a centre.
     BadStore {
         /// The place of the first fault.
         at: u32,

@@ -471,7 +471,7 @@ module _ (number : ℕ) (found : Found) (old : Session) (event : SaidTask) (task
                 then next_number old.frames else old.frames;
           } in v) h.sends
 
-  -- the same, where the numbers were reckoned before
+  -- the same, if the numbers were computed before
   pub event_done : (number_of frame_of : ℕ) (next : Session) (front page text : List ℕ) (sends : Bool)
       (r : Result (Unit {0}) AdminFault) → number_of ≡ next_number old.events → frame_of ≡ next_number old.frames
       → HasHappened c2 host.core.tables task old.log number_of frame_of before front (Ok sends) host2 after page

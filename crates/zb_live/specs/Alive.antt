@@ -52,7 +52,7 @@ IsDeclared (Ok done) = ⊤
 IsDeclared (Err (Fault cause)) = ⊤
 IsDeclared (Err memory) = ⊥
 
--- Before the session is open: the disk can be served, and what was found in it at first stands.
+-- Before the session is open: the disk can be served, and holds what was found in it at first.
 pub record IsWaiting (found : Found) (now : View) : Type 0 where
   pub can : CanBeServed now
   pub found_so : found_on now.seen ≡ found
@@ -62,7 +62,7 @@ abbrev pub IsCentreOf : Found → Script → Option (Hosted CoreValue) → View 
 IsCentreOf found network None now = IsWaiting found now
 IsCentreOf found network (Some host) now = IsUp (setting_of network) host.core.tables host now
 
--- The program's session goes on over a disk that held `found` when it began.
+-- The program's session continues over a disk that held `found` when it began.
 abbrev pub IsAlive : Found → Session → View → Type 0
 IsAlive found session now = IsCentreOf found session.network session.centre now
 
@@ -74,8 +74,8 @@ CrashLeaves disk (Some s) image = StandsAs (Some s) image
 abbrev pub LeavesEither : View → Option NodeState → Option NodeState → List ℕ → Type 0
 LeavesEither disk before after image = CrashLeaves disk before image ⊎ CrashLeaves disk after image
 
--- A line that calls no disk was taken: what it writes stands on the page after what stood there, the session is the
--- one after it, and the centre is as it was.
+-- A line that calls no disk was taken. What it writes is on the page after what was there, the session is the one
+-- after it, and the centre is as it was.
 pub record HasSaid (number : ℕ) (sentence : Sentence) (old : Session) (front : List ℕ) (new : Session)
     (page : List ℕ) : Type 0 where
   pub text : (found : Found) → page ≡ front ++ (done_by number found sentence old).text
@@ -83,8 +83,8 @@ pub record HasSaid (number : ℕ) (sentence : Sentence) (old : Session) (front :
   pub centre : new.centre ≡ old.centre
   pub network : is_some old.centre ≡ true → new.network ≡ old.network
 
--- A line was taken: what it writes stands on the page after what stood there, and the session is the one after it. Or
--- it failed. At each moment of it an image holds the session before the line or the one after it.
+-- A line was taken: what it writes is on the page after what was there, and the session is the one after it. Or it
+-- failed. At each moment of it an image holds the session before the line or the one after it.
 pub record HasTaken (found : Found) (session : Session) (d : Done) (old : View) (front : List ℕ)
     (result : Result (Unit {0}) AdminFault) (next : Session) (new : View) (page : List ℕ) : Type 0 where
   pub alive : OnOk result (IsAlive found next new)
@@ -92,8 +92,8 @@ pub record HasTaken (found : Found) (session : Session) (d : Done) (old : View) 
   pub text : OnOk result (page ≡ front ++ d.text)
   pub between : LeavesOnly old new (LeavesEither old (living_of session).tables d.after.tables)
 
--- A line was taken over any disk, one that tells nothing too: what it writes stands on the page after what stood
--- there, and the session is the one after it. Where it opens the session, some tables are found in the store, or none.
+-- A line was taken over any disk, even one that reports nothing. What it writes is on the page after what was there,
+-- and the session is the one after it. If it opens the session, some tables are found in the store, or none.
 pub record HasFollowed (d : Found → Done) (front : List ℕ) (next : Session) (page : List ℕ) : Type 0 where
   pub found : Option NodeState
   pub text : page ≡ front ++ (d (Ok found)).text

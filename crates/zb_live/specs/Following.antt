@@ -1,5 +1,5 @@
--- What the lines of a session write over any store, one that tells nothing too. Each goes on from the session that the
--- one before it left. Where a line opens the session, some tables are found in the store, or none.
+-- What the lines of a session write over any store, even one that reports nothing. Each line continues the session
+-- that the one before it left. If a line opens the session, some tables are found in the store, or none.
 use Rattle.std.specs.Prelude.{◌≡◌, ◌++◌, List, [], ◌∷◌, Option, Ok}
 use Rattle.std.specs.Io.KnownBytes.{Appends}
 use Rattle.zb_base.specs.Outside.{AppendsFront}
@@ -15,11 +15,11 @@ Writes (line ∷ lines) v text =
     (found : Option NodeState) × (more : Bytes) × (text ≡ (done (Ok found) line v).text ++ more)
     × Writes lines (done (Ok found) line v).after more
 
--- all of such a text was written, from the first line of a session on
+-- all of a text of these lines was written, from the first line of a session on
 abbrev pub WritesAll : List Bytes → Option Bytes → Option Bytes → Type 0
 WritesAll lines before after = (text : Bytes) × Writes lines fresh text × Appends before after text
 
--- a prefix of such a text was written
+-- a prefix of a text of these lines was written
 abbrev pub WritesFront : List Bytes → Option Bytes → Option Bytes → Type 0
 WritesFront lines before after = (text : Bytes) × Writes lines fresh text × AppendsFront before after text
 

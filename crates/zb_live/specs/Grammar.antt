@@ -75,7 +75,7 @@ event_at word ws =
 
 -- ---- lines
 
--- `all`: all lines of an event are answered; `none`: those in which no key stands
+-- `all`: all lines of an event are answered; `none`: those without a key
 abbrev pub log_named : List ℕ → Option Sentence
 log_named word =
     if bytes_eq word (codes "all") then Some (Logs All)

@@ -1,4 +1,4 @@
--- A session: what stands of it between two lines, and what a line does to it and writes.
+-- A session: what there is of it between two lines, and what a line does to it and writes.
 use Rattle.std.specs.Prelude.{ℕ, ◌≡◌, ◌≢◌, ◌+◌, ◌++◌, min, if◌then◌else◌, is_some, map, List, [], ◌∷◌, Option, Some, None, Result, Ok, Err}
 use Rattle.zb_centre_store.specs.Calls.{tables_after}
 use Rattle.zb_centre_store.specs.declared.fault.AdminFault.{AdminFault}
@@ -53,7 +53,7 @@ setting_of network = record {
   stations = map (station 0 0) network.stations;
 }
 
--- why a line of the network may not stand where it does; the other causes aren't of such lines
+-- why a line of the network isn't carried out; the other causes aren't of lines of the network
 abbrev pub cause_of : ScriptCause → Cause
 cause_of Syntax = cause.Syntax
 cause_of DuplicateNode = cause.DuplicateNode
@@ -83,7 +83,7 @@ fresh = record { lines = 0; log = All; network = start; tables = None; events = 
 abbrev pub next : ℕ → ℕ
 next n = min (n + 1) greatest_count
 
--- what stands in the store at first: the tables, nothing where the disk is empty, or why it is no store of a centre
+-- what is in the store at first: the tables, nothing if the disk is empty, or why it isn't a store of a centre
 abbrev pub Found : Type 0
 Found = Result (Option NodeState) AdminFault
 

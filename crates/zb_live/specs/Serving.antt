@@ -21,7 +21,7 @@ use Rattle.zb_store.specs.Layout.{Standing, stands}
 abbrev pub Ended : Type 0
 Ended = Result (Unit {0}) LiveFault
 
--- When each fault comes. Those of a store that is no centre's tell what was found on the disk. Where memory is short
+-- When each fault comes. Those of a store that isn't a centre's say what was found on the disk. If memory is short,
 -- the disk's count of faults is as it was.
 abbrev pub IsLiveFault : {D W : Type 0} → Outside D W → Input → D → W → Input → D → W → LiveFault → Type 0
 IsLiveFault x input old before rest new after Read = Rose input.faults rest.faults
@@ -67,8 +67,8 @@ pub record Lives {D W : Type 0} (x : Outside D W) (input : Input) (old : D) (bef
       → Appends (x.taken before) (x.taken after) (served (found_on (x.state old).seen) lines fresh).text)
   pub front : OnErr result (IsTrue x.tells.content → CanBeServed (x.state old)
       → AppendsFront (x.taken before) (x.taken after) (served (found_on (x.state old).seen) lines fresh).text)
-  -- Over any store: at Ok what was written is the text of these lines. Where one opens the session, it goes on from
-  -- some tables or none. At a fault a prefix of such a text was written.
+  -- Over any store: at Ok what was written is the text of these lines. If one opens the session, it begins with some
+  -- tables or none. At a fault a prefix of this text was written.
   pub told : OnOk result (WritesAll lines (x.taken before) (x.taken after))
   pub told_front : OnErr result (WritesFront lines (x.taken before) (x.taken after))
   -- at Ok every image holds the session after them
@@ -85,13 +85,13 @@ pub record Lives {D W : Type 0} (x : Outside D W) (input : Input) (old : D) (bef
   -- when each fault comes
   pub faults : IfErr result (IsLiveFault x input old before rest new after)
   -- The store is worn only at a line that has something to store, the last that was taken. The second says so of any
-  -- store, going on from some tables where a line opens the session.
+  -- store, with some tables if a line opens the session.
   pub worn : result ≡ Err Worn → IsTrue x.tells.content → CanBeServed (x.state old)
       → IsWornAt x (found_on (x.state old).seen) lines before after
   pub told_worn : result ≡ Err Worn → WritesWorn lines (x.taken before) (x.taken after)
   -- A fault of the input, the output or the store is reported as nothing else: the count of faults is as it was at
-  -- each other end. So if none of the three fails, the session ends well, or as a line, the store or the memory gives
-  -- it.
+  -- each other end. So if none of the three fails, the session succeeds, or ends because of a line, the store
+  -- or the memory.
   pub unread : result ≢ Err Read → Unrisen input.faults rest.faults
   pub unwritten : result ≢ Err Write → Unrisen (x.faults before) (x.faults after)
   pub unrisen : result ≢ Err Disk → Unrisen (x.state old).faults (x.state new).faults

@@ -21,7 +21,7 @@ is_shown log m = is_written log (has_key m)
 unfoldable pub shown_text : Log → List Station → List Line → Bytes
 shown_text log known lines = text_of known (filter (is_shown log) lines)
 
--- these lines were printed after what stood on a page
+-- these lines were printed after what was on a page
 abbrev pub Prints : Log → List Station → List Line → List ℕ → List ℕ → Type 0
 Prints log known lines before after = after ≡ before ++ shown_text log known lines
 

@@ -2,10 +2,10 @@
 ghost use Rattle.std.specs.Prelude.{◌≡◌};
 ghost use Rattle.zb_live.specs.Answers.{cause_word};
 
-/// Why a line wasn't carried out. Such a line changes nothing, and the session goes on.
+/// Why a line wasn't carried out. The line changes nothing, and the session continues.
 #[derive(Clone, Copy, Debug, PartialEq, Eq)]
 pub enum Cause {
-    /// The line is of no form, or a line of the header stands out of order: the centre, and then its peers.
+    /// The line isn't valid, or a line of the header is in the wrong place: the centre comes first, then its peers.
     Syntax,
     /// Bytes are no install code.
     BadCode,
@@ -19,9 +19,9 @@ pub enum Cause {
     TooMany,
     /// The session is to be opened, and no centre was declared.
     NoCentre,
-    /// An event, `list` or `backup` stands before `open`.
+    /// An event, `list` or `backup` comes before `open`.
     Closed,
-    /// A line of the header, or `open`, stands after `open`.
+    /// A line of the header, or a second `open`, comes after `open`.
     Opened,
     /// The store has no bytes yet, so there is nothing to open.
     Empty,

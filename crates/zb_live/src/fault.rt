@@ -19,9 +19,9 @@ pub enum LiveFault {
     Write,
     /// The disk failed.
     Disk,
-    /// The disk isn't empty, and no slot of it stands open.
+    /// The disk isn't empty, and neither slot is open.
     NoStore,
-    /// What stands is no record of a centre.
+    /// What is on the disk isn't a record of a centre.
     BadStore {
         /// The place of the first fault, 1 for a record of another role.
         at: u32,

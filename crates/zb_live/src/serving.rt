@@ -61,7 +61,7 @@ fn serve_line<W: Sink, D: Disk>(
         → IsAlive found session.old (D.state disk.old)
         → HasServedLine (outside D.tells D.state W.taken W.faults) found session.old
         (done found line.now (living_of session.old)) disk.old output.old result session.new disk.new output.new }
-    // Whatever the disk tells, it writes what the definition says.
+    // Whatever the disk reports, it writes what the definition says.
     ensures told { OnOk result
         (HasWritten line.now session.old (W.taken output.old) session.new (W.taken output.new)) }
     ensures told_front { OnErr result

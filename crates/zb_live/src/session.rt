@@ -416,7 +416,7 @@ impl Session {
 
     /// Takes the next line, without its end, and prints what it writes.
     ///
-    /// What an event changes is stored once its lines stand on the page. After an error the session has ended.
+    /// What an event changes is stored before its lines are on the page. After an error the session has ended.
     ///
     /// # Errors
     /// - `Disk` if a call of the disk failed.
@@ -435,7 +435,7 @@ impl Session {
             → IsAlive found self.old (D.state disk.old)
             → HasTaken found self.old (done found line.now (living_of self.old))
             (D.state disk.old) page.old.items result self.new (D.state disk.new) page.new.items }
-        // Whatever the disk tells, its text and the session after it are those of the definition.
+        // Whatever the disk reports, its text and the session after it are those of the definition.
         ensures follows { OnOk result (HasFollowed (λ found. done found line.now (living_of self.old))
             page.old.items self.new page.new.items) }
         ensures store { OnOk result (CanGoOn self.new) }

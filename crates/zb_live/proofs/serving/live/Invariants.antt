@@ -1,4 +1,4 @@
--- The session has served some lines, and nothing stands on the page.
+-- The session has served some lines, and the page is empty.
 use Rattle.std.proofs.Common.{◌≡◌, []}
 use Rattle.zb_centre_store.specs.Outside.{outside}
 use Rattle.zb_live.specs.Alive.{CanGoOn}
