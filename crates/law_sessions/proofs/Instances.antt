@@ -68,7 +68,7 @@ met gives = record {
   nodes = made_nodes network key (session ∷ []) header;
 }
 
--- ---- on a disk that is empty, so that `open` is refused
+-- ---- on a disk that is empty, so that `open` is refused, and nothing is sealed or accepted
 
 -- Instance of no_counter_comes_twice_on_one_disk, the_log_of_sessions_on_one_disk_is_that_of_their_lines.
 sessions : AreSessions [] (record { lines = session; left = [] } ∷ [])

@@ -37,7 +37,7 @@ Reaches skip backup (Ok (Some lost)) = HasUsed skip backup lost
 Reaches skip backup (Ok None) = ⊤
 Reaches skip backup (Err fault) = ⊤
 
--- no term is under this network key
+-- a term is sealed under this network key
 abbrev pub IsUnder : List ℕ → Term → Type 0
 IsUnder key t = (t.layer ≡ Nwk) × (t.base ≡ key)
 
